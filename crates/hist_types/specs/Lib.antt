@@ -1,0 +1,17 @@
+pub mod Bytes
+pub mod Atoms
+pub mod Tokens
+pub mod Operations
+pub mod Reading
+pub mod Journal
+pub mod Transactions
+pub mod Versions
+pub mod Edges
+pub mod Frontier
+pub mod Phenomena
+pub mod Witness
+pub mod Explanation
+pub mod Refusals
+pub mod Texts
+pub mod Devices
+pub mod Stored

@@ -1,0 +1,52 @@
+-- Witnesses (this project's own form, after Elle's explained cycles).
+--
+-- A witness of a phenomenon at a level is a closed walk that shows it there, with no transaction twice and, round the whole
+-- cycle, no two order edges side by side, told from its least transaction. Where several fit, any is right.
+use Rattle.std.specs.Prelude.{◌≡◌, ℕ, ◌<◌, ◌≤◌, List, [], ◌∷◌, ◌++◌, Bool, true, false, not, ◌&&◌, nat_eq, nat_le, IsTrue, Option, Some, None, map}
+use Rattle.std.specs.List.{list_all, list_any}
+use Rattle.hist_types.specs.Transactions.{Transaction}
+use Rattle.hist_types.specs.Edges.{Edge}
+use Rattle.hist_types.specs.Phenomena.{Shows, Has, is_order, height}
+use Rattle.hist_types.specs.declared.types.Level.{Level}
+use Rattle.hist_types.specs.declared.types.Phenomenon.{Phenomenon}
+
+-- the transactions of a closed walk, in order
+abbrev pub stations : List Edge → List ℕ
+stations walk = map (λ (e : Edge). e.from) walk
+
+-- no number stands twice
+abbrev pub all_different : List ℕ → Bool
+all_different [] = true
+all_different (n ∷ ns) = not (list_any (nat_eq n) ns) && all_different ns
+
+-- no two order edges side by side, and not after an order edge where `after` says so
+abbrev pub alternates : (after : Bool) → List Edge → Bool
+alternates after [] = true
+alternates after (e ∷ es) = not (after && is_order e) && alternates (is_order e) es
+
+-- whether the last edge is an order edge
+abbrev pub ends_in_order : List Edge → Bool
+ends_in_order [] = false
+ends_in_order (e ∷ []) = is_order e
+ends_in_order (e ∷ f ∷ es) = ends_in_order (f ∷ es)
+
+-- it begins at its least transaction
+abbrev pub begins_least : List ℕ → Bool
+begins_least [] = true
+begins_least (n ∷ ns) = list_all (nat_le n) ns
+
+pub record IsWitness (phenomenon : Phenomenon) (level : Level) (ts : List Transaction) (walk : List Edge) : Type 0 where
+  pub shows : Shows phenomenon level ts walk
+  pub different : IsTrue (all_different (stations walk))
+  pub apart : IsTrue (alternates (ends_in_order walk) walk)
+  pub least : IsTrue (begins_least (stations walk))
+
+-- what is reported of a phenomenon: its lowest level with a witness, or nothing
+pub record Finding : Type 0 where
+  pub level : Level
+  pub walk : List Edge
+
+abbrev pub IsFinding : Phenomenon → List Transaction → Option Finding → Type 0
+IsFinding phenomenon ts None = (level : Level) → ¬ Has phenomenon level ts
+IsFinding phenomenon ts (Some found) =
+    IsWitness phenomenon found.level ts found.walk × ((lower : Level) → height lower < height found.level → ¬ Has phenomenon lower ts)
