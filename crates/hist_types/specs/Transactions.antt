@@ -2,7 +2,7 @@
 --
 -- There is one transaction for each invocation, named by the invocation's index: its process, the index of its invocation,
 -- the index of its completion if it has one, its status, and its micro-operations, which are the completion's if that is
--- an ok, else the invocation's. Its completion is the next event of its process.
+-- an ok, else the invocation's. Its completion is the next event of its process, where that is a completion.
 --
 -- An external read of a transaction at a key is a read of the key with no write of it before. The external write of a
 -- key is the last one. A value is always meant with its key. The nodes are all ok transactions, and each info or open one
@@ -31,10 +31,13 @@ pub record Indexed : Type 0 where
   pub index : ℕ
   pub event : Operation
 
--- the first event of a process among these, of which the first has the index
-abbrev pub next_event : ℕ → ℕ → List Operation → Option Indexed
-next_event process index [] = None
-next_event process index (event ∷ events) = if event.process == process then Some (record { index = index; event = event }) else next_event process (index + 1) events
+-- the completion of a process's open invocation among the events after it, of which the first has the index
+abbrev pub completion_in : ℕ → ℕ → List Operation → Option Indexed
+completion_in process index [] = None
+completion_in process index (event ∷ events) =
+    if event.process == process
+    then (if is_invoke event.kind then None else Some (record { index = index; event = event }))
+    else completion_in process (index + 1) events
 
 abbrev pub is_ok_status : Status → Bool
 is_ok_status Ok = true
@@ -54,20 +57,23 @@ abbrev pub mops_by : Status → List Mop → List Mop → List Mop
 mops_by Ok invoked completed = completed
 mops_by status invoked completed = invoked
 
--- the transaction of an invocation with this index, by the next event of its process
+-- the transaction of an invocation with this index, by its completion
 abbrev pub transaction_by : ℕ → Operation → Option Indexed → Transaction
 transaction_by index invocation None =
     record { process = invocation.process; invocation = index; completion = None; status = Open; mops = invocation.mops }
-transaction_by index invocation (Some next) =
-    let status = status_by next.event.kind in
-    record { process = invocation.process; invocation = index; completion = Some next.index; status = status; mops = mops_by status invocation.mops next.event.mops }
+transaction_by index invocation (Some completion) =
+    let status = status_by completion.event.kind in
+    record {
+      process = invocation.process; invocation = index; completion = Some completion.index; status = status;
+      mops = mops_by status invocation.mops completion.event.mops;
+    }
 
 -- the transactions of events of which the first has the index
 abbrev pub transactions_from : ℕ → List Operation → List Transaction
 transactions_from index [] = []
 transactions_from index (event ∷ events) =
     if is_invoke event.kind
-    then transaction_by index event (next_event event.process (index + 1) events) ∷ transactions_from (index + 1) events
+    then transaction_by index event (completion_in event.process (index + 1) events) ∷ transactions_from (index + 1) events
     else transactions_from (index + 1) events
 
 abbrev pub transactions_of : List Operation → List Transaction

@@ -1,0 +1,4 @@
+//! Operations of a text.
+#![tactic(auto)]
+
+pub mod types;

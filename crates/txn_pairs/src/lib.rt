@@ -1,0 +1,4 @@
+//! The transactions of a journal.
+#![tactic(auto)]
+
+pub mod types;
