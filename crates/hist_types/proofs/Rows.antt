@@ -4,3 +4,6 @@ pub mod History
 pub mod Cycles
 pub mod Orders
 pub mod Realtime
+pub mod Reads
+pub mod Refused
+pub mod Order
