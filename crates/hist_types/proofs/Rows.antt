@@ -7,3 +7,5 @@ pub mod Realtime
 pub mod Reads
 pub mod Refused
 pub mod Order
+pub mod Cutting
+pub mod Texts
