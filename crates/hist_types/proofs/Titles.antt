@@ -1,5 +1,5 @@
 -- No two refusals share a number or a name: each is found again in the table by either.
-use Rattle.std.proofs.Common.{◌≡◌, ℕ, List, [], ◌∷◌, Bool, ◌==◌, bytes_eq, Option, Some, None, refl, sym, ◌∙◌, ap}
+use Rattle.std.proofs.Common.{◌≡◌, ℕ, List, [], ◌∷◌, ◌==◌, bytes_eq, Option, Some, refl, sym, ◌∙◌, ap}
 use Rattle.std.specs.List.{find}
 use Rattle.hist_types.specs.Refusals.{number_of, name_of}
 use Rattle.hist_types.specs.declared.types.Refusal.{Refusal}

@@ -1,7 +1,7 @@
 -- The bytes that the notation gives a meaning (EDN).
 -- Blanks are the bytes 9 to 13, 32 and the comma: tab, line feed, vertical tab, form feed, carriage return and
 -- space. (Which bytes are blanks is this project's own choice.)
-use Rattle.std.specs.Prelude.{ℕ, List, [], ◌∷◌, Bool, not, ◌||◌, nat_eq, ◌==◌}
+use Rattle.std.specs.Prelude.{ℕ, [], ◌∷◌, Bool, not, ◌||◌, nat_eq, ◌==◌}
 use Rattle.std.specs.List.{list_any}
 
 abbrev pub line_feed : ℕ

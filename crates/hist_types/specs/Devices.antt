@@ -3,7 +3,7 @@
 -- A source tells the bytes that it has still to give, and a sink those that it took, or neither tells anything, as a file or
 -- a terminal. Both count their failures, up to the greatest number of 64 bits, and answer that they failed only where the
 -- count rises or stands at its greatest value, where it stays.
-use Rattle.std.specs.Prelude.{◌≡◌, ◌⊎◌, ℕ, ◌-◌, ◌^◌, ◌<◌, List, ◌++◌, take, Option, option_map}
+use Rattle.std.specs.Prelude.{◌≡◌, ◌⊎◌, ℕ, ◌-◌, ◌^◌, ◌<◌, List, ◌++◌, Option, option_map}
 
 -- the source had these bytes in front of those that it has now
 abbrev pub Gave : Option (List ℕ) → Option (List ℕ) → List ℕ → Type 0

@@ -8,12 +8,12 @@
 --     process    from T to U   one process, T is ok, T completed before U's invocation
 --     realtime   from T to U   the same, whatever the processes
 -- All pairs of transactions are meant: nothing is thinned, and nothing closed.
-use Rattle.std.specs.Prelude.{ℕ, List, [], ◌∷◌, ◌++◌, Bool, false, not, ◌&&◌, ◌||◌, ◌==◌, nat_lt, if◌then◌else◌, Option, Some, None, filter, map, flat_map}
+use Rattle.std.specs.Prelude.{ℕ, List, [], ◌∷◌, ◌++◌, Bool, false, ◌&&◌, ◌==◌, nat_lt, if◌then◌else◌, Option, Some, None, filter, map, flat_map}
 use Rattle.std.specs.List.{list_any}
 use Rattle.std.specs.Option.{option_map_or}
 use Rattle.hist_types.specs.Atoms.{Atom, Value, atom_eq, value_eq}
 use Rattle.hist_types.specs.Journal.{Write}
-use Rattle.hist_types.specs.Transactions.{Transaction, Read, is_ok, is_node, nodes, external_reads, external_writes, reads_externally, read_of}
+use Rattle.hist_types.specs.Transactions.{Transaction, is_ok, nodes, external_writes, reads_externally, read_of}
 use Rattle.hist_types.specs.Versions.{VersionPair, version_pairs}
 use Rattle.hist_types.specs.declared.types.Level.{Level}
 use Rattle.hist_types.specs.declared.types.Level.TheVariants.{Plain, Process, Realtime}

@@ -3,7 +3,7 @@
 -- An explanation is a choice of transactions, all ok ones among them, no failed one, and any of the others, in a total order
 -- in which T stands before U wherever T is ok and completed before U's invocation, and in which each ok transaction's reads
 -- are what running the order from nil registers gives.
-use Rattle.std.specs.Prelude.{◌≡◌, List, [], ◌∷◌, Bool, ◌==◌, if◌then◌else◌, IsTrue, IsFalse, Option, Some, None, All, Contains, ⊤}
+use Rattle.std.specs.Prelude.{◌≡◌, List, [], ◌∷◌, ◌==◌, if◌then◌else◌, IsTrue, IsFalse, Some, None, All, Contains, ⊤}
 use Rattle.hist_types.specs.Atoms.{Atom, Value, atom_eq}
 use Rattle.hist_types.specs.Operations.{Mop, read, write}
 use Rattle.hist_types.specs.Transactions.{Transaction, is_ok, is_failed}

@@ -2,9 +2,8 @@
 --
 -- A thinned edge is a realtime edge from T to U such that no ok transaction was invoked after T's completion and completed
 -- before U's invocation. The process form is alike, within one process.
-use Rattle.std.specs.Prelude.{ℕ, List, [], Bool, false, not, ◌&&◌, nat_lt, if◌then◌else◌, Option}
+use Rattle.std.specs.Prelude.{List, [], Bool, false, ◌&&◌, if◌then◌else◌}
 use Rattle.std.specs.List.{list_any}
-use Rattle.std.specs.Option.{option_map_or}
 use Rattle.hist_types.specs.Transactions.{Transaction, nodes}
 use Rattle.hist_types.specs.Edges.{Label, Edge, between_each, is_before, same_process, order_labels}
 use Rattle.hist_types.specs.declared.types.Level.{Level}

@@ -15,3 +15,4 @@ pub mod Refusals
 pub mod Texts
 pub mod Devices
 pub mod Stored
+pub mod Laws

@@ -12,12 +12,12 @@
 --                itself
 -- These two have no level; each is told by the reader with the least index and its first such read. A stray read is an
 -- external read of an ok transaction whose value isn't nil and was written by no transaction.
-use Rattle.std.specs.Prelude.{◌≡◌, ℕ, ◌+◌, ◌<◌, List, [], ◌∷◌, ◌++◌, length, Bool, true, false, not, ◌&&◌, ◌||◌, ◌==◌, nat_lt, nat_le, if◌then◌else◌, IsTrue, Option, Some, None, filter, map, flat_map, Contains, All, count_by}
+use Rattle.std.specs.Prelude.{◌≡◌, ℕ, ◌<◌, List, [], ◌∷◌, length, Bool, true, false, not, ◌&&◌, ◌||◌, ◌==◌, if◌then◌else◌, IsTrue, Option, Some, None, filter, map, flat_map, Contains, All, count_by}
 use Rattle.std.specs.List.{list_any, list_all}
 use Rattle.hist_types.specs.Atoms.{Atom, Value}
 use Rattle.hist_types.specs.Journal.{Write, write_eq, writes_of}
 use Rattle.hist_types.specs.Transactions.{Transaction, Read, is_ok, is_failed, external_reads, intermediate_writes}
-use Rattle.hist_types.specs.Edges.{Label, ww, wr, rw, process, realtime, Edge, edges_at}
+use Rattle.hist_types.specs.Edges.{Label, ww, wr, rw, Edge, edges_at}
 use Rattle.hist_types.specs.declared.types.Level.{Level}
 use Rattle.hist_types.specs.declared.types.Level.TheVariants.{Plain, Process, Realtime}
 use Rattle.hist_types.specs.declared.types.Phenomenon.{Phenomenon}
@@ -128,7 +128,7 @@ g1a ts = first_of (aborted_reads ts)
 abbrev pub intermediate_reads : List Transaction → List BadRead
 intermediate_reads ts =
     for_each_read ts (λ reader w.
-        map (bad_read reader w) (filter (λ writer. not (writer.invocation == reader.invocation) && has_write (intermediate_writes writer) w) ts))
+    map (bad_read reader w) (filter (λ writer. not (writer.invocation == reader.invocation) && has_write (intermediate_writes writer) w) ts))
 
 abbrev pub g1b : List Transaction → Option BadRead
 g1b ts = first_of (intermediate_reads ts)

@@ -25,7 +25,7 @@
 --     34 NilWritten       a `:w` of nil                                                 at the value
 --     33 BadAtom          the value is no atom, and no nil of a `:r`                    at the value
 -- The place of a tagged form is that of its tag. The fault that is told is the one that comes first as the text is read.
-use Rattle.std.specs.Prelude.{◌≡◌, ℕ, ℤ, pos, negsuc, suc, ◌+◌, ◌-◌, ◌%◌, List, [], ◌∷◌, length, take, drop, Bool, true, false, not, ◌&&◌, ◌||◌, ◌==◌, nat_lt, nat_le, int_le, if◌then◌else◌, bytes_eq, codes, Option, Some, None, Result, Ok, Err, option_map, option_and_then, ok_or, filter, ◌^◌}
+use Rattle.std.specs.Prelude.{◌≡◌, ℕ, ℤ, pos, negsuc, suc, ◌+◌, ◌-◌, ◌%◌, List, [], ◌∷◌, length, take, drop, Bool, true, false, not, ◌&&◌, ◌||◌, ◌==◌, nat_lt, nat_le, if◌then◌else◌, bytes_eq, codes, Option, Some, None, Result, Ok, Err, option_map, option_and_then, ok_or, filter, ◌^◌}
 use Rattle.std.specs.Option.{option_map_or}
 use Rattle.std.specs.Str.Parse.{signed_digits_value}
 use Rattle.hist_types.specs.Bytes.{quote, backslash, open_round, open_square, open_brace}

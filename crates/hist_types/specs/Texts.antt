@@ -6,7 +6,7 @@
 -- `\b \t \n \f \r \" \\` for the bytes 8, 9, 10, 12, 13, 34 and 92, every other byte as it stands.
 --
 -- Each printed line ends with a byte 10. Numbers are decimal. Transactions are written `T` and their index.
-use Rattle.std.specs.Prelude.{◌≡◌, ℕ, List, [], ◌∷◌, ◌++◌, length, Bool, true, false, ◌==◌, if◌then◌else◌, codes, decimal, Option, Some, None, map, flat_map, is_some, fold, ◌||◌}
+use Rattle.std.specs.Prelude.{◌≡◌, ℕ, List, [], ◌∷◌, ◌++◌, length, Bool, ◌==◌, if◌then◌else◌, codes, decimal, Option, Some, None, flat_map, is_some, fold, ◌||◌}
 use Rattle.std.specs.Fmt.{signed_decimal}
 use Rattle.std.specs.List.{join_by}
 use Rattle.std.specs.declared.cmp.Ordering.{Ordering}
@@ -15,7 +15,7 @@ use Rattle.std.specs.Ordering.{nat_cmp, ordering_then}
 use Rattle.hist_types.specs.Bytes.{quote, backslash, line_feed}
 use Rattle.hist_types.specs.Atoms.{Atom, integer, keyword, string, symbol, Value, atom_cmp, value_cmp}
 use Rattle.hist_types.specs.Operations.{Mop, read, write, Operation}
-use Rattle.hist_types.specs.Transactions.{Transaction, transactions_of}
+use Rattle.hist_types.specs.Transactions.{transactions_of}
 use Rattle.hist_types.specs.Edges.{Label, ww, wr, rw, process, realtime, Edge, dependency_edges}
 use Rattle.hist_types.specs.Phenomena.{BadRead, g1a, g1b, stray}
 use Rattle.hist_types.specs.Witness.{Finding, IsFinding}
@@ -26,7 +26,6 @@ use Rattle.hist_types.specs.declared.types.Level.{Level}
 use Rattle.hist_types.specs.declared.types.Level.TheVariants.{Plain, Process, Realtime}
 use Rattle.hist_types.specs.declared.types.OpKind.{OpKind}
 use Rattle.hist_types.specs.declared.types.OpKind.TheVariants as kinds
-use Rattle.hist_types.specs.declared.types.Phenomenon.{Phenomenon}
 use Rattle.hist_types.specs.declared.types.Phenomenon.TheVariants.{G0, G1c, GSingle, G2Item}
 use Rattle.hist_types.specs.Refusals.{number_of, name_of}
 

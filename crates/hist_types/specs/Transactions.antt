@@ -64,7 +64,10 @@ transaction_by index invocation None =
 transaction_by index invocation (Some completion) =
     let status = status_by completion.event.kind in
     record {
-      process = invocation.process; invocation = index; completion = Some completion.index; status = status;
+      process = invocation.process;
+      invocation = index;
+      completion = Some completion.index;
+      status = status;
       mops = mops_by status invocation.mops completion.event.mops;
     }
 

@@ -2,7 +2,7 @@
 --
 -- The version pairs of a key are (nil, v) for each node's external write v, and (v, w) where an ok transaction reads v
 -- externally, w is its external write, and v and w differ. No closure is taken.
-use Rattle.std.specs.Prelude.{List, [], ◌∷◌, ◌++◌, Bool, not, ◌&&◌, Option, Some, None, filter, map, flat_map}
+use Rattle.std.specs.Prelude.{List, ◌++◌, Bool, not, ◌&&◌, Some, None, filter, map, flat_map}
 use Rattle.hist_types.specs.Atoms.{Atom, Value, atom_eq, value_eq}
 use Rattle.hist_types.specs.Journal.{Write}
 use Rattle.hist_types.specs.Transactions.{Transaction, Read, is_ok, external_reads, external_writes, nodes}

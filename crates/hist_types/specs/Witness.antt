@@ -2,7 +2,7 @@
 --
 -- A witness of a phenomenon at a level is a closed walk that shows it there, with no transaction twice and, round the whole
 -- cycle, no two order edges side by side, told from its least transaction. Where several fit, any is right.
-use Rattle.std.specs.Prelude.{◌≡◌, ℕ, ◌<◌, ◌≤◌, List, [], ◌∷◌, ◌++◌, Bool, true, false, not, ◌&&◌, nat_eq, nat_le, IsTrue, Option, Some, None, map}
+use Rattle.std.specs.Prelude.{ℕ, ◌<◌, List, [], ◌∷◌, Bool, true, false, not, ◌&&◌, nat_eq, nat_le, IsTrue, Option, Some, None, map}
 use Rattle.std.specs.List.{list_all, list_any}
 use Rattle.hist_types.specs.Transactions.{Transaction}
 use Rattle.hist_types.specs.Edges.{Edge}

@@ -1,21 +1,30 @@
 //! Laws of this crate's definitions: the contracts of functions that do nothing.
 
-ghost use Rattle.std.specs.Prelude.{◌≡◌};
-ghost use Rattle.hist_types.specs.Refusals.{number_of, name_of};
-ghost use Rattle.hist_types.specs.declared.types.Refusal.{Refusal};
-ghost use Rattle.hist_types.specs.Phenomena.{height};
+ghost use Rattle.std.specs.Prelude.{◌≡◌, ◌↔◌, ℕ, List, [], ◌∷◌, ◌++◌, length, drop, Bool, false, ◌==◌, IsTrue, None, All, Contains};
 ghost use Rattle.std.specs.Ordering.{nat_cmp};
-
-use std::cmp::Ordering;
+ghost use Rattle.hist_types.specs.Bytes.{is_run_byte};
+ghost use Rattle.hist_types.specs.Atoms.{Atom, Value, atom_eq, value_eq};
+ghost use Rattle.hist_types.specs.Edges.{Label, Edge, edge, order_labels, all_order_edges, order_edges};
+ghost use Rattle.hist_types.specs.Frontier.{all_thinned_edges, thinned_edges};
+ghost use Rattle.hist_types.specs.Journal.{Write, write_eq, first_broken, events_after, events_of};
+ghost use Rattle.hist_types.specs.Laws.{RunEndsAt, LeavesOne, LeadsToOne, HasRealtimeTwin};
+ghost use Rattle.hist_types.specs.Operations.{Operation};
+ghost use Rattle.hist_types.specs.Phenomena.{height};
+ghost use Rattle.hist_types.specs.Refusals.{number_of, name_of};
+ghost use Rattle.hist_types.specs.Tokens.{run_of, run_len};
+ghost use Rattle.hist_types.specs.Transactions.{Transaction, Read, read_eq, nodes};
+ghost use Rattle.hist_types.specs.declared.types.Level.{Level};
+ghost use Rattle.hist_types.specs.declared.types.Level.TheVariants.{Process, Realtime};
+ghost use Rattle.hist_types.specs.declared.types.Refusal.{Refusal};
 
 use crate::types::Level;
+use std::cmp::Ordering;
 
 /// No two refusals share a number or a name.
 pub fn no_two_refusals_alike()
     ensures numbers { (a b : Refusal) → number_of a ≡ number_of b → a ≡ b }
     ensures names { (a b : Refusal) → name_of a ≡ name_of b → a ≡ b }
-{
-}
+{}
 
 /// Plain is below process, and process below realtime.
 pub fn levels_in_order(a: Level, b: Level) -> Ordering
@@ -23,3 +32,44 @@ pub fn levels_in_order(a: Level, b: Level) -> Ordering
 {
     a.cmp(&b)
 }
+
+/// The tests of equality pass equal things, and nothing else: for atoms, for what reads return, for writes and for reads.
+pub fn equality_decided()
+    ensures atoms { (a b : Atom) → IsTrue (atom_eq a b) ↔ (a ≡ b) }
+    ensures values { (v w : Value) → IsTrue (value_eq v w) ↔ (v ≡ w) }
+    ensures writes { (a b : Write) → IsTrue (write_eq a b) ↔ (a ≡ b) }
+    ensures reads { (a b : Read) → IsTrue (read_eq a b) ↔ (a ≡ b) }
+{}
+
+/// A journal grows block by block, and operations keep its rules where each part of them does behind what is before it.
+pub fn blocks_one_after_another()
+    ensures push { (blocks : List (List Operation)) → (block : List Operation) → events_of (blocks ++ block ∷ []) ≡ events_after (events_of blocks) block }
+    ensures parts { (events front rest : List Operation) → (first_broken events (front ++ rest) ≡ None) ↔ ((first_broken events front ≡ None) × (first_broken (events ++ front) rest ≡ None)) }
+{}
+
+/// A run is the longest row of its bytes at the front of a text.
+pub fn runs_longest()
+    ensures bytes { (text : List ℕ) → All (λ b. IsTrue (is_run_byte b)) (run_of text) }
+    ensures front { (text : List ℕ) → text ≡ run_of text ++ drop (length (run_of text)) text }
+    ensures end { (text : List ℕ) → RunEndsAt text (length (run_of text)) }
+    ensures len { (text : List ℕ) → run_len text ≡ length (run_of text) }
+{}
+
+/// Order edges are those of all pairs of which the second end is a node; their first end is one by itself.
+pub fn order_edges_between_nodes()
+    ensures all { (level : Level) → (ts : List Transaction) → (e : Edge) → Contains (order_edges level ts) e → Contains (all_order_edges level ts) e }
+    ensures first { (level : Level) → (ts : List Transaction) → (e : Edge) → Contains (order_edges level ts) e → LeavesOne (nodes ts) e }
+    ensures second { (level : Level) → (ts : List Transaction) → (e : Edge) → Contains (order_edges level ts) e → LeadsToOne (nodes ts) e }
+    ensures kept { (level : Level) → (ts : List Transaction) → (t u : Transaction) → (label : Label) → Contains ts t → Contains (nodes ts) u → (t.invocation == u.invocation) ≡ false → Contains (order_labels level t u) label → Contains (order_edges level ts) (edge t u label) }
+{}
+
+/// What is ordered within a process is ordered in real time.
+pub fn process_order_in_realtime()
+    ensures { (ts : List Transaction) → (e : Edge) → Contains (order_edges Process ts) e → HasRealtimeTwin (order_edges Realtime ts) e }
+{}
+
+/// Thinning leaves edges out, and adds none.
+pub fn thinned_among_order_edges()
+    ensures nodes { (level : Level) → (ts : List Transaction) → (e : Edge) → Contains (thinned_edges level ts) e → Contains (order_edges level ts) e }
+    ensures all { (level : Level) → (ts : List Transaction) → (e : Edge) → Contains (all_thinned_edges level ts) e → Contains (all_order_edges level ts) e }
+{}

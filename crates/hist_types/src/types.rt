@@ -3,11 +3,10 @@
 ghost use Rattle.std.specs.Prelude.{◌≡◌, ℕ, ◌≤◌, ◌↔◌, Some, IsSome, IfSome};
 ghost use Rattle.hist_types.specs.Refusals.{number_of, name_of};
 
+use crate::limits::MAX_PROCESS;
 use std::fmt;
 use std::marker::Model;
 use thiserror::Error;
-
-use crate::limits::MAX_PROCESS;
 
 /// What an operation of a history says of its process.
 #[derive(Clone, Copy, Debug, PartialEq, Eq)]
@@ -210,7 +209,12 @@ impl fmt::Display for Fault {
 
     /// The line of the refusal, without its line end: `refused 24 Unclosed byte 35`.
     fn fmt<W: fmt::Write>(&self, f: &mut fmt::Formatter<W>) -> fmt::Result {
-        write!(f, "refused {} {}", self.refusal.number(), self.refusal.name())?;
+        write!(
+            f,
+            "refused {} {}",
+            self.refusal.number(),
+            self.refusal.name()
+        )?;
         match self.at {
             At::Byte(offset) => write!(f, " byte {offset}"),
             At::Event(index) => write!(f, " event {index}"),

@@ -1,0 +1,143 @@
+-- Short names in which the worked histories are written, and the histories that several files speak of.
+use Rattle.std.proofs.Common.{◌≡◌, ℕ, List, [], ◌∷◌, length, get_or, pos, codes, Some, None, true, nat_lt, map}
+use Rattle.std.specs.Bool.{⊤}
+use Rattle.std.specs.List.{AllByRecursion, Contains}
+use Rattle.std.proofs.lemmas.List.Elements.{All-from_recursion}
+use Rattle.std.proofs.lemmas.Bool.{ltb-true}
+use Rattle.hist_types.specs.Atoms.{Atom, integer, keyword}
+use Rattle.hist_types.specs.Operations.{Mop, read, write, Operation}
+use Rattle.hist_types.specs.Transactions.{Transaction, Ok, Fail, Info, Open}
+use Rattle.hist_types.specs.Versions.{VersionPair}
+use Rattle.hist_types.specs.Edges.{ww, wr, rw, process, realtime, Edge, edges_at}
+use Rattle.hist_types.specs.Phenomena.{IsClosedWalk, makes}
+use Rattle.hist_types.specs.Witness.{IsWitness, stations, all_different, alternates, ends_in_order, begins_least}
+use Rattle.hist_types.specs.declared.types.Level.{Level}
+use Rattle.hist_types.specs.declared.types.Phenomenon.{Phenomenon}
+use Rattle.hist_types.specs.declared.types.OpKind.TheVariants as kinds
+
+-- ---- keys and values
+
+abbrev pub x : Atom
+x = keyword (codes ":x")
+
+abbrev pub y : Atom
+y = keyword (codes ":y")
+
+abbrev pub number : ℕ → Atom
+number n = integer (pos n)
+
+-- ---- micro-operations
+
+-- the number is written to the key
+abbrev pub sets : Atom → ℕ → Mop
+sets key n = write key (number n)
+
+-- the key is read, and the number returned
+abbrev pub gets : Atom → ℕ → Mop
+gets key n = read key (Some (number n))
+
+-- the key is read, and nil returned; the invocation of a read says so too
+abbrev pub finds_nil : Atom → Mop
+finds_nil key = read key None
+
+-- ---- operations
+
+abbrev pub invoke : ℕ → List Mop → Operation
+invoke p mops = record { kind = kinds.Invoke; process = p; mops = mops }
+
+abbrev pub ok : ℕ → List Mop → Operation
+ok p mops = record { kind = kinds.Ok; process = p; mops = mops }
+
+abbrev pub fail : ℕ → Operation
+fail p = record { kind = kinds.Fail; process = p; mops = [] }
+
+abbrev pub info : ℕ → Operation
+info p = record { kind = kinds.Info; process = p; mops = [] }
+
+-- ---- transactions, by process, index of the invocation and index of the completion
+
+abbrev pub committed : ℕ → ℕ → ℕ → List Mop → Transaction
+committed p invocation completion mops =
+    record { process = p; invocation = invocation; completion = Some completion; status = Ok; mops = mops }
+
+abbrev pub aborted : ℕ → ℕ → ℕ → List Mop → Transaction
+aborted p invocation completion mops =
+    record { process = p; invocation = invocation; completion = Some completion; status = Fail; mops = mops }
+
+abbrev pub unknown : ℕ → ℕ → ℕ → List Mop → Transaction
+unknown p invocation completion mops =
+    record { process = p; invocation = invocation; completion = Some completion; status = Info; mops = mops }
+
+abbrev pub unfinished : ℕ → ℕ → List Mop → Transaction
+unfinished p invocation mops =
+    record { process = p; invocation = invocation; completion = None; status = Open; mops = mops }
+
+-- transactions are named by the indexes of their invocations
+abbrev pub names : List Transaction → List ℕ
+names ts = map (λ (t : Transaction). t.invocation) ts
+
+-- ---- version pairs
+
+-- nil comes before the number
+abbrev pub nil_then : Atom → ℕ → VersionPair
+nil_then key n = record { key = key; earlier = None; later = number n }
+
+abbrev pub pair : Atom → ℕ → ℕ → VersionPair
+pair key m n = record { key = key; earlier = Some (number m); later = number n }
+
+-- ---- edges, by the transactions that they lead from and to
+
+abbrev pub ww_edge : ℕ → ℕ → Atom → ℕ → ℕ → Edge
+ww_edge t u key m n = record { from = t; to = u; label = ww key (number m) (number n) }
+
+abbrev pub wr_edge : ℕ → ℕ → Atom → ℕ → Edge
+wr_edge t u key n = record { from = t; to = u; label = wr key (number n) }
+
+-- nil was read
+abbrev pub rw_nil_edge : ℕ → ℕ → Atom → ℕ → Edge
+rw_nil_edge t u key n = record { from = t; to = u; label = rw key None (number n) }
+
+abbrev pub rw_edge : ℕ → ℕ → Atom → ℕ → ℕ → Edge
+rw_edge t u key m n = record { from = t; to = u; label = rw key (Some (number m)) (number n) }
+
+abbrev pub process_edge : ℕ → ℕ → ℕ → Edge
+process_edge t u p = record { from = t; to = u; label = process p }
+
+-- with the index of the first one's completion, and of the second one's invocation
+abbrev pub realtime_edge : ℕ → ℕ → ℕ → ℕ → Edge
+realtime_edge t u completion invocation = record { from = t; to = u; label = realtime completion invocation }
+
+-- ---- witnesses
+
+-- each edge of a walk stands in the list, at its place
+abbrev pub StandAt : List Edge → List ℕ → List Edge → Type 0
+StandAt es places [] = ⊤
+StandAt es [] (e ∷ walk) = ⊥
+StandAt es (k ∷ places) (e ∷ walk) = (nat_lt k (length es) ≡ true) × (get_or es k e ≡ e) × StandAt es places walk
+
+contained : (es : List Edge) (places : List ℕ) (walk : List Edge) → StandAt es places walk → AllByRecursion (Contains es) walk
+contained es places [] stand = tt
+contained es [] (e ∷ walk) stand = absurd stand
+contained es (k ∷ places) (e ∷ walk) stand = ((k, ltb-true k (length es) stand.0, stand.1), contained es places walk stand.2)
+
+-- A walk is a witness once each of its edges stands at its place and the tests come out true.
+pub witness :
+    (phenomenon : Phenomenon) (level : Level) (ts : List Transaction) (places : List ℕ) (walk : List Edge)
+    → IsClosedWalk walk
+    → StandAt (edges_at level ts) places walk
+    → makes phenomenon walk ≡ true
+    → all_different (stations walk) ≡ true
+    → alternates (ends_in_order walk) walk ≡ true
+    → begins_least (stations walk) ≡ true
+    → IsWitness phenomenon level ts walk
+witness phenomenon level ts places walk closed stand kinds different apart least =
+    record {
+      shows = record {
+        closed = closed;
+        within = All-from_recursion (Contains (edges_at level ts)) walk (contained (edges_at level ts) places walk stand);
+        kinds = kinds;
+      };
+      different = different;
+      apart = apart;
+      least = least;
+    }

@@ -1,0 +1,104 @@
+-- Operations that break a rule of the journal: the first broken rule, and the index that the operation would have had.
+use Rattle.std.proofs.Common.{◌≡◌, List, [], ◌∷◌, Some, None, codes, refl}
+use Rattle.hist_types.specs.Atoms.{string, symbol}
+use Rattle.hist_types.specs.Operations.{write, Operation}
+use Rattle.hist_types.specs.Journal.{first_broken, events_of}
+use Rattle.hist_types.specs.declared.types.Refusal.TheVariants.{Busy, Retired, Rewritten, Idle, Mismatch}
+use Rattle.hist_types.proofs.Rows.History.{x, y, number, sets, gets, finds_nil, invoke, ok, fail, info}
+
+-- ---- each rule
+
+-- A process with an open invocation invokes again.
+busy : first_broken [] (invoke 0 [] ∷ invoke 0 [] ∷ []) ≡ Some (Busy, 1)
+busy = refl
+
+-- Another process may, and so may the same one behind an ok or a fail.
+not_busy :
+    (first_broken [] (invoke 0 [] ∷ invoke 1 [] ∷ []) ≡ None)
+    × (first_broken [] (invoke 0 [] ∷ ok 0 [] ∷ invoke 0 [] ∷ fail 0 ∷ invoke 0 [] ∷ []) ≡ None)
+not_busy = (refl, refl)
+
+-- A process that ended with an info is not used again.
+retired : first_broken [] (invoke 0 [] ∷ info 0 ∷ invoke 0 [] ∷ []) ≡ Some (Retired, 2)
+retired = refl
+
+-- An info of another process retires nobody else.
+not_retired : first_broken [] (invoke 0 [] ∷ invoke 1 [] ∷ info 1 ∷ ok 0 [] ∷ invoke 0 [] ∷ []) ≡ None
+not_retired = refl
+
+-- A completion of a process that never invoked, and of one whose invocation is over.
+idle : (first_broken [] (ok 0 [] ∷ []) ≡ Some (Idle, 0)) × (first_broken [] (invoke 0 [] ∷ fail 0 ∷ info 0 ∷ []) ≡ Some (Idle, 2))
+idle = (refl, refl)
+
+-- An ok with another written value, another key, another kind, one micro-operation more or one less.
+mismatch :
+    (first_broken [] (invoke 0 (sets x 1 ∷ []) ∷ ok 0 (sets x 2 ∷ []) ∷ []) ≡ Some (Mismatch, 1))
+    × (first_broken [] (invoke 0 (sets x 1 ∷ []) ∷ ok 0 (sets y 1 ∷ []) ∷ []) ≡ Some (Mismatch, 1))
+    × (first_broken [] (invoke 0 (sets x 1 ∷ []) ∷ ok 0 (gets x 1 ∷ []) ∷ []) ≡ Some (Mismatch, 1))
+    × (first_broken [] (invoke 0 (sets x 1 ∷ []) ∷ ok 0 (sets x 1 ∷ finds_nil x ∷ []) ∷ []) ≡ Some (Mismatch, 1))
+    × (first_broken [] (invoke 0 (sets x 1 ∷ []) ∷ ok 0 [] ∷ []) ≡ Some (Mismatch, 1))
+mismatch = (refl, refl, refl, refl, refl)
+
+-- What a read returned is free, whatever the invocation says of it; and a fail need not repeat the list.
+no_mismatch :
+    (first_broken [] (invoke 0 (gets x 5 ∷ []) ∷ ok 0 (gets x 7 ∷ []) ∷ []) ≡ None)
+    × (first_broken [] (invoke 0 (sets x 1 ∷ []) ∷ fail 0 ∷ []) ≡ None)
+no_mismatch = (refl, refl)
+
+-- ---- values that are written twice
+
+-- the value of a transaction that failed is written again
+abbrev rewritten_value : List Operation
+rewritten_value = invoke 0 (sets x 1 ∷ []) ∷ fail 0 ∷ invoke 0 (sets x 1 ∷ []) ∷ []
+
+-- That a transaction failed does not free its values.
+rewritten : first_broken [] rewritten_value ≡ Some (Rewritten, 2)
+rewritten = refl
+
+-- The values of open, unknown and ok transactions are not free either, and a transaction may not write one twice itself.
+rewritten-others :
+    (first_broken [] (invoke 0 (sets x 1 ∷ []) ∷ invoke 1 (sets x 1 ∷ []) ∷ []) ≡ Some (Rewritten, 1))
+    × (first_broken [] (invoke 0 (sets x 1 ∷ []) ∷ info 0 ∷ invoke 1 (sets x 1 ∷ []) ∷ []) ≡ Some (Rewritten, 2))
+    × (first_broken [] (invoke 0 (sets x 1 ∷ []) ∷ ok 0 (sets x 1 ∷ []) ∷ invoke 0 (sets x 1 ∷ []) ∷ []) ≡ Some (Rewritten, 2))
+    × (first_broken [] (invoke 0 (sets x 1 ∷ sets x 2 ∷ sets x 1 ∷ []) ∷ []) ≡ Some (Rewritten, 0))
+rewritten-others = (refl, refl, refl, refl)
+
+-- Another value, the value at another key, and a value that was only read are free.
+not_rewritten :
+    first_broken [] (invoke 0 (sets x 1 ∷ sets x 2 ∷ sets y 1 ∷ gets x 3 ∷ []) ∷ invoke 1 (sets x 3 ∷ sets y 2 ∷ []) ∷ []) ≡ None
+not_rewritten = refl
+
+-- The number 1, the string "1" and the symbol x are values of their own, and so are keys.
+not_rewritten-kinds :
+    first_broken []
+    (invoke 0 (write x (number 1) ∷ write x (string (codes "1")) ∷ write x (symbol (codes "x")) ∷ write (string (codes "x")) (number 1) ∷ []) ∷ [])
+    ≡ None
+not_rewritten-kinds = refl
+
+-- ---- which rule comes first
+
+-- An open invocation comes before a value that is written twice, and so does an info.
+first_rule :
+    (first_broken [] (invoke 0 (sets x 1 ∷ []) ∷ invoke 0 (sets x 1 ∷ []) ∷ []) ≡ Some (Busy, 1))
+    × (first_broken [] (invoke 0 (sets x 1 ∷ []) ∷ info 0 ∷ invoke 0 (sets x 1 ∷ []) ∷ []) ≡ Some (Retired, 2))
+first_rule = (refl, refl)
+
+-- ---- blocks
+
+-- A block whose second operation breaks a rule adds no event, and its first operation neither.
+refused_block : events_of ((invoke 0 [] ∷ ok 1 [] ∷ []) ∷ []) ≡ []
+refused_block = refl
+
+-- The rule is told at the index that the operation would have had.
+refused_block-rule : first_broken [] (invoke 0 [] ∷ ok 1 [] ∷ []) ≡ Some (Idle, 1)
+refused_block-rule = refl
+
+-- Blocks before it and behind it count.
+other_blocks :
+    events_of ((invoke 0 [] ∷ []) ∷ (invoke 1 [] ∷ invoke 0 [] ∷ []) ∷ (ok 0 [] ∷ invoke 1 [] ∷ []) ∷ [])
+    ≡ invoke 0 [] ∷ ok 0 [] ∷ invoke 1 [] ∷ []
+other_blocks = refl
+
+-- Behind events the index goes on from them.
+index_goes_on : first_broken (invoke 0 [] ∷ ok 0 [] ∷ []) (invoke 0 [] ∷ invoke 0 [] ∷ []) ≡ Some (Busy, 3)
+index_goes_on = refl

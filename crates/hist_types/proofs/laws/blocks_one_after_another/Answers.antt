@@ -1,0 +1,8 @@
+use Rattle.hist_types.proofs.Blocks.{events_of-push, kept_by_both}
+use Rattle.hist_types.proofs.laws.blocks_one_after_another.Goals as goal
+
+pub returns-clause-push : goal.returns-clause-push
+returns-clause-push c = events_of-push
+
+pub returns-clause-parts : goal.returns-clause-parts
+returns-clause-parts c = kept_by_both
