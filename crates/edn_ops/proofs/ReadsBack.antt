@@ -1,0 +1,2 @@
+-- Canonical text reads back: lemmas.
+pub mod Determined
