@@ -1,2 +1,3 @@
 -- Canonical text reads back: lemmas.
 pub mod Determined
+pub mod Chunks
