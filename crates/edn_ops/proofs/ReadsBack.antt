@@ -2,3 +2,4 @@
 pub mod Determined
 pub mod Chunks
 pub mod Runs
+pub mod Strings
