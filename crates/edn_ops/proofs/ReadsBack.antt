@@ -3,3 +3,4 @@ pub mod Determined
 pub mod Chunks
 pub mod Runs
 pub mod Strings
+pub mod Atoms

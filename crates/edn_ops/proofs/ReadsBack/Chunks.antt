@@ -1,11 +1,12 @@
 -- Texts made of chunks: blanks and tokens of which each is what begins at its place.
 use Rattle.std.proofs.Common.{◌≡◌, ℕ, suc, ◌+◌, ◌<◌, List, [], ◌∷◌, ◌++◌, length, take, drop, Bool, true, false, Option, Some, None, refl, sym, ◌∙◌, ap, subst, arith}
 use Rattle.std.specs.Prelude.{filter, nat_lt, if◌then◌else◌}
-use Rattle.std.specs.Str.{IsUtf8}
+use Rattle.std.specs.Str.{IsUtf8, IsAscii}
+use Rattle.std.specs.List.{list_all}
 use Rattle.std.specs.Str.Lossy.{utf8_valid_len}
 use Rattle.std.proofs.lemmas.Str.{utf8_valid_len-IsUtf8, IsUtf8-from_ascii}
 use Rattle.std.proofs.lemmas.Str.Ascii.{IsAscii-cons, IsAscii-nil}
-use Rattle.std.proofs.lemmas.Bool.{le-ltb}
+use Rattle.std.proofs.lemmas.Bool.{le-ltb, ltb-true, and_parts}
 use Rattle.std.proofs.lemmas.List.{append_assoc, take_at, drop_at, length-append}
 use Rattle.hist_types.specs.declared.types.Fault.{Fault}
 use Rattle.hist_types.specs.Bytes.{is_blank}
@@ -53,6 +54,17 @@ abbrev pub tokens_at : ℕ → List Chunk → List Item
 tokens_at at [] = []
 tokens_at at (gap b ∷ more) = tokens_at (at + 1) more
 tokens_at at (token kind bytes ∷ more) = item_at at kind bytes ∷ tokens_at (at + length bytes) more
+
+-- bytes below 128 are ASCII
+ascii : (bs : List ℕ) → list_all (λ b. nat_lt b 128) bs ≡ true → IsAscii bs
+ascii [] h = IsAscii-nil
+ascii (b ∷ bs) h =
+    let both = and_parts (nat_lt b 128) (list_all (λ (b : ℕ). nat_lt b 128) bs) h in
+    IsAscii-cons b bs (ltb-true b 128 both.0) (ascii bs both.1)
+
+-- and so UTF-8
+pub ascii_utf8 : (bs : List ℕ) → list_all (λ b. nat_lt b 128) bs ≡ true → IsUtf8 bs
+ascii_utf8 bs h = IsUtf8-from_ascii bs (ascii bs h)
 
 -- an item of well-formed UTF-8 has no fault but its place
 no_fault : (kind : ItemKind) (at : ℕ) (bytes closers : List ℕ) → IsUtf8 bytes → nesting_refusal kind bytes closers ≡ None → item_fault kind at bytes closers ≡ None

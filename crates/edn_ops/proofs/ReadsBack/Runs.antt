@@ -13,6 +13,7 @@ use Rattle.std.proofs.Common.{inl, inr, ◌^◌, rules}
 use Rattle.std.proofs.lemmas.Bool.{cases_lt, or_left, eqb-false, and_from, not_from_false, and_parts, or_parts, not-true, not_from_true, ne_eqb, eqb-true, ltb-true, lt-ltb, leb-true, agree_below, agree_below_at}
 use Rattle.std.proofs.lemmas.List.{take_at, drop_more, drop_all}
 use Rattle.std.specs.Prelude.{pos, negsuc}
+use Rattle.edn_ops.proofs.ReadsBack.Chunks.{Fits}
 use Rattle.hist_types.specs.Reading.{int_value}
 use Rattle.hist_types.specs.Bytes.{quote, backslash, semicolon, colon, hash, is_blank, is_opener, is_closer, is_run_byte}
 use Rattle.hist_types.specs.Tokens.{ItemKind, Int, Keyword, Symbol, front, run_of, run_len, run_kind, is_int, is_sign, first_byte, without_sign, without_n, is_whole}
@@ -202,3 +203,17 @@ negative_value n h =
     let d = decimal_is (suc n) h in
     let number : neg_ℤ (pos (digits_value 10 (decimal (suc n)))) ≡ neg_ℤ (pos (suc n)) = ap (λ (k : ℕ). neg_ℤ (pos k)) (digits_value-decimal own (suc n) h) in
     ap (signed_digits_value 10) (without_n_none (45 ∷ decimal (suc n)) (no_n_among (decimal (suc n)) d)) ∙ number
+
+-- a decimal is one token
+pub decimal_fits : (ds rest : List ℕ) → IsDecimal ds → run_len rest ≡ 0 → Fits Int ds rest
+decimal_fits [] rest d e = absurd (omega (arith, d.nonempty))
+decimal_fits (b ∷ bs) rest d e =
+    let first = is_digit b (and_parts _ _ d.digits).0 in
+    let all = digits_pass is_run_byte (λ c h. (is_digit c h).run_byte) (b ∷ bs) d.digits in
+    run_fits b bs rest all first.no_backslash first.no_hash e ∙ ap (λ (k : ItemKind). (k, Some (suc (length bs)))) (decimal_kind (b ∷ bs) d)
+
+-- and so is one behind a minus
+pub negative_fits : (ds rest : List ℕ) → IsDecimal ds → run_len rest ≡ 0 → Fits Int (45 ∷ ds) rest
+negative_fits ds rest d e =
+    let all = digits_pass is_run_byte (λ c h. (is_digit c h).run_byte) ds d.digits in
+    run_fits 45 ds rest all refl refl e ∙ ap (λ (k : ItemKind). (k, Some (suc (length ds)))) (negative_kind ds d)
