@@ -4,3 +4,4 @@ pub mod Chunks
 pub mod Runs
 pub mod Strings
 pub mod Atoms
+pub mod Mops

@@ -10,11 +10,11 @@ use Rattle.std.proofs.lemmas.Str.Ascii.{IsAscii-cons, IsAscii-nil}
 use Rattle.std.proofs.lemmas.Fmt.{IsAscii-decimal}
 use Rattle.hist_types.specs.Bytes.{quote, backslash, hash, is_run_byte}
 use Rattle.hist_types.specs.Atoms.{Atom, integer, keyword, string, symbol, Value}
-use Rattle.hist_types.specs.Tokens.{Item, ItemKind, Str, Int, Keyword, Symbol, Nil, Other, front, run_len, run_kind, is_int, is_token, nesting_refusal}
+use Rattle.hist_types.specs.Tokens.{Item, ItemKind, Str, Int, Keyword, Symbol, Nil, Other, front, run_len, run_kind, is_int, is_token, open_after}
 use Rattle.hist_types.specs.Reading.{Form, Forms, plain, form, in_front, with_token, is_64_bit, int_value, atom_of_token, is_nil_kind, decoded}
 use Rattle.hist_types.specs.Texts.{atom_text, value_text, written_byte}
 use Rattle.edn_ops.specs.Simple.{IsSpelling, CanBeRead, ValueCanBeRead}
-use Rattle.edn_ops.proofs.ReadsBack.Chunks.{Fits, TokenFits, ascii_utf8}
+use Rattle.edn_ops.proofs.ReadsBack.Chunks.{Chunk, token, text_of, WellCut, Fits, TokenFits, ascii_utf8}
 use Rattle.edn_ops.proofs.ReadsBack.Runs.{IsDecimal, decimal_is, decimal_kind, negative_kind, decimal_value, negative_value, run_fits, decimal_fits, negative_fits}
 use Rattle.edn_ops.proofs.ReadsBack.Strings.{string_fits, decoded_written, between_written, written_utf8}
 
@@ -114,3 +114,23 @@ atom_no_nil (integer n) = refl
 atom_no_nil (keyword s) = refl
 atom_no_nil (string content) = refl
 atom_no_nil (symbol s) = refl
+
+-- an atom's token opens and closes nothing
+atom_open : (a : Atom) (bytes closers : List ℕ) → open_after (token_kind a) bytes closers ≡ closers
+atom_open (integer n) bytes closers = refl
+atom_open (keyword s) bytes closers = refl
+atom_open (string content) bytes closers = refl
+atom_open (symbol s) bytes closers = refl
+
+-- nor does a value's
+value_open : (v : Value) (bytes closers : List ℕ) → open_after (value_kind v) bytes closers ≡ closers
+value_open None bytes closers = refl
+value_open (Some a) bytes closers = atom_open a bytes closers
+
+-- an atom may stand before chunks that begin with no byte of a run
+pub atom_cut : (a : Atom) (more : List Chunk) (closers : List ℕ) → CanBeRead a → run_len (text_of more) ≡ 0 → WellCut more closers → WellCut (token (token_kind a) (atom_text a) ∷ more) closers
+atom_cut a more closers h e w = (atom_fits a (text_of more) closers h e, subst (WellCut more) (sym (atom_open a (atom_text a) closers)) w)
+
+-- and so may a value
+pub value_cut : (v : Value) (more : List Chunk) (closers : List ℕ) → ValueCanBeRead v → run_len (text_of more) ≡ 0 → WellCut more closers → WellCut (token (value_kind v) (value_text v) ∷ more) closers
+value_cut v more closers h e w = (value_fits v (text_of more) closers h e, subst (WellCut more) (sym (value_open v (value_text v) closers)) w)
