@@ -5,3 +5,4 @@ pub mod Runs
 pub mod Strings
 pub mod Atoms
 pub mod Mops
+pub mod Whole
