@@ -6,3 +6,4 @@ pub mod Strings
 pub mod Atoms
 pub mod Mops
 pub mod Whole
+pub mod Read
