@@ -109,3 +109,45 @@ process_back : (process : ℕ) → process ≤ MAX_PROCESS → process_of (int_v
 process_back process h =
     let value = decimal_value process (omega (arith, h)) in
     rw (value, le-leb process MAX_PROCESS h) refl
+
+-- the field is as long as its text
+value_length : (kind : OpKind) (at : ℕ) (mops : List Mop) → after_value kind at mops ≡ at + length (value_field_text kind mops)
+value_length kinds.Invoke at mops = omega (arith, mops_length (vector_at at + 1) mops, length-append (join_by mop_text (codes " ") mops) (codes "]"))
+value_length kinds.Ok at mops = omega (arith, mops_length (vector_at at + 1) mops, length-append (join_by mop_text (codes " ") mops) (codes "]"))
+value_length kinds.Fail at mops = omega arith
+value_length kinds.Info at mops = omega arith
+
+-- an operation is as long as its text
+operation_length : (at : ℕ) (o : Operation) → after_operation at o ≡ at + length (operation_text o)
+operation_length at o = simp length-append (omega (arith, value_length o.kind (after_process at o) o.mops))
+
+-- it ends behind its closer
+inside_end : (kind : OpKind) (process at : ℕ) (mops : List Mop) → end_of (inside_forms at (record { kind = kind; process = process; mops = mops })) ≡ after_operation at (record { kind = kind; process = process; mops = mops })
+inside_end kinds.Invoke process at mops = refl
+inside_end kinds.Ok process at mops = refl
+inside_end kinds.Fail process at mops = refl
+inside_end kinds.Info process at mops = refl
+
+-- it is not too long
+short : (at : ℕ) (o : Operation) → OperationCanBeRead o → nat_lt MAX_OPERATION_BYTES (end_of (inside_forms at o) - at) ≡ false
+short at o h = le-ltb MAX_OPERATION_BYTES _ (omega (arith, inside_end o.kind o.process at o.mops, operation_length at o, h.bytes))
+
+-- its fields make the operation
+from_fields : (at : ℕ) (o : Operation) → OperationCanBeRead o → kind_of (plain (item_at (kind_at at) Keyword (kind_text o.kind))) ≡ Some o.kind → mops_of o.kind at (pairs_of (members (inside_forms at o))) ≡ Ok o.mops → field (codes ":type") at (pairs_of (members (inside_forms at o))) ≡ Ok (plain (item_at (kind_at at) Keyword (kind_text o.kind))) → client_operation (int_value (decimal o.process)) (process_at at o.kind) at (end_of (inside_forms at o) - at) (pairs_of (members (inside_forms at o))) ≡ Ok (operation o)
+from_fields at o h k m t =
+    client_back (int_value (decimal o.process)) (process_at at o.kind) at (end_of (inside_forms at o) - at) (pairs_of (members (inside_forms at o))) o.kind o.process o.mops
+        (plain (item_at (kind_at at) Keyword (kind_text o.kind))) (process_back o.process h.process) (short at o h) t k m
+
+entry_back : (kind : OpKind) (process at : ℕ) (mops : List Mop) → OperationCanBeRead (record { kind = kind; process = process; mops = mops }) → entry_of (item_at at Opener (123 ∷ [])) (inside_forms at (record { kind = kind; process = process; mops = mops })) ≡ Ok (operation (record { kind = kind; process = process; mops = mops }))
+entry_back kinds.Invoke process at mops h =
+    let o : Operation = record { kind = kinds.Invoke; process = process; mops = mops } in
+    from_fields at o h refl (mops_back (vector_at (after_process at o) + 1) mops (vector_closer (after_process at o) mops) h.mops.0 h.mops.1) refl
+entry_back kinds.Ok process at mops h =
+    let o : Operation = record { kind = kinds.Ok; process = process; mops = mops } in
+    from_fields at o h refl (mops_back (vector_at (after_process at o) + 1) mops (vector_closer (after_process at o) mops) h.mops.0 h.mops.1) refl
+entry_back kinds.Fail process at mops h = from_fields at (record { kind = kinds.Fail; process = process; mops = mops }) h refl (ap Ok (sym h.mops)) refl
+entry_back kinds.Info process at mops h = from_fields at (record { kind = kinds.Info; process = process; mops = mops }) h refl (ap Ok (sym h.mops)) refl
+
+-- the form of an operation gives the operation, and then what comes after it
+pub operation_back : (at : ℕ) (o : Operation) (rest : Reading) → OperationCanBeRead o → read_top_form (operation_form at o) rest ≡ record { entries = operation o ∷ rest.entries; fault = rest.fault }
+operation_back at o rest h = ap (λ (entry : Result Entry Fault). then_read entry rest) (entry_back o.kind o.process at o.mops h)
