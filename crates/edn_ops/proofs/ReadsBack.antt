@@ -7,3 +7,4 @@ pub mod Atoms
 pub mod Mops
 pub mod Whole
 pub mod Read
+pub mod Lines
