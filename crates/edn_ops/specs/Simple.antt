@@ -2,7 +2,7 @@
 --
 -- Reading gives an operation with a process up to 2147483647, and at most 256 micro-operations; its atoms are
 -- integers of 64 bits, keywords and symbols of one run, and strings of well-formed UTF-8.
-use Rattle.std.specs.Prelude.{◌≡◌, ◌≢◌, ◌⊎◌, ◌<◌, ◌≤◌, ℕ, List, [], ◌∷◌, ◌++◌, length, Bool, true, false, ◌==◌, Option, Some, None}
+use Rattle.std.specs.Prelude.{◌≡◌, ◌≢◌, ◌⊎◌, ◌<◌, ◌≤◌, ℕ, List, [], ◌∷◌, ◌++◌, length, true, Some, None}
 use Rattle.std.specs.List.{All, list_all, flat_map}
 use Rattle.std.specs.Str.{IsUtf8}
 use Rattle.hist_types.specs.Bytes.{backslash, line_feed, is_run_byte}

@@ -1,21 +1,21 @@
 -- Atoms and values: the text of each is one token, which means that atom.
-use Rattle.std.proofs.Common.{◌≡◌, ◌≢◌, inl, inr, ℕ, ℤ, pos, negsuc, suc, ◌+◌, ◌-◌, ◌<◌, ◌≤◌, ◌^◌, List, [], ◌∷◌, ◌++◌, length, Bool, true, false, cond, Option, Some, None, refl, sym, ◌∙◌, ap, subst, arith}
-use Rattle.std.specs.Prelude.{◌==◌, if◌then◌else◌, option_map, codes, decimal}
-use Rattle.std.specs.List.{flat_map, list_all}
+use Rattle.std.proofs.Common.{◌≡◌, ◌≢◌, inl, inr, ℕ, ℤ, pos, negsuc, suc, ◌^◌, List, [], ◌∷◌, ◌++◌, length, true, false, Some, None, refl, sym, ◌∙◌, ap, subst, arith}
+use Rattle.std.specs.Prelude.{if◌then◌else◌, option_map, codes, decimal}
+use Rattle.std.specs.List.{flat_map}
 use Rattle.std.specs.Str.{IsUtf8}
 use Rattle.std.specs.Fmt.{signed_decimal}
-use Rattle.std.proofs.lemmas.Bool.{cases_Bool, ne_eqb, eqb-true, ltb-true, and_parts}
+use Rattle.std.proofs.lemmas.Bool.{cases_Bool, ne_eqb, ltb-true}
 use Rattle.std.proofs.lemmas.Str.{IsUtf8-from_ascii, IsUtf8-append}
-use Rattle.std.proofs.lemmas.Str.Ascii.{IsAscii-cons, IsAscii-nil}
+use Rattle.std.proofs.lemmas.Str.Ascii.{IsAscii-cons}
 use Rattle.std.proofs.lemmas.Fmt.{IsAscii-decimal}
-use Rattle.hist_types.specs.Bytes.{quote, backslash, hash, is_run_byte}
+use Rattle.hist_types.specs.Bytes.{quote, backslash, hash}
 use Rattle.hist_types.specs.Atoms.{Atom, integer, keyword, string, symbol, Value}
-use Rattle.hist_types.specs.Tokens.{Item, ItemKind, Str, Int, Keyword, Symbol, Nil, Other, front, run_len, run_kind, is_int, is_token, open_after}
-use Rattle.hist_types.specs.Reading.{Form, Forms, plain, form, in_front, with_token, is_64_bit, int_value, atom_of_token, is_nil_kind, decoded}
+use Rattle.hist_types.specs.Tokens.{Item, ItemKind, Str, Int, Keyword, Symbol, Nil, Other, run_len, run_kind, is_int, open_after}
+use Rattle.hist_types.specs.Reading.{Forms, plain, form, in_front, with_token, is_64_bit, int_value, atom_of_token, is_nil_kind, decoded}
 use Rattle.hist_types.specs.Texts.{atom_text, value_text, written_byte}
 use Rattle.edn_ops.specs.Simple.{IsSpelling, CanBeRead, ValueCanBeRead}
 use Rattle.edn_ops.proofs.ReadsBack.Chunks.{Chunk, token, text_of, WellCut, Fits, TokenFits, ascii_utf8}
-use Rattle.edn_ops.proofs.ReadsBack.Runs.{IsDecimal, decimal_is, decimal_kind, negative_kind, decimal_value, negative_value, run_fits, decimal_fits, negative_fits}
+use Rattle.edn_ops.proofs.ReadsBack.Runs.{decimal_is, decimal_value, negative_value, run_fits, decimal_fits, negative_fits}
 use Rattle.edn_ops.proofs.ReadsBack.Strings.{string_fits, decoded_written, between_written, written_utf8}
 
 -- the kind of an atom's token
@@ -33,9 +33,9 @@ value_kind (Some atom) = token_kind atom
 -- what begins with a `#` is no keyword and no symbol
 hash_kind : (kind : ItemKind) (bs : List ℕ) → Int ≢ kind → Other ≢ kind → run_kind (hash ∷ bs) ≡ kind → ⊥
 hash_kind kind bs no_int no_other e = elim (cases_Bool (is_int (hash ∷ bs))) [
-    inl is ↦ no_int (rw is at e)
+  | inl is ↦ no_int (rw is at e)
   | inr is_not ↦ no_other (rw is_not at e)
-  ]
+]
 
 -- a keyword or a symbol is one token
 spelling_fits : (kind : ItemKind) (spelling rest : List ℕ) → Int ≢ kind → Other ≢ kind → IsSpelling kind spelling → run_len rest ≡ 0 → Fits kind spelling rest
@@ -69,7 +69,7 @@ atom_fits (string content) rest closers h e = record {
   fits = string_fits content rest;
   utf8 = IsUtf8-append (quote ∷ []) (flat_map written_byte content ++ quote ∷ []) quote_utf8 (IsUtf8-append (flat_map written_byte content) (quote ∷ []) (written_utf8 content h) quote_utf8);
   nests = refl;
-  counts = refl
+  counts = refl;
 }
 atom_fits (symbol s) rest closers h e = record { fits = spelling_fits Symbol s rest (λ q. cc) (λ q. cc) h e; utf8 = h.utf8; nests = refl; counts = refl }
 
@@ -79,7 +79,7 @@ value_fits None rest closers h e = record {
   fits = run_fits 110 (105 ∷ 108 ∷ []) rest refl refl refl e;
   utf8 = ascii_utf8 (codes "nil") refl;
   nests = refl;
-  counts = refl
+  counts = refl;
 }
 value_fits (Some a) rest closers h e = atom_fits a rest closers h e
 

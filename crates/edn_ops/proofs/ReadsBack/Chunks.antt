@@ -1,16 +1,15 @@
 -- Texts made of chunks: blanks and tokens of which each is what begins at its place.
-use Rattle.std.proofs.Common.{◌≡◌, ℕ, suc, ◌+◌, ◌<◌, List, [], ◌∷◌, ◌++◌, length, take, drop, Bool, true, false, Option, Some, None, refl, sym, ◌∙◌, ap, subst, arith}
-use Rattle.std.specs.Prelude.{filter, nat_lt, if◌then◌else◌}
+use Rattle.std.proofs.Common.{◌≡◌, ℕ, suc, ◌+◌, ◌<◌, List, [], ◌∷◌, ◌++◌, length, true, false, Some, None, refl, sym, ap, subst, arith}
+use Rattle.std.specs.Prelude.{filter, nat_lt}
 use Rattle.std.specs.Str.{IsUtf8, IsAscii}
 use Rattle.std.specs.List.{list_all}
 use Rattle.std.specs.Str.Lossy.{utf8_valid_len}
 use Rattle.std.proofs.lemmas.Str.{utf8_valid_len-IsUtf8, IsUtf8-from_ascii}
 use Rattle.std.proofs.lemmas.Str.Ascii.{IsAscii-cons, IsAscii-nil}
 use Rattle.std.proofs.lemmas.Bool.{le-ltb, ltb-true, and_parts}
-use Rattle.std.proofs.lemmas.List.{append_assoc, take_at, drop_at, length-append}
-use Rattle.hist_types.specs.declared.types.Fault.{Fault}
+use Rattle.std.proofs.lemmas.List.{take_at, drop_at}
 use Rattle.hist_types.specs.Bytes.{is_blank}
-use Rattle.hist_types.specs.Tokens.{Item, ItemKind, Blank, front, BeginsWith, IsCut, HasTokens, item_fault, nesting_refusal, open_after, byte_fault, is_token}
+use Rattle.hist_types.specs.Tokens.{Item, ItemKind, Blank, front, BeginsWith, IsCut, HasTokens, item_fault, nesting_refusal, open_after, is_token}
 
 -- a blank, or a token with its kind
 pub data Chunk : Type 0 where
@@ -84,19 +83,21 @@ begins_blank b rest e = (rw e refl, refl)
 -- chunks that may stand there are what the text is cut into
 pub cut_into : (at : ℕ) (closers : List ℕ) (chunks : List Chunk) → WellCut chunks closers → IsCut (text_of chunks) at closers (items_at at chunks) None
 cut_into at closers [] h = refl
-cut_into at closers (gap b ∷ more) h =
-    ( begins_blank b (text_of more) h.0
-    , refl
-    , no_fault Blank at (b ∷ []) closers (IsUtf8-from_ascii (b ∷ []) (IsAscii-cons b [] h.1 IsAscii-nil)) refl
-    , cut_into (at + 1) closers more h.2 )
+cut_into at closers (gap b ∷ more) h = (
+  begins_blank b (text_of more) h.0,
+  refl,
+  no_fault Blank at (b ∷ []) closers (IsUtf8-from_ascii (b ∷ []) (IsAscii-cons b [] h.1 IsAscii-nil)) refl,
+  cut_into (at + 1) closers more h.2,
+)
 cut_into at closers (token kind bytes ∷ more) h =
-    let t = h.0 in
-    ( begins kind bytes (text_of more) t.fits
-    , refl
-    , no_fault kind at bytes closers t.utf8 t.nests
-    , subst (λ (text : List ℕ). IsCut text (at + length bytes) (open_after kind bytes closers) (items_at (at + length bytes) more) None)
-        (sym (drop_at bytes (text_of more) (length bytes) refl))
-        (cut_into (at + length bytes) (open_after kind bytes closers) more h.1) )
+    let t = h.0 in (
+      begins kind bytes (text_of more) t.fits,
+      refl,
+      no_fault kind at bytes closers t.utf8 t.nests,
+      subst (λ (text : List ℕ). IsCut text (at + length bytes) (open_after kind bytes closers) (items_at (at + length bytes) more) None)
+          (sym (drop_at bytes (text_of more) (length bytes) refl))
+          (cut_into (at + length bytes) (open_after kind bytes closers) more h.1),
+    )
 
 -- the tokens are what is left of the items without blanks
 tokens_among : (at : ℕ) (closers : List ℕ) (chunks : List Chunk) → WellCut chunks closers → tokens_at at chunks ≡ filter (λ (item : Item). is_token item.kind) (items_at at chunks)

@@ -1,9 +1,8 @@
 -- A text is cut in one way: its items are determined, and so is what ends them.
-use Rattle.std.proofs.Common.{◌≡◌, ◌⊎◌, inl, inr, ℕ, suc, ◌+◌, List, [], ◌∷◌, length, take, drop, Option, Some, None, refl, sym, ◌∙◌, ap, subst}
+use Rattle.std.proofs.Common.{◌≡◌, inl, inr, ℕ, ◌+◌, List, [], ◌∷◌, length, take, drop, Option, Some, None, refl, sym, ◌∙◌, ap, subst}
 use Rattle.std.specs.Prelude.{filter}
 use Rattle.hist_types.specs.declared.types.Fault.{Fault}
-use Rattle.hist_types.specs.declared.types.Refusal.TheVariants.{UnclosedString}
-use Rattle.hist_types.specs.Tokens.{Item, ItemKind, Str, front, BeginsWith, BeginsWithFault, IsCut, HasTokens, item_fault, open_after, byte_fault, is_token}
+use Rattle.hist_types.specs.Tokens.{Item, ItemKind, Str, front, BeginsWith, BeginsWithFault, IsCut, HasTokens, item_fault, open_after, is_token}
 
 -- a kind and a length that are found in two ways are the same
 same_pair : (found : ItemKind × Option ℕ) (kind kind' : ItemKind) (n n' : ℕ) → found ≡ (kind, Some n) → found ≡ (kind', Some n') → (kind ≡ kind') × (n ≡ n')
@@ -42,9 +41,9 @@ item_or_fault : (text : List ℕ) (offset : ℕ) (closers : List ℕ) (kind : It
 item_or_fault [] offset closers kind bytes fault h none f = h
 item_or_fault (b ∷ rest) offset closers kind bytes fault h none f =
     elim f [
-      inl unclosed ↦ ends_or_not (front b rest) kind Str (length bytes) h.0 unclosed.0
-    | inr given ↦ some_or_none (item_fault given.0 offset given.1 closers) fault given.3
-        (sym (moved_fault offset closers kind given.0 bytes given.1 (same_front (b ∷ rest) kind given.0 bytes given.1 h given.2)) ∙ none)
+      | inl unclosed ↦ ends_or_not (front b rest) kind Str (length bytes) h.0 unclosed.0
+      | inr given ↦ some_or_none (item_fault given.0 offset given.1 closers) fault given.3
+          (sym (moved_fault offset closers kind given.0 bytes given.1 (same_front (b ∷ rest) kind given.0 bytes given.1 h given.2)) ∙ none)
     ]
 
 -- the fault that stands here is determined
@@ -52,14 +51,14 @@ same_fault : (text : List ℕ) (offset : ℕ) (closers : List ℕ) (fault fault'
 same_fault [] offset closers fault fault' f f' = absurd f
 same_fault (b ∷ rest) offset closers fault fault' f f' =
     elim f [
-      inl unclosed ↦ elim f' [
-        inl unclosed' ↦ unclosed.1 ∙ sym unclosed'.1
-      | inr given' ↦ absurd (ends_or_not (front b rest) given'.0 Str (length given'.1) given'.2.0 unclosed.0)
+      | inl unclosed ↦ elim f' [
+        | inl unclosed' ↦ unclosed.1 ∙ sym unclosed'.1
+        | inr given' ↦ absurd (ends_or_not (front b rest) given'.0 Str (length given'.1) given'.2.0 unclosed.0)
       ]
-    | inr given ↦ elim f' [
-        inl unclosed' ↦ absurd (ends_or_not (front b rest) given.0 Str (length given.1) given.2.0 unclosed'.0)
-      | inr given' ↦ same_some (item_fault given.0 offset given.1 closers) fault fault' given.3
-          (moved_fault offset closers given.0 given'.0 given.1 given'.1 (same_front (b ∷ rest) given.0 given'.0 given.1 given'.1 given.2 given'.2) ∙ given'.3)
+      | inr given ↦ elim f' [
+        | inl unclosed' ↦ absurd (ends_or_not (front b rest) given.0 Str (length given.1) given.2.0 unclosed'.0)
+        | inr given' ↦ same_some (item_fault given.0 offset given.1 closers) fault fault' given.3
+            (moved_fault offset closers given.0 given'.0 given.1 given'.1 (same_front (b ∷ rest) given.0 given'.0 given.1 given'.1 given.2 given'.2) ∙ given'.3)
       ]
     ]
 

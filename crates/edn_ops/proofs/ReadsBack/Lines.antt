@@ -1,9 +1,9 @@
 -- Lines of operations are read as these operations and as nothing else.
-use Rattle.std.proofs.Common.{◌≡◌, ◌⊎◌, inl, inr, ℕ, suc, ◌+◌, ◌-◌, ◌<◌, ◌≤◌, List, [], ◌∷◌, ◌++◌, length, Option, Some, None, refl, sym, ◌∙◌, ap, subst, arith}
+use Rattle.std.proofs.Common.{◌≡◌, inl, inr, ℕ, ◌+◌, List, [], ◌∷◌, ◌++◌, length, Option, None, refl, sym, ◌∙◌, ap, subst, arith}
 use Rattle.std.specs.Prelude.{map}
 use Rattle.std.specs.List.{All}
 use Rattle.std.proofs.lemmas.List.{append_assoc, append-nil, append_cancel_right, length-append}
-use Rattle.std.proofs.lemmas.List.Elements.{All-nil, All-cons, All-head, All-tail}
+use Rattle.std.proofs.lemmas.List.Elements.{All-head, All-tail}
 use Rattle.hist_types.specs.Operations.{Operation}
 use Rattle.hist_types.specs.declared.types.Fault.{Fault}
 use Rattle.hist_types.specs.Tokens.{Item, HasTokens}
@@ -45,7 +45,7 @@ last_made o h = record {
   cut = operation_cut o [] h tt;
   row = (λ at. form (operation_form at o) ended);
   made = (λ at. operation_made at o [] None ended [] refl);
-  back = (λ at. reading_onto o at ended [] h refl)
+  back = (λ at. reading_onto o at ended [] h refl);
 }
 
 next_made : (o : Operation) (os : List Operation) (chunks : List Chunk) → OperationCanBeRead o → Make os chunks → Make (o ∷ os) (operation_chunks o (gap 10 ∷ chunks))
@@ -53,7 +53,7 @@ next_made o os chunks h m = record {
   cut = operation_cut o (gap 10 ∷ chunks) h (refl, omega arith, m.cut);
   row = (λ at. form (operation_form at o) (m.row (after_operation at o + 1)));
   made = (λ at. operation_made at o (gap 10 ∷ chunks) None (m.row (after_operation at o + 1)) [] (m.made (after_operation at o + 1)));
-  back = (λ at. reading_onto o at (m.row (after_operation at o + 1)) os h (m.back (after_operation at o + 1)))
+  back = (λ at. reading_onto o at (m.row (after_operation at o + 1)) os h (m.back (after_operation at o + 1)));
 }
 
 ended_made : (os : List Operation) → All OperationCanBeRead os → Make os (ended_chunks os)
@@ -86,23 +86,24 @@ IsMade text os = (chunks : List Chunk) × (text ≡ text_of chunks) × Make os c
 
 lines_made : (text : List ℕ) (os : List Operation) → All OperationCanBeRead os → AreLines text os → IsMade text os
 lines_made text [] h lines = elim lines [
-    inl e ↦ ([], e, none_made)
+  | inl e ↦ ([], e, none_made)
   | inr e ↦ absurd (omega (arith, length-append text (10 ∷ []), ap length e))
-  ]
+]
 lines_made text (o ∷ os) h lines = elim lines [
-    inl e ↦ (ended_chunks (o ∷ os), e ∙ sym (ended_written (o ∷ os)), ended_made (o ∷ os) h)
+  | inl e ↦ (ended_chunks (o ∷ os), e ∙ sym (ended_written (o ∷ os)), ended_made (o ∷ os) h)
   | inr e ↦ (joined_chunks o os, append_cancel_right text (text_of (joined_chunks o os)) (10 ∷ []) (e ∙ sym (joined_written o os)), joined_made o os h)
-  ]
+]
 
 -- what is made of chunks is read back
 made_reads : (text : List ℕ) (os : List Operation) → IsMade text os → Reads text (map operation os) None
 made_reads text os m =
     let chunks = m.0 in
-    let made = m.2 in
-    ( tokens_at 0 chunks
-    , None
-    , subst (λ (t : List ℕ). HasTokens t (tokens_at 0 chunks) None) (sym m.1) (has_tokens chunks made.cut)
-    , ap (λ (rows : List Forms). read_outermost rows) (made.made 0) ∙ made.back 0 )
+    let made = m.2 in (
+      tokens_at 0 chunks,
+      None,
+      subst (λ (t : List ℕ). HasTokens t (tokens_at 0 chunks) None) (sym m.1) (has_tokens chunks made.cut),
+      ap (λ (rows : List Forms). read_outermost rows) (made.made 0) ∙ made.back 0,
+    )
 
 -- a text is read in one way
 pub one_reading : (text : List ℕ) (entries entries' : List Entry) (fault fault' : Option Fault) → Reads text entries fault → Reads text entries' fault' → (entries ≡ entries') × (fault ≡ fault')

@@ -1,5 +1,5 @@
 -- Micro-operations: their texts are chunks, and the forms that these make are read as the same micro-operations.
-use Rattle.std.proofs.Common.{◌≡◌, ℕ, suc, ◌+◌, ◌-◌, ◌<◌, ◌≤◌, List, [], ◌∷◌, ◌++◌, length, Bool, true, false, Option, Some, None, Ok, refl, sym, ◌∙◌, ap, subst, arith}
+use Rattle.std.proofs.Common.{◌≡◌, ℕ, suc, ◌+◌, ◌<◌, ◌≤◌, List, [], ◌∷◌, ◌++◌, length, true, Option, Some, None, Ok, refl, sym, ◌∙◌, ap, arith}
 use Rattle.std.specs.Prelude.{codes}
 use Rattle.std.specs.List.{flat_map, join_by, All}
 use Rattle.std.proofs.lemmas.Bool.{lt-leb}
@@ -9,8 +9,8 @@ use Rattle.hist_types.specs.Atoms.{Atom, Value}
 use Rattle.hist_types.specs.Operations.{Mop, read, write}
 use Rattle.hist_types.specs.declared.limits.TheConstants.{MAX_MICRO_OPS}
 use Rattle.hist_types.specs.declared.types.Fault.{Fault}
-use Rattle.hist_types.specs.Tokens.{Item, ItemKind, Opener, Closer, Keyword, run_len, nesting_refusal}
-use Rattle.hist_types.specs.Reading.{Form, Forms, plain, collection, form, closed, forms_of, is_closed, members, elements_of, place_of, micro_op_of, micro_ops_of, end_of}
+use Rattle.hist_types.specs.Tokens.{Item, Opener, Closer, Keyword, run_len}
+use Rattle.hist_types.specs.Reading.{Form, Forms, plain, collection, form, closed, forms_of, is_closed, members, elements_of, micro_op_of, micro_ops_of, end_of}
 use Rattle.hist_types.specs.Texts.{atom_text, value_text, mop_text}
 use Rattle.edn_ops.specs.Simple.{CanBeRead, ValueCanBeRead, MopCanBeRead}
 use Rattle.edn_ops.proofs.ReadsBack.Chunks.{Chunk, gap, token, text_of, TokenFits, WellCut, item_at, tokens_at, ascii_utf8}
@@ -84,9 +84,10 @@ mop_cut m more h w =
     let key = token (token_kind (key_of m)) (atom_text (key_of m)) ∷ gap 32 ∷ value in
     let closes : WellCut closer (93 ∷ inside) = (record { fits = refl; utf8 = ascii_utf8 (93 ∷ []) refl; nests = refl; counts = refl }, w) in
     let values : WellCut value (93 ∷ inside) = value_cut (value_of m) closer (93 ∷ inside) (value_can m h) refl closes in
-    let keys : WellCut key (93 ∷ inside) = atom_cut (key_of m) (gap 32 ∷ value) (93 ∷ inside) (key_can m h) refl (refl, omega arith, values) in
-    ( record { fits = refl; utf8 = ascii_utf8 (91 ∷ []) refl; nests = refl; counts = refl }
-    , ( name_fits m (text_of (gap 32 ∷ key)) (93 ∷ inside) refl, (refl, omega arith, keys) ) )
+    let keys : WellCut key (93 ∷ inside) = atom_cut (key_of m) (gap 32 ∷ value) (93 ∷ inside) (key_can m h) refl (refl, omega arith, values) in (
+      record { fits = refl; utf8 = ascii_utf8 (91 ∷ []) refl; nests = refl; counts = refl },
+      (name_fits m (text_of (gap 32 ∷ key)) (93 ∷ inside) refl, (refl, omega arith, keys)),
+    )
 
 pub more_cut : (ms : List Mop) (more : List Chunk) → All MopCanBeRead ms → WellCut more inside → WellCut (more_chunks ms more) inside
 more_cut [] more h w = w
@@ -172,13 +173,13 @@ more_back : (before at : ℕ) (ms : List Mop) (closer : Item) → before + lengt
 more_back before at [] closer few h = refl
 more_back before at (m ∷ ms) closer few h =
     next_back before (at + 1) m (members (more_forms (after_mop (at + 1) m) ms (closed closer))) ms (omega (arith, few)) (All-head MopCanBeRead m ms h)
-        (more_back (suc before) (after_mop (at + 1) m) ms closer (omega (arith, few)) (All-tail MopCanBeRead m ms h))
+    (more_back (suc before) (after_mop (at + 1) m) ms closer (omega (arith, few)) (All-tail MopCanBeRead m ms h))
 
 pub mops_back : (at : ℕ) (ms : List Mop) (closer : Item) → length ms ≤ MAX_MICRO_OPS → All MopCanBeRead ms → micro_ops_of 0 (members (mops_forms at ms (closed closer))) ≡ Ok ms
 mops_back at [] closer few h = refl
 mops_back at (m ∷ ms) closer few h =
     next_back 0 at m (members (more_forms (after_mop at m) ms (closed closer))) ms (omega arith) (All-head MopCanBeRead m ms h)
-        (more_back 1 (after_mop at m) ms closer (omega (arith, few)) (All-tail MopCanBeRead m ms h))
+    (more_back 1 (after_mop at m) ms closer (omega (arith, few)) (All-tail MopCanBeRead m ms h))
 
 -- ---- lengths
 

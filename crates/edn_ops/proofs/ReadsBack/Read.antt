@@ -1,21 +1,21 @@
 -- What the tokens of an operation's text are read as: that operation.
-use Rattle.std.proofs.Common.{◌≡◌, ℕ, ℤ, suc, ◌+◌, ◌-◌, ◌<◌, ◌≤◌, ◌^◌, List, [], ◌∷◌, ◌++◌, length, Bool, true, false, Option, Some, None, Result, Ok, refl, sym, ◌∙◌, ap, subst, arith, pos}
+use Rattle.std.proofs.Common.{◌≡◌, ℕ, ℤ, ◌+◌, ◌-◌, ◌≤◌, List, [], ◌∷◌, length, true, false, Option, Some, Result, Ok, refl, sym, ap, arith}
 use Rattle.std.specs.Prelude.{codes, decimal, nat_lt}
-use Rattle.std.specs.List.{join_by, All}
+use Rattle.std.specs.List.{join_by}
 use Rattle.std.proofs.lemmas.Bool.{le-leb, le-ltb}
 use Rattle.std.proofs.lemmas.List.{length-append}
 use Rattle.hist_types.specs.Operations.{Mop, Operation}
-use Rattle.hist_types.specs.declared.limits.TheConstants.{MAX_PROCESS, MAX_MICRO_OPS, MAX_OPERATION_BYTES}
+use Rattle.hist_types.specs.declared.limits.TheConstants.{MAX_PROCESS, MAX_OPERATION_BYTES}
 use Rattle.hist_types.specs.declared.types.Fault.{Fault}
 use Rattle.hist_types.specs.declared.types.OpKind.{OpKind}
 use Rattle.hist_types.specs.declared.types.OpKind.TheVariants as kinds
-use Rattle.hist_types.specs.Tokens.{Item, ItemKind, Opener, Closer, Keyword, Int}
-use Rattle.hist_types.specs.Reading.{Entry, operation, Reading, Form, Forms, plain, collection, form, closed, forms_of, members, pairs_of, place_of, is_closed, end_of, entry_of, int_value, field, kind_of, mops_of, client_operation, micro_ops_of, process_of, read_top_form, then_read}
+use Rattle.hist_types.specs.Tokens.{Item, Opener, Closer, Keyword, Int}
+use Rattle.hist_types.specs.Reading.{Entry, operation, Reading, Form, Forms, plain, collection, form, closed, forms_of, members, pairs_of, is_closed, end_of, entry_of, int_value, field, kind_of, mops_of, client_operation, process_of, read_top_form, then_read}
 use Rattle.hist_types.specs.Texts.{mop_text, kind_text, value_field_text, operation_text}
-use Rattle.edn_ops.specs.Simple.{MopCanBeRead, MopsCanBeRead, OperationCanBeRead}
-use Rattle.edn_ops.proofs.ReadsBack.Chunks.{Chunk, gap, token, item_at, tokens_at}
+use Rattle.edn_ops.specs.Simple.{OperationCanBeRead}
+use Rattle.edn_ops.proofs.ReadsBack.Chunks.{Chunk, token, item_at, tokens_at}
 use Rattle.edn_ops.proofs.ReadsBack.Runs.{decimal_value}
-use Rattle.edn_ops.proofs.ReadsBack.Mops.{mops_chunks, mops_forms, after_mops, mops_made, mops_closed, mops_back, mops_length}
+use Rattle.edn_ops.proofs.ReadsBack.Mops.{mops_forms, after_mops, mops_made, mops_closed, mops_back, mops_length}
 use Rattle.edn_ops.proofs.ReadsBack.Whole.{value_chunks, operation_chunks}
 
 -- ---- forms
@@ -136,7 +136,7 @@ short at o h = le-ltb MAX_OPERATION_BYTES _ (omega (arith, inside_end o.kind o.p
 from_fields : (at : ℕ) (o : Operation) → OperationCanBeRead o → kind_of (plain (item_at (kind_at at) Keyword (kind_text o.kind))) ≡ Some o.kind → mops_of o.kind at (pairs_of (members (inside_forms at o))) ≡ Ok o.mops → field (codes ":type") at (pairs_of (members (inside_forms at o))) ≡ Ok (plain (item_at (kind_at at) Keyword (kind_text o.kind))) → client_operation (int_value (decimal o.process)) (process_at at o.kind) at (end_of (inside_forms at o) - at) (pairs_of (members (inside_forms at o))) ≡ Ok (operation o)
 from_fields at o h k m t =
     client_back (int_value (decimal o.process)) (process_at at o.kind) at (end_of (inside_forms at o) - at) (pairs_of (members (inside_forms at o))) o.kind o.process o.mops
-        (plain (item_at (kind_at at) Keyword (kind_text o.kind))) (process_back o.process h.process) (short at o h) t k m
+    (plain (item_at (kind_at at) Keyword (kind_text o.kind))) (process_back o.process h.process) (short at o h) t k m
 
 entry_back : (kind : OpKind) (process at : ℕ) (mops : List Mop) → OperationCanBeRead (record { kind = kind; process = process; mops = mops }) → entry_of (item_at at Opener (123 ∷ [])) (inside_forms at (record { kind = kind; process = process; mops = mops })) ≡ Ok (operation (record { kind = kind; process = process; mops = mops }))
 entry_back kinds.Invoke process at mops h =

@@ -1,7 +1,7 @@
 -- Runs: what a run is, is decided by its bytes alone where it stops.
-use Rattle.std.proofs.Common.{◌≡◌, ◌≢◌, ℕ, suc, ◌+◌, ◌-◌, ◌<◌, ◌≤◌, List, [], ◌∷◌, ◌++◌, length, take, drop, get_or, Bool, true, false, Option, Some, None, refl, sym, ◌∙◌, ap, subst, arith, cond}
-use Rattle.std.specs.Prelude.{not, ◌||◌, ◌&&◌, ◌==◌, if◌then◌else◌}
-use Rattle.std.specs.List.{list_all, prefix_len, take_while, ends_with}
+use Rattle.std.proofs.Common.{◌≡◌, ℕ, suc, ◌+◌, ◌-◌, ◌<◌, ◌≤◌, List, [], ◌∷◌, ◌++◌, length, take, drop, get_or, Bool, true, false, Some, refl, sym, ◌∙◌, ap, subst, arith}
+use Rattle.std.specs.Prelude.{not, ◌||◌, ◌&&◌, ◌==◌}
+use Rattle.std.specs.List.{list_all, ends_with}
 use Rattle.std.specs.Char.{is_ascii_digit}
 use Rattle.std.specs.Prelude.{nat_eq, decimal}
 use Rattle.std.specs.Str.Parse.{digits_value, signed_digits_value}
@@ -10,13 +10,13 @@ use Rattle.std.proofs.lemmas.List.Sums.{AllPass-from_list_all}
 use Rattle.std.proofs.lemmas.Str.Parse.{IsNumeralModel, numerals_by_value}
 use Rattle.std.proofs.lemmas.Fmt.{digits_decimal, digits_value-decimal, decimal_nonempty, first_decimal, decimal_digit}
 use Rattle.std.proofs.Common.{inl, inr, ◌^◌, rules}
-use Rattle.std.proofs.lemmas.Bool.{cases_lt, or_left, eqb-false, and_from, not_from_false, and_parts, or_parts, not-true, not_from_true, ne_eqb, eqb-true, ltb-true, lt-ltb, leb-true, agree_below, agree_below_at}
+use Rattle.std.proofs.lemmas.Bool.{cases_lt, or_left, eqb-false, and_from, not_from_false, and_parts, or_parts, not-true, ne_eqb, lt-ltb, leb-true, agree_below, agree_below_at}
 use Rattle.std.proofs.lemmas.List.{take_at, drop_more, drop_all}
 use Rattle.std.specs.Prelude.{pos, negsuc}
 use Rattle.edn_ops.proofs.ReadsBack.Chunks.{Fits}
 use Rattle.hist_types.specs.Reading.{int_value}
-use Rattle.hist_types.specs.Bytes.{quote, backslash, semicolon, colon, hash, is_blank, is_opener, is_closer, is_run_byte}
-use Rattle.hist_types.specs.Tokens.{ItemKind, Int, Keyword, Symbol, front, run_of, run_len, run_kind, is_int, is_sign, first_byte, without_sign, without_n, is_whole}
+use Rattle.hist_types.specs.Bytes.{quote, backslash, semicolon, hash, is_blank, is_opener, is_closer, is_run_byte}
+use Rattle.hist_types.specs.Tokens.{ItemKind, Int, front, run_of, run_len, run_kind, is_int, is_sign, first_byte, without_n, is_whole}
 
 -- the longest run of a text that begins with a run and goes on with none
 pub run_len_before : (run rest : List ℕ) → list_all is_run_byte run ≡ true → run_len rest ≡ 0 → run_len (run ++ rest) ≡ length run
@@ -98,7 +98,7 @@ is_digit b h =
       no_t = not-true _ t6.0;
       no_f = not-true _ t7.0;
       no_backslash = not-true _ t8.0;
-      no_hash = not-true _ t8.1
+      no_hash = not-true _ t8.1;
     }
 
 -- digits, of which the first is 0 only where it stands alone
@@ -125,7 +125,7 @@ no_n_at_end (b ∷ bs) h =
     let front : suc (length bs) - 1 ≡ length bs = omega arith in
     let past : length (b ∷ bs) ≤ length bs + 1 = omega arith in
     let cut : drop (length bs) (b ∷ bs) ≡ get_or (b ∷ bs) (length bs) 0 ∷ [] =
-        drop_more (b ∷ bs) (length bs) 0 last ∙ ap (λ (l : List ℕ). get_or (b ∷ bs) (length bs) 0 ∷ l) (drop_all (length bs + 1) (b ∷ bs) past) in
+    drop_more (b ∷ bs) (length bs) 0 last ∙ ap (λ (l : List ℕ). get_or (b ∷ bs) (length bs) 0 ∷ l) (drop_all (length bs + 1) (b ∷ bs) past) in
     rw (front, cut, apart) refl
 
 pub without_n_none : (run : List ℕ) → list_all (λ b. not (b == 78)) run ≡ true → without_n run ≡ run
@@ -142,20 +142,20 @@ own = numerals_by_value _ (search rules)
 -- zero is the one digit 0, and no other number begins with it
 no_zero_first : (n : ℕ) → n < 2 ^ 64 → (not (first_byte (decimal n) == 48) || (length (decimal n) == 1)) ≡ true
 no_zero_first n h = elim (cases_lt 0 n) [
-    inl more ↦ (
-        let first : 48 < first_byte (decimal n) = first_decimal n more h in
-        or_left (not (first_byte (decimal n) == 48)) (length (decimal n) == 1) (not_from_false _ (ne_eqb (first_byte (decimal n)) 48 (λ q. omega (arith, first, q)))))
+  | inl more ↦ (
+      let first : 48 < first_byte (decimal n) = first_decimal n more h in
+      or_left (not (first_byte (decimal n) == 48)) (length (decimal n) == 1) (not_from_false _ (ne_eqb (first_byte (decimal n)) 48 (λ q. omega (arith, first, q)))))
   | inr none ↦ (
-        let zero : n ≡ 0 = omega arith in
-        let text : decimal n ≡ 48 ∷ [] = ap decimal zero ∙ decimal_digit 0 (omega arith) in
-        subst (λ (ds : List ℕ). (not (first_byte ds == 48) || (length ds == 1)) ≡ true) (sym text) refl)
-  ]
+      let zero : n ≡ 0 = omega arith in
+      let text : decimal n ≡ 48 ∷ [] = ap decimal zero ∙ decimal_digit 0 (omega arith) in
+      subst (λ (ds : List ℕ). (not (first_byte ds == 48) || (length ds == 1)) ≡ true) (sym text) refl)
+]
 
 pub decimal_is : (n : ℕ) → n < 2 ^ 64 → IsDecimal (decimal n)
 decimal_is n h = record {
   nonempty = decimal_nonempty n h;
   digits = digits_decimal own n h;
-  no_zero = no_zero_first n h
+  no_zero = no_zero_first n h;
 }
 
 -- a decimal is an integer

@@ -1,6 +1,6 @@
 -- Strings: what is written of a string is read as its content.
-use Rattle.std.proofs.Common.{◌≡◌, ◌≢◌, ◌⊎◌, inl, inr, ℕ, suc, ◌+◌, ◌-◌, ◌<◌, ◌≤◌, List, [], ◌∷◌, ◌++◌, length, take, drop, get_or, Bool, true, false, Option, Some, None, refl, sym, ◌∙◌, ap, subst, arith}
-use Rattle.std.specs.Prelude.{not, ◌||◌, ◌&&◌, ◌==◌, if◌then◌else◌, option_map}
+use Rattle.std.proofs.Common.{◌≡◌, ◌⊎◌, inl, inr, ℕ, suc, ◌+◌, ◌<◌, ◌≤◌, List, [], ◌∷◌, ◌++◌, length, get_or, true, false, Some, refl, sym, subst, arith}
+use Rattle.std.specs.Prelude.{◌&&◌, ◌==◌}
 use Rattle.std.specs.List.{flat_map}
 use Rattle.std.proofs.lemmas.Bool.{cases_Bool, and_right, eqb-true}
 use Rattle.std.proofs.lemmas.List.{append_assoc, take_at, length-append}
@@ -12,7 +12,7 @@ use Rattle.std.proofs.lemmas.List.Concat.{flat_map-append}
 use Rattle.std.proofs.lemmas.Str.{IsUtf8-from_ascii, IsUtf8-nil, IsUtf8-append, IsUtf8-encode, inside_one}
 use Rattle.std.proofs.lemmas.Str.Ascii.{IsAscii-cons, IsAscii-nil, encode_ascii}
 use Rattle.hist_types.specs.Bytes.{quote, backslash}
-use Rattle.hist_types.specs.Tokens.{ItemKind, Str, front, content_len}
+use Rattle.hist_types.specs.Tokens.{Str, front, content_len}
 use Rattle.hist_types.specs.Reading.{escape_value, decoded, between_quotes}
 use Rattle.hist_types.specs.Texts.{written_byte}
 
@@ -22,24 +22,26 @@ IsWritten b =
     ((written_byte b ≡ b ∷ []) × ((b == quote) ≡ false) × ((b == backslash) ≡ false))
     ⊎ ((c : ℕ) × (written_byte b ≡ backslash ∷ c ∷ []) × (escape_value c ≡ Some b) × (c < 128))
 
--- a byte with an escape
-escaped : (b k c : ℕ) → (b == k) ≡ true → written_byte k ≡ backslash ∷ c ∷ [] → escape_value c ≡ Some k → c < 128 → IsWritten b
-escaped b k c e w v low =
-    let same : b ≡ k = eqb-true b k e in
-    subst IsWritten (sym same) (inr (c, w, v, low))
+-- a byte with an escape, or else another
+escaped_or : (b k c : ℕ) → written_byte k ≡ backslash ∷ c ∷ [] → escape_value c ≡ Some k → c < 128 → ((b == k) ≡ false → IsWritten b) → IsWritten b
+escaped_or b k c w v low other = elim (cases_Bool (b == k)) [
+  | inl e ↦ (
+      let same : b ≡ k = eqb-true b k e in
+      subst IsWritten (sym same) (inr (c, w, v, low)))
+  | inr e ↦ other e
+]
 
 -- each byte is written in one of the two ways
 is_written : (b : ℕ) → IsWritten b
 is_written b =
-    elim (cases_Bool (b == 8)) [ inl e ↦ escaped b 8 98 e refl refl (omega arith) | inr n8 ↦
-    elim (cases_Bool (b == 9)) [ inl e ↦ escaped b 9 116 e refl refl (omega arith) | inr n9 ↦
-    elim (cases_Bool (b == 10)) [ inl e ↦ escaped b 10 110 e refl refl (omega arith) | inr n10 ↦
-    elim (cases_Bool (b == 12)) [ inl e ↦ escaped b 12 102 e refl refl (omega arith) | inr n12 ↦
-    elim (cases_Bool (b == 13)) [ inl e ↦ escaped b 13 114 e refl refl (omega arith) | inr n13 ↦
-    elim (cases_Bool (b == 34)) [ inl e ↦ escaped b 34 34 e refl refl (omega arith) | inr n34 ↦
-    elim (cases_Bool (b == 92)) [ inl e ↦ escaped b 92 92 e refl refl (omega arith) | inr n92 ↦
-    inl (rw (n8, n9, n10, n12, n13, n34, n92) refl, n34, n92)
-    ] ] ] ] ] ] ]
+    escaped_or b 8 98 refl refl (omega arith) (λ n8.
+    escaped_or b 9 116 refl refl (omega arith) (λ n9.
+    escaped_or b 10 110 refl refl (omega arith) (λ n10.
+    escaped_or b 12 102 refl refl (omega arith) (λ n12.
+    escaped_or b 13 114 refl refl (omega arith) (λ n13.
+    escaped_or b 34 34 refl refl (omega arith) (λ n34.
+    escaped_or b 92 92 refl refl (omega arith) (λ n92.
+    inl (rw (n8, n9, n10, n12, n13, n34, n92) refl, n34, n92))))))))
 
 -- the quote that closes a written string stands behind its content
 content_len_written : (content rest : List ℕ) → content_len false (flat_map written_byte content ++ quote ∷ rest) ≡ Some (length (flat_map written_byte content))
@@ -47,16 +49,16 @@ content_len_written [] rest = refl
 content_len_written (b ∷ bs) rest =
     let more = content_len_written bs rest in
     elim (is_written b) [
-      inl plain ↦ (
-        let w = plain.0 in
-        let no_quote = plain.1 in
-        let no_backslash = plain.2 in
-        rw (w, no_quote, no_backslash, more) refl)
-    | inr escape ↦ (
-        let w = escape.1 in
-        let q : ((escape.0 == quote) && false) ≡ false = and_right _ _ refl in
-        let s : ((escape.0 == backslash) && false) ≡ false = and_right _ _ refl in
-        rw (w, q, s, more) refl)
+      | inl plain ↦ (
+          let w = plain.0 in
+          let no_quote = plain.1 in
+          let no_backslash = plain.2 in
+          rw (w, no_quote, no_backslash, more) refl)
+      | inr escape ↦ (
+          let w = escape.1 in
+          let q : ((escape.0 == quote) && false) ≡ false = and_right _ _ refl in
+          let s : ((escape.0 == backslash) && false) ≡ false = and_right _ _ refl in
+          rw (w, q, s, more) refl)
     ]
 
 -- and what is written of it means the content
@@ -65,15 +67,15 @@ decoded_written [] = refl
 decoded_written (b ∷ bs) =
     let more = decoded_written bs in
     elim (is_written b) [
-      inl plain ↦ (
-        let w = plain.0 in
-        let no_backslash = plain.2 in
-        rw (w, no_backslash, more) refl)
-    | inr escape ↦ (
-        let w = escape.1 in
-        let v = escape.2 in
-        let s : ((escape.0 == backslash) && false) ≡ false = and_right _ _ refl in
-        rw (w, s, v, more) refl)
+      | inl plain ↦ (
+          let w = plain.0 in
+          let no_backslash = plain.2 in
+          rw (w, no_backslash, more) refl)
+      | inr escape ↦ (
+          let w = escape.1 in
+          let v = escape.2 in
+          let s : ((escape.0 == backslash) && false) ≡ false = and_right _ _ refl in
+          rw (w, s, v, more) refl)
     ]
 
 -- a written string stands at the front, whatever comes after it
@@ -111,25 +113,25 @@ high_bytes_written (b ∷ bs) h =
 -- what is written of a byte below 128 is UTF-8
 low_written : (b : ℕ) → b < 128 → IsUtf8 (written_byte b)
 low_written b h = elim (is_written b) [
-    inl plain ↦ subst IsUtf8 (sym plain.0) (IsUtf8-from_ascii (b ∷ []) (IsAscii-cons b [] h IsAscii-nil))
+  | inl plain ↦ subst IsUtf8 (sym plain.0) (IsUtf8-from_ascii (b ∷ []) (IsAscii-cons b [] h IsAscii-nil))
   | inr escape ↦ subst IsUtf8 (sym escape.1)
-        (IsUtf8-from_ascii (backslash ∷ escape.0 ∷ []) (IsAscii-cons backslash (escape.0 ∷ []) (omega arith) (IsAscii-cons escape.0 [] escape.3 IsAscii-nil)))
-  ]
+      (IsUtf8-from_ascii (backslash ∷ escape.0 ∷ []) (IsAscii-cons backslash (escape.0 ∷ []) (omega arith) (IsAscii-cons escape.0 [] escape.3 IsAscii-nil)))
+]
 
 -- what is written of one character is UTF-8
 character_written : (c : ℕ) → scalar c ≡ true → IsUtf8 (flat_map written_byte (encode c))
 character_written c s = elim (cases_lt c 128) [
-    inl low ↦ subst (λ (bs : List ℕ). IsUtf8 (flat_map written_byte bs)) (sym (encode_ascii c low))
-        (subst IsUtf8 (sym (append-nil (written_byte c))) (low_written c low))
+  | inl low ↦ subst (λ (bs : List ℕ). IsUtf8 (flat_map written_byte bs)) (sym (encode_ascii c low))
+      (subst IsUtf8 (sym (append-nil (written_byte c))) (low_written c low))
   | inr high ↦ subst IsUtf8
-        (sym (high_bytes_written (encode c) (λ k l. elim (cases_lt (get_or (encode c) k 0) 128) [
-            inl small ↦ (
-                let same : c ≡ get_or (encode c) k 0 = inside_one c [] (encode c) k (sym (append-nil (encode c))) l small in
-                omega (arith, same, small, high))
-          | inr large ↦ large
-          ])))
-        (IsUtf8-encode c s)
-  ]
+      (sym (high_bytes_written (encode c) (λ k l. elim (cases_lt (get_or (encode c) k 0) 128) [
+        | inl small ↦ (
+            let same : c ≡ get_or (encode c) k 0 = inside_one c [] (encode c) k (sym (append-nil (encode c))) l small in
+            omega (arith, same, small, high))
+        | inr large ↦ large
+      ])))
+      (IsUtf8-encode c s)
+]
 
 -- and so is what is written of many
 characters_written : (cs : List ℕ) → scalars cs ≡ true → IsUtf8 (flat_map written_byte (encodes cs))
@@ -137,7 +139,7 @@ characters_written [] s = IsUtf8-nil
 characters_written (c ∷ cs) s =
     let both = and_parts (scalar c) (scalars cs) s in
     subst IsUtf8 (sym (flat_map-append written_byte (encode c) (encodes cs)))
-        (IsUtf8-append _ _ (character_written c both.0) (characters_written cs both.1))
+    (IsUtf8-append _ _ (character_written c both.0) (characters_written cs both.1))
 
 -- what is written of UTF-8 is UTF-8
 pub written_utf8 : (content : List ℕ) → IsUtf8 content → IsUtf8 (flat_map written_byte content)

@@ -1,23 +1,19 @@
 -- Whole operations: their texts are chunks, and the forms that these make are read as the same operations.
-use Rattle.std.proofs.Common.{◌≡◌, ℕ, suc, ◌+◌, ◌-◌, ◌<◌, ◌≤◌, ◌^◌, List, [], ◌∷◌, ◌++◌, length, Bool, true, false, Option, Some, None, Result, Ok, refl, sym, ◌∙◌, ap, subst, arith, pos}
-use Rattle.std.specs.Prelude.{codes, decimal, nat_lt}
+use Rattle.std.proofs.Common.{◌≡◌, ℕ, ◌<◌, ◌^◌, List, [], ◌∷◌, ◌++◌, refl, sym, ◌∙◌, ap, arith}
+use Rattle.std.specs.Prelude.{codes, decimal}
 use Rattle.std.specs.List.{join_by, All}
-use Rattle.std.proofs.lemmas.Bool.{le-leb, le-ltb}
-use Rattle.std.proofs.lemmas.List.{append_assoc, length-append}
+use Rattle.std.proofs.lemmas.List.{append_assoc}
 use Rattle.std.proofs.lemmas.Str.{IsUtf8-from_ascii}
 use Rattle.std.proofs.lemmas.Fmt.{IsAscii-decimal}
 use Rattle.hist_types.specs.Operations.{Mop, Operation}
-use Rattle.hist_types.specs.declared.limits.TheConstants.{MAX_PROCESS, MAX_MICRO_OPS, MAX_OPERATION_BYTES}
-use Rattle.hist_types.specs.declared.types.Fault.{Fault}
 use Rattle.hist_types.specs.declared.types.OpKind.{OpKind}
 use Rattle.hist_types.specs.declared.types.OpKind.TheVariants as kinds
-use Rattle.hist_types.specs.Tokens.{Item, ItemKind, Opener, Closer, Keyword, Int, run_len}
-use Rattle.hist_types.specs.Reading.{Entry, operation, Reading, Form, Forms, plain, collection, form, closed, forms_of, members, pairs_of, end_of, entry_of, int_value, mops_of, micro_ops_of, process_of, read_top_form}
+use Rattle.hist_types.specs.Tokens.{Opener, Closer, Keyword, Int, run_len}
 use Rattle.hist_types.specs.Texts.{mop_text, kind_text, value_field_text, operation_text}
 use Rattle.edn_ops.specs.Simple.{MopCanBeRead, MopsCanBeRead, OperationCanBeRead}
-use Rattle.edn_ops.proofs.ReadsBack.Chunks.{Chunk, gap, token, text_of, TokenFits, WellCut, item_at, tokens_at, ascii_utf8}
-use Rattle.edn_ops.proofs.ReadsBack.Runs.{run_fits, decimal_is, decimal_fits, decimal_value}
-use Rattle.edn_ops.proofs.ReadsBack.Mops.{mops_chunks, mops_written, mops_cut, mops_forms, after_mops, mops_made, mops_closed, mops_back, mops_length}
+use Rattle.edn_ops.proofs.ReadsBack.Chunks.{Chunk, gap, token, text_of, TokenFits, WellCut, ascii_utf8}
+use Rattle.edn_ops.proofs.ReadsBack.Runs.{run_fits, decimal_is, decimal_fits}
+use Rattle.edn_ops.proofs.ReadsBack.Mops.{mops_chunks, mops_written, mops_cut}
 
 -- ---- chunks
 
@@ -69,13 +65,26 @@ kind_fits kinds.Info rest closers e = record { fits = run_fits 58 (105 ∷ 110 �
 
 -- a vector with the micro-operations behind its name
 vector_cut : (mops : List Mop) (more : List Chunk) → All MopCanBeRead mops → WellCut more (125 ∷ []) → WellCut (gap 44 ∷ gap 32 ∷ token Keyword (codes ":value") ∷ gap 32 ∷ token Opener (91 ∷ []) ∷ mops_chunks mops (token Closer (93 ∷ []) ∷ more)) (125 ∷ [])
-vector_cut mops more h w =
-    ( refl, omega arith, (refl, omega arith,
-    ( record { fits = run_fits 58 (118 ∷ 97 ∷ 108 ∷ 117 ∷ 101 ∷ []) (32 ∷ 91 ∷ text_of (mops_chunks mops (token Closer (93 ∷ []) ∷ more))) refl refl refl refl; utf8 = ascii_utf8 (codes ":value") refl; nests = refl; counts = refl }
-    , (refl, omega arith,
-    ( record { fits = refl; utf8 = ascii_utf8 (91 ∷ []) refl; nests = refl; counts = refl }
-    , mops_cut mops (token Closer (93 ∷ []) ∷ more) h
-        ( record { fits = refl; utf8 = ascii_utf8 (93 ∷ []) refl; nests = refl; counts = refl }, w ))))))
+vector_cut mops more h w = (
+  refl,
+  omega arith,
+  (
+    refl,
+    omega arith,
+    (
+      record { fits = run_fits 58 (118 ∷ 97 ∷ 108 ∷ 117 ∷ 101 ∷ []) (32 ∷ 91 ∷ text_of (mops_chunks mops (token Closer (93 ∷ []) ∷ more))) refl refl refl refl; utf8 = ascii_utf8 (codes ":value") refl; nests = refl; counts = refl },
+      (
+        refl,
+        omega arith,
+        (
+          record { fits = refl; utf8 = ascii_utf8 (91 ∷ []) refl; nests = refl; counts = refl },
+          mops_cut mops (token Closer (93 ∷ []) ∷ more) h
+              (record { fits = refl; utf8 = ascii_utf8 (93 ∷ []) refl; nests = refl; counts = refl }, w),
+        ),
+      ),
+    ),
+  ),
+)
 
 value_cut : (kind : OpKind) (mops : List Mop) (more : List Chunk) → MopsCanBeRead kind mops → WellCut more (125 ∷ []) → WellCut (value_chunks kind mops more) (125 ∷ [])
 value_cut kinds.Invoke mops more h w = vector_cut mops more h.1 w
@@ -95,15 +104,27 @@ operation_cut o more h w =
     let tail = value_chunks o.kind o.mops (token Closer (125 ∷ []) ∷ more) in
     let small : o.process < 2 ^ 64 = omega (arith, h.process) in
     let closes : WellCut tail (125 ∷ []) = value_cut o.kind o.mops (token Closer (125 ∷ []) ∷ more) h.mops
-        ( record { fits = refl; utf8 = ascii_utf8 (125 ∷ []) refl; nests = refl; counts = refl }, w ) in
-    let process : WellCut (token Int (decimal o.process) ∷ tail) (125 ∷ []) =
-        ( record { fits = decimal_fits (decimal o.process) (text_of tail) (decimal_is o.process small) (process_stops o.kind o.mops more); utf8 = IsUtf8-from_ascii (decimal o.process) (IsAscii-decimal o.process small); nests = refl; counts = refl }
-        , closes ) in
+    (record { fits = refl; utf8 = ascii_utf8 (125 ∷ []) refl; nests = refl; counts = refl }, w) in
+    let process : WellCut (token Int (decimal o.process) ∷ tail) (125 ∷ []) = (
+      record { fits = decimal_fits (decimal o.process) (text_of tail) (decimal_is o.process small) (process_stops o.kind o.mops more); utf8 = IsUtf8-from_ascii (decimal o.process) (IsAscii-decimal o.process small); nests = refl; counts = refl },
+      closes,
+    ) in
     let processes = gap 44 ∷ gap 32 ∷ token Keyword (codes ":process") ∷ gap 32 ∷ token Int (decimal o.process) ∷ tail in
-    let named : WellCut processes (125 ∷ []) =
-        ( refl, omega arith, (refl, omega arith,
-        ( record { fits = run_fits 58 (112 ∷ 114 ∷ 111 ∷ 99 ∷ 101 ∷ 115 ∷ 115 ∷ []) (text_of (gap 32 ∷ token Int (decimal o.process) ∷ tail)) refl refl refl refl; utf8 = ascii_utf8 (codes ":process") refl; nests = refl; counts = refl }
-        , (refl, omega arith, process)))) in
-    ( record { fits = refl; utf8 = ascii_utf8 (123 ∷ []) refl; nests = refl; counts = refl }
-    , ( record { fits = run_fits 58 (116 ∷ 121 ∷ 112 ∷ 101 ∷ []) (text_of (gap 32 ∷ token Keyword (kind_text o.kind) ∷ processes)) refl refl refl refl; utf8 = ascii_utf8 (codes ":type") refl; nests = refl; counts = refl }
-    , (refl, omega arith, (kind_fits o.kind (text_of processes) (125 ∷ []) refl, named))))
+    let named : WellCut processes (125 ∷ []) = (
+      refl,
+      omega arith,
+      (
+        refl,
+        omega arith,
+        (
+          record { fits = run_fits 58 (112 ∷ 114 ∷ 111 ∷ 99 ∷ 101 ∷ 115 ∷ 115 ∷ []) (text_of (gap 32 ∷ token Int (decimal o.process) ∷ tail)) refl refl refl refl; utf8 = ascii_utf8 (codes ":process") refl; nests = refl; counts = refl },
+          (refl, omega arith, process),
+        ),
+      ),
+    ) in (
+      record { fits = refl; utf8 = ascii_utf8 (123 ∷ []) refl; nests = refl; counts = refl },
+      (
+        record { fits = run_fits 58 (116 ∷ 121 ∷ 112 ∷ 101 ∷ []) (text_of (gap 32 ∷ token Keyword (kind_text o.kind) ∷ processes)) refl refl refl refl; utf8 = ascii_utf8 (codes ":type") refl; nests = refl; counts = refl },
+        (refl, omega arith, (kind_fits o.kind (text_of processes) (125 ∷ []) refl, named)),
+      ),
+    )
