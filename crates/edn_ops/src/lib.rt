@@ -1,4 +1,5 @@
 //! Operations of a text.
 #![tactic(auto)]
 
+pub mod laws;
 pub mod types;

@@ -1,0 +1,10 @@
+-- Canonical text reads back: lemmas.
+pub mod Determined
+pub mod Chunks
+pub mod Runs
+pub mod Strings
+pub mod Atoms
+pub mod Mops
+pub mod Whole
+pub mod Read
+pub mod Lines

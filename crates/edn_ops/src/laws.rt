@@ -1,0 +1,43 @@
+//! Laws of reading: the contracts of functions that do nothing.
+
+ghost use Rattle.std.specs.Prelude.{◌≡◌, ℕ, List, [], ◌∷◌, Option, None, map};
+ghost use Rattle.std.specs.List.{All};
+ghost use Rattle.hist_types.specs.Operations.{Operation};
+ghost use Rattle.hist_types.specs.Reading.{Entry, operation, Reads};
+ghost use Rattle.hist_types.specs.Texts.{operation_text};
+ghost use Rattle.hist_types.specs.declared.types.Fault.{Fault};
+ghost use Rattle.edn_ops.specs.Simple.{OperationCanBeRead, AreLines};
+
+/// The canonical text of an operation reads as that operation, and as nothing else.
+pub fn canonical_text_reads_back()
+    ensures gives { (o : Operation) → OperationCanBeRead o → Reads (operation_text o) (operation o ∷ []) None }
+    ensures nothing_else { (o : Operation) (entries : List Entry) (fault : Option Fault) → OperationCanBeRead o
+        → Reads (operation_text o) entries fault → (entries ≡ operation o ∷ []) × (fault ≡ None) }
+{}
+
+/// Canonical texts, one to a line, read as their operations in order, and as nothing else.
+pub fn lines_read_back()
+    ensures gives { (text : List ℕ) (os : List Operation) → All OperationCanBeRead os → AreLines text os
+        → Reads text (map operation os) None }
+    ensures nothing_else { (text : List ℕ) (os : List Operation) (entries : List Entry) (fault : Option Fault)
+        → All OperationCanBeRead os → AreLines text os
+        → Reads text entries fault → (entries ≡ map operation os) × (fault ≡ None) }
+{}
+
+/// A text has at most one reading: its entries are determined, and so is the fault that ends them.
+pub fn readings_are_determined()
+    ensures { (text : List ℕ) (entries entries' : List Entry) (fault fault' : Option Fault)
+        → Reads text entries fault → Reads text entries' fault' → (entries ≡ entries') × (fault ≡ fault') }
+{}
+
+#[cfg(test)]
+mod tests {
+    use super::{canonical_text_reads_back, lines_read_back, readings_are_determined};
+
+    #[test]
+    fn laws_do_nothing() {
+        canonical_text_reads_back();
+        lines_read_back();
+        readings_are_determined();
+    }
+}
