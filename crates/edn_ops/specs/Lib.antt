@@ -1,1 +1,4 @@
 pub mod Owned
+pub mod SimpleLines
+pub mod Reader
+pub mod Scan

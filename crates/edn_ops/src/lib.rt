@@ -1,4 +1,5 @@
 //! Operations of a text.
 #![tactic(auto)]
 
+mod scan;
 pub mod types;
