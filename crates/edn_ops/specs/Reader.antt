@@ -1,11 +1,10 @@
 -- A reader of operations: a text, up to where it was read, and whether the reader is stuck there.
-use Rattle.std.specs.Prelude.{◌≡◌, ℕ, List, [], drop, Bool, true, false, ◌≢◌, ◌⊎◌}
-use Rattle.hist_types.specs.Operations.{Operation}
+use Rattle.std.specs.Prelude.{◌≡◌, ℕ, List, [], drop, Bool, true, false, ◌≢◌}
 use Rattle.hist_types.specs.declared.types.At.TheVariants.{Byte, Nowhere}
 use Rattle.hist_types.specs.declared.types.Fault.{Fault}
 use Rattle.hist_types.specs.declared.types.Refusal.TheVariants.{NotAMap, Memory}
 use Rattle.edn_ops.specs.declared.types.OpShape.{OpShape}
-use Rattle.edn_ops.specs.SimpleLines.{IsSimple, BeginsWithLine, BeginsWithNoLine, IsShapeOf}
+use Rattle.edn_ops.specs.SimpleLines.{BeginsWithNoLine, HasLine}
 
 pub record Reader : Type 0 where
   pub text : List ℕ
@@ -23,13 +22,17 @@ memory_fault = record { refusal = Memory; at = Nowhere }
 abbrev pub not_a_map : ℕ → Fault
 not_a_map place = record { refusal = NotAMap; at = Byte place }
 
--- an operation was read, which has this shape
+-- The line of an operation with this shape was read, and nothing else.
 pub record HasRead (old : Reader) (shape : OpShape) (new : Reader) : Type 0 where
-  pub op : Operation
-  pub simple : IsSimple op
-  pub line : BeginsWithLine (left old) op (left new)
-  pub shape_of : IsShapeOf old.text shape op
-  pub goes_on : new.is_stuck ≡ false
+  pub free : old.is_stuck ≡ false
+  pub line : HasLine old.text old.place shape new.place
+  pub stays : new ≡ record old { place = new.place }
+
+-- the text was read to its end
+pub record HasEnded (old new : Reader) : Type 0 where
+  pub free : old.is_stuck ≡ false
+  pub ended : left old ≡ []
+  pub stays : new ≡ old
 
 -- What is left does not begin with a simple line, and the reader stays there from then on.
 pub record HasRefused (old : Reader) (fault : Fault) (new : Reader) : Type 0 where

@@ -1,7 +1,7 @@
 -- Simple lines (this project's own).
 -- A simple line is the canonical text of an operation that reading accepts, with integers of 64 bits and ASCII keywords
 -- as its only atoms. It ends with a line feed, or with the text.
-use Rattle.std.specs.Prelude.{◌≡◌, ℕ, ◌<◌, ◌≤◌, List, [], ◌∷◌, ◌++◌, length, slice_range, Bool, true, false, ◌&&◌, nat_lt, IfSome, ◌⊎◌}
+use Rattle.std.specs.Prelude.{◌≡◌, ℕ, ◌<◌, ◌≤◌, List, [], ◌∷◌, ◌++◌, length, drop, slice_range, Bool, true, false, ◌&&◌, nat_lt, IfSome, ◌⊎◌}
 use Rattle.std.specs.List.{list_all, AllByRecursion}
 use Rattle.hist_types.specs.Bytes.{colon, line_feed, is_run_byte}
 use Rattle.hist_types.specs.Atoms.{Atom, integer, keyword, string, symbol}
@@ -84,3 +84,11 @@ pub record IsShapeOf (text : List ℕ) (shape : OpShape) (op : Operation) : Type
   pub kind : shape.kind ≡ op.kind
   pub process : shape.process ≡ op.process
   pub mops : AreMopShapesOf text shape.mops.items op.mops
+
+-- At a place of a text stands the line of a simple operation, with this shape. Behind the line comes the next place.
+pub record HasLine (text : List ℕ) (place : ℕ) (shape : OpShape) (next : ℕ) : Type 0 where
+  pub op : Operation
+  pub simple : IsSimple op
+  pub line : BeginsWithLine (drop place text) op (drop next text)
+  pub shape_of : IsShapeOf text shape op
+  pub within : next ≤ length text

@@ -1,5 +1,6 @@
 //! Operations of a text.
 #![tactic(auto)]
 
+pub mod reader;
 mod scan;
 pub mod types;
