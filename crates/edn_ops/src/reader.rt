@@ -45,10 +45,10 @@ fn line_from(
     ensures found { IfOk result (λ o. IfSome o (λ x. HasLine text.now place x.0 x.1)) }
     ensures none { IfOk result (λ o. IfNone o (BeginsWithNoLine (drop place text.now))) }
 {
-    match line(alloc, text.len(), &text[place..]) {
-        Ok(Some((shape, after))) => Ok(Some((shape, text.len().saturating_sub(after.len())))),
-        Ok(None) => Ok(None),
-        Err(e) => Err(e),
+    let (_, bytes) = text.split_at(place);
+    match line(alloc, text.len(), bytes)? {
+        Some((shape, after)) => Ok(Some((shape, text.len().saturating_sub(after.len())))),
+        None => Ok(None),
     }
 }
 
