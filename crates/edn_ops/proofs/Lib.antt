@@ -1,1 +1,7 @@
 pub mod ReadsBack
+pub mod Parts
+pub mod Digits
+pub mod Loop
+pub mod Atoms
+pub mod Mops
+pub mod Lines

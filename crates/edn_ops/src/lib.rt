@@ -2,4 +2,6 @@
 #![tactic(auto)]
 
 pub mod laws;
+pub mod reader;
+mod scan;
 pub mod types;

@@ -1,6 +1,7 @@
 //! Operations that own their keys and values.
 
 use hist_types::types::{OpKind, Process};
+use smallvec::SmallVec;
 
 /// A key or a value.
 #[derive(Debug, Drop, PartialEq, Eq)]
@@ -30,4 +31,30 @@ pub struct OwnedOp {
     pub kind: OpKind,
     pub process: Process,
     pub mops: Vec<OwnedMop>,
+}
+
+/// Where a part of a text begins and ends, in bytes from the text's start.
+#[derive(Clone, Copy, Debug, Default, PartialEq, Eq)]
+pub struct Span {
+    pub start: usize,
+    pub end: usize,
+}
+
+/// Where the text of a micro-operation's key and value stand. A nil read has the span of its `nil`.
+#[derive(Clone, Copy, Debug, Default, PartialEq, Eq)]
+pub struct MopShape {
+    pub is_write: bool,
+    pub key: Span,
+    pub value: Span,
+}
+
+/// What an operation of a text says, and where. It borrows nothing, and up to four micro-operations stand in it with no
+/// allocation.
+#[derive(Debug, Drop)]
+pub struct OpShape {
+    /// From the map's `{` to behind its `}`.
+    pub span: Span,
+    pub kind: OpKind,
+    pub process: Process,
+    pub mops: SmallVec<MopShape, 4>,
 }
