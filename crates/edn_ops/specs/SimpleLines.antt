@@ -92,3 +92,10 @@ pub record HasLine (text : List ℕ) (place : ℕ) (shape : OpShape) (next : ℕ
   pub line : BeginsWithLine (drop place text) op (drop next text)
   pub shape_of : IsShapeOf text shape op
   pub within : next ≤ length text
+
+-- ---- texts
+
+-- The text is simple lines of these operations, in order, and nothing else.
+abbrev pub AreSimpleLines : List ℕ → List Operation → Type 0
+AreSimpleLines text [] = text ≡ []
+AreSimpleLines text (op ∷ ops) = IsSimple op × ((rest : List ℕ) × BeginsWithLine text op rest × AreSimpleLines rest ops)

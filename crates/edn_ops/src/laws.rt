@@ -7,6 +7,7 @@ ghost use Rattle.hist_types.specs.Reading.{Entry, operation, Reads};
 ghost use Rattle.hist_types.specs.Texts.{operation_text};
 ghost use Rattle.hist_types.specs.declared.types.Fault.{Fault};
 ghost use Rattle.edn_ops.specs.Simple.{OperationCanBeRead, AreLines};
+ghost use Rattle.edn_ops.specs.SimpleLines.{AreSimpleLines};
 
 /// The canonical text of an operation reads as that operation, and as nothing else.
 pub fn canonical_text_reads_back()
@@ -24,6 +25,13 @@ pub fn lines_read_back()
         → Reads text entries fault → (entries ≡ map operation os) × (fault ≡ None) }
 {}
 
+/// Simple lines read as their operations in order, and as nothing else.
+pub fn simple_lines_read()
+    ensures gives { (text : List ℕ) (os : List Operation) → AreSimpleLines text os → Reads text (map operation os) None }
+    ensures nothing_else { (text : List ℕ) (os : List Operation) (entries : List Entry) (fault : Option Fault)
+        → AreSimpleLines text os → Reads text entries fault → (entries ≡ map operation os) × (fault ≡ None) }
+{}
+
 /// A text has at most one reading: its entries are determined, and so is the fault that ends them.
 pub fn readings_are_determined()
     ensures { (text : List ℕ) (entries entries' : List Entry) (fault fault' : Option Fault)
@@ -32,12 +40,13 @@ pub fn readings_are_determined()
 
 #[cfg(test)]
 mod tests {
-    use super::{canonical_text_reads_back, lines_read_back, readings_are_determined};
+    use super::{canonical_text_reads_back, lines_read_back, readings_are_determined, simple_lines_read};
 
     #[test]
     fn laws_do_nothing() {
         canonical_text_reads_back();
         lines_read_back();
+        simple_lines_read();
         readings_are_determined();
     }
 }

@@ -1,0 +1,11 @@
+use Rattle.edn_ops.proofs.ReadsBack.Lines.{one_reading}
+use Rattle.edn_ops.proofs.SimpleReads.{simple_lines_read}
+use Rattle.std.proofs.Common.{map, None}
+use Rattle.hist_types.specs.Reading.{operation}
+use Rattle.edn_ops.proofs.laws.simple_lines_read.Goals as goal
+
+pub returns-clause-gives : goal.returns-clause-gives
+returns-clause-gives c = simple_lines_read
+
+pub returns-clause-nothing_else : goal.returns-clause-nothing_else
+returns-clause-nothing_else c text os entries fault h r = one_reading text entries (map operation os) fault None r (simple_lines_read text os h)
