@@ -5,4 +5,6 @@
 pub mod device;
 pub mod laws;
 pub mod limits;
+#[cfg(test)]
+mod tests;
 pub mod types;

@@ -1,0 +1,201 @@
+use crate::device::{Failed, MemorySink, MemorySource, Sink, Source};
+use crate::laws;
+use crate::limits::MAX_PROCESS;
+use crate::types::{At, Fault, Level, Process, Refusal};
+use std::alloc::Global;
+use std::cmp::Ordering;
+use std::test::Fail;
+
+/// The table of numbers and names, as the users' guide prints it.
+const TITLES: [(Refusal, u32, &str); 29] = [
+    (Refusal::Busy, 1, "Busy"),
+    (Refusal::Retired, 2, "Retired"),
+    (Refusal::Rewritten, 3, "Rewritten"),
+    (Refusal::Idle, 5, "Idle"),
+    (Refusal::Mismatch, 6, "Mismatch"),
+    (Refusal::Full, 7, "Full"),
+    (Refusal::TooManyEvents, 8, "TooManyEvents"),
+    (Refusal::BadRange, 9, "BadRange"),
+    (Refusal::Memory, 10, "Memory"),
+    (Refusal::NoThread, 11, "NoThread"),
+    (Refusal::BadUtf8, 20, "BadUtf8"),
+    (Refusal::UnclosedString, 21, "UnclosedString"),
+    (Refusal::StrayCloser, 22, "StrayCloser"),
+    (Refusal::TooDeep, 23, "TooDeep"),
+    (Refusal::Unclosed, 24, "Unclosed"),
+    (Refusal::OddMap, 25, "OddMap"),
+    (Refusal::DanglingTag, 26, "DanglingTag"),
+    (Refusal::NotAMap, 27, "NotAMap"),
+    (Refusal::MissingField, 28, "MissingField"),
+    (Refusal::DuplicateField, 29, "DuplicateField"),
+    (Refusal::BadType, 30, "BadType"),
+    (Refusal::BadProcess, 31, "BadProcess"),
+    (Refusal::NotTxn, 32, "NotTxn"),
+    (Refusal::BadAtom, 33, "BadAtom"),
+    (Refusal::NilWritten, 34, "NilWritten"),
+    (Refusal::TooLong, 35, "TooLong"),
+    (Refusal::TooManyMicroOps, 36, "TooManyMicroOps"),
+    (Refusal::BlockFull, 37, "BlockFull"),
+    (Refusal::EmptyImport, 38, "EmptyImport"),
+];
+
+#[test]
+fn refusals_bear_their_titles(rt: HostRuntime) {
+    for (refusal, number, name) in TITLES {
+        assert_eq!(rt; refusal.number(), number);
+        assert_eq!(rt; refusal.name(), name);
+    }
+}
+
+/// What it says and what it prints can differ; memory may be refused here, and then there is nothing to compare.
+#[test]
+fn faults_print_their_lines(rt: HostRuntime) {
+    for (refusal, at, line) in [
+        (
+            Refusal::Unclosed,
+            At::Byte(35),
+            "refused 24 Unclosed byte 35",
+        ),
+        (Refusal::Busy, At::Event(1), "refused 1 Busy event 1"),
+        (Refusal::Full, At::Nowhere, "refused 7 Full"),
+        (
+            Refusal::TooManyEvents,
+            At::Event(1_048_576),
+            "refused 8 TooManyEvents event 1048576",
+        ),
+        (Refusal::BadUtf8, At::Byte(0), "refused 20 BadUtf8 byte 0"),
+    ] {
+        if let Ok(printed) = (Fault { refusal, at }).to_string(rt.alloc()) {
+            assert_eq!(rt; printed.as_str(), line);
+        }
+    }
+}
+
+#[test]
+fn errors_say_what_happened(rt: HostRuntime) {
+    if let Ok(said) = Refusal::Busy.to_string(rt.alloc()) {
+        assert_eq!(rt; said.as_str(), "the process has an open invocation");
+    }
+    if let Ok(said) = Failed.to_string(rt.alloc()) {
+        assert_eq!(rt; said.as_str(), "device fault");
+    }
+}
+
+#[test]
+fn processes_are_31_bits_wide(rt: HostRuntime) {
+    for number in [0, 1, 2_147_483_647] {
+        assert_eq!(rt; Process::new(number).map(Process::number), Some(number));
+    }
+    for number in [2_147_483_648, u64::MAX] {
+        assert_eq!(rt; Process::new(number), None);
+    }
+    assert_eq!(rt; MAX_PROCESS, 2_147_483_647);
+}
+
+#[test]
+fn levels_rise(rt: HostRuntime) {
+    let levels = [Level::Plain, Level::Process, Level::Realtime];
+    for (i, a) in levels.iter().enumerate() {
+        for (j, b) in levels.iter().enumerate() {
+            assert_eq!(rt; laws::levels_in_order(*a, *b), i.cmp(&j));
+        }
+    }
+    assert_eq!(rt; Level::Process.cmp(&Level::Realtime), Ordering::Less);
+}
+
+#[test]
+fn laws_return() {
+    laws::no_two_refusals_alike();
+    laws::equality_decided();
+    laws::blocks_one_after_another();
+    laws::runs_longest();
+    laws::order_edges_between_nodes();
+    laws::process_order_in_realtime();
+    laws::thinned_among_order_edges();
+}
+
+#[test]
+fn source_gives_pieces(rt: HostRuntime) {
+    let mut source = MemorySource::new(b"abcde");
+    let mut room = [0; 2];
+    for (count, seen) in [(2, *b"ab"), (2, *b"cd"), (1, *b"ed"), (0, *b"ed")] {
+        assert_eq!(rt; source.read(&mut room), Ok(count));
+        assert_eq!(rt; room, seen);
+    }
+    let mut source = MemorySource::new(b"f");
+    assert_eq!(rt; source.read(&mut []), Ok(0));
+    assert_eq!(rt; source.read(&mut room), Ok(1));
+    assert_eq!(rt; room, *b"fd");
+}
+
+/// A piece that was refused can be written again.
+#[test]
+fn sink_takes_pieces(rt: HostRuntime) {
+    let mut sink = MemorySink::new(rt.alloc());
+    let mut taken = 0;
+    for piece in [b"abc".as_slice(), b"", b"abcde", b"fgh"] {
+        match sink.write(piece) {
+            Ok(count) => {
+                assert_eq!(rt; count, piece.len());
+                assert!(rt; sink.bytes().ends_with(piece));
+                taken = sink.bytes().len();
+            }
+            Err(Failed) => assert_eq!(rt; sink.bytes().len(), taken),
+        }
+    }
+}
+
+/// Carries one piece from any source to any sink, and answers how many bytes the sink took of it.
+fn carry<S: Source, K: Sink>(source: &mut S, sink: &mut K) -> Result<usize, Failed> {
+    let mut room = [0; 4];
+    let count = source.read(&mut room)?;
+    sink.write(&room[..count])
+}
+
+/// A device that works twice and then fails.
+#[derive(Drop)]
+struct Faulty {
+    left: u64,
+    failures: u64,
+}
+
+impl Source for Faulty {
+    ghost use Rattle.std.specs.Prelude.{None};
+
+    ghost tells = { λ _. None };
+
+    ghost failures = { λ faulty. faulty.failures };
+
+    fn read(&mut self, room: &mut [u8]) -> Result<usize, Failed> {
+        if self.left == 0 {
+            self.failures = self.failures.saturating_add(1);
+            return Err(Failed);
+        }
+        self.left -= 1;
+        room.fill(b'x');
+        Ok(room.len())
+    }
+}
+
+#[test]
+fn any_source_feeds_any_sink(rt: HostRuntime) -> Result<(), Fail> {
+    let mut source = MemorySource::new(b"abcdefg");
+    let mut sink = MemorySink::new(rt.alloc());
+    if carry(&mut source, &mut sink) == Ok(4) && carry(&mut source, &mut sink) == Ok(3) {
+        assert_eq!(rt; sink.bytes(), b"abcdefg".as_slice());
+        assert_eq!(rt; carry(&mut source, &mut sink), Ok(0));
+    }
+    let mut faulty = Faulty {
+        left: 2,
+        failures: 0,
+    };
+    let mut sink = MemorySink::new(rt.alloc());
+    if carry(&mut faulty, &mut sink) == Ok(4) && carry(&mut faulty, &mut sink) == Ok(4) {
+        for failures in 1..3 {
+            assert_eq!(rt; carry(&mut faulty, &mut sink), Err(Failed));
+            assert_eq!(rt; faulty.failures, failures);
+        }
+        assert_eq!(rt; sink.bytes(), b"xxxxxxxx".as_slice());
+    }
+    Ok(())
+}
