@@ -8,3 +8,5 @@ pub mod Mops
 pub mod Whole
 pub mod Read
 pub mod Lines
+pub mod Lexed
+pub mod Meant
