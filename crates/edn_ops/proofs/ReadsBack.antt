@@ -10,3 +10,4 @@ pub mod Read
 pub mod Lines
 pub mod Lexed
 pub mod Meant
+pub mod Given
