@@ -11,3 +11,4 @@ pub mod Lines
 pub mod Lexed
 pub mod Meant
 pub mod Given
+pub mod Spellings

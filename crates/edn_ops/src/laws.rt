@@ -39,7 +39,10 @@ pub fn what_is_read_can_be_read_back()
 
 #[cfg(test)]
 mod tests {
-    use super::{canonical_text_reads_back, lines_read_back, readings_are_determined, what_is_read_can_be_read_back};
+    use super::{
+        canonical_text_reads_back, lines_read_back, readings_are_determined,
+        what_is_read_can_be_read_back,
+    };
 
     #[test]
     fn laws_do_nothing() {

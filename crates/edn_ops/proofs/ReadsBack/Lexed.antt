@@ -1,6 +1,6 @@
 -- The tokens of a text mean atoms that can be read.
-use Rattle.std.proofs.Common.{◌≡◌, ◌≢◌, inl, inr, ℕ, zero, suc, ◌+◌, ◌-◌, ◌<◌, ◌≤◌, List, [], ◌∷◌, ◌++◌, length, take, drop, get_or, Bool, true, false, cond, Option, Some, None, refl, sym, ◌∙◌, ap, subst, arith}
-use Rattle.std.specs.Prelude.{bytes_eq, codes, not, ◌&&◌, ◌||◌, ◌==◌, nat_lt, if◌then◌else◌, option_map}
+use Rattle.std.proofs.Common.{◌≡◌, inl, inr, ℕ, zero, suc, ◌+◌, ◌-◌, ◌<◌, ◌≤◌, List, [], ◌∷◌, length, take, drop, get_or, Bool, true, false, cond, Option, Some, None, refl, sym, ◌∙◌, ap, subst, arith}
+use Rattle.std.specs.Prelude.{bytes_eq, codes, not, ◌&&◌, ◌==◌, nat_lt, option_map}
 use Rattle.std.specs.List.{list_all, prefix_len}
 use Rattle.std.specs.Str.{IsUtf8, is_utf8}
 use Rattle.std.specs.Str.Lossy.{utf8_valid_len, valid_len_up_to}
@@ -8,9 +8,8 @@ use Rattle.std.proofs.lemmas.Bool.{cases_Bool, both_ways, and_from, cond-true, c
 use Rattle.std.proofs.lemmas.List.{take_all, get_or-take}
 use Rattle.std.proofs.lemmas.List.Sums.{take_while-cons}
 use Rattle.std.proofs.lemmas.Str.{IsUtf8-between, IsCharBoundary-after_ascii, IsCharBoundary-before_ascii, IsUtf8-from_is_utf8, IsUtf8-nil, utf8_valid_len_le}
-use Rattle.hist_types.specs.declared.types.Fault.{Fault}
 use Rattle.hist_types.specs.Bytes.{line_feed, quote, backslash, semicolon, hash, is_blank, is_opener, is_closer, is_run_byte, open_brace, underscore}
-use Rattle.hist_types.specs.Tokens.{Item, ItemKind, Blank, Comment, Opener, Closer, Str, Char, Drop, Tag, Nil, True, False, Int, Keyword, Symbol, Other, front, hash_front, run_of, run_len, run_kind, is_int, is_keyword, is_symbol, character_len, first_byte, second_byte, BeginsWith, item_fault, content_len}
+use Rattle.hist_types.specs.Tokens.{ItemKind, Blank, Comment, Opener, Closer, Str, Char, Drop, Tag, Nil, True, False, Int, Keyword, Symbol, Other, front, hash_front, run_of, run_len, run_kind, is_int, is_keyword, is_symbol, character_len, first_byte, BeginsWith, item_fault, content_len}
 use Rattle.hist_types.specs.Reading.{between_quotes}
 use Rattle.edn_ops.specs.Simple.{IsSpelling}
 
@@ -62,6 +61,7 @@ hash_no_word bs = elim (cases_Bool (is_int (hash ∷ bs))) [
   | inr is_not ↦ rw is_not refl
 ]
 
+-- whatever item it is
 hash_front_no_word : (rest : List ℕ) → is_word (hash_front rest).0 ≡ false
 hash_front_no_word rest = elim (cases_Bool (first_byte rest == open_brace)) [
   | inl e ↦ rw e refl
@@ -81,6 +81,7 @@ record IsWordRun (b : ℕ) (rest : List ℕ) (kind : ItemKind) (n : ℕ) : Type 
   in_run : is_run_byte b ≡ true
   no_backslash : (b == backslash) ≡ false
 
+-- what a keyword or a symbol at the front says of the text
 word_run : (b : ℕ) (rest : List ℕ) (kind : ItemKind) (n : ℕ) → is_word kind ≡ true → front b rest ≡ (kind, Some n) → IsWordRun b rest kind n
 word_run b rest kind n is_one h = elim (cases_Bool (is_blank b)) [
   | inl e ↦ absurd (not_word (Blank, _) kind (Some n) (rw e at h) is_one refl)
@@ -145,10 +146,12 @@ word_spelling (b ∷ rest) kind bytes is_one u h =
 
 -- ---- strings
 
+-- whether it is a string
 is_str : ItemKind → Bool
 is_str Str = true
 is_str kind = false
 
+-- whether an item that was found is a string
 abbrev names_str : ItemKind × Option ℕ → Bool
 names_str p = is_str p.0
 
@@ -175,10 +178,11 @@ no_str_hash false true e o p q run r = refl
 no_str_hash false false true o p q run r = r
 no_str_hash false false false o p q run r = refl
 
+-- whatever item it is
 hash_no_str : (rest : List ℕ) → names_str (hash_front rest) ≡ false
 hash_no_str rest =
     no_str_hash (first_byte rest == open_brace) (first_byte rest == underscore) (first_byte rest == hash) (Some 2) (Some 2) (Some (suc (run_len rest)))
-        (run_kind (hash ∷ run_of rest), Some (suc (run_len rest))) (run_no_str (hash ∷ run_of rest))
+    (run_kind (hash ∷ run_of rest), Some (suc (run_len rest))) (run_no_str (hash ∷ run_of rest))
 
 -- nor what begins with anything but a quote
 no_str_front : (c d e f g h i : Bool) (o p q r s t : Option ℕ) (tag run : ItemKind × Option ℕ) → e ≡ false → names_str tag ≡ false → names_str run ≡ false → names_str (cond c (Blank, o) (cond d (Comment, p) (cond e (Str, q) (cond f (Char, r) (cond g (Opener, s) (cond h (Closer, t) (cond i tag run))))))) ≡ false
@@ -192,11 +196,12 @@ no_str_front false false false false false true i o p q r s t tag run n x y = re
 no_str_front false false false false false false true o p q r s t tag run n x y = x
 no_str_front false false false false false false false o p q r s t tag run n x y = y
 
+-- only a quote begins a string
 front_no_str : (b : ℕ) (rest : List ℕ) → (b == quote) ≡ false → names_str (front b rest) ≡ false
 front_no_str b rest no_quote =
     no_str_front (is_blank b) (b == semicolon) (b == quote) (b == backslash) (is_opener b) (is_closer b) (b == hash)
-        (Some 1) (Some (suc (prefix_len (λ c. not (c == line_feed)) rest))) (option_map (λ n. n + 2) (content_len false rest)) (Some (suc (character_len rest))) (Some 1) (Some 1)
-        (hash_front rest) (run_kind (b ∷ run_of rest), Some (suc (run_len rest))) no_quote (hash_no_str rest) (run_no_str (b ∷ run_of rest))
+    (Some 1) (Some (suc (prefix_len (λ c. not (c == line_feed)) rest))) (option_map (λ n. n + 2) (content_len false rest)) (Some (suc (character_len rest))) (Some 1) (Some 1)
+    (hash_front rest) (run_kind (b ∷ run_of rest), Some (suc (run_len rest))) no_quote (hash_no_str rest) (run_no_str (b ∷ run_of rest))
 
 -- there is none or one
 pub none_or_some : {A : Type 0} (x : A) → None ≡ Some x → ⊥
@@ -229,6 +234,7 @@ pub record IsQuoted (bytes : List ℕ) : Type 0 where
   pub first : get_or bytes 0 0 ≡ quote
   pub last : get_or bytes (length bytes - 1) 0 ≡ quote
 
+-- a string of a text is between quotes
 pub quoted : (text bytes : List ℕ) → BeginsWith text Str bytes → IsQuoted bytes
 unfolding is_str
 quoted [] bytes h = absurd h

@@ -1,5 +1,5 @@
 -- The tokens of a text mean atoms that can be read.
-use Rattle.std.proofs.Common.{◌≡◌, ◌≢◌, inl, inr, ℕ, suc, ◌+◌, ◌-◌, ◌<◌, ◌≤◌, List, [], ◌∷◌, ◌++◌, length, get_or, Bool, true, false, cond, Option, Some, None, refl, sym, ◌∙◌, ap, subst, arith}
+use Rattle.std.proofs.Common.{◌≡◌, inl, inr, ℕ, suc, ◌<◌, ◌≤◌, List, [], ◌∷◌, ◌++◌, length, get_or, Bool, true, false, cond, Option, Some, None, refl, sym, ◌∙◌, ap, subst, arith}
 use Rattle.std.specs.Prelude.{◌==◌, option_and_then}
 use Rattle.std.specs.Str.{IsUtf8}
 use lib.Utf8.{scalar, scalars, encode, encodes}
@@ -8,11 +8,11 @@ use Rattle.std.proofs.lemmas.Str.{IsUtf8-from_ascii, IsUtf8-nil, IsUtf8-append, 
 use Rattle.std.proofs.lemmas.Str.Ascii.{IsAscii-cons, IsAscii-nil, encode_ascii}
 use Rattle.hist_types.specs.Bytes.{backslash}
 use Rattle.hist_types.specs.Atoms.{Atom, integer, keyword, string, symbol}
-use Rattle.hist_types.specs.Tokens.{ItemKind, Str, Int, Keyword, Symbol, BeginsWith, item_fault}
-use Rattle.hist_types.specs.Reading.{escape_value, with_byte, decoded, between_quotes, int_value, is_64_bit, atom_of_token}
+use Rattle.hist_types.specs.Tokens.{ItemKind, Str, Int, Keyword, Symbol, BeginsWith}
+use Rattle.hist_types.specs.Reading.{escape_value, decoded, between_quotes, int_value, is_64_bit, atom_of_token}
 use Rattle.edn_ops.specs.Simple.{CanBeRead}
 use Rattle.edn_ops.proofs.ReadsBack.Strings.{high_character}
-use Rattle.edn_ops.proofs.ReadsBack.Lexed.{none_or_some, mapped_some, word_spelling, quoted, between_utf8, no_fault_utf8}
+use Rattle.edn_ops.proofs.ReadsBack.Lexed.{none_or_some, mapped_some, word_spelling, quoted, between_utf8}
 
 -- ---- what is decoded from UTF-8
 
@@ -27,6 +27,7 @@ low_branch false false false false false true i v q = let k : 8 ≡ v = cc in om
 low_branch false false false false false false true v q = let k : 12 ≡ v = cc in omega arith
 low_branch false false false false false false false v q = absurd (none_or_some v q)
 
+-- whichever escape it is
 escape_low : (b v : ℕ) → escape_value b ≡ Some v → v < 128
 escape_low b v e = low_branch (b == 116) (b == 114) (b == 110) (b == 92) (b == 34) (b == 98) (b == 102) v e
 
@@ -46,6 +47,7 @@ no_high_escape b h =
 abbrev Rest : List ℕ → List ℕ → List ℕ → Type 0
 Rest bs text c = (d : List ℕ) × (decoded false text ≡ Some d) × (c ≡ bs ++ d)
 
+-- and what comes after them is decoded as before
 decoded_high : (bs text c : List ℕ) → ((k : ℕ) → k < length bs → 128 ≤ get_or bs k 0) → decoded false (bs ++ text) ≡ Some c → Rest bs text c
 decoded_high [] text c h e = (c, e, refl)
 decoded_high (b ∷ bs) text c h e =
@@ -71,6 +73,7 @@ and_then_some (Some x) f y e = (x, refl, e)
 onto_utf8 : (b : ℕ) (bs c : List ℕ) → b < 128 → IsUtf8 bs → b ∷ bs ≡ c → IsUtf8 c
 onto_utf8 b bs c low u e = subst IsUtf8 e (IsUtf8-append (b ∷ []) bs (IsUtf8-from_ascii (b ∷ []) (IsAscii-cons b [] low IsAscii-nil)) u)
 
+-- what is decoded from UTF-8 is UTF-8
 decoded_utf8 : (cs : List ℕ) (taken : Bool) (c : List ℕ) → scalars cs ≡ true → decoded taken (encodes cs) ≡ Some c → IsUtf8 c
 decoded_utf8 [] true c s e = absurd (none_or_some c e)
 decoded_utf8 [] false c s e = let n : [] ≡ c = cc in subst IsUtf8 n IsUtf8-nil
@@ -112,6 +115,7 @@ Means kind bytes = (a : Atom) → atom_of_token kind bytes ≡ Some a → CanBeR
 same_atom : (a b : Atom) → Some a ≡ Some b → a ≡ b
 same_atom a b e = cc
 
+-- a token that stands at the front of a text means what can be read
 pub token_means : (kind : ItemKind) (text bytes : List ℕ) → IsUtf8 bytes → BeginsWith text kind bytes → Means kind bytes
 token_means Int text bytes u h = λ a e. elim (cases_Bool (is_64_bit (int_value bytes))) [
   | inl fits ↦ subst CanBeRead (same_atom (integer (int_value bytes)) a (rw fits at e)) fits
