@@ -8,3 +8,7 @@ pub mod Mops
 pub mod Whole
 pub mod Read
 pub mod Lines
+pub mod Lexed
+pub mod Meant
+pub mod Given
+pub mod Spellings

@@ -25,16 +25,19 @@ pub record IsSpelling (kind : ItemKind) (spelling : List ℕ) : Type 0 where
   pub no_character : first_byte spelling ≢ backslash
   pub utf8 : IsUtf8 spelling
 
+-- an atom that a text can give
 abbrev pub CanBeRead : Atom → Type 0
 CanBeRead (integer number) = is_64_bit number ≡ true
 CanBeRead (keyword spelling) = IsSpelling Keyword spelling
 CanBeRead (string content) = IsUtf8 content
 CanBeRead (symbol spelling) = IsSpelling Symbol spelling
 
+-- nil, or such an atom
 abbrev pub ValueCanBeRead : Value → Type 0
 ValueCanBeRead None = Unit {0}
 ValueCanBeRead (Some atom) = CanBeRead atom
 
+-- a micro-operation of such atoms
 abbrev pub MopCanBeRead : Mop → Type 0
 MopCanBeRead (read key value) = CanBeRead key × ValueCanBeRead value
 MopCanBeRead (write key value) = CanBeRead key × CanBeRead value
@@ -46,6 +49,7 @@ MopsCanBeRead kinds.Ok mops = (length mops ≤ MAX_MICRO_OPS) × All MopCanBeRea
 MopsCanBeRead kinds.Fail mops = mops ≡ []
 MopsCanBeRead kinds.Info mops = mops ≡ []
 
+-- an operation that a text can give, and whose canonical text is short enough
 pub record OperationCanBeRead (o : Operation) : Type 0 where
   pub process : o.process ≤ MAX_PROCESS
   pub mops : MopsCanBeRead o.kind o.mops

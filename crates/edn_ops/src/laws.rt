@@ -1,10 +1,11 @@
 //! Laws of reading: the contracts of functions that do nothing.
 
-ghost use Rattle.std.specs.Prelude.{◌≡◌, ℕ, List, [], ◌∷◌, Option, None, map};
+ghost use Rattle.std.specs.Prelude.{◌≡◌, ◌≤◌, ℕ, length, List, [], ◌∷◌, Option, None, map};
 ghost use Rattle.std.specs.List.{All};
 ghost use Rattle.hist_types.specs.Operations.{Operation};
-ghost use Rattle.hist_types.specs.Reading.{Entry, operation, Reads};
+ghost use Rattle.hist_types.specs.Reading.{Entry, operation, operations_of, Reads};
 ghost use Rattle.hist_types.specs.Texts.{operation_text};
+ghost use Rattle.hist_types.specs.declared.limits.TheConstants.{MAX_OPERATION_BYTES};
 ghost use Rattle.hist_types.specs.declared.types.Fault.{Fault};
 ghost use Rattle.edn_ops.specs.Simple.{OperationCanBeRead, AreLines};
 ghost use Rattle.edn_ops.specs.SimpleLines.{AreSimpleLines};
@@ -38,9 +39,18 @@ pub fn readings_are_determined()
         → Reads text entries fault → Reads text entries' fault' → (entries ≡ entries') × (fault ≡ fault') }
 {}
 
+/// Each operation that a text gives can be read back, where its canonical text has at most 65,536 bytes.
+pub fn what_is_read_can_be_read_back()
+    ensures { (text : List ℕ) (entries : List Entry) (fault : Option Fault) → Reads text entries fault
+        → All (λ o. length (operation_text o) ≤ MAX_OPERATION_BYTES → OperationCanBeRead o) (operations_of entries) }
+{}
+
 #[cfg(test)]
 mod tests {
-    use super::{canonical_text_reads_back, lines_read_back, readings_are_determined, simple_lines_read};
+    use super::{
+        canonical_text_reads_back, lines_read_back, readings_are_determined, simple_lines_read,
+        what_is_read_can_be_read_back,
+    };
 
     #[test]
     fn laws_do_nothing() {
@@ -48,5 +58,6 @@ mod tests {
         lines_read_back();
         simple_lines_read();
         readings_are_determined();
+        what_is_read_can_be_read_back();
     }
 }

@@ -16,6 +16,7 @@ pub data Chunk : Type 0 where
   gap : ℕ → Chunk
   token : ItemKind → List ℕ → Chunk
 
+-- the text that chunks have
 abbrev pub text_of : List Chunk → List ℕ
 text_of [] = []
 text_of (gap b ∷ more) = b ∷ text_of more
@@ -39,6 +40,7 @@ WellCut [] closers = Unit {0}
 WellCut (gap b ∷ more) closers = (is_blank b ≡ true) × (b < 128) × WellCut more closers
 WellCut (token kind bytes ∷ more) closers = TokenFits kind bytes (text_of more) closers × WellCut more (open_after kind bytes closers)
 
+-- the item of this kind and with these bytes at the offset
 abbrev pub item_at : ℕ → ItemKind → List ℕ → Item
 item_at at kind bytes = record { kind = kind; start = at; bytes = bytes }
 

@@ -40,6 +40,7 @@ none_made = record { cut = tt; row = (λ at. ended); made = (λ at. refl); back 
 reading_onto : (o : Operation) (at : ℕ) (row : Forms) (os : List Operation) → OperationCanBeRead o → read_top row ≡ record { entries = map operation os; fault = None } → read_top (form (operation_form at o) row) ≡ record { entries = map operation (o ∷ os); fault = None }
 reading_onto o at row os h e = operation_back at o (read_top row) h ∙ ap (λ (r : Reading). record { entries = operation o ∷ r.entries; fault = r.fault }) e
 
+-- one operation, with nothing behind it
 last_made : (o : Operation) → OperationCanBeRead o → Make (o ∷ []) (operation_chunks o [])
 last_made o h = record {
   cut = operation_cut o [] h tt;
@@ -48,6 +49,7 @@ last_made o h = record {
   back = (λ at. reading_onto o at ended [] h refl);
 }
 
+-- one operation before others, with a byte 10 between
 next_made : (o : Operation) (os : List Operation) (chunks : List Chunk) → OperationCanBeRead o → Make os chunks → Make (o ∷ os) (operation_chunks o (gap 10 ∷ chunks))
 next_made o os chunks h m = record {
   cut = operation_cut o (gap 10 ∷ chunks) h (refl, omega arith, m.cut);
@@ -56,10 +58,12 @@ next_made o os chunks h m = record {
   back = (λ at. reading_onto o at (m.row (after_operation at o + 1)) os h (m.back (after_operation at o + 1)));
 }
 
+-- operations, each followed by a byte 10, are read as these
 ended_made : (os : List Operation) → All OperationCanBeRead os → Make os (ended_chunks os)
 ended_made [] h = none_made
 ended_made (o ∷ os) h = next_made o os (ended_chunks os) (All-head OperationCanBeRead o os h) (ended_made os (All-tail OperationCanBeRead o os h))
 
+-- and so are they with none behind the last
 joined_made : (o : Operation) (os : List Operation) → All OperationCanBeRead (o ∷ os) → Make (o ∷ os) (joined_chunks o os)
 joined_made o [] h = last_made o (All-head OperationCanBeRead o [] h)
 joined_made o (p ∷ os) h = next_made o (p ∷ os) (joined_chunks p os) (All-head OperationCanBeRead o (p ∷ os) h) (joined_made p os (All-tail OperationCanBeRead o (p ∷ os) h))
@@ -72,6 +76,7 @@ ended_written (o ∷ os) =
     ∙ ap (λ (t : List ℕ). operation_text o ++ 10 ∷ t) (ended_written os)
     ∙ sym (append_assoc (operation_text o) (10 ∷ []) (operation_lines os))
 
+-- and so have they with none behind the last
 joined_written : (o : Operation) (os : List Operation) → text_of (joined_chunks o os) ++ 10 ∷ [] ≡ operation_lines (o ∷ os)
 joined_written o [] = ap (λ (t : List ℕ). t ++ 10 ∷ []) (operation_written o [] ∙ append-nil (operation_text o)) ∙ sym (append-nil (operation_text o ++ 10 ∷ []))
 joined_written o (p ∷ os) =
@@ -84,6 +89,7 @@ joined_written o (p ∷ os) =
 abbrev IsMade : List ℕ → List Operation → Type 0
 IsMade text os = (chunks : List Chunk) × (text ≡ text_of chunks) × Make os chunks
 
+-- each text of lines is made so
 lines_made : (text : List ℕ) (os : List Operation) → All OperationCanBeRead os → AreLines text os → IsMade text os
 lines_made text [] h lines = elim lines [
   | inl e ↦ ([], e, none_made)

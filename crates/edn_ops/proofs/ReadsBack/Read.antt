@@ -24,9 +24,11 @@ use Rattle.edn_ops.proofs.ReadsBack.Whole.{value_chunks, operation_chunks}
 abbrev pub vector_at : ℕ → ℕ
 vector_at at = at + 1 + 1 + length (codes ":value") + 1
 
+-- its closer
 abbrev pub vector_closer : ℕ → List Mop → Item
 vector_closer at mops = item_at (after_mops (vector_at at + 1) mops) Closer (93 ∷ [])
 
+-- what comes after the field
 abbrev pub after_value : OpKind → ℕ → List Mop → ℕ
 after_value kinds.Invoke at mops = after_mops (vector_at at + 1) mops + 1
 after_value kinds.Ok at mops = after_mops (vector_at at + 1) mops + 1
@@ -37,12 +39,14 @@ after_value kinds.Info at mops = at
 abbrev pub vector_form : ℕ → List Mop → Form
 vector_form at mops = collection (item_at (vector_at at) Opener (91 ∷ [])) (mops_forms (vector_at at + 1) mops (closed (vector_closer at mops)))
 
+-- the forms of the field, before a row
 abbrev pub value_forms : OpKind → ℕ → List Mop → Forms → Forms
 value_forms kinds.Invoke at mops row = form (plain (item_at (at + 1 + 1) Keyword (codes ":value"))) (form (vector_form at mops) row)
 value_forms kinds.Ok at mops row = form (plain (item_at (at + 1 + 1) Keyword (codes ":value"))) (form (vector_form at mops) row)
 value_forms kinds.Fail at mops row = row
 value_forms kinds.Info at mops row = row
 
+-- the tokens of the field make its forms
 value_made : (kind : OpKind) (at : ℕ) (mops : List Mop) (more : List Chunk) (ending : Option Fault) (row : Forms) (rows : List Forms) → forms_of (tokens_at (after_value kind at mops) more) ending ≡ row ∷ rows → forms_of (tokens_at at (value_chunks kind mops more)) ending ≡ value_forms kind at mops row ∷ rows
 value_made kinds.Invoke at mops more ending row rows e =
     let inner = mops_made (vector_at at + 1) mops (token Closer (93 ∷ []) ∷ more) ending (closed (vector_closer at mops)) (row ∷ rows) (ap (λ (rs : List Forms). closed (vector_closer at mops) ∷ rs) e) in
@@ -59,15 +63,19 @@ value_made kinds.Info at mops more ending row rows e = e
 abbrev pub kind_at : ℕ → ℕ
 kind_at at = at + 1 + length (codes ":type") + 1
 
+-- where the process begins
 abbrev pub process_at : ℕ → OpKind → ℕ
 process_at at kind = kind_at at + length (kind_text kind) + 1 + 1 + length (codes ":process") + 1
 
+-- what comes after the process
 abbrev pub after_process : ℕ → Operation → ℕ
 after_process at o = process_at at o.kind + length (decimal o.process)
 
+-- where the closing brace stands
 abbrev pub closer_at : ℕ → Operation → ℕ
 closer_at at o = after_value o.kind (after_process at o) o.mops
 
+-- what comes after the operation
 abbrev pub after_operation : ℕ → Operation → ℕ
 after_operation at o = closer_at at o + 1
 
@@ -80,6 +88,7 @@ inside_forms at o =
     (form (plain (item_at (process_at at o.kind) Int (decimal o.process)))
     (value_forms o.kind (after_process at o) o.mops (closed (item_at (closer_at at o) Closer (125 ∷ [])))))))
 
+-- the form of the operation
 abbrev pub operation_form : ℕ → Operation → Form
 operation_form at o = collection (item_at at Opener (123 ∷ [])) (inside_forms at o)
 
@@ -138,6 +147,7 @@ from_fields at o h k m t =
     client_back (int_value (decimal o.process)) (process_at at o.kind) at (end_of (inside_forms at o) - at) (pairs_of (members (inside_forms at o))) o.kind o.process o.mops
     (plain (item_at (kind_at at) Keyword (kind_text o.kind))) (process_back o.process h.process) (short at o h) t k m
 
+-- what stands between the braces gives the operation
 entry_back : (kind : OpKind) (process at : ℕ) (mops : List Mop) → OperationCanBeRead (record { kind = kind; process = process; mops = mops }) → entry_of (item_at at Opener (123 ∷ [])) (inside_forms at (record { kind = kind; process = process; mops = mops })) ≡ Ok (operation (record { kind = kind; process = process; mops = mops }))
 entry_back kinds.Invoke process at mops h =
     let o : Operation = record { kind = kinds.Invoke; process = process; mops = mops } in

@@ -39,6 +39,7 @@ pub record IsInRun (b : ℕ) : Type 0 where
   no_quote : (b == quote) ≡ false
   no_semicolon : (b == semicolon) ≡ false
 
+-- a byte of a run fails them
 in_run : (b : ℕ) → is_run_byte b ≡ true → IsInRun b
 in_run b h =
     let none = not-true (is_blank b || is_opener b || is_closer b || (b == quote) || (b == semicolon)) h in
@@ -63,6 +64,7 @@ run_fits b bs rest h no_backslash no_hash e =
 digit_tests : ℕ → Bool
 digit_tests b = is_ascii_digit b && (is_run_byte b && (not (is_sign b) && (not (b == 78) && (not (b == 110) && (not (b == 116) && (not (b == 102) && (not (b == backslash) && not (b == hash))))))))
 
+-- what the tests say of a digit
 pub record IsDigit (b : ℕ) : Type 0 where
   run_byte : is_run_byte b ≡ true
   no_sign : is_sign b ≡ false
@@ -73,10 +75,12 @@ pub record IsDigit (b : ℕ) : Type 0 where
   no_backslash : (b == backslash) ≡ false
   no_hash : (b == hash) ≡ false
 
+-- each digit passes them
 all_digit_tests : agree_below digit_tests is_ascii_digit 58 ≡ true
 unfolding digit_tests
 all_digit_tests = refl
 
+-- so a digit is all that
 is_digit : (b : ℕ) → is_ascii_digit b ≡ true → IsDigit b
 unfolding digit_tests
 is_digit b h =
@@ -128,14 +132,17 @@ no_n_at_end (b ∷ bs) h =
     drop_more (b ∷ bs) (length bs) 0 last ∙ ap (λ (l : List ℕ). get_or (b ∷ bs) (length bs) 0 ∷ l) (drop_all (length bs + 1) (b ∷ bs) past) in
     rw (front, cut, apart) refl
 
+-- so nothing is taken from its end
 pub without_n_none : (run : List ℕ) → list_all (λ b. not (b == 78)) run ≡ true → without_n run ≡ run
 without_n_none run h = rw (no_n_at_end run h) refl
 
+-- a decimal is whole
 pub whole : (ds : List ℕ) → IsDecimal ds → is_whole (without_n ds) ≡ true
 whole ds d =
     rw (without_n_none ds (digits_pass (λ (b : ℕ). not (b == 78)) (λ b h. not_from_false (b == 78) (is_digit b h).no_big_n) ds d.digits))
     (rw (d.digits, lt-ltb 0 (length ds) d.nonempty) d.no_zero)
 
+-- digits by their test and their value
 own : IsNumeralModel (λ ds. list_all is_ascii_digit ds ≡ true) (digits_value 10)
 own = numerals_by_value _ (search rules)
 
@@ -151,6 +158,7 @@ no_zero_first n h = elim (cases_lt 0 n) [
       subst (λ (ds : List ℕ). (not (first_byte ds == 48) || (length ds == 1)) ≡ true) (sym text) refl)
 ]
 
+-- what is written of a number is a decimal
 pub decimal_is : (n : ℕ) → n < 2 ^ 64 → IsDecimal (decimal n)
 decimal_is n h = record {
   nonempty = decimal_nonempty n h;

@@ -118,19 +118,21 @@ low_written b h = elim (is_written b) [
       (IsUtf8-from_ascii (backslash ∷ escape.0 ∷ []) (IsAscii-cons backslash (escape.0 ∷ []) (omega arith) (IsAscii-cons escape.0 [] escape.3 IsAscii-nil)))
 ]
 
+-- each byte of a character of 128 or more is one too
+pub high_character : (c : ℕ) → 128 ≤ c → (k : ℕ) → k < length (encode c) → 128 ≤ get_or (encode c) k 0
+high_character c high k l = elim (cases_lt (get_or (encode c) k 0) 128) [
+  | inl small ↦ (
+      let same : c ≡ get_or (encode c) k 0 = inside_one c [] (encode c) k (sym (append-nil (encode c))) l small in
+      omega (arith, same, small, high))
+  | inr large ↦ large
+]
+
 -- what is written of one character is UTF-8
 character_written : (c : ℕ) → scalar c ≡ true → IsUtf8 (flat_map written_byte (encode c))
 character_written c s = elim (cases_lt c 128) [
   | inl low ↦ subst (λ (bs : List ℕ). IsUtf8 (flat_map written_byte bs)) (sym (encode_ascii c low))
       (subst IsUtf8 (sym (append-nil (written_byte c))) (low_written c low))
-  | inr high ↦ subst IsUtf8
-      (sym (high_bytes_written (encode c) (λ k l. elim (cases_lt (get_or (encode c) k 0) 128) [
-        | inl small ↦ (
-            let same : c ≡ get_or (encode c) k 0 = inside_one c [] (encode c) k (sym (append-nil (encode c))) l small in
-            omega (arith, same, small, high))
-        | inr large ↦ large
-      ])))
-      (IsUtf8-encode c s)
+  | inr high ↦ subst IsUtf8 (sym (high_bytes_written (encode c) (high_character c high))) (IsUtf8-encode c s)
 ]
 
 -- and so is what is written of many

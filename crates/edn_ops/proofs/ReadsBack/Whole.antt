@@ -24,6 +24,7 @@ value_chunks kinds.Ok mops more = gap 44 ∷ gap 32 ∷ token Keyword (codes ":v
 value_chunks kinds.Fail mops more = more
 value_chunks kinds.Info mops more = more
 
+-- the chunks of an operation's text
 abbrev pub operation_chunks : Operation → List Chunk → List Chunk
 operation_chunks o more =
     token Opener (123 ∷ []) ∷ token Keyword (codes ":type") ∷ gap 32 ∷ token Keyword (kind_text o.kind)
@@ -47,12 +48,14 @@ with_head head kind process mops more =
     ap (λ (t : List ℕ). head ++ (decimal process ++ t)) (value_written kind mops (token Closer (125 ∷ []) ∷ more))
     ∙ in_a_row head (decimal process) (value_field_text kind mops) (125 ∷ []) (text_of more)
 
+-- for each kind
 written : (kind : OpKind) (process : ℕ) (mops : List Mop) (more : List Chunk) → text_of (operation_chunks (record { kind = kind; process = process; mops = mops }) more) ≡ operation_text (record { kind = kind; process = process; mops = mops }) ++ text_of more
 written kinds.Invoke process mops more = with_head (codes "{:type :invoke, :process ") kinds.Invoke process mops more
 written kinds.Ok process mops more = with_head (codes "{:type :ok, :process ") kinds.Ok process mops more
 written kinds.Fail process mops more = with_head (codes "{:type :fail, :process ") kinds.Fail process mops more
 written kinds.Info process mops more = with_head (codes "{:type :info, :process ") kinds.Info process mops more
 
+-- the chunks have the operation's text
 pub operation_written : (o : Operation) (more : List Chunk) → text_of (operation_chunks o more) ≡ operation_text o ++ text_of more
 operation_written o more = written o.kind o.process o.mops more
 
@@ -86,6 +89,7 @@ vector_cut mops more h w = (
   ),
 )
 
+-- the field may stand in a map
 value_cut : (kind : OpKind) (mops : List Mop) (more : List Chunk) → MopsCanBeRead kind mops → WellCut more (125 ∷ []) → WellCut (value_chunks kind mops more) (125 ∷ [])
 value_cut kinds.Invoke mops more h w = vector_cut mops more h.1 w
 value_cut kinds.Ok mops more h w = vector_cut mops more h.1 w
@@ -99,6 +103,7 @@ process_stops kinds.Ok mops more = refl
 process_stops kinds.Fail mops more = refl
 process_stops kinds.Info mops more = refl
 
+-- the chunks of an operation may stand at the top
 pub operation_cut : (o : Operation) (more : List Chunk) → OperationCanBeRead o → WellCut more [] → WellCut (operation_chunks o more) []
 operation_cut o more h w =
     let tail = value_chunks o.kind o.mops (token Closer (125 ∷ []) ∷ more) in
