@@ -1,6 +1,7 @@
 //! Operations of a text.
 #![tactic(auto)]
 
+mod owned;
 pub mod reader;
 mod scan;
 pub mod types;
