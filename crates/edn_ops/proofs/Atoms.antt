@@ -162,7 +162,7 @@ returned_takes bytes rest e =
       | inr p ↦ record { value = None; simple = tt; parts = strip_takes (codes "nil") bytes rest p }
     ]
 
-no_atom : (rest : List ℕ) → after_atom (codes "nil" ++ rest) ≡ None
+pub no_atom : (rest : List ℕ) → after_atom (codes "nil" ++ rest) ≡ None
 unfolding after_atom after_positive number_at
 no_atom rest = refl
 

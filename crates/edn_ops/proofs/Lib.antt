@@ -6,3 +6,4 @@ pub mod Loop
 pub mod Atoms
 pub mod Mops
 pub mod Lines
+pub mod Spelled

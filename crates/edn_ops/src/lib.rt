@@ -2,6 +2,7 @@
 #![tactic(auto)]
 
 pub mod laws;
+mod owned;
 pub mod reader;
 mod scan;
 pub mod types;
