@@ -3,10 +3,8 @@
 ghost use Rattle.std.specs.Prelude.{◌≡◌, List, map};
 ghost use Rattle.txn_pairs.specs.Txns.{transaction_of_txn};
 
-use std::marker::Model;
-
 use edn_ops::types::OwnedMop;
-use hist_types::types::Process;
+use std::marker::Model;
 
 /// How a transaction ended, as far as the journal says.
 #[derive(Clone, Copy, Debug, PartialEq, Eq)]
@@ -21,7 +19,8 @@ pub enum Status {
 /// A transaction, named by the index of its invocation.
 #[derive(Clone, Copy)]
 pub struct Txn<'a> {
-    pub process: Process,
+    /// The number of its process.
+    pub process: u64,
     pub invocation: u64,
     pub completion: Option<u64>,
     pub status: Status,
@@ -50,6 +49,12 @@ impl<'a> Model for Txns<'a> {
 }
 
 impl<'a> Txns<'a> {
+    pub(crate) fn new(list: Vec<Txn<'a>>) -> Self
+        ensures { result ≡ map transaction_of_txn list.entry.items }
+    {
+        Txns { list }
+    }
+
     pub fn as_slice(&self) -> &[Txn<'a>]
         ensures { map transaction_of_txn result.now ≡ self.now }
     {
