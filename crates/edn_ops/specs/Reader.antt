@@ -1,8 +1,9 @@
 -- A reader of operations: a text, up to where it was read, and whether the reader is stuck there.
 use Rattle.std.specs.Prelude.{◌≡◌, ℕ, List, [], drop, Bool, true, false, ◌≢◌}
-use Rattle.hist_types.specs.declared.types.At.TheVariants.{Byte, Nowhere}
+use Rattle.hist_types.specs.Refusals.{memory_fault}
+use Rattle.hist_types.specs.declared.types.At.TheVariants.{Byte}
 use Rattle.hist_types.specs.declared.types.Fault.{Fault}
-use Rattle.hist_types.specs.declared.types.Refusal.TheVariants.{NotAMap, Memory}
+use Rattle.hist_types.specs.declared.types.Refusal.TheVariants.{NotAMap}
 use Rattle.edn_ops.specs.declared.types.OpShape.{OpShape}
 use Rattle.edn_ops.specs.SimpleLines.{BeginsWithNoLine, HasLine}
 
@@ -14,9 +15,6 @@ pub record Reader : Type 0 where
 -- what is still to be read
 abbrev pub left : Reader → List ℕ
 left r = drop r.place r.text
-
-abbrev pub memory_fault : Fault
-memory_fault = record { refusal = Memory; at = Nowhere }
 
 -- the fault of a line that is not simple, at its first byte
 abbrev pub not_a_map : ℕ → Fault

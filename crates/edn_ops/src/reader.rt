@@ -88,10 +88,7 @@ impl<'a> OpReader<'a> {
                 self.is_stuck = true;
                 Err(not_simple(self.place))
             }
-            Err(_) => Err(Fault {
-                refusal: Refusal::Memory,
-                at: At::Nowhere,
-            }),
+            Err(_) => Err(Fault::memory()),
         }
     }
 

@@ -1,5 +1,7 @@
 -- Refusals (this project's own): the table of their numbers and names, which never change.
 use Rattle.std.specs.Prelude.{ℕ, List, codes}
+use Rattle.hist_types.specs.declared.types.At.TheVariants.{Nowhere}
+use Rattle.hist_types.specs.declared.types.Fault.{Fault}
 use Rattle.hist_types.specs.declared.types.Refusal.{Refusal}
 use Rattle.hist_types.specs.declared.types.Refusal.TheVariants.{Busy, Retired, Rewritten, Idle, Mismatch, Full, TooManyEvents, BadRange, Memory, NoThread, BadUtf8, UnclosedString, StrayCloser, TooDeep, Unclosed, OddMap, DanglingTag, NotAMap, MissingField, DuplicateField, BadType, BadProcess, NotTxn, BadAtom, NilWritten, TooLong, TooManyMicroOps, BlockFull, EmptyImport}
 
@@ -47,3 +49,7 @@ number_of refusal = (title_of refusal).number
 
 abbrev pub name_of : Refusal → List ℕ
 name_of refusal = (title_of refusal).name
+
+-- memory was refused, which stands at no place
+abbrev pub memory_fault : Fault
+memory_fault = record { refusal = Memory; at = Nowhere }

@@ -201,6 +201,21 @@ pub struct Fault {
     pub at: At,
 }
 
+impl Fault {
+    ghost use Rattle.std.specs.Prelude.{◌≡◌};
+    ghost use Rattle.hist_types.specs.Refusals.{memory_fault};
+
+    /// Memory was refused, which stands at no place.
+    pub const fn memory() -> Fault
+        ensures { result ≡ memory_fault }
+    {
+        Fault {
+            refusal: Refusal::Memory,
+            at: At::Nowhere,
+        }
+    }
+}
+
 impl fmt::Display for Fault {
     ghost use Rattle.std.specs.Prelude.{Some};
     ghost use Rattle.hist_types.specs.Texts.{fault_text};

@@ -3,7 +3,7 @@
 
 ghost use Rattle.std.specs.Prelude.{◌≡◌, IfOk, IfErr};
 ghost use Rattle.hist_types.specs.Transactions.{transactions_of};
-ghost use Rattle.journal_core.specs.Faults.{memory_fault};
+ghost use Rattle.hist_types.specs.Refusals.{memory_fault};
 
 mod pairing;
 #[cfg(test)]
@@ -11,7 +11,7 @@ mod tests;
 pub mod types;
 
 use crate::types::Txns;
-use hist_types::types::{At, Fault, Refusal};
+use hist_types::types::Fault;
 use journal_core::types::Core;
 use std::alloc::Global;
 
@@ -24,9 +24,6 @@ pub fn pair<'a>(alloc: Global, core: &'a Core) -> Result<Txns<'a>, Fault>
 {
     match pairing::transactions(alloc, core.operations()) {
         Ok(list) => Ok(Txns::new(list)),
-        Err(_) => Err(Fault {
-            refusal: Refusal::Memory,
-            at: At::Nowhere,
-        }),
+        Err(_) => Err(Fault::memory()),
     }
 }
