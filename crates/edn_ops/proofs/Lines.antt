@@ -1,5 +1,5 @@
 -- Lines: what is read is the line of a simple operation with its shape, and the line of each simple operation is read.
-use Rattle.std.proofs.Common.{◌≡◌, ℕ, suc, ◌+◌, ◌-◌, ◌^◌, ◌<◌, ◌≤◌, ◌⊎◌, Bool, true, false, nat_le, ◌==◌, List, [], ◌∷◌, ◌++◌, length, take, drop, Option, Some, None, refl, sym, ap, subst, ◌∙◌, arith, inl, inr, codes, append_assoc, take-append-drop}
+use Rattle.std.proofs.Common.{◌≡◌, ℕ, ◌+◌, ◌-◌, ◌<◌, ◌≤◌, ◌⊎◌, true, nat_le, ◌==◌, List, [], ◌∷◌, ◌++◌, length, take, drop, Option, Some, None, refl, sym, ap, subst, ◌∙◌, arith, inl, inr, codes, append_assoc, take-append-drop}
 use Rattle.std.specs.Prelude.{◌≢◌, decimal}
 use Rattle.std.specs.Char.{is_ascii_digit}
 use Rattle.std.specs.List.{AllByRecursion, prefix_len}
@@ -13,7 +13,7 @@ use Rattle.hist_types.specs.declared.types.OpKind.{OpKind}
 use Rattle.hist_types.specs.declared.types.OpKind.TheVariants as kinds
 use Rattle.edn_ops.specs.declared.types.MopShape.{MopShape}
 use Rattle.edn_ops.specs.declared.types.OpShape.{OpShape}
-use Rattle.edn_ops.specs.SimpleLines.{IsSimpleMop, FitsKind, IsSimple, BeginsWithLine, BeginsWithNoLine, IsSpanOf, AreMopShapesOf, IsShapeOf, HasLine}
+use Rattle.edn_ops.specs.SimpleLines.{IsSimpleMop, FitsKind, IsSimple, BeginsWithLine, BeginsWithNoLine, IsSpanOf, AreMopShapesOf, HasLine}
 use Rattle.edn_ops.specs.Scan.{◌>>=◌, or_else, keep_if, strip, number_at, process_at, span_between, mops_at, kind_at, head_at, value_field_at, ShapeParts, parts_of, operation_at, next_line, line_at}
 use Rattle.hist_types.specs.declared.types.Fault.{Fault}
 use Rattle.edn_ops.specs.Reader.{Reader, left, not_a_map, HasRefused}

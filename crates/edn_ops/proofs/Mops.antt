@@ -1,6 +1,5 @@
 -- Micro-operations: what is read is spelled so and has its shape, and what is spelled so is read.
 use Rattle.std.proofs.Common.{◌≡◌, ℕ, zero, suc, ◌+◌, ◌-◌, ◌<◌, ◌≤◌, ◌⊎◌, Bool, true, false, List, [], ◌∷◌, ◌++◌, length, take, drop, Option, Some, None, refl, sym, ap, subst, ◌∙◌, arith, inl, inr, codes, append_assoc}
-use Rattle.std.specs.Prelude.{slice_range, IfSome}
 use Rattle.std.specs.List.{AllByRecursion, join_by, flat_map}
 use Rattle.std.proofs.lemmas.List.{take_at, drop_at, length-append, append-nil}
 use Rattle.std.proofs.lemmas.Option.{none-some, same_Some}
@@ -8,12 +7,11 @@ use Rattle.hist_types.specs.Atoms.{Atom}
 use Rattle.hist_types.specs.Operations.{Mop, read, write}
 use Rattle.hist_types.specs.Texts.{atom_text, value_text, mop_text, mops_text}
 use Rattle.hist_types.specs.declared.limits.TheConstants.{MAX_MICRO_OPS}
-use Rattle.edn_ops.specs.declared.types.Span.{Span}
 use Rattle.edn_ops.specs.declared.types.MopShape.{MopShape}
-use Rattle.edn_ops.specs.SimpleLines.{IsSimpleAtom, IsSimpleMop, IsSpanOf, IsMopShapeOf, AreMopShapesOf}
+use Rattle.edn_ops.specs.SimpleLines.{IsSimpleMop, IsSpanOf, IsMopShapeOf, AreMopShapesOf}
 use Rattle.edn_ops.specs.Scan.{◌>>=◌, or_else, strip, after_atom, after_value, span_between, mop_head_at, mop_at, with_more, some_mops_at, mops_at}
-use Rattle.edn_ops.proofs.Parts.{then_takes, or_takes, strip_takes, strip_again}
-use Rattle.edn_ops.proofs.Atoms.{EndsAtom, blank_ends, closer_ends, TakesAtom, atom_takes, atom_again, TakesValue, written_takes, written_again, returned_takes, returned_again}
+use Rattle.edn_ops.proofs.Parts.{then_takes, or_takes, strip_takes}
+use Rattle.edn_ops.proofs.Atoms.{blank_ends, closer_ends, atom_takes, atom_again, written_takes, written_again, returned_takes, returned_again}
 
 -- ---- spans
 

@@ -1,23 +1,21 @@
 -- Simple lines are canonical text, so they read as their operations.
-use Rattle.std.proofs.Common.{◌≡◌, ◌≢◌, ◌⊎◌, ℕ, zero, suc, ◌+◌, ◌-◌, ◌<◌, ◌≤◌, List, [], ◌∷◌, ◌++◌, length, take, drop, Bool, true, false, cond, Option, Some, None, refl, sym, ◌∙◌, ap, subst, inl, inr, append_assoc, append-nil, arith, nat_lt, IsTrue}
-use Rattle.std.specs.List.{All, AllByRecursion, list_all, ends_with}
-use Rattle.std.specs.Prelude.{◌&&◌, nat_eq, map, IfSome}
-use Rattle.std.specs.Str.{IsUtf8}
-use Rattle.std.proofs.lemmas.Bool.{and_parts, and_from, lt-ltb}
+use Rattle.std.proofs.Common.{◌≡◌, ℕ, ◌≤◌, List, [], ◌∷◌, ◌++◌, length, true, Some, None, refl, sym, ◌∙◌, ap, subst, inl, inr, append_assoc, append-nil, arith, nat_lt}
+use Rattle.std.specs.List.{AllByRecursion, list_all}
+use Rattle.std.specs.Prelude.{◌&&◌, map, IfSome}
+use Rattle.std.proofs.lemmas.Bool.{and_parts, and_from}
 use Rattle.std.proofs.lemmas.List.Elements.{All-from_recursion}
-use Rattle.hist_types.specs.Bytes.{colon, line_feed, is_run_byte}
+use Rattle.hist_types.specs.Bytes.{line_feed, is_run_byte}
 use Rattle.hist_types.specs.Atoms.{Atom, integer, keyword, string, symbol, Value}
 use Rattle.hist_types.specs.Operations.{Mop, read, write, Operation}
-use Rattle.hist_types.specs.Reading.{Entry, operation, Reads}
+use Rattle.hist_types.specs.Reading.{operation, Reads}
 use Rattle.hist_types.specs.Texts.{operation_text}
-use Rattle.hist_types.specs.Tokens.{Keyword, run_kind, is_int, without_n, is_whole}
 use Rattle.hist_types.specs.declared.limits.TheConstants.{MAX_MICRO_OPS}
 use Rattle.hist_types.specs.declared.types.OpKind.{OpKind}
 use Rattle.hist_types.specs.declared.types.OpKind.TheVariants as kinds
-use Rattle.edn_ops.specs.Simple.{IsSpelling, CanBeRead, ValueCanBeRead, MopCanBeRead, MopsCanBeRead, OperationCanBeRead, operation_lines, AreLines}
-use Rattle.edn_ops.specs.SimpleLines.{is_keyword_byte, IsAsciiKeyword, IsSimpleAtom, IsSimpleMop, FitsKind, IsSimple, BeginsWithLine, AreSimpleLines}
-use Rattle.edn_ops.proofs.ReadsBack.Chunks.{ascii_utf8}
+use Rattle.edn_ops.specs.Canonical.{CanBeRead, ValueCanBeRead, MopCanBeRead, MopsCanBeRead, OperationCanBeRead, operation_lines, AreLines}
+use Rattle.edn_ops.specs.SimpleLines.{is_keyword_byte, IsAsciiKeyword, IsSimpleAtom, IsSimpleMop, FitsKind, IsSimple, AreSimpleLines}
 use Rattle.edn_ops.proofs.ReadsBack.Lines.{lines_read}
+use Rattle.edn_ops.proofs.ReadsBack.Spellings.{ascii_keyword_can}
 
 -- ---- atoms
 
@@ -36,42 +34,18 @@ ascii_bytes (b ∷ bs) h =
     let parts = and_parts (is_run_byte b && nat_lt b 128) (list_all is_keyword_byte bs) h in
     and_from (nat_lt b 128) (list_all (λ c. nat_lt c 128) bs) (and_parts (is_run_byte b) (nat_lt b 128) parts.0).1 (ascii_bytes bs parts.1)
 
--- what begins with a colon is no integer
-no_whole : (n : ℕ) (bs : List ℕ) → is_whole (take n (58 ∷ bs)) ≡ false
-no_whole zero bs = refl
-no_whole (suc n) bs = refl
-
-no_int : (b : ℕ) (bs : List ℕ) → is_int (58 ∷ b ∷ bs) ≡ false
-no_int b bs = by_end (ends_with nat_eq (58 ∷ b ∷ bs) (78 ∷ []))
-  where
-    by_end : (n : Bool) → is_whole (cond n (take (length (58 ∷ b ∷ bs) - 1) (58 ∷ b ∷ bs)) (58 ∷ b ∷ bs)) ≡ false
-    by_end true = no_whole (length (58 ∷ b ∷ bs) - 1) (b ∷ bs)
-    by_end false = refl
-
-keyword_kind : (b : ℕ) (bs : List ℕ) → run_kind (58 ∷ b ∷ bs) ≡ Keyword
-keyword_kind b bs =
-    let long : nat_lt 1 (suc (suc (length bs))) ≡ true = lt-ltb 1 (suc (suc (length bs))) (omega arith) in
-    rw (no_int b bs, long) refl
-
--- an ASCII keyword is one run of that kind
-keyword_spelled : (bs : List ℕ) → IsAsciiKeyword bs → IsSpelling Keyword bs
-keyword_spelled [] h = absurd h
-keyword_spelled (first ∷ []) h = absurd (omega (arith, h.1))
-keyword_spelled (first ∷ b ∷ bs) h =
-    subst (λ (c : ℕ). IsSpelling Keyword (c ∷ b ∷ bs)) (sym h.0)
-    (record {
-      nonempty = omega arith;
-      one_run = run_bytes (b ∷ bs) h.2;
-      of_kind = keyword_kind b bs;
-      no_character = λ e. absurd (omega (arith, e));
-      utf8 = ascii_utf8 (58 ∷ b ∷ bs) (ascii_bytes (b ∷ bs) h.2);
-    })
+-- an ASCII keyword can be read
+keyword_can : (bs : List ℕ) → IsAsciiKeyword bs → CanBeRead (keyword bs)
+keyword_can [] h = absurd h
+keyword_can (first ∷ []) h = absurd (omega (arith, h.1))
+keyword_can (first ∷ b ∷ bs) h =
+    subst (λ (c : ℕ). CanBeRead (keyword (c ∷ b ∷ bs))) (sym h.0) (ascii_keyword_can b bs (run_bytes (b ∷ bs) h.2) (ascii_bytes (b ∷ bs) h.2))
 
 -- ---- operations
 
 atom_can : (a : Atom) → IsSimpleAtom a → CanBeRead a
 atom_can (integer n) h = h
-atom_can (keyword spelling) h = keyword_spelled spelling h
+atom_can (keyword spelling) h = keyword_can spelling h
 atom_can (string content) h = absurd h
 atom_can (symbol spelling) h = absurd h
 

@@ -1,5 +1,5 @@
 pub mod Owned
-pub mod Simple
+pub mod Canonical
 pub mod SimpleLines
 pub mod Reader
 pub mod Scan

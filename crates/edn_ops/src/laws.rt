@@ -7,7 +7,7 @@ ghost use Rattle.hist_types.specs.Reading.{Entry, operation, operations_of, Read
 ghost use Rattle.hist_types.specs.Texts.{operation_text};
 ghost use Rattle.hist_types.specs.declared.limits.TheConstants.{MAX_OPERATION_BYTES};
 ghost use Rattle.hist_types.specs.declared.types.Fault.{Fault};
-ghost use Rattle.edn_ops.specs.Simple.{OperationCanBeRead, AreLines};
+ghost use Rattle.edn_ops.specs.Canonical.{OperationCanBeRead, AreLines};
 ghost use Rattle.edn_ops.specs.SimpleLines.{AreSimpleLines};
 
 /// The canonical text of an operation reads as that operation, and as nothing else.

@@ -13,7 +13,7 @@ use Rattle.hist_types.specs.Atoms.{Atom, integer, keyword, string, symbol, Value
 use Rattle.hist_types.specs.Tokens.{Item, ItemKind, Str, Int, Keyword, Symbol, Nil, Other, run_len, run_kind, is_int, open_after}
 use Rattle.hist_types.specs.Reading.{Forms, plain, form, in_front, with_token, is_64_bit, int_value, atom_of_token, is_nil_kind, decoded}
 use Rattle.hist_types.specs.Texts.{atom_text, value_text, written_byte}
-use Rattle.edn_ops.specs.Simple.{IsSpelling, CanBeRead, ValueCanBeRead}
+use Rattle.edn_ops.specs.Canonical.{IsSpelling, CanBeRead, ValueCanBeRead}
 use Rattle.edn_ops.proofs.ReadsBack.Chunks.{Chunk, token, text_of, WellCut, Fits, TokenFits, ascii_utf8}
 use Rattle.edn_ops.proofs.ReadsBack.Runs.{decimal_is, decimal_value, negative_value, run_fits, decimal_fits, negative_fits}
 use Rattle.edn_ops.proofs.ReadsBack.Strings.{string_fits, decoded_written, between_written, written_utf8}

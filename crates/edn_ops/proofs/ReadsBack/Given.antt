@@ -15,7 +15,7 @@ use Rattle.hist_types.specs.declared.types.Refusal.TheVariants.{OddMap, BadType,
 use Rattle.hist_types.specs.Tokens.{Item, ItemKind, Opener, Closer, Drop, Tag, IsCut, HasTokens, open_after, is_token, byte_fault}
 use Rattle.hist_types.specs.Reading.{Form, Forms, plain, collection, tagged, form, closed, ended, faulty, cut_off, Entry, operation, skipped, Reads, forms_of, with_token, with_opener, with_tag, with_drop, in_front, is_closed, members, pairs_of, the_one, field, refuse_if, or_refuse, ◌>>=◌, elements_of, is_vector_or_list, atom_of, is_nil, place_of, read_or_write, micro_op_of, micro_ops_of, is_write_of, transaction_of, mops_of, process_of, kind_of, client_operation, int_of, entry_by, entry_of, Reading, nothing, then_read, read_operation, read_operations, read_top_form, read_top, read_outermost, is_map, operations_of, end_of, is_named}
 use Rattle.hist_types.specs.Texts.{operation_text}
-use Rattle.edn_ops.specs.Simple.{CanBeRead, MopCanBeRead, MopsCanBeRead, OperationCanBeRead}
+use Rattle.edn_ops.specs.Canonical.{CanBeRead, MopCanBeRead, MopsCanBeRead, OperationCanBeRead}
 use Rattle.edn_ops.proofs.ReadsBack.Lexed.{none_or_some, no_fault_utf8}
 use Rattle.edn_ops.proofs.ReadsBack.Meant.{Means, token_means}
 

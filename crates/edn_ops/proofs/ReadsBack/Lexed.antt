@@ -11,7 +11,7 @@ use Rattle.std.proofs.lemmas.Str.{IsUtf8-between, IsCharBoundary-after_ascii, Is
 use Rattle.hist_types.specs.Bytes.{line_feed, quote, backslash, semicolon, hash, is_blank, is_opener, is_closer, is_run_byte, open_brace, underscore}
 use Rattle.hist_types.specs.Tokens.{ItemKind, Blank, Comment, Opener, Closer, Str, Char, Drop, Tag, Nil, True, False, Int, Keyword, Symbol, Other, front, hash_front, run_of, run_len, run_kind, is_int, is_keyword, is_symbol, character_len, first_byte, BeginsWith, item_fault, content_len}
 use Rattle.hist_types.specs.Reading.{between_quotes}
-use Rattle.edn_ops.specs.Simple.{IsSpelling}
+use Rattle.edn_ops.specs.Canonical.{IsSpelling}
 
 -- ---- UTF-8
 

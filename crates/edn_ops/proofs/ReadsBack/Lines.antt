@@ -9,7 +9,7 @@ use Rattle.hist_types.specs.declared.types.Fault.{Fault}
 use Rattle.hist_types.specs.Tokens.{Item, HasTokens}
 use Rattle.hist_types.specs.Reading.{Entry, operation, Reading, Forms, form, ended, forms_of, read_top, reading_of, read_outermost, Reads}
 use Rattle.hist_types.specs.Texts.{operation_text}
-use Rattle.edn_ops.specs.Simple.{OperationCanBeRead, operation_lines, AreLines}
+use Rattle.edn_ops.specs.Canonical.{OperationCanBeRead, operation_lines, AreLines}
 use Rattle.edn_ops.proofs.ReadsBack.Determined.{same_tokens}
 use Rattle.edn_ops.proofs.ReadsBack.Chunks.{Chunk, gap, text_of, WellCut, tokens_at, has_tokens}
 use Rattle.edn_ops.proofs.ReadsBack.Whole.{operation_chunks, operation_written, operation_cut}

@@ -10,7 +10,7 @@ use Rattle.hist_types.specs.Bytes.{backslash}
 use Rattle.hist_types.specs.Atoms.{Atom, integer, keyword, string, symbol}
 use Rattle.hist_types.specs.Tokens.{ItemKind, Str, Int, Keyword, Symbol, BeginsWith}
 use Rattle.hist_types.specs.Reading.{escape_value, decoded, between_quotes, int_value, is_64_bit, atom_of_token}
-use Rattle.edn_ops.specs.Simple.{CanBeRead}
+use Rattle.edn_ops.specs.Canonical.{CanBeRead}
 use Rattle.edn_ops.proofs.ReadsBack.Strings.{high_character}
 use Rattle.edn_ops.proofs.ReadsBack.Lexed.{none_or_some, mapped_some, word_spelling, quoted, between_utf8}
 

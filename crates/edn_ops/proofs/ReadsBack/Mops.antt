@@ -12,7 +12,7 @@ use Rattle.hist_types.specs.declared.types.Fault.{Fault}
 use Rattle.hist_types.specs.Tokens.{Item, Opener, Closer, Keyword, run_len}
 use Rattle.hist_types.specs.Reading.{Form, Forms, plain, collection, form, closed, forms_of, is_closed, members, elements_of, micro_op_of, micro_ops_of, end_of}
 use Rattle.hist_types.specs.Texts.{atom_text, value_text, mop_text}
-use Rattle.edn_ops.specs.Simple.{CanBeRead, ValueCanBeRead, MopCanBeRead}
+use Rattle.edn_ops.specs.Canonical.{CanBeRead, ValueCanBeRead, MopCanBeRead}
 use Rattle.edn_ops.proofs.ReadsBack.Chunks.{Chunk, gap, token, text_of, TokenFits, WellCut, item_at, tokens_at, ascii_utf8}
 use Rattle.edn_ops.proofs.ReadsBack.Runs.{run_fits}
 use Rattle.edn_ops.proofs.ReadsBack.Atoms.{token_kind, value_kind, atom_cut, value_cut, atom_token, value_token, atom_back, atom_no_nil}

@@ -12,7 +12,7 @@ use Rattle.hist_types.specs.declared.types.OpKind.TheVariants as kinds
 use Rattle.hist_types.specs.Tokens.{Item, Opener, Closer, Keyword, Int}
 use Rattle.hist_types.specs.Reading.{Entry, operation, Reading, Form, Forms, plain, collection, form, closed, forms_of, members, pairs_of, is_closed, end_of, entry_of, int_value, field, kind_of, mops_of, client_operation, process_of, read_top_form, then_read}
 use Rattle.hist_types.specs.Texts.{mop_text, kind_text, value_field_text, operation_text}
-use Rattle.edn_ops.specs.Simple.{OperationCanBeRead}
+use Rattle.edn_ops.specs.Canonical.{OperationCanBeRead}
 use Rattle.edn_ops.proofs.ReadsBack.Chunks.{Chunk, token, item_at, tokens_at}
 use Rattle.edn_ops.proofs.ReadsBack.Runs.{decimal_value}
 use Rattle.edn_ops.proofs.ReadsBack.Mops.{mops_forms, after_mops, mops_made, mops_closed, mops_back, mops_length}

@@ -7,7 +7,7 @@ use Rattle.std.proofs.lemmas.Bool.{cases_Bool, lt-ltb}
 use Rattle.hist_types.specs.Bytes.{colon, is_run_byte}
 use Rattle.hist_types.specs.Atoms.{keyword}
 use Rattle.hist_types.specs.Tokens.{Keyword, run_kind, is_int}
-use Rattle.edn_ops.specs.Simple.{CanBeRead}
+use Rattle.edn_ops.specs.Canonical.{CanBeRead}
 use Rattle.edn_ops.proofs.ReadsBack.Chunks.{ascii_utf8}
 
 -- what begins with a colon is no integer

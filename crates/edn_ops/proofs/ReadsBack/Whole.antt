@@ -10,7 +10,7 @@ use Rattle.hist_types.specs.declared.types.OpKind.{OpKind}
 use Rattle.hist_types.specs.declared.types.OpKind.TheVariants as kinds
 use Rattle.hist_types.specs.Tokens.{Opener, Closer, Keyword, Int, run_len}
 use Rattle.hist_types.specs.Texts.{mop_text, kind_text, value_field_text, operation_text}
-use Rattle.edn_ops.specs.Simple.{MopCanBeRead, MopsCanBeRead, OperationCanBeRead}
+use Rattle.edn_ops.specs.Canonical.{MopCanBeRead, MopsCanBeRead, OperationCanBeRead}
 use Rattle.edn_ops.proofs.ReadsBack.Chunks.{Chunk, gap, token, text_of, TokenFits, WellCut, ascii_utf8}
 use Rattle.edn_ops.proofs.ReadsBack.Runs.{run_fits, decimal_is, decimal_fits}
 use Rattle.edn_ops.proofs.ReadsBack.Mops.{mops_chunks, mops_written, mops_cut}
