@@ -1,1 +1,4 @@
+pub mod Lists
 pub mod Lookups
+pub mod Noting
+pub mod Sights

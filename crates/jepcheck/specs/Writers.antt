@@ -56,7 +56,7 @@ only_if test n = if test then Some n else None
 -- whether there is a number, and it is another one
 abbrev pub is_another : Option ℕ → ℕ → Bool
 is_another None n = false
-is_another (Some m) n = not (m == n)
+is_another (Some m) n = not (n == m)
 
 -- the writers with one more note
 abbrev pub add : Writers → Note → Writers
@@ -121,3 +121,8 @@ aborted_sight known s = option_map (bad_sight s) (option_and_then (λ (w : Write
 
 abbrev pub intermediate_sight : Option Writers → Sight → Option phenomena.BadRead
 intermediate_sight known s = option_map (bad_sight s) (option_and_then (over_apart s.reader) known)
+
+-- what the function gives for the first item for which it gives something
+abbrev pub first_some : {A B : Type 0} → (A → Option B) → List A → Option B
+first_some f [] = None
+first_some f (x ∷ xs) = option_or (f x) (first_some f xs)

@@ -8,7 +8,8 @@ ghost use Rattle.hist_types.specs.Phenomena.{g1a, g1b, stray, first_of};
 ghost use Rattle.edn_ops.specs.Owned.{atom_of_owned, mop_of_owned};
 ghost use Rattle.txn_pairs.specs.Txns.{transaction_of_txn, status_of};
 ghost use Rattle.jepcheck.specs.declared.bad_reads.Written.{Written};
-ghost use Rattle.jepcheck.specs.Writers.{add, note_of, notes, notes_of, after_note, after_notes, write_of, written_eq, sight_of, sights_of, sights, bad_read_of, bad_sight, over_apart, nobody};
+ghost use Rattle.std.specs.Prelude.{count_by};
+ghost use Rattle.jepcheck.specs.Writers.{first_some, aborted_sight, intermediate_sight, add, note_of, notes, notes_of, after_note, after_notes, write_of, written_eq, sight_of, sights_of, sights, bad_read_of, bad_sight, over_apart, nobody};
 
 use std::alloc::{AllocError, Global};
 use std::collections::HashMap;
@@ -84,7 +85,7 @@ impl Writers {
         ensures { result ≡ add self (note_of noted.entry) }
     {
         let writer = noted.writer;
-        let is_another = self.over.is_some_and(|first| first != writer);
+        let is_another = self.over.is_some_and(|first| writer != first);
         Writers {
             aborted: self.aborted.or(noted.failed.then_some(writer)),
             over: self.over.or(noted.over.then_some(writer)),
@@ -104,16 +105,17 @@ impl Writers {
 }
 
 impl<'a> Seen<'a> {
-    /// The read with its writer.
-    fn of(self, writer: u64) -> BadRead<'a>
-        ensures { bad_read_of result ≡ bad_sight (sight_of self.entry) writer }
+    /// The read with its writer, if there is one.
+    fn of(self, writer: Option<u64>) -> Option<BadRead<'a>>
+        ensures { option_map bad_read_of result ≡ option_map (bad_sight (sight_of self.entry)) writer }
     {
-        BadRead {
+        let writer = writer?;
+        Some(BadRead {
             reader: self.reader,
             key: self.written.key,
             value: self.written.value,
             writer,
-        }
+        })
     }
 }
 
@@ -181,4 +183,66 @@ fn index_writes<'a>(alloc: Global, txns: &[Txn<'a>]) -> Result<HashMap<Written<'
         note_writes(&mut index, txn)?;
     }
     Ok(index)
+}
+
+/// Adds the external reads of a transaction that didn't return nil.
+fn note_reads<'a>(seen: &mut Vec<Seen<'a>>, txn: &Txn<'a>) -> Result<(), AllocError>
+    ensures { OnOk result (map sight_of seen.new.items ≡ map sight_of seen.old.items ++ sights_of (transaction_of_txn txn.now)) }
+{
+    for (place, mop) in txn.mops.iter().enumerate() {
+        let OwnedMop::Read { key, value: Some(value) } = mop else {
+            continue;
+        };
+        if !any_writes(&txn.mops[..place], key) {
+            let written = Written { key, value };
+            seen.push(Seen { reader: txn.invocation, written })?;
+        }
+    }
+    Ok(())
+}
+
+/// The external reads of the ok transactions that didn't return nil, in order.
+fn reads_seen<'a>(alloc: Global, txns: &[Txn<'a>]) -> Result<Vec<Seen<'a>>, AllocError>
+    ensures { IfOk result (λ seen. map sight_of seen.items ≡ sights (map transaction_of_txn txns.now)) }
+{
+    let mut seen = Vec::new(alloc);
+    for txn in txns {
+        if is_ok(txn.status) {
+            note_reads(&mut seen, txn)?;
+        }
+    }
+    Ok(seen)
+}
+
+/// Looks each read up.
+fn judge<'a>(index: &HashMap<Written<'a>, Writers>, seen: &[Seen<'a>]) -> BadReads<'a>
+    ensures aborted { option_map bad_read_of result.aborted ≡ first_some (λ s. aborted_sight (get written_eq index.now s.written) (sight_of s)) seen.now }
+    ensures intermediate { option_map bad_read_of result.intermediate ≡ first_some (λ s. intermediate_sight (get written_eq index.now s.written) (sight_of s)) seen.now }
+    ensures stray { result.stray ≡ count_by (λ s. not (is_some (get written_eq index.now s.written))) seen.now }
+{
+    let mut found = BadReads {
+        aborted: None,
+        intermediate: None,
+        stray: 0,
+    };
+    for read in seen {
+        let Some(writers) = index.get(&read.written).copied() else {
+            found.stray += 1;
+            continue;
+        };
+        found.aborted = found.aborted.or(read.of(writers.aborted));
+        found.intermediate = found.intermediate.or(read.of(writers.over_apart_from(read.reader)));
+    }
+    found
+}
+
+/// What the reads of the transactions show.
+pub fn bad_reads<'a>(alloc: Global, txns: &Txns<'a>) -> Result<BadReads<'a>, AllocError>
+    ensures aborted { IfOk result (λ found. option_map bad_read_of found.aborted ≡ g1a txns.now) }
+    ensures intermediate { IfOk result (λ found. option_map bad_read_of found.intermediate ≡ g1b txns.now) }
+    ensures stray { IfOk result (λ found. found.stray ≡ stray txns.now) }
+{
+    let index = index_writes(alloc, txns.as_slice())?;
+    let seen = reads_seen(alloc, txns.as_slice())?;
+    Ok(judge(&index, &seen))
 }
