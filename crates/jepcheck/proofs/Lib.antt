@@ -2,3 +2,4 @@ pub mod Lists
 pub mod Lookups
 pub mod Noting
 pub mod Sights
+pub mod Pieces

@@ -1,1 +1,4 @@
+pub mod Answers
+pub mod Pieces
+pub mod Reports
 pub mod Writers

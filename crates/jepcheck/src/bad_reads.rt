@@ -15,7 +15,7 @@ use std::alloc::{AllocError, Global};
 use std::collections::HashMap;
 
 use edn_ops::types::{OwnedAtom, OwnedMop};
-use txn_pairs::types::{Status, Txn, Txns};
+use txn_pairs::types::{Status, Txn};
 
 /// A read of an ok transaction, and the transaction that wrote its value, each by the index of its invocation.
 #[derive(Clone, Copy)]
@@ -236,13 +236,14 @@ fn judge<'a>(index: &HashMap<Written<'a>, Writers>, seen: &[Seen<'a>]) -> BadRea
     found
 }
 
-/// What the reads of the transactions show.
-pub fn bad_reads<'a>(alloc: Global, txns: &Txns<'a>) -> Result<BadReads<'a>, AllocError>
-    ensures aborted { IfOk result (λ found. option_map bad_read_of found.aborted ≡ g1a txns.now) }
-    ensures intermediate { IfOk result (λ found. option_map bad_read_of found.intermediate ≡ g1b txns.now) }
-    ensures stray { IfOk result (λ found. found.stray ≡ stray txns.now) }
+/// What the reads of the transactions show. It takes memory for the index of all writes and for the list of all
+/// external reads.
+pub fn bad_reads<'a>(alloc: Global, txns: &[Txn<'a>]) -> Result<BadReads<'a>, AllocError>
+    ensures aborted { IfOk result (λ found. option_map bad_read_of found.aborted ≡ g1a (map transaction_of_txn txns.now)) }
+    ensures intermediate { IfOk result (λ found. option_map bad_read_of found.intermediate ≡ g1b (map transaction_of_txn txns.now)) }
+    ensures stray { IfOk result (λ found. found.stray ≡ stray (map transaction_of_txn txns.now)) }
 {
-    let index = index_writes(alloc, txns.as_slice())?;
-    let seen = reads_seen(alloc, txns.as_slice())?;
+    let index = index_writes(alloc, txns)?;
+    let seen = reads_seen(alloc, txns)?;
     Ok(judge(&index, &seen))
 }

@@ -2,5 +2,7 @@
 #![tactic(auto)]
 
 mod bad_reads;
+mod devices;
+mod text;
 
 fn main() {}

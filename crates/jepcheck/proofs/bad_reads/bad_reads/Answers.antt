@@ -1,4 +1,5 @@
-use Rattle.std.proofs.Common.{◌∙◌, ap, None, not, is_some}
+use Rattle.std.proofs.Common.{◌∙◌, ap, not, is_some, map}
+use Rattle.txn_pairs.specs.Txns.{transaction_of_txn}
 use Rattle.std.specs.Prelude.{count_by}
 use Rattle.std.specs.HashMap.{get}
 use Rattle.jepcheck.specs.Writers.{written_eq, write_of, sight_of, sights, notes, after_notes, aborted_sight, intermediate_sight, first_some}
@@ -10,21 +11,21 @@ returns-clause-aborted c =
     let index = c.in_ok-index.index in
     c.judge.ensures.aborted
     ∙ (ap (first_some (λ s. aborted_sight (get written_eq index s.written) (sight_of s))) c.deref.ensures.value
-    ∙ g1a-found c.args.txns.now (get written_eq index) c.in_ok-seen.seen.items
-        (λ q. c.in_ok-index.ensures q ∙ ap (λ ts. after_notes (write_of q) None (notes ts)) c.as_slice.ensures) (c.in_ok-seen.ensures ∙ ap sights c.as_slice-2.ensures))
+    ∙ g1a-found (map transaction_of_txn c.args.txns.now) (get written_eq index) c.in_ok-seen.seen.items
+        c.in_ok-index.ensures c.in_ok-seen.ensures)
 
 pub returns-clause-intermediate : goal.returns-clause-intermediate
 returns-clause-intermediate c =
     let index = c.in_ok-index.index in
     c.judge.ensures.intermediate
     ∙ (ap (first_some (λ s. intermediate_sight (get written_eq index s.written) (sight_of s))) c.deref.ensures.value
-    ∙ g1b-found c.args.txns.now (get written_eq index) c.in_ok-seen.seen.items
-        (λ q. c.in_ok-index.ensures q ∙ ap (λ ts. after_notes (write_of q) None (notes ts)) c.as_slice.ensures) (c.in_ok-seen.ensures ∙ ap sights c.as_slice-2.ensures))
+    ∙ g1b-found (map transaction_of_txn c.args.txns.now) (get written_eq index) c.in_ok-seen.seen.items
+        c.in_ok-index.ensures c.in_ok-seen.ensures)
 
 pub returns-clause-stray : goal.returns-clause-stray
 returns-clause-stray c =
     let index = c.in_ok-index.index in
     c.judge.ensures.stray
     ∙ (ap (count_by (λ s. not (is_some (get written_eq index s.written)))) c.deref.ensures.value
-    ∙ stray-found c.args.txns.now (get written_eq index) c.in_ok-seen.seen.items
-        (λ q. c.in_ok-index.ensures q ∙ ap (λ ts. after_notes (write_of q) None (notes ts)) c.as_slice.ensures) (c.in_ok-seen.ensures ∙ ap sights c.as_slice-2.ensures))
+    ∙ stray-found (map transaction_of_txn c.args.txns.now) (get written_eq index) c.in_ok-seen.seen.items
+        c.in_ok-index.ensures c.in_ok-seen.ensures)
