@@ -2,3 +2,4 @@ pub mod Answers
 pub mod Pieces
 pub mod Reports
 pub mod Writers
+pub mod Statuses

@@ -3,6 +3,8 @@
 
 mod bad_reads;
 mod devices;
+mod inputs;
+mod run;
 mod text;
 
 fn main() {}
