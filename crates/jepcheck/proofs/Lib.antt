@@ -3,3 +3,4 @@ pub mod Lookups
 pub mod Noting
 pub mod Sights
 pub mod Pieces
+pub mod Lines

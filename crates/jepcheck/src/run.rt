@@ -59,8 +59,6 @@ pub struct Answer {
     printed: Vec<u8>,
 }
 
-static MEMORY_LINE: [u8; 18] = *b"refused 10 Memory\n";
-
 fn status_of(found: &BadReads<'_>) -> Status
     ensures { result ≡ status_by (is_some found.now.aborted || is_some found.now.intermediate) }
 {
@@ -135,6 +133,14 @@ fn print<T: Sink>(sink: &mut T, status: Status, printed: &[u8]) -> Status
     }
 }
 
+/// Prints that memory was refused, and takes none for it.
+fn print_memory<T: Sink>(sink: &mut T) -> Status
+    ensures answered { (text : List ℕ) → HasAnswered result text (T.tells sink.old) (T.tells sink.new) }
+    ensures counted { (failures : ℕ) → CountedBy result failures failures (T.failures sink.old) (T.failures sink.new) }
+{
+    print(sink, Status::Memory, b"refused 10 Memory\n")
+}
+
 /// Reads the whole source and prints the command's answer to it.
 pub fn run<S: Source, T: Sink>(alloc: Global, command: Command, source: &mut S, sink: &mut T) -> Status
     ensures answered { IfSome (S.tells source.old) (λ text. HasAnswered result text (T.tells sink.old) (T.tells sink.new)) }
@@ -143,10 +149,10 @@ pub fn run<S: Source, T: Sink>(alloc: Global, command: Command, source: &mut S, 
     let text = match read_all(alloc, source) {
         Ok(text) => text,
         Err(ReadFault::Device) => return Status::DeviceFault,
-        Err(ReadFault::Memory) => return print(sink, Status::Memory, &MEMORY_LINE),
+        Err(ReadFault::Memory) => return print_memory(sink),
     };
     match answer_to(alloc, command, &text) {
         Ok(answer) => print(sink, answer.status, &answer.printed),
-        Err(AllocError) => print(sink, Status::Memory, &MEMORY_LINE),
+        Err(AllocError) => print_memory(sink),
     }
 }
