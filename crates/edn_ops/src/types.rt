@@ -4,7 +4,7 @@ use hist_types::types::{OpKind, Process};
 use smallvec::SmallVec;
 
 /// A key or a value.
-#[derive(Debug, Drop, PartialEq, Eq)]
+#[derive(Debug, Drop, PartialEq, Eq, Hash)]
 pub enum OwnedAtom {
     Int(i64),
     /// With its colon.

@@ -1,0 +1,6 @@
+pub mod Lists
+pub mod Lookups
+pub mod Noting
+pub mod Sights
+pub mod Pieces
+pub mod Lines

@@ -1,0 +1,66 @@
+-- What the program answers to a text.
+use Rattle.std.specs.Prelude.{◌≡◌, ◌⊎◌, ℕ, List, [], Option, Some, None, option_map, IsTrue, IsFalse, IfSome}
+use Rattle.hist_types.specs.Operations.{Operation}
+use Rattle.hist_types.specs.Reading.{Entry, Reads, operations_of}
+use Rattle.hist_types.specs.Journal.{first_broken}
+use Rattle.hist_types.specs.Texts.{reads_text, has_bad_read, refusal_line}
+use Rattle.hist_types.specs.Devices.{Took, CountsFailure}
+use Rattle.hist_types.specs.declared.types.Fault.{Fault}
+use Rattle.hist_types.specs.declared.types.Refusal.{Refusal}
+use Rattle.hist_types.specs.declared.types.Refusal.TheVariants as refusals
+use Rattle.hist_types.specs.declared.types.At.TheVariants.{Event, Nowhere}
+use Rattle.jepcheck.specs.Pieces.{TookBeginning}
+use Rattle.jepcheck.specs.declared.run.Status.{Status}
+use Rattle.jepcheck.specs.declared.run.Status.TheVariants as statuses
+
+-- the text reads as these operations, and as nothing else but skipped ones
+unfoldable pub GivesOperations : List ℕ → List Operation → Type 0
+GivesOperations text operations = (entries : List Entry) × Reads text entries None × (operations_of entries ≡ operations)
+
+-- the reading of the text ends in this fault
+unfoldable pub GivesFault : List ℕ → Fault → Type 0
+GivesFault text fault = (entries : List Entry) × Reads text entries (Some fault)
+
+-- where memory is refused
+abbrev pub memory_fault : Fault
+memory_fault = record { refusal = refusals.Memory; at = Nowhere }
+
+-- the refusal of an operation that would have the index
+abbrev pub event_fault : Refusal × ℕ → Fault
+event_fault broken = record { refusal = broken.0; at = Event broken.1 }
+
+-- the first rule that the operations break, one after the other
+abbrev pub journal_fault : List Operation → Option Fault
+journal_fault operations = option_map event_fault (first_broken [] operations)
+
+-- the text's operations are the events of a journal
+pub record GivesEvents (text : List ℕ) (events : List Operation) : Type 0 where
+  pub given : GivesOperations text events
+  pub kept : first_broken [] events ≡ None
+
+-- the first refusal: a fault of reading comes before all rules of the journal
+abbrev pub IsRefused : List ℕ → Fault → Type 0
+IsRefused text fault = GivesFault text fault ⊎ ((operations : List Operation) × GivesOperations text operations × (journal_fault operations ≡ Some fault))
+
+pub record IsReport (text : List ℕ) (printed : List ℕ) (events : List Operation) : Type 0 where
+  pub events_given : GivesEvents text events
+  pub lines : printed ≡ reads_text events
+
+-- what is printed with each status
+abbrev pub IsAnswer : List ℕ → Status → List ℕ → Type 0
+IsAnswer text statuses.NoPhenomenon printed = (events : List Operation) × IsReport text printed events × IsFalse (has_bad_read events)
+IsAnswer text statuses.SomePhenomenon printed = (events : List Operation) × IsReport text printed events × IsTrue (has_bad_read events)
+IsAnswer text statuses.Refused printed = (fault : Fault) × IsRefused text fault × (printed ≡ refusal_line fault)
+IsAnswer text statuses.DeviceFault printed = ⊥
+IsAnswer text statuses.Memory printed = printed ≡ refusal_line memory_fault
+
+-- a sink took the whole answer, or where a device failed a beginning of one
+abbrev pub HasAnswered : Status → List ℕ → Option (List ℕ) → Option (List ℕ) → Type 0
+HasAnswered statuses.DeviceFault text before after =
+    (status : Status) × (printed : List ℕ) × IsAnswer text status printed × TookBeginning before after printed
+HasAnswered status text before after = (printed : List ℕ) × IsAnswer text status printed × Took before after printed
+
+-- a device fault is answered only where a device failed
+abbrev pub CountedBy : Status → (source source' sink sink' : ℕ) → Type 0
+CountedBy statuses.DeviceFault source source' sink sink' = CountsFailure source source' ⊎ CountsFailure sink sink'
+CountedBy status source source' sink sink' = (source' ≡ source) × (sink' ≡ sink)

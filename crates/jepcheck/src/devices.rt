@@ -1,0 +1,65 @@
+//! Whole inputs and whole outputs.
+
+ghost use Rattle.std.specs.Prelude.{◌≡◌, OnOk, OnErr, IfOk, IfErr, IfSome, ◌<◌, vec_len};
+ghost use Rattle.hist_types.specs.Devices.{Took, CountsFailure};
+ghost use Rattle.jepcheck.specs.Pieces.{IsCounted, TookBeginning};
+
+use std::alloc::{AllocError, Global};
+
+use hist_types::device::{Failed, Sink, Source};
+
+/// How many bytes are asked of a source at once.
+const PIECE: usize = 65_536;
+
+/// Why a source wasn't read to its end.
+#[derive(Clone, Copy, Debug, PartialEq, Eq)]
+pub enum ReadFault {
+    /// The source failed.
+    Device,
+    /// Memory was refused, or the source gives more bytes than any memory holds.
+    Memory,
+}
+
+fn room_for_a_piece(alloc: Global) -> Result<Vec<u8>, AllocError>
+    ensures { IfOk result (λ room. 0 < vec_len room) }
+{
+    vec![in alloc; 0; PIECE]
+}
+
+/// All that a source has still to give.
+pub fn read_all<S: Source>(alloc: Global, source: &mut S) -> Result<Vec<u8>, ReadFault>
+    ensures all { IfOk result (λ bytes. IfSome (S.tells source.old) (λ rest. bytes.items ≡ rest)) }
+    ensures no_failure { OnOk result (S.failures source.new ≡ S.failures source.old) }
+    ensures fault { IfErr result (λ fault. IsCounted fault (S.failures source.old) (S.failures source.new)) }
+{
+    let mut taken = Vec::new(alloc);
+    let Ok(mut room) = room_for_a_piece(alloc) else {
+        return Err(ReadFault::Memory);
+    };
+    for _ in 0..u64::MAX {
+        let Ok(count) = source.read(&mut room) else {
+            return Err(ReadFault::Device);
+        };
+        if count == 0 {
+            return Ok(taken);
+        }
+        if taken.extend_from_slice(&room[..count]).is_err() {
+            return Err(ReadFault::Memory);
+        }
+    }
+    Err(ReadFault::Memory)
+}
+
+/// Hands all the bytes to a sink, or a beginning of them where it fails.
+pub fn write_all<T: Sink>(sink: &mut T, bytes: &[u8]) -> Result<(), Failed>
+    ensures took { OnOk result (Took (T.tells sink.old) (T.tells sink.new) bytes.now) }
+    ensures no_failure { OnOk result (T.failures sink.new ≡ T.failures sink.old) }
+    ensures beginning { OnErr result (TookBeginning (T.tells sink.old) (T.tells sink.new) bytes.now) }
+    ensures failed { OnErr result (CountsFailure (T.failures sink.old) (T.failures sink.new)) }
+{
+    let mut done = 0;
+    while done < bytes.len() {
+        done += sink.write(&bytes[done..])?;
+    }
+    Ok(())
+}
