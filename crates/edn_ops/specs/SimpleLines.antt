@@ -95,7 +95,11 @@ pub record HasLine (text : List ℕ) (place : ℕ) (shape : OpShape) (next : ℕ
 
 -- ---- texts
 
--- The text is simple lines of these operations, in order, and nothing else.
+-- The text begins with simple lines of these operations, in order, and after them comes the rest.
+abbrev pub BeginsWithLines : List ℕ → List Operation → List ℕ → Type 0
+BeginsWithLines text [] rest = text ≡ rest
+BeginsWithLines text (op ∷ ops) rest = IsSimple op × ((next : List ℕ) × BeginsWithLine text op next × BeginsWithLines next ops rest)
+
+-- The text is simple lines of these operations, and nothing else.
 abbrev pub AreSimpleLines : List ℕ → List Operation → Type 0
-AreSimpleLines text [] = text ≡ []
-AreSimpleLines text (op ∷ ops) = IsSimple op × ((rest : List ℕ) × BeginsWithLine text op rest × AreSimpleLines rest ops)
+AreSimpleLines text ops = BeginsWithLines text ops []

@@ -4,3 +4,4 @@ pub mod Noting
 pub mod Sights
 pub mod Pieces
 pub mod Lines
+pub mod OneByOne

@@ -4,7 +4,8 @@ use Rattle.std.specs.Prelude.{IfSome}
 use Rattle.std.specs.Fmt.{digits}
 use Rattle.hist_types.specs.Texts.{refusal_line}
 use Rattle.jepcheck.specs.declared.run.Status.{Status}
-use Rattle.jepcheck.specs.Answers.{memory_fault, CountedBy}
+use Rattle.jepcheck.specs.Answers.{CountedBy}
+use Rattle.hist_types.specs.Refusals.{memory_fault}
 
 -- the line of refused memory
 pub memory_line : codes "refused 10 Memory\n" ≡ refusal_line memory_fault

@@ -1,14 +1,16 @@
 -- What the program answers to a text.
-use Rattle.std.specs.Prelude.{◌≡◌, ◌⊎◌, ℕ, List, [], Option, Some, None, option_map, IsTrue, IsFalse, IfSome}
+use Rattle.std.specs.Prelude.{◌≡◌, ◌≢◌, ◌⊎◌, ℕ, ◌-◌, List, [], length, Option, Some, None, option_map, IsTrue, IsFalse, IfSome}
 use Rattle.hist_types.specs.Operations.{Operation}
 use Rattle.hist_types.specs.Reading.{Entry, Reads, operations_of}
 use Rattle.hist_types.specs.Journal.{first_broken}
+use Rattle.hist_types.specs.Refusals.{memory_fault}
 use Rattle.hist_types.specs.Texts.{reads_text, has_bad_read, refusal_line}
 use Rattle.hist_types.specs.Devices.{Took, CountsFailure}
 use Rattle.hist_types.specs.declared.types.Fault.{Fault}
 use Rattle.hist_types.specs.declared.types.Refusal.{Refusal}
-use Rattle.hist_types.specs.declared.types.Refusal.TheVariants as refusals
-use Rattle.hist_types.specs.declared.types.At.TheVariants.{Event, Nowhere}
+use Rattle.hist_types.specs.declared.types.At.TheVariants.{Event}
+use Rattle.edn_ops.specs.Reader.{not_a_map}
+use Rattle.edn_ops.specs.SimpleLines.{BeginsWithLines, BeginsWithNoLine}
 use Rattle.jepcheck.specs.Pieces.{TookBeginning}
 use Rattle.jepcheck.specs.declared.run.Status.{Status}
 use Rattle.jepcheck.specs.declared.run.Status.TheVariants as statuses
@@ -17,13 +19,14 @@ use Rattle.jepcheck.specs.declared.run.Status.TheVariants as statuses
 unfoldable pub GivesOperations : List ℕ → List Operation → Type 0
 GivesOperations text operations = (entries : List Entry) × Reads text entries None × (operations_of entries ≡ operations)
 
--- the reading of the text ends in this fault
-unfoldable pub GivesFault : List ℕ → Fault → Type 0
-GivesFault text fault = (entries : List Entry) × Reads text entries (Some fault)
-
--- where memory is refused
-abbrev pub memory_fault : Fault
-memory_fault = record { refusal = refusals.Memory; at = Nowhere }
+-- While only simple lines are read: the first other line is refused, at its first byte.
+pub record GivesFault (text : List ℕ) (fault : Fault) : Type 0 where
+  pub before : List Operation
+  pub rest : List ℕ
+  pub lines : BeginsWithLines text before rest
+  pub not_ended : rest ≢ []
+  pub not_simple : BeginsWithNoLine rest
+  pub fault_is : fault ≡ not_a_map (length text - length rest)
 
 -- the refusal of an operation that would have the index
 abbrev pub event_fault : Refusal × ℕ → Fault

@@ -1,10 +1,11 @@
 //! A run of the program, from a source's bytes to a sink's.
 
 ghost use Rattle.std.specs.Prelude.{◌≡◌, ◌⊎◌, ℕ, List, IfOk, IfErr, IfSome, OnOk, OnErr, map, is_some, ◌||◌};
+ghost use Rattle.hist_types.specs.Refusals.{memory_fault};
 ghost use Rattle.hist_types.specs.Texts.{reads_text, has_bad_read, refusal_line};
 ghost use Rattle.hist_types.specs.Transactions.{transactions_of};
 ghost use Rattle.txn_pairs.specs.Txns.{transaction_of_txn};
-ghost use Rattle.jepcheck.specs.Answers.{IsAnswer, IsRefused, HasAnswered, CountedBy, memory_fault};
+ghost use Rattle.jepcheck.specs.Answers.{IsAnswer, IsRefused, HasAnswered, CountedBy};
 ghost use Rattle.jepcheck.specs.Statuses.{code_of, status_by};
 
 use std::alloc::{AllocError, Global};
@@ -12,11 +13,12 @@ use std::alloc::{AllocError, Global};
 use hist_types::device::{Failed, Sink, Source};
 use hist_types::types::{Fault, Refusal};
 use journal_core::types::Core;
+use txn_pairs::pair;
 use txn_pairs::types::Txn;
 
 use crate::bad_reads::{BadReads, bad_reads};
 use crate::devices::{ReadFault, read_all, write_all};
-use crate::inputs::{MEMORY, accept_all, pair, read_operations};
+use crate::inputs::{accept_all, read_operations};
 use crate::text::{write_reads, write_refusal};
 
 /// What the program is asked to do.
@@ -105,7 +107,7 @@ fn judge(alloc: Global, text: &[u8]) -> Result<Answer, Fault>
     let operations = read_operations(alloc, text)?;
     let core = accept_all(alloc, operations)?;
     let txns = pair(alloc, &core)?;
-    report(alloc, &core, txns.as_slice()).map_err(|_| MEMORY)
+    report(alloc, &core, txns.as_slice()).map_err(|_| Fault::memory())
 }
 
 /// The answer to a text.
