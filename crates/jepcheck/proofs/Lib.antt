@@ -3,4 +3,5 @@ pub mod Lookups
 pub mod Noting
 pub mod Sights
 pub mod Pieces
-pub mod Lines
+pub mod Outcomes
+pub mod Words

@@ -1,5 +1,9 @@
 //! The command line.
 
+ghost use Rattle.std.specs.Prelude.{◌≡◌, ℕ, List, [], ◌∷◌, map, codes, IfErr, IfOk, string_bytes};
+ghost use Rattle.clap.specs.Words.{app_of, kind_of};
+ghost use Rattle.jepcheck.specs.Lines.{program_app};
+
 use std::alloc::{AllocError, Global};
 
 use clap::error::ErrorKind;
@@ -38,34 +42,45 @@ Example:
 ";
 
 /// The lines that there are.
-fn program<'a>(alloc: Global) -> Result<clap::Command<'a>, AllocError> {
+fn program<'a>(alloc: Global) -> Result<clap::Command<'a>, AllocError>
+    ensures { IfOk result (λ program. app_of program ≡ program_app) }
+{
     let reads = clap::Command::new(alloc, "reads");
-    clap::Command::new(alloc, "jepcheck")
-        .subcommand_required(true)
-        .subcommand(reads)
+    let program = clap::Command::new(alloc, "jepcheck").subcommand_required(true);
+    program.subcommand(reads)
 }
 
-/// The text of a fault of the command line, a request for help among them.
-fn usage(alloc: Global, error: &clap::Error) -> LineFault {
-    let text = if matches!(error.kind(), ErrorKind::DisplayHelp) {
+/// The text for an error of the parse.
+fn usage(alloc: Global, error: &clap::Error) -> Result<String, AllocError> {
+    if matches!(error.kind(), ErrorKind::DisplayHelp) {
         String::from_str(alloc, HELP)
     } else {
         format!(in alloc; "{error}\n{HELP}")
-    };
-    match text {
+    }
+}
+
+/// The fault of a line that the parse refuses, a request for help among them.
+fn line_fault(alloc: Global, error: &clap::Error) -> LineFault
+    ensures { kind_of error.now ≡ ErrorKind.OutOfMemory → result ≡ LineFault.Memory }
+{
+    if matches!(error.kind(), ErrorKind::OutOfMemory) {
+        return LineFault::Memory;
+    }
+    match usage(alloc, error) {
         Ok(text) => LineFault::Usage(text),
         Err(AllocError) => LineFault::Memory,
     }
 }
 
 /// What the words ask for, of which the first is the program's name.
-pub fn command_line(alloc: Global, words: &[String]) -> Result<Asked, LineFault> {
+pub fn command_line<'a>(alloc: Global, words: &'a [String]) -> Result<Asked, LineFault>
+    ensures { (name : List ℕ) → map string_bytes words.entry.now ≡ name ∷ codes "reads" ∷ [] → IfErr result (λ fault. fault ≡ LineFault.Memory) }
+{
     let Ok(program) = program(alloc) else {
         return Err(LineFault::Memory);
     };
     match program.try_get_matches_from(words) {
-        Ok(_) => Ok(Asked::Run(Command::Reads)),
-        Err(error) if matches!(error.kind(), ErrorKind::OutOfMemory) => Err(LineFault::Memory),
-        Err(error) => Err(usage(alloc, &error)),
+        Ok(_matches) => Ok(Asked::Run(Command::Reads)),
+        Err(error) => Err(line_fault(alloc, &error)),
     }
 }
