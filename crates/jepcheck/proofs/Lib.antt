@@ -5,3 +5,5 @@ pub mod Sights
 pub mod Pieces
 pub mod Lines
 pub mod OneByOne
+pub mod Outcomes
+pub mod Words

@@ -4,3 +4,4 @@ pub mod Reports
 pub mod Writers
 pub mod Statuses
 pub mod Going
+pub mod Lines

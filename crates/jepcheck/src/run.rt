@@ -136,7 +136,7 @@ fn print<T: Sink>(sink: &mut T, status: Status, printed: &[u8]) -> Status
 }
 
 /// Prints that memory was refused, and takes none for it.
-fn print_memory<T: Sink>(sink: &mut T) -> Status
+pub fn print_memory<T: Sink>(sink: &mut T) -> Status
     ensures answered { (text : List ℕ) → HasAnswered result text (T.tells sink.old) (T.tells sink.new) }
     ensures counted { (failures : ℕ) → CountedBy result failures failures (T.failures sink.old) (T.failures sink.new) }
 {

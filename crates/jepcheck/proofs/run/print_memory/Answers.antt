@@ -1,5 +1,5 @@
 use Rattle.std.proofs.Common.{[]}
-use Rattle.jepcheck.proofs.Lines.{memory_line}
+use Rattle.jepcheck.proofs.Outcomes.{memory_line}
 use Rattle.jepcheck.proofs.run.print_memory.Goals as goal
 
 pub returns-clause-answered : goal.returns-clause-answered

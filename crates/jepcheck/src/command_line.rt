@@ -1,0 +1,86 @@
+//! The command line.
+
+ghost use Rattle.std.specs.Prelude.{◌≡◌, ℕ, List, [], ◌∷◌, map, codes, IfErr, IfOk, string_bytes};
+ghost use Rattle.clap.specs.Words.{app_of, kind_of};
+ghost use Rattle.jepcheck.specs.Lines.{program_app};
+
+use std::alloc::{AllocError, Global};
+
+use clap::error::ErrorKind;
+
+use crate::run::Command;
+
+/// What a command line asks for.
+#[derive(Clone, Copy, Debug, PartialEq, Eq)]
+pub enum Asked {
+    Run(Command),
+}
+
+/// Why a command line asks for nothing that can be done.
+#[derive(Debug, Drop)]
+pub enum LineFault {
+    /// It is none of the program's lines, or asks for help. The text says what they are.
+    Usage(String),
+    Memory,
+}
+
+const HELP: &str = "\
+jepcheck judges the history of a Jepsen test of register transactions.
+
+Usage: jepcheck COMMAND < HISTORY
+
+Commands:
+  reads    print the first read of a value that a failed transaction wrote (G1a), the first read of a value
+           that another transaction wrote and wrote over in itself (G1b), and how many reads return a value
+           that nobody wrote
+
+The history is read from standard input. The status is 0 where nothing was found, 1 where something was,
+2 where the history or the command line is refused, 3 where a device failed and 4 where memory is refused.
+
+Example:
+  jepcheck reads < examples/aborted-read.edn
+";
+
+/// The lines that there are.
+fn program<'a>(alloc: Global) -> Result<clap::Command<'a>, AllocError>
+    ensures { IfOk result (λ program. app_of program ≡ program_app) }
+{
+    let reads = clap::Command::new(alloc, "reads");
+    let program = clap::Command::new(alloc, "jepcheck").subcommand_required(true);
+    program.subcommand(reads)
+}
+
+/// The text for an error of the parse.
+fn usage(alloc: Global, error: &clap::Error) -> Result<String, AllocError> {
+    if matches!(error.kind(), ErrorKind::DisplayHelp) {
+        String::from_str(alloc, HELP)
+    } else {
+        format!(in alloc; "{error}\n{HELP}")
+    }
+}
+
+/// The fault of a line that the parse refuses, a request for help among them.
+fn line_fault(alloc: Global, error: &clap::Error) -> LineFault
+    ensures { kind_of error.now ≡ ErrorKind.OutOfMemory → result ≡ LineFault.Memory }
+{
+    if matches!(error.kind(), ErrorKind::OutOfMemory) {
+        return LineFault::Memory;
+    }
+    match usage(alloc, error) {
+        Ok(text) => LineFault::Usage(text),
+        Err(AllocError) => LineFault::Memory,
+    }
+}
+
+/// What the words ask for, of which the first is the program's name.
+pub fn command_line<'a>(alloc: Global, words: &'a [String]) -> Result<Asked, LineFault>
+    ensures { (name : List ℕ) → map string_bytes words.entry.now ≡ name ∷ codes "reads" ∷ [] → IfErr result (λ fault. fault ≡ LineFault.Memory) }
+{
+    let Ok(program) = program(alloc) else {
+        return Err(LineFault::Memory);
+    };
+    match program.try_get_matches_from(words) {
+        Ok(_matches) => Ok(Asked::Run(Command::Reads)),
+        Err(error) => Err(line_fault(alloc, &error)),
+    }
+}
