@@ -3,7 +3,6 @@ pub mod Lookups
 pub mod Noting
 pub mod Sights
 pub mod Pieces
-pub mod Lines
 pub mod OneByOne
 pub mod Outcomes
 pub mod Words
