@@ -10,3 +10,5 @@ pub mod Refused
 pub mod Order
 pub mod Cutting
 pub mod Texts
+pub mod Absence
+pub mod Verdicts

@@ -123,8 +123,8 @@ read_before_a_write-pairs :
     version_pairs (transactions_of read_before_a_write) ≡ nil_then x 2 ∷ nil_then x 3 ∷ pair x 1 3 ∷ []
 read_before_a_write-pairs = refl
 
--- No wr and no ww edge leads from the first writer, but the second reader read what came before the write of the first
--- one.
+-- No wr and no ww edge leads from the first writer, but the second reader read 1, which came before the first reader's
+-- write.
 read_before_a_write-edges : dependency_edges (transactions_of read_before_a_write) ≡ rw_edge 4 2 x 1 3 ∷ []
 read_before_a_write-edges = refl
 
