@@ -79,6 +79,7 @@ stale_read-witness-lines : finding_lines (codes "G-single") (Some (record { leve
 unfolding digits
 stale_read-witness-lines = refl
 
+-- As a G2-item it is printed alike.
 stale_read-witness-lines-g2_item : finding_lines (codes "G2-item") (Some (record { level = Realtime; walk = stale_read_walk })) ≡ codes "G2-item realtime\n  T0 -realtime 1 2-> T2\n  T2 -rw :x nil 1-> T0\n"
 unfolding digits
 stale_read-witness-lines-g2_item = refl
@@ -141,6 +142,7 @@ own_stale_read-witness-lines : finding_lines (codes "G-single") (Some (record { 
 unfolding digits
 own_stale_read-witness-lines = refl
 
+-- As a G2-item it is printed alike.
 own_stale_read-witness-lines-g2_item : finding_lines (codes "G2-item") (Some (record { level = Process; walk = own_stale_read_walk })) ≡ codes "G2-item process\n  T0 -process 0-> T2\n  T2 -rw :x nil 1-> T0\n"
 unfolding digits
 own_stale_read-witness-lines-g2_item = refl
@@ -274,6 +276,7 @@ unknown_write-witness-lines : finding_lines (codes "G-single") (Some (record { l
 unfolding digits
 unknown_write-witness-lines = refl
 
+-- As a G2-item it is printed alike.
 unknown_write-witness-lines-g2_item : finding_lines (codes "G2-item") (Some (record { level = Process; walk = unknown_write_walk })) ≡ codes "G2-item process\n  T0 -wr :x 1-> T2\n  T2 -process 1-> T4\n  T4 -rw :x nil 1-> T0\n"
 unfolding digits
 unknown_write-witness-lines-g2_item = refl
@@ -338,6 +341,7 @@ unknown_pair-witness-lines : finding_lines (codes "G-single") (Some (record { le
 unfolding digits
 unknown_pair-witness-lines = refl
 
+-- As a G2-item it is printed alike.
 unknown_pair-witness-lines-g2_item : finding_lines (codes "G2-item") (Some (record { level = Process; walk = unknown_pair_walk })) ≡ codes "G2-item process\n  T0 -wr :x 1-> T2\n  T2 -process 1-> T4\n  T4 -rw :y nil 1-> T0\n"
 unfolding digits
 unknown_pair-witness-lines-g2_item = refl
