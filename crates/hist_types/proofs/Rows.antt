@@ -4,8 +4,11 @@ pub mod History
 pub mod Cycles
 pub mod Orders
 pub mod Realtime
+pub mod Nodes
 pub mod Reads
 pub mod Refused
 pub mod Order
 pub mod Cutting
 pub mod Texts
+pub mod Absence
+pub mod Verdicts

@@ -16,7 +16,7 @@ use Rattle.hist_types.proofs.Rows.History.{x, y, sets, gets, finds_nil, invoke, 
 -- ---- two transactions that read each other's writes
 
 -- Each writes one key and reads what the other wrote to the other key.
-abbrev crossed_reads : List Operation
+abbrev pub crossed_reads : List Operation
 crossed_reads =
     invoke 0 (sets x 1 ∷ finds_nil y ∷ [])
     ∷ invoke 1 (sets y 1 ∷ finds_nil x ∷ [])
@@ -49,11 +49,11 @@ crossed_reads-edges : dependency_edges (transactions_of crossed_reads) ≡ wr_ed
 crossed_reads-edges = refl
 
 -- from one to the other and back
-abbrev crossed_reads_walk : List Edge
+abbrev pub crossed_reads_walk : List Edge
 crossed_reads_walk = wr_edge 0 1 x 1 ∷ wr_edge 1 0 y 1 ∷ []
 
 -- A cycle of wr edges is a G1c with no order between transactions needed.
-crossed_reads-witness : IsWitness G1c Plain (transactions_of crossed_reads) crossed_reads_walk
+pub crossed_reads-witness : IsWitness G1c Plain (transactions_of crossed_reads) crossed_reads_walk
 crossed_reads-witness =
     witness G1c Plain (transactions_of crossed_reads) (0 ∷ 1 ∷ []) crossed_reads_walk (refl, refl) (refl, refl, (refl, refl, tt)) refl refl refl refl
 
@@ -69,7 +69,7 @@ crossed_reads-others = (refl, refl, refl)
 -- ---- two transactions that read nil and write the same key
 
 -- Both read nil and write the key that they read.
-abbrev updates_of_nil : List Operation
+abbrev pub updates_of_nil : List Operation
 updates_of_nil =
     invoke 0 (finds_nil x ∷ sets x 1 ∷ [])
     ∷ invoke 1 (finds_nil x ∷ sets x 2 ∷ [])
@@ -110,11 +110,11 @@ updates_of_nil-edges :
 updates_of_nil-edges = refl
 
 -- from one to the other and back
-abbrev updates_of_nil_walk : List Edge
+abbrev pub updates_of_nil_walk : List Edge
 updates_of_nil_walk = rw_nil_edge 0 1 x 2 ∷ rw_nil_edge 1 0 x 1 ∷ []
 
 -- A cycle with rw edges is a G2-item.
-updates_of_nil-witness : IsWitness G2Item Plain (transactions_of updates_of_nil) updates_of_nil_walk
+pub updates_of_nil-witness : IsWitness G2Item Plain (transactions_of updates_of_nil) updates_of_nil_walk
 updates_of_nil-witness =
     witness G2Item Plain (transactions_of updates_of_nil) (0 ∷ 2 ∷ []) updates_of_nil_walk (refl, refl) (refl, refl, (refl, refl, tt)) refl refl refl refl
 
@@ -130,7 +130,7 @@ updates_of_nil-not_single = refl
 -- ---- two transactions that read each other's first writes and write over them
 
 -- Each writes one key, reads the other key with what the other one wrote, and writes over that.
-abbrev crossed_updates : List Operation
+abbrev pub crossed_updates : List Operation
 crossed_updates =
     invoke 0 (sets x 1 ∷ finds_nil y ∷ sets y 2 ∷ [])
     ∷ invoke 1 (sets y 1 ∷ finds_nil x ∷ sets x 2 ∷ [])
@@ -183,11 +183,11 @@ unfolding digits
 crossed_updates-text = refl
 
 -- over the writes alone
-abbrev ww_walk : List Edge
+abbrev pub ww_walk : List Edge
 ww_walk = ww_edge 0 1 x 1 2 ∷ ww_edge 1 0 y 1 2 ∷ []
 
 -- A cycle of ww edges is a G0.
-crossed_updates-g0 : IsWitness G0 Plain (transactions_of crossed_updates) ww_walk
+pub crossed_updates-g0 : IsWitness G0 Plain (transactions_of crossed_updates) ww_walk
 crossed_updates-g0 =
     witness G0 Plain (transactions_of crossed_updates) (0 ∷ 2 ∷ []) ww_walk (refl, refl) (refl, refl, (refl, refl, tt)) refl refl refl refl
 
@@ -201,11 +201,11 @@ crossed_updates-g0_only : makes G1c ww_walk ≡ false
 crossed_updates-g0_only = refl
 
 -- back over a read
-abbrev read_back_walk : List Edge
+abbrev pub read_back_walk : List Edge
 read_back_walk = ww_edge 0 1 x 1 2 ∷ wr_edge 1 0 y 1 ∷ []
 
 -- With a wr edge the cycle is a G1c.
-crossed_updates-read_back : IsWitness G1c Plain (transactions_of crossed_updates) read_back_walk
+pub crossed_updates-read_back : IsWitness G1c Plain (transactions_of crossed_updates) read_back_walk
 crossed_updates-read_back =
     witness G1c Plain (transactions_of crossed_updates) (0 ∷ 3 ∷ []) read_back_walk (refl, refl) (refl, refl, (refl, refl, tt)) refl refl refl refl
 

@@ -16,7 +16,7 @@ use Rattle.hist_types.proofs.Rows.History.{x, y, sets, gets, finds_nil, invoke, 
 -- ---- a write, and a later read that misses it
 
 -- One process has written, and then another one reads nil.
-abbrev stale_read : List Operation
+abbrev pub stale_read : List Operation
 stale_read =
     invoke 0 (sets x 1 ∷ [])
     ∷ ok 0 (sets x 1 ∷ [])
@@ -62,11 +62,11 @@ stale_read-lower : (edges_at Plain (transactions_of stale_read) ≡ rw_nil_edge 
 stale_read-lower = (refl, refl)
 
 -- forth in real time, and back since the read missed the write
-abbrev stale_read_walk : List Edge
+abbrev pub stale_read_walk : List Edge
 stale_read_walk = realtime_edge 0 2 1 2 ∷ rw_nil_edge 2 0 x 1 ∷ []
 
 -- A cycle with one rw edge is a G-single and a G2-item, here of real time.
-stale_read-witness :
+pub stale_read-witness :
     IsWitness GSingle Realtime (transactions_of stale_read) stale_read_walk
     × IsWitness G2Item Realtime (transactions_of stale_read) stale_read_walk
 stale_read-witness = (
@@ -79,6 +79,7 @@ stale_read-witness-lines : finding_lines (codes "G-single") (Some (record { leve
 unfolding digits
 stale_read-witness-lines = refl
 
+-- As a G2-item it is printed alike.
 stale_read-witness-lines-g2_item : finding_lines (codes "G2-item") (Some (record { level = Realtime; walk = stale_read_walk })) ≡ codes "G2-item realtime\n  T0 -realtime 1 2-> T2\n  T2 -rw :x nil 1-> T0\n"
 unfolding digits
 stale_read-witness-lines-g2_item = refl
@@ -86,7 +87,7 @@ stale_read-witness-lines-g2_item = refl
 -- ---- the same within one process
 
 -- A process has written, and then reads nil itself.
-abbrev own_stale_read : List Operation
+abbrev pub own_stale_read : List Operation
 own_stale_read =
     invoke 0 (sets x 1 ∷ [])
     ∷ ok 0 (sets x 1 ∷ [])
@@ -124,11 +125,11 @@ own_stale_read-realtime : order_edges Realtime (transactions_of own_stale_read) 
 own_stale_read-realtime = refl
 
 -- forth within the process, and back since the read missed the write
-abbrev own_stale_read_walk : List Edge
+abbrev pub own_stale_read_walk : List Edge
 own_stale_read_walk = process_edge 0 2 0 ∷ rw_nil_edge 2 0 x 1 ∷ []
 
 -- The same cycle is found at the level process.
-own_stale_read-witness :
+pub own_stale_read-witness :
     IsWitness GSingle Process (transactions_of own_stale_read) own_stale_read_walk
     × IsWitness G2Item Process (transactions_of own_stale_read) own_stale_read_walk
 own_stale_read-witness = (
@@ -141,6 +142,7 @@ own_stale_read-witness-lines : finding_lines (codes "G-single") (Some (record { 
 unfolding digits
 own_stale_read-witness-lines = refl
 
+-- As a G2-item it is printed alike.
 own_stale_read-witness-lines-g2_item : finding_lines (codes "G2-item") (Some (record { level = Process; walk = own_stale_read_walk })) ≡ codes "G2-item process\n  T0 -process 0-> T2\n  T2 -rw :x nil 1-> T0\n"
 unfolding digits
 own_stale_read-witness-lines-g2_item = refl
@@ -213,7 +215,7 @@ read_of_own_future-g1c-lines = refl
 -- ---- a write that nobody knows of, read once and then missed
 
 -- The write ended with an info, one read returned its value, and the next read of that process nil.
-abbrev unknown_write : List Operation
+abbrev pub unknown_write : List Operation
 unknown_write =
     invoke 0 (sets x 1 ∷ [])
     ∷ info 0
@@ -257,11 +259,11 @@ unknown_write-realtime : order_edges Realtime (transactions_of unknown_write) �
 unknown_write-realtime = refl
 
 -- from the write to its reader, on to the next read, and back
-abbrev unknown_write_walk : List Edge
+abbrev pub unknown_write_walk : List Edge
 unknown_write_walk = wr_edge 0 2 x 1 ∷ process_edge 2 4 1 ∷ rw_nil_edge 4 0 x 1 ∷ []
 
 -- The cycle with one rw edge is a G-single and a G2-item.
-unknown_write-witness :
+pub unknown_write-witness :
     IsWitness GSingle Process (transactions_of unknown_write) unknown_write_walk
     × IsWitness G2Item Process (transactions_of unknown_write) unknown_write_walk
 unknown_write-witness = (
@@ -274,6 +276,7 @@ unknown_write-witness-lines : finding_lines (codes "G-single") (Some (record { l
 unfolding digits
 unknown_write-witness-lines = refl
 
+-- As a G2-item it is printed alike.
 unknown_write-witness-lines-g2_item : finding_lines (codes "G2-item") (Some (record { level = Process; walk = unknown_write_walk })) ≡ codes "G2-item process\n  T0 -wr :x 1-> T2\n  T2 -process 1-> T4\n  T4 -rw :x nil 1-> T0\n"
 unfolding digits
 unknown_write-witness-lines-g2_item = refl
@@ -338,6 +341,7 @@ unknown_pair-witness-lines : finding_lines (codes "G-single") (Some (record { le
 unfolding digits
 unknown_pair-witness-lines = refl
 
+-- As a G2-item it is printed alike.
 unknown_pair-witness-lines-g2_item : finding_lines (codes "G2-item") (Some (record { level = Process; walk = unknown_pair_walk })) ≡ codes "G2-item process\n  T0 -wr :x 1-> T2\n  T2 -process 1-> T4\n  T4 -rw :y nil 1-> T0\n"
 unfolding digits
 unknown_pair-witness-lines-g2_item = refl

@@ -214,6 +214,7 @@ open_writer-witness-lines : finding_lines (codes "G-single") (Some (record { lev
 unfolding digits
 open_writer-witness-lines = refl
 
+-- As a G2-item it is printed alike.
 open_writer-witness-lines-g2_item : finding_lines (codes "G2-item") (Some (record { level = Process; walk = open_writer_walk })) ≡ codes "G2-item process\n  T0 -wr :x 1-> T1\n  T1 -process 1-> T3\n  T3 -rw :x nil 1-> T0\n"
 unfolding digits
 open_writer-witness-lines-g2_item = refl

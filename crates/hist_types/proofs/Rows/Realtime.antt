@@ -88,6 +88,7 @@ missed_write-witness-lines : finding_lines (codes "G-single") (Some (record { le
 unfolding digits
 missed_write-witness-lines = refl
 
+-- As a G2-item it is printed alike.
 missed_write-witness-lines-g2_item : finding_lines (codes "G2-item") (Some (record { level = Realtime; walk = missed_write_walk })) ≡ codes "G2-item realtime\n  T0 -realtime 1 4-> T4\n  T4 -rw :x nil 1-> T0\n"
 unfolding digits
 missed_write-witness-lines-g2_item = refl
@@ -181,6 +182,7 @@ missed_write_past_a_fail-witness-lines : finding_lines (codes "G-single") (Some 
 unfolding digits
 missed_write_past_a_fail-witness-lines = refl
 
+-- As a G2-item it is printed alike.
 missed_write_past_a_fail-witness-lines-g2_item : finding_lines (codes "G2-item") (Some (record { level = Realtime; walk = missed_write_past_a_fail_walk })) ≡ codes "G2-item realtime\n  T0 -realtime 1 4-> T4\n  T4 -rw :x nil 1-> T0\n"
 unfolding digits
 missed_write_past_a_fail-witness-lines-g2_item = refl
@@ -258,6 +260,7 @@ missed_write_past_an_open_one-witness-lines : finding_lines (codes "G-single") (
 unfolding digits
 missed_write_past_an_open_one-witness-lines = refl
 
+-- As a G2-item it is printed alike.
 missed_write_past_an_open_one-witness-lines-g2_item : finding_lines (codes "G2-item") (Some (record { level = Realtime; walk = missed_write_past_an_open_one_walk })) ≡ codes "G2-item realtime\n  T0 -realtime 1 3-> T3\n  T3 -rw :x nil 1-> T0\n"
 unfolding digits
 missed_write_past_an_open_one-witness-lines-g2_item = refl
