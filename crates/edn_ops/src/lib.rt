@@ -5,3 +5,6 @@ mod owned;
 pub mod reader;
 mod scan;
 pub mod types;
+
+#[cfg(test)]
+mod tests;
