@@ -1,19 +1,19 @@
 -- Atoms: what is read is spelled so, and what is spelled so is read.
-use Rattle.std.proofs.Common.{◌≡◌, ℕ, suc, ◌+◌, ◌-◌, ◌^◌, ◌<◌, ◌≤◌, ◌⊎◌, ℤ, pos, negsuc, Bool, true, false, cond, nat_lt, nat_le, ◌==◌, ◌&&◌, List, [], ◌∷◌, ◌++◌, length, get_or, take, drop, Option, Some, None, refl, sym, ap, subst, ◌∙◌, arith, inl, inr, codes, append_assoc, take-append-drop}
+use Rattle.std.proofs.Common.{◌≡◌, ℕ, suc, ◌-◌, ◌^◌, ◌<◌, ◌≤◌, ◌⊎◌, pos, negsuc, Bool, true, false, cond, nat_lt, nat_le, ◌==◌, ◌&&◌, List, [], ◌∷◌, ◌++◌, length, take, drop, Option, Some, None, refl, sym, ap, ◌∙◌, arith, inl, inr, codes, take-append-drop}
 use Rattle.std.specs.Prelude.{decimal, IfSome}
 use Rattle.std.specs.Char.{is_ascii_digit}
 use Rattle.std.specs.List.{prefix_len, list_all}
 use Rattle.std.specs.Str.{all_ascii_digits}
 use Rattle.std.proofs.lemmas.Bool.{ltb-true, lt-ltb, leb-true, le-leb, eqb-true, eq-eqb, ne_eqb, and_parts, and_from, cond-true, cond-false}
 use Rattle.std.proofs.lemmas.Fmt.{digits_decimal, decimal_nonempty}
-use Rattle.std.proofs.lemmas.List.{take_at, drop_at, length-append, length-take}
+use Rattle.std.proofs.lemmas.List.{drop_at, length-take}
 use Rattle.std.proofs.lemmas.Option.{none-some}
 use Rattle.std.proofs.lemmas.Str.Parse.{digit_at}
 use Rattle.hist_types.specs.Atoms.{Atom, integer, keyword, string, symbol}
 use Rattle.hist_types.specs.Texts.{atom_text, value_text}
-use Rattle.edn_ops.specs.SimpleLines.{is_keyword_byte, IsAsciiKeyword, IsSimpleAtom}
+use Rattle.edn_ops.specs.SimpleLines.{is_keyword_byte, IsSimpleAtom}
 use Rattle.edn_ops.specs.Scan.{◌>>=◌, or_else, keep_if, strip, number_at, after_positive, after_negative, after_run, after_atom, after_value}
-use Rattle.edn_ops.proofs.Parts.{then_takes, or_takes, keep_takes, strip_takes, strip_again, all-front, front_again, front_within}
+use Rattle.edn_ops.proofs.Parts.{then_takes, or_takes, keep_takes, strip_takes, all-front, front_again, front_within}
 use Rattle.edn_ops.proofs.Digits.{own, number_takes, number_again}
 
 -- no byte that would go on with an atom
@@ -102,18 +102,18 @@ atom_takes [] rest e = absurd (none-some rest e)
 atom_takes (b ∷ bytes) rest e =
     elim (which (b == 58) (after_run bytes) (cond (b == 45) (after_negative bytes) (after_positive (b ∷ bytes))) (Some rest) e) [
       | inl p ↦
-        let run = run_takes bytes rest p.1 in
-        let head : b ≡ 58 = eqb-true b 58 p.0 in
-        record { atom = keyword (58 ∷ run.0); simple = (refl, run.1, run.2); parts = ap (λ (x : ℕ). x ∷ bytes) head ∙ ap (λ (xs : List ℕ). 58 ∷ xs) run.3 }
+          let run = run_takes bytes rest p.1 in
+          let head : b ≡ 58 = eqb-true b 58 p.0 in
+          record { atom = keyword (58 ∷ run.0); simple = (refl, run.1, run.2); parts = ap (λ (x : ℕ). x ∷ bytes) head ∙ ap (λ (xs : List ℕ). 58 ∷ xs) run.3 }
       | inr p ↦ elim (which (b == 45) (after_negative bytes) (after_positive (b ∷ bytes)) (Some rest) p.1) [
-          | inl q ↦
+        | inl q ↦
             let number = negative_takes bytes rest q.1 in
             let head : b ≡ 45 = eqb-true b 45 q.0 in
             record { atom = integer (negsuc number.0); simple = lt-ltb number.0 (2 ^ 63) number.1; parts = ap (λ (x : ℕ). x ∷ bytes) head ∙ ap (λ (xs : List ℕ). 45 ∷ xs) number.2 }
-          | inr q ↦
+        | inr q ↦
             let number = positive_takes (b ∷ bytes) rest q.1 in
             record { atom = integer (pos number.0); simple = lt-ltb number.0 (2 ^ 63) number.1; parts = number.2 }
-        ]
+      ]
     ]
 
 -- an atom that begins with a digit has no sign

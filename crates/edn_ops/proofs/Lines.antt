@@ -1,5 +1,5 @@
 -- Lines: what is read is the line of a simple operation with its shape, and the line of each simple operation is read.
-use Rattle.std.proofs.Common.{◌≡◌, ℕ, suc, ◌+◌, ◌-◌, ◌^◌, ◌<◌, ◌≤◌, ◌⊎◌, Bool, true, false, nat_le, ◌==◌, List, [], ◌∷◌, ◌++◌, length, take, drop, Option, Some, None, refl, sym, ap, subst, ◌∙◌, arith, inl, inr, codes, append_assoc, take-append-drop}
+use Rattle.std.proofs.Common.{◌≡◌, ℕ, ◌+◌, ◌-◌, ◌<◌, ◌≤◌, ◌⊎◌, true, nat_le, ◌==◌, List, [], ◌∷◌, ◌++◌, length, take, drop, Option, Some, None, refl, sym, ap, subst, ◌∙◌, arith, inl, inr, codes, append_assoc, take-append-drop}
 use Rattle.std.specs.Prelude.{◌≢◌, decimal}
 use Rattle.std.specs.Char.{is_ascii_digit}
 use Rattle.std.specs.List.{AllByRecursion, prefix_len}
@@ -13,7 +13,7 @@ use Rattle.hist_types.specs.declared.types.OpKind.{OpKind}
 use Rattle.hist_types.specs.declared.types.OpKind.TheVariants as kinds
 use Rattle.edn_ops.specs.declared.types.MopShape.{MopShape}
 use Rattle.edn_ops.specs.declared.types.OpShape.{OpShape}
-use Rattle.edn_ops.specs.SimpleLines.{IsSimpleMop, FitsKind, IsSimple, BeginsWithLine, BeginsWithNoLine, IsSpanOf, AreMopShapesOf, IsShapeOf, HasLine}
+use Rattle.edn_ops.specs.SimpleLines.{IsSimpleMop, FitsKind, IsSimple, BeginsWithLine, BeginsWithNoLine, IsSpanOf, AreMopShapesOf, HasLine}
 use Rattle.edn_ops.specs.Scan.{◌>>=◌, or_else, keep_if, strip, number_at, process_at, span_between, mops_at, kind_at, head_at, value_field_at, ShapeParts, parts_of, operation_at, next_line, line_at}
 use Rattle.hist_types.specs.declared.types.Fault.{Fault}
 use Rattle.edn_ops.specs.Reader.{Reader, left, not_a_map, HasRefused}
@@ -40,12 +40,12 @@ kind_takes bytes found e =
     elim (or_takes invoke (or_else ok (or_else fail info)) found e) [
       | inl p ↦ kind_of_takes bytes (codes ":invoke") kinds.Invoke found refl p
       | inr q ↦ elim (or_takes ok (or_else fail info) found q) [
-          | inl p ↦ kind_of_takes bytes (codes ":ok") kinds.Ok found refl p
-          | inr r ↦ elim (or_takes fail info found r) [
-              | inl p ↦ kind_of_takes bytes (codes ":fail") kinds.Fail found refl p
-              | inr p ↦ kind_of_takes bytes (codes ":info") kinds.Info found refl p
-            ]
+        | inl p ↦ kind_of_takes bytes (codes ":ok") kinds.Ok found refl p
+        | inr r ↦ elim (or_takes fail info found r) [
+          | inl p ↦ kind_of_takes bytes (codes ":fail") kinds.Fail found refl p
+          | inr p ↦ kind_of_takes bytes (codes ":info") kinds.Info found refl p
         ]
+      ]
     ]
 
 kind_again : (kind : OpKind) (rest : List ℕ) → kind_at (kind_text kind ++ rest) ≡ Some (kind, rest)
@@ -193,7 +193,7 @@ makes : (text bytes : List ℕ) (kind : OpKind) (process : ℕ) (field : List �
 makes text bytes kind process field shapes closer rest ends e le value closed =
     let op : Operation = record { kind = kind; process = process; mops = value.mops } in
     let spelled : bytes ≡ operation_text op ++ rest =
-        e ∙ ap (headed kind process) (value.parts ∙ ap (λ (x : List ℕ). value_field_text kind value.mops ++ x) closed) ∙ op_parts op rest in
+    e ∙ ap (headed kind process) (value.parts ∙ ap (λ (x : List ℕ). value_field_text kind value.mops ++ x) closed) ∙ op_parts op rest in
     record {
       op = op;
       process = le;
@@ -255,15 +255,19 @@ ended text bytes shape rest next ends t short end =
     let simple : IsSimple t.op = record { process = t.process; fits = t.fits; count = t.count; atoms = t.atoms; bytes = omega arith } in
     elim end [
       | inl p ↦ record {
-          op = t.op; simple = simple; shape_of = t.shape_of;
-          line = inl (t.parts ∙ ap (λ (x : List ℕ). operation_text t.op ++ x) p.0 ∙ append-nil (operation_text t.op), p.1);
-          ends = record { before = rest_ends.before; whole = rest_ends.whole ∙ ap (λ (x : List ℕ). rest_ends.before ++ x) (p.0 ∙ sym p.1) };
-        }
+        op = t.op;
+        simple = simple;
+        shape_of = t.shape_of;
+        line = inl (t.parts ∙ ap (λ (x : List ℕ). operation_text t.op ++ x) p.0 ∙ append-nil (operation_text t.op), p.1);
+        ends = record { before = rest_ends.before; whole = rest_ends.whole ∙ ap (λ (x : List ℕ). rest_ends.before ++ x) (p.0 ∙ sym p.1) };
+      }
       | inr p ↦ record {
-          op = t.op; simple = simple; shape_of = t.shape_of;
-          line = inr (t.parts ∙ ap (λ (x : List ℕ). operation_text t.op ++ x) p);
-          ends = behind text rest (10 ∷ []) next rest_ends p;
-        }
+        op = t.op;
+        simple = simple;
+        shape_of = t.shape_of;
+        line = inr (t.parts ∙ ap (λ (x : List ℕ). operation_text t.op ++ x) p);
+        ends = behind text rest (10 ∷ []) next rest_ends p;
+      }
     ]
 
 line_takes : (text bytes : List ℕ) (shape : ShapeParts) (next : List ℕ) → EndsWith text bytes → line_at (length text) bytes ≡ Some (shape, next) → TakesLine text bytes shape next

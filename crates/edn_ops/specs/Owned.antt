@@ -1,5 +1,5 @@
 -- What owned operations stand for.
-use Rattle.std.specs.Prelude.{List, map, Option, option_map}
+use Rattle.std.specs.Prelude.{map, option_map}
 use Rattle.hist_types.specs.Atoms.{Atom, integer, keyword}
 use Rattle.hist_types.specs.Operations.{Mop, read, write, Operation}
 use Rattle.edn_ops.specs.declared.types.OwnedAtom.{OwnedAtom}

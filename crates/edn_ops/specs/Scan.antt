@@ -4,7 +4,7 @@ use Rattle.std.specs.declared.alloc.AllocError.{AllocError}
 use Rattle.std.specs.Char.{is_ascii_digit}
 use Rattle.std.specs.List.{prefix_len}
 use Rattle.std.specs.Str.Parse.{digits_value}
-use Rattle.hist_types.specs.Bytes.{colon, minus, zero_digit, line_feed, close_square}
+use Rattle.hist_types.specs.Bytes.{colon, minus, zero_digit, line_feed}
 use Rattle.hist_types.specs.declared.limits.TheConstants.{MAX_PROCESS, MAX_MICRO_OPS, MAX_OPERATION_BYTES}
 use Rattle.hist_types.specs.declared.types.OpKind.{OpKind}
 use Rattle.hist_types.specs.declared.types.OpKind.TheVariants as kinds

@@ -4,7 +4,6 @@
 mod owned;
 pub mod reader;
 mod scan;
-pub mod types;
-
 #[cfg(test)]
 mod tests;
+pub mod types;

@@ -1,15 +1,14 @@
-use std::alloc::{AllocError, Global};
-use std::test::*;
-
-use hist_types::types::{At, Fault, OpKind, Refusal};
-
 use crate::reader::OpReader;
 use crate::types::{OpShape, OwnedAtom, OwnedMop, OwnedOp, Span};
+use hist_types::types::{At, Fault, OpKind, Refusal};
+use std::alloc::{AllocError, Global};
+use std::test::*;
 
 const GOOD: &str = "{:type :invoke, :process 0, :value [[:r :x nil] [:w :x 1]]}\n";
 
 /// One of each form: both signs, both ends of 64 bits, keywords of any run bytes, nil.
-const FORMS: &str = "{:type :ok, :process 2147483647, :value [[:w :a#b -9223372036854775808] [:r 9223372036854775807 nil] [:r :: :a\\b] [:w 0 -1] [:r -10 10]]}";
+const FORMS: &str =
+    "{:type :ok, :process 2147483647, :value [[:w :a#b -9223372036854775808] [:r 9223372036854775807 nil] [:r :: :a\\b] [:w 0 -1] [:r -10 10]]}";
 
 fn not_a_map(offset: usize) -> Fault {
     Fault {
@@ -21,10 +20,12 @@ fn not_a_map(offset: usize) -> Fault {
 /// The next answer that is no refusal of memory: after one the reader is as it was, and can be asked again.
 fn next_op(reader: &mut OpReader) -> Result<Option<OpShape>, Fault> {
     match reader.next_op() {
-        Err(Fault {
-            refusal: Refusal::Memory,
-            at: _,
-        }) => reader.next_op(),
+        Err(
+            Fault {
+                refusal: Refusal::Memory,
+                at: _,
+            },
+        ) => reader.next_op(),
         answer => answer,
     }
 }
@@ -104,7 +105,10 @@ fn refuses_what_is_not_simple(rt: HostRuntime) -> Result<(), Fail> {
         text.extend_from_slice(line.as_bytes())?;
         text.extend_from_slice(b"\n{:type :fail, :process 0}\n")?;
         let mut reader = OpReader::new(rt.alloc(), &text);
-        assert!(rt; matches!(next_op(&mut reader), Ok(Some(_))), "before {line}");
+        assert!(rt;
+            matches!(next_op(&mut reader), Ok(Some(_))),
+            "before {line}"
+        );
         for _ in 0..3 {
             match next_op(&mut reader) {
                 Err(fault) => assert_eq!(rt; fault, not_a_map(GOOD.len()), "at {line}"),
@@ -123,13 +127,17 @@ fn ends_with_the_text(rt: HostRuntime) {
     assert_eq!(rt; count(alloc, b"\n"), (0, Some(not_a_map(0))));
     assert_eq!(rt; count(alloc, b"{:type :fail, :process 0}"), (1, None));
     assert_eq!(rt; count(alloc, b"{:type :info, :process 12}\n"), (1, None));
-    assert_eq!(rt; count(alloc, b"{:type :info, :process 12}\n\n"), (1, Some(not_a_map(27))));
+    assert_eq!(rt;
+        count(alloc, b"{:type :info, :process 12}\n\n"),
+        (1, Some(not_a_map(27)))
+    );
     assert_eq!(rt; count(alloc, FORMS.as_bytes()), (1, None));
 }
 
 #[test]
 fn gives_shapes(rt: HostRuntime) -> Result<(), Fail> {
-    let text = "{:type :info, :process 3}\n{:type :ok, :process 12, :value [[:r :x nil] [:w -5 :yy]]}\n";
+    let text =
+        "{:type :info, :process 3}\n{:type :ok, :process 12, :value [[:r :x nil] [:w -5 :yy]]}\n";
     let mut reader = OpReader::new(rt.alloc(), text.as_bytes());
     let first = next_op(&mut reader).ok().ok_or("simple")?.ok_or("there")?;
     assert_eq!(rt; first.kind, OpKind::Info);
@@ -181,7 +189,10 @@ fn keeps_to_the_limits(rt: HostRuntime) -> Result<(), Fail> {
     assert_eq!(rt; count(alloc, &wide(alloc, 256)?), (1, None));
     assert_eq!(rt; count(alloc, &wide(alloc, 257)?), (0, Some(not_a_map(0))));
     assert_eq!(rt; count(alloc, &long(alloc, 65_536 - 46)?), (1, None));
-    assert_eq!(rt; count(alloc, &long(alloc, 65_537 - 46)?), (0, Some(not_a_map(0))));
+    assert_eq!(rt;
+        count(alloc, &long(alloc, 65_537 - 46)?),
+        (0, Some(not_a_map(0)))
+    );
     Ok(())
 }
 
@@ -199,13 +210,20 @@ fn reads_a_long_history(rt: HostRuntime) -> Result<(), Fail> {
 
 #[test]
 fn can_be_asked_again(rt: HostRuntime) {
-    let text = "{:type :ok, :process 0, :value [[:r 1 1] [:r 2 2] [:r 3 3] [:r 4 4] [:r 5 5] [:r 6 6] [:r 7 7] [:r 8 8] [:r 9 9]]}\n";
+    let text =
+        "{:type :ok, :process 0, :value [[:r 1 1] [:r 2 2] [:r 3 3] [:r 4 4] [:r 5 5] [:r 6 6] [:r 7 7] [:r 8 8] [:r 9 9]]}\n";
     let mut reader = OpReader::new(rt.alloc(), text.as_bytes());
     match reader.next_op() {
         Ok(Some(shape)) => assert_eq!(rt; shape.mops.len(), 9),
         Ok(None) => assert!(rt; false, "a line is left"),
         Err(fault) => {
-            assert_eq!(rt; fault, Fault { refusal: Refusal::Memory, at: At::Nowhere });
+            assert_eq!(rt;
+                fault,
+                Fault {
+                    refusal: Refusal::Memory,
+                    at: At::Nowhere
+                }
+            );
             match reader.next_op() {
                 Ok(Some(shape)) => assert_eq!(rt; shape.mops.len(), 9),
                 _ => assert!(rt; false, "the line is still left"),

@@ -1,4 +1,3 @@
-use Rattle.std.proofs.Common.{◌≡◌, length, drop}
 use Rattle.edn_ops.proofs.Lines.{line_found_at, no_line_at}
 use Rattle.edn_ops.proofs.reader.line_from.Goals as goal
 

@@ -1,4 +1,3 @@
-use Rattle.std.proofs.Common.{subst, sym}
 use Rattle.edn_ops.proofs.Digits.{digits_text, parse_fails}
 use Rattle.edn_ops.proofs.scan.digits_number.Goals as goal
 

@@ -1,4 +1,3 @@
-use Rattle.std.proofs.Common.{subst, sym}
 use Rattle.edn_ops.proofs.Digits.{front_digits}
 use Rattle.edn_ops.proofs.scan.number.Goals as goal
 

@@ -1,4 +1,3 @@
-use Rattle.std.proofs.Common.{◌∙◌, ap, sym, Some}
 use Rattle.hist_types.specs.declared.limits.TheConstants.{MAX_MICRO_OPS}
 use Rattle.edn_ops.specs.Scan.{some_mops_at}
 use Rattle.edn_ops.proofs.Loop.{ends, goes_on, breaks_off, finds_none, is_full}

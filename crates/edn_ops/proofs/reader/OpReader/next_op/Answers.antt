@@ -1,4 +1,4 @@
-use Rattle.std.proofs.Common.{◌≡◌, inl}
+use Rattle.std.proofs.Common.{inl}
 use Rattle.edn_ops.proofs.Lines.{refused}
 use Rattle.edn_ops.proofs.reader.OpReader.next_op.Goals as goal
 
