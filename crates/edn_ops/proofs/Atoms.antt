@@ -102,18 +102,18 @@ atom_takes [] rest e = absurd (none-some rest e)
 atom_takes (b ∷ bytes) rest e =
     elim (which (b == 58) (after_run bytes) (cond (b == 45) (after_negative bytes) (after_positive (b ∷ bytes))) (Some rest) e) [
       | inl p ↦
-        let run = run_takes bytes rest p.1 in
-        let head : b ≡ 58 = eqb-true b 58 p.0 in
-        record { atom = keyword (58 ∷ run.0); simple = (refl, run.1, run.2); parts = ap (λ (x : ℕ). x ∷ bytes) head ∙ ap (λ (xs : List ℕ). 58 ∷ xs) run.3 }
+          let run = run_takes bytes rest p.1 in
+          let head : b ≡ 58 = eqb-true b 58 p.0 in
+          record { atom = keyword (58 ∷ run.0); simple = (refl, run.1, run.2); parts = ap (λ (x : ℕ). x ∷ bytes) head ∙ ap (λ (xs : List ℕ). 58 ∷ xs) run.3 }
       | inr p ↦ elim (which (b == 45) (after_negative bytes) (after_positive (b ∷ bytes)) (Some rest) p.1) [
-          | inl q ↦
+        | inl q ↦
             let number = negative_takes bytes rest q.1 in
             let head : b ≡ 45 = eqb-true b 45 q.0 in
             record { atom = integer (negsuc number.0); simple = lt-ltb number.0 (2 ^ 63) number.1; parts = ap (λ (x : ℕ). x ∷ bytes) head ∙ ap (λ (xs : List ℕ). 45 ∷ xs) number.2 }
-          | inr q ↦
+        | inr q ↦
             let number = positive_takes (b ∷ bytes) rest q.1 in
             record { atom = integer (pos number.0); simple = lt-ltb number.0 (2 ^ 63) number.1; parts = number.2 }
-        ]
+      ]
     ]
 
 -- an atom that begins with a digit has no sign

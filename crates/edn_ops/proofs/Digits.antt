@@ -29,21 +29,23 @@ digits_text ds all = IsUtf8-from_ascii ds (IsAscii-from_digits ds (own.to ds all
 
 plain_zero : (digits : List ℕ) → is_plain digits ≡ true → (0 < length digits) × (get_or digits 0 0 ≡ 48 → length digits ≡ 1)
 plain_zero digits e =
-    let parts = and_parts (nat_lt 0 (length digits)) (not (get_or digits 0 0 == 48) || (length digits == 1)) e in
-    (ltb-true 0 (length digits) parts.0, λ zero_first.
-        elim (or_cases (not (get_or digits 0 0 == 48)) (length digits == 1) parts.1) [
-          | inl n ↦ absurd (let same : (get_or digits 0 0 == 48) ≡ true = eq-eqb _ _ zero_first in let other = not-true _ n in cc)
-          | inr one ↦ eqb-true (length digits) 1 one
-        ])
+    let parts = and_parts (nat_lt 0 (length digits)) (not (get_or digits 0 0 == 48) || (length digits == 1)) e in (
+      ltb-true 0 (length digits) parts.0,
+      λ zero_first.
+          elim (or_cases (not (get_or digits 0 0 == 48)) (length digits == 1) parts.1) [
+            | inl n ↦ absurd (let same : (get_or digits 0 0 == 48) ≡ true = eq-eqb _ _ zero_first in let other = not-true _ n in cc)
+            | inr one ↦ eqb-true (length digits) 1 one
+          ],
+    )
 
 plain_decimal : (n : ℕ) → n < 2 ^ 64 → is_plain (decimal n) ≡ true
 plain_decimal n lt =
     elim (cases_eq n 0) [
       | inl none ↦ rw (none, decimal_digit 0 (omega arith)) refl
       | inr some ↦
-        let first : 48 < get_or (decimal n) 0 0 = first_decimal n (omega arith) lt in
-        and_from _ _ (lt-ltb 0 (length (decimal n)) (decimal_nonempty n lt))
-        (or_left (not (get_or (decimal n) 0 0 == 48)) (length (decimal n) == 1) (ap not (ne_eqb (get_or (decimal n) 0 0) 48 (λ e. omega arith))))
+          let first : 48 < get_or (decimal n) 0 0 = first_decimal n (omega arith) lt in
+          and_from _ _ (lt-ltb 0 (length (decimal n)) (decimal_nonempty n lt))
+          (or_left (not (get_or (decimal n) 0 0 == 48)) (length (decimal n) == 1) (ap not (ne_eqb (get_or (decimal n) 0 0) 48 (λ e. omega arith))))
     ]
 
 pub number_takes : (bytes : List ℕ) (n : ℕ) (rest : List ℕ) → number_at bytes ≡ Some (n, rest) → (bytes ≡ decimal n ++ rest) × (n < 2 ^ 64)

@@ -40,12 +40,12 @@ kind_takes bytes found e =
     elim (or_takes invoke (or_else ok (or_else fail info)) found e) [
       | inl p ↦ kind_of_takes bytes (codes ":invoke") kinds.Invoke found refl p
       | inr q ↦ elim (or_takes ok (or_else fail info) found q) [
-          | inl p ↦ kind_of_takes bytes (codes ":ok") kinds.Ok found refl p
-          | inr r ↦ elim (or_takes fail info found r) [
-              | inl p ↦ kind_of_takes bytes (codes ":fail") kinds.Fail found refl p
-              | inr p ↦ kind_of_takes bytes (codes ":info") kinds.Info found refl p
-            ]
+        | inl p ↦ kind_of_takes bytes (codes ":ok") kinds.Ok found refl p
+        | inr r ↦ elim (or_takes fail info found r) [
+          | inl p ↦ kind_of_takes bytes (codes ":fail") kinds.Fail found refl p
+          | inr p ↦ kind_of_takes bytes (codes ":info") kinds.Info found refl p
         ]
+      ]
     ]
 
 kind_again : (kind : OpKind) (rest : List ℕ) → kind_at (kind_text kind ++ rest) ≡ Some (kind, rest)
@@ -193,7 +193,7 @@ makes : (text bytes : List ℕ) (kind : OpKind) (process : ℕ) (field : List �
 makes text bytes kind process field shapes closer rest ends e le value closed =
     let op : Operation = record { kind = kind; process = process; mops = value.mops } in
     let spelled : bytes ≡ operation_text op ++ rest =
-        e ∙ ap (headed kind process) (value.parts ∙ ap (λ (x : List ℕ). value_field_text kind value.mops ++ x) closed) ∙ op_parts op rest in
+    e ∙ ap (headed kind process) (value.parts ∙ ap (λ (x : List ℕ). value_field_text kind value.mops ++ x) closed) ∙ op_parts op rest in
     record {
       op = op;
       process = le;
@@ -255,15 +255,19 @@ ended text bytes shape rest next ends t short end =
     let simple : IsSimple t.op = record { process = t.process; fits = t.fits; count = t.count; atoms = t.atoms; bytes = omega arith } in
     elim end [
       | inl p ↦ record {
-          op = t.op; simple = simple; shape_of = t.shape_of;
-          line = inl (t.parts ∙ ap (λ (x : List ℕ). operation_text t.op ++ x) p.0 ∙ append-nil (operation_text t.op), p.1);
-          ends = record { before = rest_ends.before; whole = rest_ends.whole ∙ ap (λ (x : List ℕ). rest_ends.before ++ x) (p.0 ∙ sym p.1) };
-        }
+        op = t.op;
+        simple = simple;
+        shape_of = t.shape_of;
+        line = inl (t.parts ∙ ap (λ (x : List ℕ). operation_text t.op ++ x) p.0 ∙ append-nil (operation_text t.op), p.1);
+        ends = record { before = rest_ends.before; whole = rest_ends.whole ∙ ap (λ (x : List ℕ). rest_ends.before ++ x) (p.0 ∙ sym p.1) };
+      }
       | inr p ↦ record {
-          op = t.op; simple = simple; shape_of = t.shape_of;
-          line = inr (t.parts ∙ ap (λ (x : List ℕ). operation_text t.op ++ x) p);
-          ends = behind text rest (10 ∷ []) next rest_ends p;
-        }
+        op = t.op;
+        simple = simple;
+        shape_of = t.shape_of;
+        line = inr (t.parts ∙ ap (λ (x : List ℕ). operation_text t.op ++ x) p);
+        ends = behind text rest (10 ∷ []) next rest_ends p;
+      }
     ]
 
 line_takes : (text bytes : List ℕ) (shape : ShapeParts) (next : List ℕ) → EndsWith text bytes → line_at (length text) bytes ≡ Some (shape, next) → TakesLine text bytes shape next

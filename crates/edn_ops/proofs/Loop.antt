@@ -24,7 +24,7 @@ pub ends : (front : List MopShape) (most i total : ℕ) (bytes : List ℕ) (firs
 ends front most i total bytes first after end whole lt h closer so_far =
     let more = some_mops_at (most - (i + 1)) total in
     let last : with_front front (with_more first more after) ≡ Some (front ++ first ∷ [], end) =
-        ap (λ (o : Option (List ℕ)). with_front front (or_else (o >>= λ x. Some (first ∷ [], x)) (strip (codes " ") after >>= λ next. more next >>= λ x. Some (first ∷ x.0, x.1)))) closer in
+    ap (λ (o : Option (List ℕ)). with_front front (or_else (o >>= λ x. Some (first ∷ [], x)) (strip (codes " ") after >>= λ next. more next >>= λ x. Some (first ∷ x.0, x.1)))) closer in
     sym so_far ∙ opened front most i total bytes first after lt h ∙ last
 
 pub goes_on : (front : List MopShape) (most i total : ℕ) (bytes : List ℕ) (first : MopShape) (after next : List ℕ) (whole : Option (List MopShape × List ℕ)) → i < most → mop_at total bytes ≡ Some (first, after)
@@ -33,8 +33,8 @@ pub goes_on : (front : List MopShape) (most i total : ℕ) (bytes : List ℕ) (f
 goes_on front most i total bytes first after next whole lt h no_closer blank so_far =
     let more = some_mops_at (most - (i + 1)) total in
     let one : with_front front (with_more first more after) ≡ with_front front (more next >>= λ x. Some (first ∷ x.0, x.1)) =
-        ap (λ (o : Option (List ℕ)). with_front front (or_else (o >>= λ x. Some (first ∷ [], x)) (strip (codes " ") after >>= λ next. more next >>= λ x. Some (first ∷ x.0, x.1)))) no_closer
-        ∙ ap (λ (o : Option (List ℕ)). with_front front (o >>= λ next. more next >>= λ x. Some (first ∷ x.0, x.1))) blank in
+    ap (λ (o : Option (List ℕ)). with_front front (or_else (o >>= λ x. Some (first ∷ [], x)) (strip (codes " ") after >>= λ next. more next >>= λ x. Some (first ∷ x.0, x.1)))) no_closer
+    ∙ ap (λ (o : Option (List ℕ)). with_front front (o >>= λ next. more next >>= λ x. Some (first ∷ x.0, x.1))) blank in
     sym (regroup front first (more next)) ∙ sym one ∙ sym (opened front most i total bytes first after lt h) ∙ so_far
 
 pub breaks_off : (front : List MopShape) (most i total : ℕ) (bytes : List ℕ) (first : MopShape) (after : List ℕ) (whole : Option (List MopShape × List ℕ)) → i < most → mop_at total bytes ≡ Some (first, after)
@@ -43,8 +43,8 @@ pub breaks_off : (front : List MopShape) (most i total : ℕ) (bytes : List ℕ)
 breaks_off front most i total bytes first after whole lt h no_closer no_blank so_far =
     let more = some_mops_at (most - (i + 1)) total in
     let one : with_front front (with_more first more after) ≡ None =
-        ap (λ (o : Option (List ℕ)). with_front front (or_else (o >>= λ x. Some (first ∷ [], x)) (strip (codes " ") after >>= λ next. more next >>= λ x. Some (first ∷ x.0, x.1)))) no_closer
-        ∙ ap (λ (o : Option (List ℕ)). with_front front (o >>= λ next. more next >>= λ x. Some (first ∷ x.0, x.1))) no_blank in
+    ap (λ (o : Option (List ℕ)). with_front front (or_else (o >>= λ x. Some (first ∷ [], x)) (strip (codes " ") after >>= λ next. more next >>= λ x. Some (first ∷ x.0, x.1)))) no_closer
+    ∙ ap (λ (o : Option (List ℕ)). with_front front (o >>= λ next. more next >>= λ x. Some (first ∷ x.0, x.1))) no_blank in
     sym so_far ∙ opened front most i total bytes first after lt h ∙ one
 
 pub finds_none : (front : List MopShape) (most i total : ℕ) (bytes : List ℕ) (whole : Option (List MopShape × List ℕ)) → i < most → mop_at total bytes ≡ None

@@ -35,10 +35,10 @@ span_takes text from spelled to ends e =
       ordered = omega arith;
       within = omega arith;
       between =
-        ap (λ (k : ℕ). take k (drop (length text - length from) text)) size
-        ∙ ap (λ (k : ℕ). take (length spelled) (drop k text)) start
-        ∙ ap (take (length spelled)) dropped
-        ∙ take_at spelled to (length spelled) refl;
+          ap (λ (k : ℕ). take k (drop (length text - length from) text)) size
+          ∙ ap (λ (k : ℕ). take (length spelled) (drop k text)) start
+          ∙ ap (take (length spelled)) dropped
+          ∙ take_at spelled to (length spelled) refl;
     }
 
 -- ---- one micro-operation
@@ -55,13 +55,13 @@ unfolding mop_head_at
 head_takes bytes head e =
     elim (or_takes (strip (codes "[:r ") bytes >>= λ after. Some (false, after)) (strip (codes "[:w ") bytes >>= λ after. Some (true, after)) head e) [
       | inl p ↦
-        let found = then_takes (strip (codes "[:r ") bytes) (λ after. Some (false, after)) head p in
-        let same : (false, found.0) ≡ head = same_Some (false, found.0) head found.2 in
-        inl (sym (ap (λ (x : Bool × List ℕ). x.0) same), strip_takes (codes "[:r ") bytes found.0 found.1 ∙ ap (λ (x : Bool × List ℕ). codes "[:r " ++ x.1) same)
+          let found = then_takes (strip (codes "[:r ") bytes) (λ after. Some (false, after)) head p in
+          let same : (false, found.0) ≡ head = same_Some (false, found.0) head found.2 in
+          inl (sym (ap (λ (x : Bool × List ℕ). x.0) same), strip_takes (codes "[:r ") bytes found.0 found.1 ∙ ap (λ (x : Bool × List ℕ). codes "[:r " ++ x.1) same)
       | inr p ↦
-        let found = then_takes (strip (codes "[:w ") bytes) (λ after. Some (true, after)) head p in
-        let same : (true, found.0) ≡ head = same_Some (true, found.0) head found.2 in
-        inr (sym (ap (λ (x : Bool × List ℕ). x.0) same), strip_takes (codes "[:w ") bytes found.0 found.1 ∙ ap (λ (x : Bool × List ℕ). codes "[:w " ++ x.1) same)
+          let found = then_takes (strip (codes "[:w ") bytes) (λ after. Some (true, after)) head p in
+          let same : (true, found.0) ≡ head = same_Some (true, found.0) head found.2 in
+          inr (sym (ap (λ (x : Bool × List ℕ). x.0) same), strip_takes (codes "[:w ") bytes found.0 found.1 ∙ ap (λ (x : Bool × List ℕ). codes "[:w " ++ x.1) same)
     ]
 
 -- the parts of a micro-operation, one after the other
@@ -86,7 +86,7 @@ joins text bytes key_at gap value_at closer rest is_write ends (inl p) key-is ga
     let gap_ends = behind text key_at (atom_text key.atom) gap key_ends key.parts in
     let value_ends = behind text gap (codes " ") value_at gap_ends gap-is in
     let spelled : bytes ≡ codes "[:r " ++ (atom_text key.atom ++ (codes " " ++ (value_text value.value ++ (codes "]" ++ rest)))) =
-        p.1 ∙ ap (λ (x : List ℕ). codes "[:r " ++ x) (key.parts ∙ ap (λ (x : List ℕ). atom_text key.atom ++ x) (gap-is ∙ ap (λ (x : List ℕ). codes " " ++ x) (value.parts ∙ ap (λ (x : List ℕ). value_text value.value ++ x) closer-is))) in
+    p.1 ∙ ap (λ (x : List ℕ). codes "[:r " ++ x) (key.parts ∙ ap (λ (x : List ℕ). atom_text key.atom ++ x) (gap-is ∙ ap (λ (x : List ℕ). codes " " ++ x) (value.parts ∙ ap (λ (x : List ℕ). value_text value.value ++ x) closer-is))) in
     record {
       mop = read key.atom value.value;
       simple = (key.simple, value.simple);
@@ -100,7 +100,7 @@ joins text bytes key_at gap value_at closer rest is_write ends (inr p) key-is ga
     let gap_ends = behind text key_at (atom_text key.atom) gap key_ends key.parts in
     let value_ends = behind text gap (codes " ") value_at gap_ends gap-is in
     let spelled : bytes ≡ codes "[:w " ++ (atom_text key.atom ++ (codes " " ++ (atom_text value.atom ++ (codes "]" ++ rest)))) =
-        p.1 ∙ ap (λ (x : List ℕ). codes "[:w " ++ x) (key.parts ∙ ap (λ (x : List ℕ). atom_text key.atom ++ x) (gap-is ∙ ap (λ (x : List ℕ). codes " " ++ x) (value.parts ∙ ap (λ (x : List ℕ). atom_text value.atom ++ x) closer-is))) in
+    p.1 ∙ ap (λ (x : List ℕ). codes "[:w " ++ x) (key.parts ∙ ap (λ (x : List ℕ). atom_text key.atom ++ x) (gap-is ∙ ap (λ (x : List ℕ). codes " " ++ x) (value.parts ∙ ap (λ (x : List ℕ). atom_text value.atom ++ x) closer-is))) in
     record {
       mop = write key.atom value.atom;
       simple = (key.simple, value.simple);
@@ -175,9 +175,9 @@ one_more most text bytes first after next shapes rest one blank [] simple parts 
 one_more most text bytes first after next shapes rest one blank (n ∷ ms) simple parts shapes_of count some =
     let others = join_by mop_text (codes " ") (n ∷ ms) in
     let spelled : bytes ≡ mop_text one.mop ++ (codes " " ++ (others ++ (codes "]" ++ rest))) =
-        one.parts ∙ ap (λ (x : List ℕ). mop_text one.mop ++ x) (blank ∙ ap (λ (x : List ℕ). codes " " ++ x) parts) in
+    one.parts ∙ ap (λ (x : List ℕ). mop_text one.mop ++ x) (blank ∙ ap (λ (x : List ℕ). codes " " ++ x) parts) in
     let grouped : mop_text one.mop ++ (codes " " ++ (others ++ (codes "]" ++ rest))) ≡ (mop_text one.mop ++ (codes " " ++ others)) ++ (codes "]" ++ rest) =
-        ap (λ (x : List ℕ). mop_text one.mop ++ x) (sym (append_assoc (codes " ") others (codes "]" ++ rest))) ∙ sym (append_assoc (mop_text one.mop) (codes " " ++ others) (codes "]" ++ rest)) in
+    ap (λ (x : List ℕ). mop_text one.mop ++ x) (sym (append_assoc (codes " ") others (codes "]" ++ rest))) ∙ sym (append_assoc (mop_text one.mop) (codes " " ++ others) (codes "]" ++ rest)) in
     record {
       mops = one.mop ∷ n ∷ ms;
       simple = (one.simple, simple);
@@ -208,17 +208,17 @@ some_takes (suc most) text bytes shapes rest ends e =
     let after = first.0.1 in
     elim (or_takes (strip (codes "]") after >>= λ end. Some (shape ∷ [], end)) (strip (codes " ") after >>= λ next. some_mops_at most (length text) next >>= λ x. Some (shape ∷ x.0, x.1)) (shapes, rest) first.2) [
       | inl p ↦
-        let end = then_takes (strip (codes "]") after) (λ end. Some (shape ∷ [], end)) (shapes, rest) p in
-        subst (λ (x : List MopShape × List ℕ). TakesMops (suc most) text bytes x.0 x.1) (same_Some (shape ∷ [], end.0) (shapes, rest) end.2)
-        (last_one most text bytes shape after end.0 one (strip_takes (codes "]") after end.0 end.1))
+          let end = then_takes (strip (codes "]") after) (λ end. Some (shape ∷ [], end)) (shapes, rest) p in
+          subst (λ (x : List MopShape × List ℕ). TakesMops (suc most) text bytes x.0 x.1) (same_Some (shape ∷ [], end.0) (shapes, rest) end.2)
+          (last_one most text bytes shape after end.0 one (strip_takes (codes "]") after end.0 end.1))
       | inr p ↦
-        let next = then_takes (strip (codes " ") after) (λ next. some_mops_at most (length text) next >>= λ x. Some (shape ∷ x.0, x.1)) (shapes, rest) p in
-        let blank = strip_takes (codes " ") after next.0 next.1 in
-        let others = then_takes (some_mops_at most (length text) next.0) (λ x. Some (shape ∷ x.0, x.1)) (shapes, rest) next.2 in
-        let after_ends = behind text bytes (mop_text one.mop) after ends one.parts in
-        let more = some_takes most text next.0 others.0.0 others.0.1 (behind text after (codes " ") next.0 after_ends blank) others.1 in
-        subst (λ (x : List MopShape × List ℕ). TakesMops (suc most) text bytes x.0 x.1) (same_Some (shape ∷ others.0.0, others.0.1) (shapes, rest) others.2)
-        (one_more most text bytes shape after next.0 others.0.0 others.0.1 one blank more.mops more.simple more.parts more.shapes_of more.count more.some)
+          let next = then_takes (strip (codes " ") after) (λ next. some_mops_at most (length text) next >>= λ x. Some (shape ∷ x.0, x.1)) (shapes, rest) p in
+          let blank = strip_takes (codes " ") after next.0 next.1 in
+          let others = then_takes (some_mops_at most (length text) next.0) (λ x. Some (shape ∷ x.0, x.1)) (shapes, rest) next.2 in
+          let after_ends = behind text bytes (mop_text one.mop) after ends one.parts in
+          let more = some_takes most text next.0 others.0.0 others.0.1 (behind text after (codes " ") next.0 after_ends blank) others.1 in
+          subst (λ (x : List MopShape × List ℕ). TakesMops (suc most) text bytes x.0 x.1) (same_Some (shape ∷ others.0.0, others.0.1) (shapes, rest) others.2)
+          (one_more most text bytes shape after next.0 others.0.0 others.0.1 one blank more.mops more.simple more.parts more.shapes_of more.count more.some)
     ]
 
 -- the first and the others are read
@@ -244,7 +244,7 @@ some_again (suc most) total m (n ∷ ms) rest simple count =
     let one = mop_again total m (codes " " ++ next) simple.0 in
     let more = some_again most total n ms rest simple.1 (omega arith) in
     let grouped : join_by mop_text (codes " ") (m ∷ n ∷ ms) ++ (codes "]" ++ rest) ≡ mop_text m ++ (codes " " ++ next) =
-        ap (λ (x : List ℕ). x ++ (codes "]" ++ rest)) (join_more m n ms) ∙ append_assoc (mop_text m) (codes " " ++ others) (codes "]" ++ rest) ∙ ap (λ (x : List ℕ). mop_text m ++ x) (append_assoc (codes " ") others (codes "]" ++ rest)) in
+    ap (λ (x : List ℕ). x ++ (codes "]" ++ rest)) (join_more m n ms) ∙ append_assoc (mop_text m) (codes " " ++ others) (codes "]" ++ rest) ∙ ap (λ (x : List ℕ). mop_text m ++ x) (append_assoc (codes " ") others (codes "]" ++ rest)) in
     (one.0 ∷ more.0, ap (some_mops_at (suc most) total) grouped ∙ goes_on most total (mop_text m ++ (codes " " ++ next)) one.0 next more.0 rest one.1 more.1)
 
 -- a transaction at the front, and the shapes of its micro-operations
@@ -266,13 +266,13 @@ mops_takes text bytes shapes rest ends e =
     let opened = strip_takes (codes "[") bytes inside.0 inside.1 in
     elim (or_takes (strip (codes "]") inside.0 >>= λ after. Some ([], after)) (some_mops_at MAX_MICRO_OPS total inside.0) (shapes, rest) inside.2) [
       | inl p ↦
-        let after = then_takes (strip (codes "]") inside.0) (λ after. Some ([], after)) (shapes, rest) p in
-        let spelled : bytes ≡ mops_text [] ++ after.0 = opened ∙ ap (λ (x : List ℕ). codes "[" ++ x) (strip_takes (codes "]") inside.0 after.0 after.1) in
-        subst (λ (x : List MopShape × List ℕ). TakesTransaction text bytes x.0 x.1) (same_Some ([], after.0) (shapes, rest) after.2)
-        (record { mops = []; simple = tt; parts = spelled; shapes_of = tt; count = omega arith })
+          let after = then_takes (strip (codes "]") inside.0) (λ after. Some ([], after)) (shapes, rest) p in
+          let spelled : bytes ≡ mops_text [] ++ after.0 = opened ∙ ap (λ (x : List ℕ). codes "[" ++ x) (strip_takes (codes "]") inside.0 after.0 after.1) in
+          subst (λ (x : List MopShape × List ℕ). TakesTransaction text bytes x.0 x.1) (same_Some ([], after.0) (shapes, rest) after.2)
+          (record { mops = []; simple = tt; parts = spelled; shapes_of = tt; count = omega arith })
       | inr p ↦
-        let some = some_takes MAX_MICRO_OPS text inside.0 shapes rest (behind text bytes (codes "[") inside.0 ends opened) p in
-        record { mops = some.mops; simple = some.simple; parts = opened ∙ ap (λ (x : List ℕ). codes "[" ++ x) some.parts ∙ mops_parts some.mops rest; shapes_of = some.shapes_of; count = some.count }
+          let some = some_takes MAX_MICRO_OPS text inside.0 shapes rest (behind text bytes (codes "[") inside.0 ends opened) p in
+          record { mops = some.mops; simple = some.simple; parts = opened ∙ ap (λ (x : List ℕ). codes "[" ++ x) some.parts ∙ mops_parts some.mops rest; shapes_of = some.shapes_of; count = some.count }
     ]
 
 -- no micro-operation begins with the end of a list
@@ -285,8 +285,9 @@ unfolding mops_at
 mops_again total [] rest simple count = ([], refl)
 mops_again total (m ∷ ms) rest simple count =
     let some = some_again MAX_MICRO_OPS total m ms rest simple count in
-    let inside = join_by mop_text (codes " ") (m ∷ ms) ++ (codes "]" ++ rest) in
-    (some.0,
+    let inside = join_by mop_text (codes " ") (m ∷ ms) ++ (codes "]" ++ rest) in (
+      some.0,
       ap (mops_at total) (sym (mops_parts (m ∷ ms) rest))
-      ∙ ap (λ (o : Option (List ℕ)). or_else (o >>= λ after. Some ([], after)) (some_mops_at MAX_MICRO_OPS total inside)) (opens m ms (codes "]" ++ rest))
-      ∙ some.1)
+          ∙ ap (λ (o : Option (List ℕ)). or_else (o >>= λ after. Some ([], after)) (some_mops_at MAX_MICRO_OPS total inside)) (opens m ms (codes "]" ++ rest))
+          ∙ some.1,
+    )

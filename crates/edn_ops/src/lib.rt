@@ -5,4 +5,6 @@ pub mod laws;
 mod owned;
 pub mod reader;
 mod scan;
+#[cfg(test)]
+mod tests;
 pub mod types;

@@ -10,11 +10,10 @@ ghost use Rattle.hist_types.specs.Texts.{atom_text, value_text};
 ghost use Rattle.edn_ops.specs.Owned.{atom_of_owned, mop_of_owned, operation_of_owned};
 ghost use Rattle.edn_ops.specs.SimpleLines.{IsAsciiKeyword, IsSimpleAtom, IsSimpleMop, IsSimple, IsMopShapeOf, AreMopShapesOf, IsShapeOf};
 
+use crate::types::{MopShape, OpShape, OwnedAtom, OwnedMop, OwnedOp, Span};
 use itoa::Buffer;
 use std::alloc::{AllocError, Global};
 use std::str;
-
-use crate::types::{MopShape, OpShape, OwnedAtom, OwnedMop, OwnedOp, Span};
 
 /// The number that is written so.
 fn integer_of(spelled: &[u8]) -> Option<i64>
@@ -111,7 +110,9 @@ impl OwnedAtom {
         ensures err { OnErr result (out.new.items ≡ out.old.items) }
     {
         match self {
-            OwnedAtom::Int(number) => out.extend_from_slice(Buffer::new().format(*number).as_bytes()),
+            OwnedAtom::Int(number) => out.extend_from_slice(
+                Buffer::new().format(*number).as_bytes(),
+            ),
             OwnedAtom::Keyword(spelled) => out.extend_from_slice(spelled),
         }
     }

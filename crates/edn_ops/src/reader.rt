@@ -4,13 +4,11 @@ ghost use Rattle.std.specs.Prelude.{◌≡◌, ◌≤◌, ◌⊎◌, [], true, f
 ghost use Rattle.edn_ops.specs.SimpleLines.{HasLine, BeginsWithNoLine};
 ghost use Rattle.edn_ops.specs.Reader.{Reader, not_a_map, HasRead, HasEnded, HasRefused, HadNoMemory};
 
-use std::alloc::{AllocError, Global};
-use std::marker::Model;
-
-use hist_types::types::{At, Fault, Refusal};
-
 use crate::scan::line;
 use crate::types::OpShape;
+use hist_types::types::{At, Fault, Refusal};
+use std::alloc::{AllocError, Global};
+use std::marker::Model;
 
 /// Reads the operations of a text from its start, line by line. So far each line has to be simple: the canonical text of
 /// an operation whose atoms are integers and ASCII keywords.

@@ -8,14 +8,12 @@ ghost use Rattle.std.specs.Str.Parse.{digits_value};
 ghost use Rattle.edn_ops.specs.SimpleLines.{is_keyword_byte};
 ghost use Rattle.edn_ops.specs.Scan.{Gives, GivesUnlessMemory, keep_if, is_plain, strip, number_at, process_at, after_positive, after_negative, after_run, after_atom, after_value, mop_head_at, mop_at, some_mops_at, mops_at, kind_at, head_at, value_field_at, parts_of, operation_at, next_line, line_at, span_between};
 
-use std::alloc::{AllocError, Global};
-use std::str;
-
+use crate::types::{MopShape, OpShape, Span};
 use hist_types::limits::{MAX_MICRO_OPS, MAX_OPERATION_BYTES};
 use hist_types::types::{OpKind, Process};
 use smallvec::SmallVec;
-
-use crate::types::{MopShape, OpShape, Span};
+use std::alloc::{AllocError, Global};
+use std::str;
 
 fn strip_literal<'a>(bytes: &'a [u8], literal: &[u8]) -> Option<&'a [u8]>
     ensures { Gives (λ x. x.now) result (strip literal.now bytes.now) }
@@ -89,7 +87,11 @@ fn skip_negative(bytes: &[u8]) -> Option<&[u8]>
     ensures { Gives (λ x. x.now) result (after_negative bytes.now) }
 {
     let (number, after) = number(bytes)?;
-    if 0 < number && number <= 1 << 63 { Some(after) } else { None }
+    if 0 < number && number <= 1 << 63 {
+        Some(after)
+    } else {
+        None
+    }
 }
 
 #[tactic(auto, unfolding(crate::specs::SimpleLines::is_keyword_byte))]
