@@ -8,6 +8,7 @@ use Rattle.txn_pairs.specs.declared.types.Txn.{Txn}
 use Rattle.txn_pairs.specs.Txns.{transaction_of_txn}
 use Rattle.txn_pairs.specs.Places.{is_seen, behind, open_place, completed, completed_at, with_completed}
 
+-- an event and its index
 abbrev indexed : ℕ → Operation → Indexed
 indexed index event = record { index = index; event = event }
 
@@ -21,10 +22,12 @@ completion-unseen p index (e ∷ es) unseen =
     ap (λ b. cond b (cond (is_invoke e.kind) None (Some (indexed index e))) (completion_in p (index + 1) es)) parts.0
     ∙ completion-unseen p (index + 1) es parts.1
 
+-- Where the process has no event, there is none to be found, so that the question may be asked first.
 completion-seen : (p index : ℕ) (es : List Operation) (seen : Bool) → is_seen p es ≡ seen → cond seen (completion_in p index es) None ≡ completion_in p index es
 completion-seen p index es true is = refl
 completion-seen p index es false is = sym (completion-unseen p index es is)
 
+-- A choice between two that are the same.
 cond-same : {A : Type 0} (b : Bool) (x : A) → cond b x x ≡ x
 cond-same true x = refl
 cond-same false x = refl
@@ -36,6 +39,7 @@ completion-invoke p index [] e invokes =
 completion-invoke p index (x ∷ es) e invokes =
     ap (cond (x.process == p) (cond (is_invoke x.kind) None (Some (indexed index x)))) (completion-invoke p (index + 1) es e invokes)
 
+-- The first that passes is the first of one more, else it is looked for behind.
 first_or : {A : Type 0} (here seen : Bool) (x rest more last : A) → more ≡ cond seen rest last → cond here x more ≡ cond (here || seen) (cond here x rest) last
 first_or true seen x rest more last is = refl
 first_or false seen x rest more last is = is
@@ -52,6 +56,7 @@ completion-more p index (x ∷ es) e completes =
 
 -- ---- one more invocation
 
+-- What is put behind a list is put behind it with one more in front.
 push_cond : {A : Type 0} (b : Bool) (t : A) (ts more last : List A) → more ≡ ts ++ last → cond b (t ∷ more) more ≡ cond b (t ∷ ts) ts ++ last
 push_cond true t ts more last is = ap (λ xs. t ∷ xs) is
 push_cond false t ts more last is = is
@@ -123,28 +128,34 @@ transactions-complete index j (x ∷ es) e at completes =
 
 -- ---- places
 
+-- A test or no test is the test.
 or_nothing : (b : Bool) → (b || false) ≡ b
 or_nothing true = refl
 or_nothing false = refl
 
+-- Three tests, grouped either way.
 or_grouped : (a b c : Bool) → (a || (b || c)) ≡ ((a || b) || c)
 or_grouped true b c = refl
 or_grouped false b c = refl
 
+-- Two tests, asked one after the other.
 and_cond : {A : Type 0} (a b : Bool) (x y : A) → cond (a && b) x y ≡ cond a (cond b x y) y
 and_cond true b x y = refl
 and_cond false b x y = refl
 
+-- One more event is seen by its own process.
 seen-more : (p : ℕ) (es : List Operation) (e : Operation) → is_seen p (es ++ e ∷ []) ≡ (is_seen p es || (e.process == p))
 seen-more p [] e = or_nothing (e.process == p)
 seen-more p (x ∷ es) e = ap (λ b. (x.process == p) || b) (seen-more p es e) ∙ or_grouped (x.process == p) (is_seen p es) (e.process == p)
 
+-- The next place behind one more transaction.
 behind_next : (invokes : Bool) (more : Bool) (t : Transaction) (ts : List Transaction) → cond invokes (option_map suc (cond more (Some (length ts)) None)) (cond more (Some (length ts)) None) ≡ cond more (Some (length (cond invokes (t ∷ ts) ts))) None
 behind_next true true t ts = refl
 behind_next true false t ts = refl
 behind_next false true t ts = refl
 behind_next false false t ts = refl
 
+-- A change of the places behind one more event.
 one_behind : (mine seen : Bool) (x : Operation) (first place more next : Option ℕ) → more ≡ cond mine next place → cond (seen || mine) (behind x more) first ≡ cond mine (behind x next) (cond seen (behind x place) first)
 one_behind true true x first place more next is = ap (behind x) is
 one_behind true false x first place more next is = ap (behind x) is

@@ -32,6 +32,7 @@ completed t index event =
       mops = mops_by (status_by event.kind) t.mops event.mops;
     }
 
+-- the transactions, where the one at the place is completed
 abbrev pub completed_at : ℕ → ℕ → Operation → List Transaction → List Transaction
 completed_at place index event [] = []
 completed_at zero index event (t ∷ ts) = completed t index event ∷ ts
