@@ -1,5 +1,6 @@
 -- How a lexer goes from one state to the next.
-use Rattle.std.proofs.Common.{◌≡◌, ℕ, ◌+◌, ◌-◌, ◌<◌, ◌≤◌, List, [], ◌∷◌, ◌++◌, length, drop, take, Bool, true, false, Option, Some, None, Ok, Err, refl, sym, ◌∙◌, ap, arith, subst, length-take-le, length-drop, drop-drop, append_assoc}
+use Rattle.std.proofs.Common.{◌≡◌, ℕ, ◌+◌, ◌-◌, ◌<◌, ◌≤◌, List, [], ◌∷◌, ◌++◌, length, drop, take, Bool, true, false, Option, Some, None, Result, Ok, Err, refl, sym, ◌∙◌, ap, arith, subst, length-take-le, length-drop, drop-drop, append_assoc}
+use Rattle.std.specs.Iterator.{Yields}
 use Rattle.std.proofs.lemmas.List.{drop_all}
 use Rattle.std.proofs.lemmas.List.Elements.{filter-append}
 use Rattle.hist_types.specs.declared.types.Fault.{Fault}
@@ -8,7 +9,7 @@ use Rattle.edn_lex.specs.declared.types.Token.{Token}
 use Rattle.edn_lex.specs.declared.types.TokenKind.{TokenKind}
 use Rattle.edn_lex.specs.declared.types.TokenKind.TheVariants as kinds
 use Rattle.edn_lex.specs.Kinds.{kind_of, item_of}
-use Rattle.edn_lex.specs.State.{State, left, tokens_of, IsCutFrom, RestIf, Rest, GivesToken, GivesFault, GivesEnd, PassesOver, Passes, after_item}
+use Rattle.edn_lex.specs.State.{State, left, tokens_of, IsCutFrom, RestIf, Rest, GivesToken, GivesFault, GivesEnd, PassesOver, Passes, after_item, Gives, items_given, fault_given}
 use Rattle.edn_lex.proofs.Cuts.{item, IsCut-first, IsCut-unique}
 
 -- the item that was passed over
@@ -241,3 +242,12 @@ GivesEnd-ended s t g ended =
       only = λ tokens ending rest. rest_ended_only s tokens ending was_ended rest;
       after = rest_ended t ended;
     }
+
+-- what all calls give is what was left
+pub Rest-yielded :
+    (given : List (Result Token Fault)) (s t u : State) → Yields Gives s given t → Gives t None u → Rest s (items_given s.text given) (fault_given given)
+Rest-yielded [] s t u same end = subst (λ x. Rest x [] None) (sym same) end.rest
+Rest-yielded (Ok token ∷ given) s t u calls end =
+    let later = Rest-yielded given calls.0 t u calls.2 end in
+    calls.1.first _ _ (subst (λ x. Rest calls.0 (items_given x given) (fault_given given)) calls.1.text later)
+Rest-yielded (Err fault ∷ given) s t u calls end = calls.1.rest

@@ -106,3 +106,15 @@ abbrev pub Passes : State → Result (Option Token) Fault → State → Type 0
 Passes s (Ok None) t = (kind : ItemKind) × (len : ℕ) × (is_token kind ≡ false) × PassesOver s kind len t
 Passes s (Ok (Some token)) t = (token.start ≡ s.offset) × PassesOver s (kind_of token.kind) (token.end - token.start) t
 Passes s (Err fault) t = BeginsWithFault (left s) s.offset s.closers fault × (t.text ≡ s.text)
+
+-- the tokens that calls gave before a fault, as items of the text
+abbrev pub items_given : List ℕ → List (Result Token Fault) → List Item
+items_given text [] = []
+items_given text (Ok token ∷ results) = item_of text token ∷ items_given text results
+items_given text (Err fault ∷ results) = []
+
+-- the fault that calls gave
+abbrev pub fault_given : List (Result Token Fault) → Option Fault
+fault_given [] = None
+fault_given (Ok token ∷ results) = fault_given results
+fault_given (Err fault ∷ results) = Some fault

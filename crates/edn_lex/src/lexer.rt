@@ -1,10 +1,11 @@
 //! The lexer: an iterator over the tokens of a text.
 
-ghost use Rattle.std.specs.Prelude.{◌≡◌, ◌<◌, length, IsNone};
-ghost use Rattle.hist_types.specs.Tokens.{nesting_refusal, open_after, closer_of, byte_fault};
+ghost use Rattle.std.specs.Prelude.{◌≡◌, ◌<◌, length, List, Option, IsNone};
+ghost use Rattle.hist_types.specs.Tokens.{nesting_refusal, open_after, closer_of, byte_fault, Item, HasTokens};
+ghost use Rattle.hist_types.specs.declared.types.Fault.{Fault};
 ghost use Rattle.edn_lex.specs.Pieces.{kind_of_piece};
 ghost use Rattle.edn_lex.specs.Collections.{closer_byte, closers_of};
-ghost use Rattle.edn_lex.specs.State.{state_at_start, Passes};
+ghost use Rattle.edn_lex.specs.State.{state_at_start, Rest, Passes};
 
 use crate::pieces::{PieceKind, first_piece};
 use crate::scan::utf8_end;
@@ -113,7 +114,9 @@ fn fault_at(refusal: Refusal, offset: usize) -> Fault
 impl<'a> Lexer<'a> {
     /// A lexer at the front of the text.
     pub fn new(text: &'a [u8]) -> Self
-        ensures { result ≡ state_at_start text.now }
+        ensures start { result ≡ state_at_start text.now }
+        ensures rest { (tokens : List Item) (ending : Option Fault) → Rest result tokens ending → HasTokens text.now tokens ending }
+        ensures all { (tokens : List Item) (ending : Option Fault) → HasTokens text.now tokens ending → Rest result tokens ending }
     {
         Lexer {
             text,
