@@ -3,9 +3,8 @@
 #![tactic(auto)]
 
 use edn_lex::lexer::Lexer;
-use std::env;
-use std::io;
 use std::io::Read;
+use std::{env, io};
 
 /// How many tokens the text has before its end or its first fault.
 fn token_count(text: &[u8]) -> usize {

@@ -10,10 +10,12 @@ use Rattle.edn_lex.specs.State.{tokens_of}
 abbrev pub item : ItemKind → ℕ → List ℕ → Item
 item kind start bytes = record { kind = kind; start = start; bytes = bytes }
 
+-- equal pairs have equal parts
 pub same_front :
     (kind kind' : ItemKind) (o o' : Option ℕ) → (let p : ItemKind × Option ℕ = (kind, o) in p ≡ (kind', o')) → (kind ≡ kind') × (o ≡ o')
 same_front kind kind' o o' e = (ap (λ (p : ItemKind × Option ℕ). p.0) e, ap (λ (p : ItemKind × Option ℕ). p.1) e)
 
+-- equal values that are there are equal
 same_some : (m n : ℕ) → Some m ≡ Some n → m ≡ n
 same_some m n e = cc
 
@@ -67,6 +69,7 @@ abbrev pub IsCutAfter : List ℕ → ℕ → List ℕ → ItemKind → List ℕ 
 IsCutAfter text offset closers kind bytes items ending =
     IsCut (drop (length bytes) text) (offset + length bytes) (open_after kind bytes closers) items ending
 
+-- an item is made of its parts
 same_item :
     (i : Item) (kind : ItemKind) (start : ℕ) (bytes : List ℕ) → i.kind ≡ kind → i.start ≡ start → i.bytes ≡ bytes → i ≡ item kind start bytes
 same_item i kind start bytes k s b =

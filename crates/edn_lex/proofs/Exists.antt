@@ -14,10 +14,12 @@ use Rattle.edn_lex.proofs.Cuts.{item}
 abbrev IsShape : ℕ → ItemKind × Option ℕ → Type 0
 IsShape n p = (p ≡ (Str, None)) ⊎ ((kind : ItemKind) × (len : ℕ) × (p ≡ (kind, Some len)) × (0 < len) × (len ≤ n))
 
+-- each of two choices has the shape
 either : (n : ℕ) (b : Bool) (p q : ItemKind × Option ℕ) → IsShape n p → IsShape n q → IsShape n (if b then p else q)
 either n true p q x y = x
 either n false p q x y = y
 
+-- an item within the text
 within : (n : ℕ) (kind : ItemKind) (len : ℕ) → 0 < len → len ≤ n → IsShape n (kind, Some len)
 within n kind len some fits = inr (kind, len, refl, some, fits)
 
@@ -26,28 +28,34 @@ abbrev EndsWithin : ℕ → Option ℕ → Type 0
 EndsWithin n None = Unit {0}
 EndsWithin n (Some k) = k < n
 
+-- one byte more in front
 EndsWithin-suc : (n : ℕ) (o : Option ℕ) → EndsWithin n o → EndsWithin (suc n) (option_map suc o)
 EndsWithin-suc n None h = tt
 EndsWithin-suc n (Some k) h = omega arith
 
+-- an end here, or a later one
 EndsWithin-if : (n : ℕ) (b : Bool) (o : Option ℕ) → EndsWithin (suc n) o → EndsWithin (suc n) (if b then Some 0 else o)
 EndsWithin-if n true o h = omega arith
 EndsWithin-if n false o h = h
 
+-- the content of a string ends before the text does
 content_len-within : (rest : List ℕ) (taken : Bool) → EndsWithin (length rest) (content_len taken rest)
 content_len-within [] taken = tt
 content_len-within (b ∷ rest) taken =
     EndsWithin-if (length rest) ((b == quote) && not taken) _
     (EndsWithin-suc (length rest) _ (content_len-within rest ((b == backslash) && not taken)))
 
+-- a string, or one that nothing closes
 string_shape : (n : ℕ) (o : Option ℕ) → EndsWithin n o → IsShape (suc n) (Str, option_map (λ k. k + 2) o)
 string_shape n None h = inl refl
 string_shape n (Some k) h = within (suc n) Str (k + 2) (omega arith) (omega arith)
 
+-- a character lies within the text
 character_len-le : (rest : List ℕ) → character_len rest ≤ length rest
 character_len-le [] = omega arith
 character_len-le (b ∷ rest) = let h = prefix_len-le-length is_run_byte rest in omega arith
 
+-- a byte and a run lie within the text
 run_shape : (rest : List ℕ) (kind : ItemKind) → IsShape (suc (length rest)) (kind, Some (suc (run_len rest)))
 run_shape rest kind = let h = prefix_len-le-length is_run_byte rest in within _ kind (suc (run_len rest)) (omega arith) (omega arith)
 
@@ -59,6 +67,7 @@ hash_shape (b ∷ rest) =
     (either _ (b == underscore) _ _ (within _ Drop 2 (omega arith) (omega arith))
     (either _ (b == hash) _ _ (run_shape (b ∷ rest) (run_kind (hash ∷ run_of (b ∷ rest)))) (run_shape (b ∷ rest) Tag)))
 
+-- what any byte begins lies within the text
 shape : (b : ℕ) (rest : List ℕ) → IsShape (suc (length rest)) (front b rest)
 shape b rest =
     let comment = prefix_len-le-length (λ c. not (c == line_feed)) rest in

@@ -16,6 +16,7 @@ none_of false false false true e h = absurd (cc)
 none_of false false false false true h = absurd (cc)
 none_of false false false false false h = (refl, refl, refl, refl, refl)
 
+-- numbers that differ
 is_false : (a b : ℕ) → ¬ (a ≡ b) → nat_eq a b ≡ false
 is_false a b h = grind (arith, nat_tests)
 
@@ -23,16 +24,20 @@ is_false a b h = grind (arith, nat_tests)
 run_len-cons : (b : ℕ) (rest : List ℕ) → is_run_byte b ≡ true → run_len (b ∷ rest) ≡ suc (run_len rest)
 run_len-cons b rest h = let runs : is_run_byte b ≡ true = h in rw runs (omega arith)
 
+-- such a run, as bytes
 run_of-cons : (b : ℕ) (rest : List ℕ) → is_run_byte b ≡ true → run_of (b ∷ rest) ≡ b ∷ run_of rest
 run_of-cons b rest h = ap (λ n. take n (b ∷ rest)) (run_len-cons b rest h)
 
+-- a count that begins with 1 tells that the test passed
 passes_by : (b : Bool) (n : ℕ) → 0 < cond b (1 + n) 0 → b ≡ true
 passes_by true n h = refl
 passes_by false n h = absurd (omega arith)
 
+-- the first of a longest front that is not empty passes the test
 first_passes : (p : ℕ → Bool) (b : ℕ) (rest : List ℕ) → 0 < prefix_len p (b ∷ rest) → p b ≡ true
 first_passes p b rest h = passes_by (p b) (prefix_len p rest) h
 
+-- a run that is not empty goes on over the first byte
 is_run_byte-first : (b : ℕ) (rest : List ℕ) → 0 < run_len (b ∷ rest) → is_run_byte b ≡ true
 is_run_byte-first b rest h = first_passes is_run_byte b rest h
 
@@ -49,6 +54,7 @@ front-run_cons b rest h not_backslash not_hash =
     let no_hash = is_false b 35 not_hash in
     rw (no_blank, no_semicolon, no_quote, no_backslash, no_opener, no_closer, no_hash) refl
 
+-- the same of a whole text
 pub front-run :
     (text : List ℕ) → 0 < run_len text → ¬ (first_byte text ≡ 92) → ¬ (first_byte text ≡ 35) →
     front (first_byte text) (drop 1 text) ≡ (run_kind (run_of text), Some (run_len text))
@@ -59,6 +65,7 @@ front-run (b ∷ rest) h n m =
     ∙ sym (ap (λ p. (run_kind p, Some (suc (run_len rest)))) (run_of-cons b rest runs))
     ∙ sym (ap (λ p. (run_kind (run_of (b ∷ rest)), Some p)) (run_len-cons b rest runs))
 
+-- what follows the first of two hashes
 hash_front-two : (rest : List ℕ) → first_byte rest ≡ 35 → hash_front rest ≡ (run_kind (run_of (35 ∷ rest)), Some (run_len (35 ∷ rest)))
 hash_front-two rest k =
     let no_brace : (first_byte rest == open_brace) ≡ false = ap (λ b. b == open_brace) k in

@@ -12,20 +12,24 @@ use Rattle.edn_lex.specs.Kinds.{kind_of}
 use Rattle.edn_lex.specs.State.{State, left, PassesOver, Passes}
 use Rattle.edn_lex.proofs.Fronts.{BeginsWith-front}
 
+-- an item with a fault is a fault
 BeginsWithFault-item :
     (text : List ℕ) (offset : ℕ) (closers : List ℕ) (kind : ItemKind) (bytes : List ℕ) (fault : Fault) →
     BeginsWith text kind bytes → item_fault kind offset bytes closers ≡ Some fault → BeginsWithFault text offset closers fault
 BeginsWithFault-item [] offset closers kind bytes fault h bad = absurd h
 BeginsWithFault-item (b ∷ rest) offset closers kind bytes fault h bad = inr (kind, bytes, h, bad)
 
+-- the test of an order that holds
 is_lt : (m n : ℕ) → m < n → nat_lt m n ≡ true
 is_lt m n h = grind (arith, nat_tests)
 
+-- the test of an order between equal numbers
 not_lt : (m n : ℕ) → m ≡ n → nat_lt m n ≡ false
 not_lt m n h = grind (arith, nat_tests)
 
 -- xs is what is left of s, and the item at its front has this kind and length
 module _ (s : State) (xs : List ℕ) (kind : ItemKind) (len : ℕ) (same : xs ≡ left s) (nonempty : 0 < length xs) (fits : len ≤ length xs) (found : front (first_byte xs) (drop 1 xs) ≡ (kind, Some len)) where
+  -- the item stands there
   begins : BeginsWith (left s) kind (take len (left s))
   begins = subst (λ ys. BeginsWith ys kind (take len ys)) same (BeginsWith-front xs kind len nonempty fits found)
 
@@ -69,6 +73,7 @@ module _ (s : State) (xs : List ℕ) (kind : ItemKind) (len : ℕ) (same : xs �
             ap (λ cs. record s { offset = s.offset + len; closers = cs }) (after ∙ ap (λ ys. open_after kind (take len ys) s.closers) same);
       }
 
+  -- the same, with the token that is given if it is one
   pub passes :
       (closers : List ℕ) (o : Option Token) → s.offset ≤ length s.text → 0 < len → utf8_valid_len (take len xs) ≡ length (take len xs) → None ≡ nesting_refusal kind (take len xs) s.closers →
       closers ≡ open_after kind (take len xs) s.closers →

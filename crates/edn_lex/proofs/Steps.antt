@@ -19,6 +19,7 @@ item_at s kind len = item kind s.offset (take len (left s))
 -- ---- a step over one item
 
 module _ (s : State) (kind : ItemKind) (len : ℕ) (t : State) (step : PassesOver s kind len t) where
+  -- the item's bytes are as many as it has
   bytes_len : length (take len (left s)) ≡ len
   bytes_len = length-take-le len (left s) (let h = step.fits in omega (arith, length-drop s.offset s.text))
 
@@ -35,11 +36,13 @@ module _ (s : State) (kind : ItemKind) (len : ℕ) (t : State) (step : PassesOve
       ∙ ap (λ n. (left (after_item s kind len), s.offset + n, open_after kind (take len (left s)) s.closers)) bytes_len
       ∙ ap (λ (u : State). (left u, u.offset, u.closers)) (sym step.after)
 
+  -- a cut of what follows gives a cut of all
   pub step_cut : (items : List Item) (ending : Option Fault) → IsCutFrom t items ending → IsCutFrom s (item_at s kind len ∷ items) ending
   step_cut items ending cut =
       let P : List ℕ × ℕ × List ℕ → Type 0 = λ p. IsCut p.0 p.1 p.2 items ending in
       (step.begins, refl, step.no_fault, subst P (sym after) cut)
 
+  -- each cut of all begins with the item
   pub step_back :
       (items : List Item) (ending : Option Fault) → IsCutFrom s items ending →
       (later : List Item) × (items ≡ item_at s kind len ∷ later) × IsCutFrom t later ending
@@ -62,10 +65,12 @@ pub record Gapped (s : State) (t : State) : Type 0 where
       (items : List Item) (ending : Option Fault) → IsCutFrom s items ending →
       (later : List Item) × (items ≡ gap ++ later) × IsCutFrom t later ending
 
+-- nothing passed over is a gap
 pub Gapped-refl : (s : State) → Gapped s s
 Gapped-refl s =
     record { text = refl; ended = refl; low = omega arith; gap = []; is_gap = refl; cut = λ items ending cut. cut; back = λ items ending cut. (items, refl, cut) }
 
+-- the tokens of two lists after one another
 tokens_of-append : (xs ys : List Item) → tokens_of (xs ++ ys) ≡ tokens_of xs ++ tokens_of ys
 tokens_of-append xs ys = filter-append (λ (i : Item). is_token i.kind) xs ys
 
@@ -73,6 +78,7 @@ tokens_of-append xs ys = filter-append (λ (i : Item). is_token i.kind) xs ys
 tokens_of-gap : (i : Item) (xs : List Item) → is_token i.kind ≡ false → tokens_of (i ∷ xs) ≡ tokens_of xs
 tokens_of-gap i xs h = rw h refl
 
+-- an item that is a token
 tokens_of-token : (i : Item) (xs : List Item) → is_token i.kind ≡ true → tokens_of (i ∷ xs) ≡ i ∷ tokens_of xs
 tokens_of-token i xs h = rw h refl
 
@@ -102,15 +108,10 @@ rest_going : (s : State) (tokens : List Item) (ending : Option Fault) → s.ende
     (items : List Item) × IsCutFrom s items ending × (tokens ≡ tokens_of items) → Rest s tokens ending
 rest_going s tokens ending going h = let P : Bool → Type 0 = λ b. RestIf b s tokens ending in subst P (sym going) h
 
+-- the same, the other way round
 rest_cut : (s : State) (tokens : List Item) (ending : Option Fault) → s.ended ≡ false →
     Rest s tokens ending → (items : List Item) × IsCutFrom s items ending × (tokens ≡ tokens_of items)
 rest_cut s tokens ending going h = let P : Bool → Type 0 = λ b. RestIf b s tokens ending in subst P going h
-
-rest_ended : (s : State) → s.ended ≡ true → Rest s [] None
-rest_ended s ended = let P : Bool → Type 0 = λ b. RestIf b s [] None in subst P (sym ended) (refl, refl)
-
-rest_ended_only : (s : State) (tokens : List Item) (ending : Option Fault) → s.ended ≡ true → Rest s tokens ending → (tokens ≡ []) × (ending ≡ None)
-rest_ended_only s tokens ending ended h = let P : Bool → Type 0 = λ b. RestIf b s tokens ending in subst P ended h
 
 -- ---- what a call gives
 
@@ -148,6 +149,7 @@ item_at-token s t token same start =
     ap (λ x. item (kind_of token.kind) x (take (token.end - token.start) (drop x t.text))) (sym start)
     ∙ ap (λ x. item (kind_of token.kind) token.start (take (token.end - token.start) (drop token.start x))) same
 
+-- behind a gap a token was passed over
 pub GivesToken-from :
     (s t u : State) (token : Token) → Gapped s t → t.ended ≡ false → Passes t (Ok (Some token)) u → GivesToken s token u
 GivesToken-from s t u token g going passed =
@@ -201,6 +203,7 @@ fault_only :
     (items ≡ []) × (ending ≡ Some fault)
 fault_only t fault items ending bad cut = IsCut-unique items [] (left t) t.offset t.closers ending (Some fault) cut bad
 
+-- behind a gap a fault stands
 pub GivesFault-from :
     (s t u : State) (fault : Fault) → Gapped s t → t.ended ≡ false → Passes t (Err fault) u → (v : State) → v.text ≡ u.text → v.ended ≡ true → GivesFault s fault v
 GivesFault-from s t u fault g going passed v text ended =
@@ -231,16 +234,6 @@ GivesEnd-at_end s t g going end =
           let done = IsCut-unique first.0 [] (left t) t.offset t.closers ending None first.2 nothing in
           (split.2 ∙ ap tokens_of (first.1 ∙ ap (λ xs. g.gap ++ xs) done.0) ∙ gap_nothing g.gap g.is_gap, done.1);
       after = rest_going t [] None going ([], nothing, refl);
-    }
-
-pub GivesEnd-ended : (s t : State) → Gapped s t → t.ended ≡ true → GivesEnd s t
-GivesEnd-ended s t g ended =
-    let was_ended : s.ended ≡ true = sym g.ended ∙ ended in
-    record {
-      text = g.text;
-      rest = rest_ended s was_ended;
-      only = λ tokens ending rest. rest_ended_only s tokens ending was_ended rest;
-      after = rest_ended t ended;
     }
 
 -- what all calls give is what was left

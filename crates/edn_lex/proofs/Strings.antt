@@ -15,22 +15,27 @@ later-later : (j k : ℕ) (o : Option ℕ) → later j (later k o) ≡ later (j 
 later-later j k None = refl
 later-later j k (Some n) = ap (λ m. Some m) (omega arith)
 
+-- a count that begins here
 later-zero : (o : Option ℕ) → o ≡ later 0 o
 later-zero None = refl
 later-zero (Some n) = ap (λ m. Some m) (omega arith)
 
+-- a count that begins one byte later
 suc-later : (k : ℕ) (o : Option ℕ) → option_map suc (later k o) ≡ later (suc k) o
 suc-later k None = refl
 suc-later k (Some n) = ap (λ m. Some m) (omega arith)
 
+-- a test beside one that fails
 and-false : (b : Bool) → (b && false) ≡ false
 and-false true = refl
 and-false false = refl
 
+-- two tests of which neither passes
 or-false : (a b : Bool) → (a || b) ≡ false → (a ≡ false) × (b ≡ false)
 or-false true b h = absurd (cc)
 or-false false b h = (refl, h)
 
+-- a count that begins two bytes later
 suc-suc : (o : Option ℕ) → option_map suc (option_map suc o) ≡ later 2 o
 suc-suc None = refl
 suc-suc (Some n) = ap (λ m. Some m) (omega arith)
@@ -50,6 +55,7 @@ content_len-backslash b rest =
     let plain = and-false (b == 92) in
     rw (untaken, plain) (suc-suc (content_len false rest))
 
+-- a test that does not pass
 pub is_false : (b : Bool) → ¬ (b ≡ true) → b ≡ false
 is_false true h = absurd (h refl)
 is_false false h = refl
@@ -103,18 +109,19 @@ content_len-taken text k first here more =
 
 -- ---- the loop over the content: what has been passed is at bytes long
 
+-- the content ends as many bytes after a place as the rest's content has
 abbrev pub PassedTo : List ℕ → ℕ → Type 0
 PassedTo text at = content_len false text ≡ later at (content_len false (drop at text))
 
-pub content_len-end : (text : List ℕ) (at : ℕ) → length text ≤ at → PassedTo text at → content_len false text ≡ None
-content_len-end text at end passed = passed ∙ ap (λ rest. later at (content_len false rest)) (drop_all at text end)
-
+-- an end was found in the rest
 pub content_len-after : (text : List ℕ) (at k : ℕ) → PassedTo text at → content_len false (drop at text) ≡ Some k → content_len false text ≡ Some (at + k)
 content_len-after text at k passed found = passed ∙ ap (later at) found
 
+-- the rest has no end
 pub content_len-never : (text : List ℕ) (at : ℕ) → PassedTo text at → content_len false (drop at text) ≡ None → content_len false text ≡ None
 content_len-never text at passed found = passed ∙ ap (later at) found
 
+-- more of the rest was passed over
 pub content_len-on :
     (text : List ℕ) (at k : ℕ) → PassedTo text at → content_len false (drop at text) ≡ later k (content_len false (drop k (drop at text))) →
     PassedTo text (at + k)

@@ -5,6 +5,7 @@ use Rattle.edn_lex.specs.declared.types.TokenKind.{TokenKind}
 use Rattle.edn_lex.specs.declared.types.TokenKind.TheVariants as kinds
 use Rattle.edn_lex.specs.declared.types.Token.{Token}
 
+-- the kind of item that a kind of token is
 abbrev pub kind_of : TokenKind → ItemKind
 kind_of kinds.Open = Opener
 kind_of kinds.Close = Closer

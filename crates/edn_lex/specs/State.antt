@@ -15,6 +15,7 @@ pub record State : Type 0 where
   pub closers : List ℕ
   pub ended : Bool
 
+-- a state is stored as the tuple of its fields
 abbrev pub state_code : Coded State
 state_code =
     code_by (List ℕ × (ℕ × (List ℕ × Bool))) (coded× (coded_list coded_ℕ) (coded× coded_ℕ (coded× (coded_list coded_ℕ) coded_bool)))
@@ -30,6 +31,7 @@ state_at_start text = record { text = text; offset = 0; closers = []; ended = fa
 abbrev pub left : State → List ℕ
 left s = drop s.offset s.text
 
+-- the tokens among the items
 abbrev pub tokens_of : List Item → List Item
 tokens_of items = filter (λ item. is_token item.kind) items
 
@@ -37,6 +39,7 @@ tokens_of items = filter (λ item. is_token item.kind) items
 abbrev pub IsCutFrom : State → List Item → Option Fault → Type 0
 IsCutFrom s items ending = IsCut (left s) s.offset s.closers items ending
 
+-- what is left to give, by whether a fault has been given
 abbrev pub RestIf : (ended : Bool) → State → List Item → Option Fault → Type 0
 RestIf false s tokens ending = (items : List Item) × IsCutFrom s items ending × (tokens ≡ tokens_of items)
 RestIf true s tokens ending = (tokens ≡ []) × (ending ≡ None)

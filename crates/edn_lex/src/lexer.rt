@@ -16,7 +16,7 @@ use hist_types::types::{At, Fault, Refusal};
 use std::marker::Model;
 
 /// A kind of collection, by its closer.
-#[derive(Clone, Copy, Default, PartialEq, Eq)]
+#[derive(Clone, Copy, Default)]
 pub(crate) enum Collection {
     #[default]
     Round,
@@ -24,12 +24,15 @@ pub(crate) enum Collection {
     Brace,
 }
 
-/// Gives the tokens of a text one after the other, or the first fault and then nothing. It takes no memory.
+/// Gives the tokens of a text one after the other (EDN), or the first fault once and then nothing. It takes no memory.
+///
+/// Spans and offsets are in bytes. A fault is `BadUtf8` at the first byte of an item that begins no well-formed sequence,
+/// `UnclosedString` at the opening quote, `StrayCloser` at the closer, or `TooDeep` at the opener.
 #[derive(Drop)]
 pub struct Lexer<'a> {
     text: &'a [u8],
     offset: usize,
-    open: OpenCollections,
+    collections: OpenCollections,
     ended: bool,
 }
 
@@ -43,7 +46,7 @@ impl<'a> Model for Lexer<'a> {
 
     ghost use Rattle.edn_lex.specs.Collections.{closers_of};
 
-    ghost view = { λ lexer. record { text = lexer.text.now; offset = lexer.offset; closers = closers_of lexer.open.items; ended = lexer.ended } };
+    ghost view = { λ lexer. record { text = lexer.text.now; offset = lexer.offset; closers = closers_of lexer.collections.items; ended = lexer.ended } };
 
     ghost invariant = { λ lexer. lexer.offset ≤ length lexer.text.now };
 }
@@ -121,7 +124,7 @@ impl<'a> Lexer<'a> {
         Lexer {
             text,
             offset: 0,
-            open: ArrayVec::new(),
+            collections: ArrayVec::new(),
             ended: false,
         }
     }
@@ -140,7 +143,7 @@ impl<'a> Lexer<'a> {
         if let Some(valid) = utf8_end(bytes, piece.ascii) {
             return Err(fault_at(Refusal::BadUtf8, start + valid));
         }
-        if let Some(refusal) = nest(&mut self.open, piece.kind, bytes) {
+        if let Some(refusal) = nest(&mut self.collections, piece.kind, bytes) {
             return Err(fault_at(refusal, start));
         }
         self.offset = start + piece.len;

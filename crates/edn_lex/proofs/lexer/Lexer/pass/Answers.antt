@@ -10,7 +10,7 @@ use Rattle.edn_lex.proofs.lexer.Lexer.pass.Goals as goal
 
 -- what the fields are seen as
 abbrev seen : Inside → State
-seen a = record { text = a.text.now; offset = a.offset; closers = closers_of a.open.items; ended = a.ended }
+seen a = record { text = a.text.now; offset = a.offset; closers = closers_of a.collections.items; ended = a.ended }
 
 -- the slice of what is left
 abbrev rest_of : State → List ℕ
