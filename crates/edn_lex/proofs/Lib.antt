@@ -1,0 +1,6 @@
+pub mod Strings
+pub mod Fronts
+pub mod Cuts
+pub mod Exists
+pub mod Steps
+pub mod Passing

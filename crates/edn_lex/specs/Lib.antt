@@ -1,0 +1,4 @@
+pub mod Kinds
+pub mod Pieces
+pub mod Collections
+pub mod State

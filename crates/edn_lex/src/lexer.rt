@@ -1,0 +1,176 @@
+//! The lexer: an iterator over the tokens of a text.
+
+ghost use Rattle.std.specs.Prelude.{◌≡◌, ◌<◌, length, List, Option, IsNone};
+ghost use Rattle.hist_types.specs.Tokens.{nesting_refusal, open_after, closer_of, byte_fault, Item, HasTokens};
+ghost use Rattle.hist_types.specs.declared.types.Fault.{Fault};
+ghost use Rattle.edn_lex.specs.Pieces.{kind_of_piece};
+ghost use Rattle.edn_lex.specs.Collections.{closer_byte, closers_of};
+ghost use Rattle.edn_lex.specs.State.{state_at_start, Rest, Passes};
+
+use crate::pieces::{PieceKind, first_piece};
+use crate::scan::utf8_end;
+use crate::types::{Token, TokenKind};
+use arrayvec::ArrayVec;
+use hist_types::limits::MAX_OPEN_COLLECTIONS;
+use hist_types::types::{At, Fault, Refusal};
+use std::marker::Model;
+
+/// A kind of collection, by its closer.
+#[derive(Clone, Copy, Default)]
+pub(crate) enum Collection {
+    #[default]
+    Round,
+    Square,
+    Brace,
+}
+
+/// Gives the tokens of a text one after the other (EDN), or the first fault once and then nothing. It takes no memory.
+///
+/// Spans and offsets are in bytes. A fault is `BadUtf8` at the first byte of an item that begins no well-formed sequence,
+/// `UnclosedString` at the opening quote, `StrayCloser` at the closer, or `TooDeep` at the opener.
+#[derive(Drop)]
+pub struct Lexer<'a> {
+    text: &'a [u8],
+    offset: usize,
+    collections: OpenCollections,
+    ended: bool,
+}
+
+impl<'a> Model for Lexer<'a> {
+    ghost use Rattle.std.specs.Prelude.{◌≤◌, length};
+    ghost use Rattle.edn_lex.specs.State.{State, state_code};
+
+    ghost Value = { State };
+
+    ghost coded = { state_code };
+
+    ghost use Rattle.edn_lex.specs.Collections.{closers_of};
+
+    ghost view = { λ lexer. record { text = lexer.text.now; offset = lexer.offset; closers = closers_of lexer.collections.items; ended = lexer.ended } };
+
+    ghost invariant = { λ lexer. lexer.offset ≤ length lexer.text.now };
+}
+
+impl Collection {
+    /// What an opener opens.
+    fn opened_by(opener: &[u8]) -> Collection
+        ensures { closer_byte result ≡ closer_of opener.now }
+    {
+        match opener {
+            [b'('] => Collection::Round,
+            [b'['] => Collection::Square,
+            _ => Collection::Brace,
+        }
+    }
+
+    /// The byte that closes it.
+    fn closer(self) -> u8
+        ensures { result ≡ closer_byte self }
+    {
+        match self {
+            Collection::Round => b')',
+            Collection::Square => b']',
+            Collection::Brace => b'}',
+        }
+    }
+}
+
+type OpenCollections = ArrayVec<Collection, MAX_OPEN_COLLECTIONS>;
+
+/// Opens or closes a collection where the item is an opener or a closer, unless it may not stand here.
+fn nest(within: &mut OpenCollections, kind: PieceKind, bytes: &[u8]) -> Option<Refusal>
+    requires { 0 < length bytes.now }
+    ensures refusal { result ≡ nesting_refusal (kind_of_piece kind) bytes.now (closers_of within.old.items) }
+    ensures after { IsNone result → closers_of within.new.items ≡ open_after (kind_of_piece kind) bytes.now (closers_of within.old.items) }
+{
+    match kind {
+        PieceKind::Token(TokenKind::Open) => {
+            if within.is_full() {
+                return Some(Refusal::TooDeep);
+            }
+            within.push(Collection::opened_by(bytes));
+        }
+        PieceKind::Token(TokenKind::Close) => {
+            let fits = match within.pop() {
+                Some(innermost) => bytes == [innermost.closer()].as_slice(),
+                None => false,
+            };
+            if !fits {
+                return Some(Refusal::StrayCloser);
+            }
+        }
+        _ => {}
+    }
+    None
+}
+
+/// A fault at an offset of the text.
+fn fault_at(refusal: Refusal, offset: usize) -> Fault
+    ensures { result ≡ byte_fault refusal offset }
+{
+    Fault {
+        refusal,
+        at: At::Byte(offset),
+    }
+}
+
+impl<'a> Lexer<'a> {
+    /// A lexer at the front of the text.
+    pub fn new(text: &'a [u8]) -> Self
+        ensures start { result ≡ state_at_start text.now }
+        ensures rest { (tokens : List Item) (ending : Option Fault) → Rest result tokens ending → HasTokens text.now tokens ending }
+        ensures all { (tokens : List Item) (ending : Option Fault) → HasTokens text.now tokens ending → Rest result tokens ending }
+    {
+        Lexer {
+            text,
+            offset: 0,
+            collections: ArrayVec::new(),
+            ended: false,
+        }
+    }
+
+    /// Passes over the item at the front of what is left, and gives it where it is a token.
+    fn pass(&mut self) -> Result<Option<Token>, Fault>
+        requires { self.old.offset < length self.old.text }
+        ensures { Passes self.old result self.new }
+    {
+        let start = self.offset;
+        let left = &self.text[start..];
+        let Some(piece) = first_piece(left) else {
+            return Err(fault_at(Refusal::UnclosedString, start));
+        };
+        let bytes = &left[..piece.len];
+        if let Some(valid) = utf8_end(bytes, piece.ascii) {
+            return Err(fault_at(Refusal::BadUtf8, start + valid));
+        }
+        if let Some(refusal) = nest(&mut self.collections, piece.kind, bytes) {
+            return Err(fault_at(refusal, start));
+        }
+        self.offset = start + piece.len;
+        Ok(piece.kind.token(start, self.offset))
+    }
+}
+
+impl Iterator for Lexer<'_> {
+    type Item = Result<Token, Fault>;
+
+    ghost use Rattle.edn_lex.specs.State.{Gives, calls_left};
+
+    ghost next_gives = { Gives };
+
+    ghost remaining = { calls_left };
+
+    fn next(&mut self) -> Option<Result<Token, Fault>> {
+        while !self.ended && self.offset < self.text.len() {
+            match self.pass() {
+                Ok(Some(token)) => return Some(Ok(token)),
+                Ok(None) => {}
+                Err(fault) => {
+                    self.ended = true;
+                    return Some(Err(fault));
+                }
+            }
+        }
+        None
+    }
+}

@@ -1,0 +1,11 @@
+//! The tokens of a text, with their spans.
+#![tactic(auto)]
+
+pub mod laws;
+pub mod lexer;
+mod pieces;
+mod runs;
+mod scan;
+#[cfg(test)]
+mod tests;
+pub mod types;

@@ -1,0 +1,111 @@
+//! The item at the front of a text.
+
+ghost use Rattle.std.specs.Prelude.{◌≡◌, ◌<◌, ◌≤◌, length, drop, take, false, IsTrue, MatchOption, Some, IfSome};
+ghost use Rattle.std.specs.Str.{IsAscii};
+ghost use Rattle.hist_types.specs.Bytes.{hash};
+ghost use Rattle.hist_types.specs.Tokens.{is_token, first_byte, run_kind as kind_of_run, run_of, run_len, hash_front, front};
+ghost use Rattle.edn_lex.specs.Kinds.{kind_of};
+ghost use Rattle.edn_lex.specs.Pieces.{kind_of_piece, front_of_piece, front_of_found};
+
+use crate::runs::run_kind;
+use crate::scan::{character_len, comment_len, content_len, first_run};
+use crate::types::{Token, TokenKind};
+
+/// What an item is: nothing that is given, or a token.
+#[derive(Clone, Copy)]
+pub(crate) enum PieceKind {
+    Blank,
+    Comment,
+    Token(TokenKind),
+}
+
+/// An item at the front of a text.
+#[derive(Clone, Copy)]
+pub(crate) struct Piece {
+    pub(crate) kind: PieceKind,
+    /// In bytes.
+    pub(crate) len: usize,
+    /// Its bytes are known to be below 128.
+    pub(crate) ascii: bool,
+}
+
+impl PieceKind {
+    /// The token with this span, if it is one.
+    pub(crate) fn token(self, start: usize, end: usize) -> Option<Token>
+        ensures { MatchOption result (is_token (kind_of_piece self) ≡ false) (λ t. (kind_of t.kind ≡ kind_of_piece self) × (t.start ≡ start) × (t.end ≡ end)) }
+    {
+        match self {
+            PieceKind::Token(kind) => Some(Token { kind, start, end }),
+            PieceKind::Blank | PieceKind::Comment => None,
+        }
+    }
+}
+
+const fn token(kind: TokenKind, len: usize, ascii: bool) -> Piece
+    ensures front { front_of_piece result ≡ (kind_of kind, Some len) }
+    ensures len { result.len ≡ len }
+    ensures ascii { result.ascii ≡ ascii }
+{
+    Piece {
+        kind: PieceKind::Token(kind),
+        len,
+        ascii,
+    }
+}
+
+/// The run at the front of a text that begins with a byte of a run.
+fn run_piece(text: &[u8]) -> Piece
+    requires { 0 < run_len text.now }
+    ensures front { front_of_piece result ≡ (kind_of_run (run_of text.now), Some (run_len text.now)) }
+    ensures len { result.len ≡ run_len text.now }
+    ensures some { 0 < result.len }
+    ensures ascii { IsTrue result.ascii → IsAscii (take result.len text.now) }
+{
+    let found = first_run(text);
+    token(run_kind(&text[..found.len]), found.len, found.ascii)
+}
+
+/// The item at the front of a text that begins with `#`.
+fn hash_piece(text: &[u8]) -> Piece
+    requires nonempty { 0 < length text.now }
+    requires hash { first_byte text.now ≡ hash }
+    ensures front { front_of_piece result ≡ hash_front (drop 1 text.now) }
+    ensures fits { result.len ≤ length text.now }
+    ensures ascii { IsTrue result.ascii → IsAscii (take result.len text.now) }
+{
+    match text.get(1) {
+        Some(b'{') => token(TokenKind::Open, 2, true),
+        Some(b'_') => token(TokenKind::Drop, 2, true),
+        Some(b'#') => run_piece(text),
+        _ => token(TokenKind::Tag, first_run(text).len, false),
+    }
+}
+
+/// The item at the front of the text; none where it is a string that nothing closes.
+pub(crate) fn first_piece(text: &[u8]) -> Option<Piece>
+    requires { 0 < length text.now }
+    ensures front { front (first_byte text.now) (drop 1 text.now) ≡ front_of_found result }
+    ensures some { IfSome result (λ p. 0 < p.len) }
+    ensures fits { IfSome result (λ p. p.len ≤ length text.now) }
+    ensures ascii { IfSome result (λ p. IsTrue p.ascii → IsAscii (take p.len text.now)) }
+{
+    let found = match text[0] {
+        9 | 10 | 11 | 12 | 13 | b' ' | b',' => Piece {
+            kind: PieceKind::Blank,
+            len: 1,
+            ascii: true,
+        },
+        b';' => Piece {
+            kind: PieceKind::Comment,
+            len: 1 + comment_len(&text[1..]),
+            ascii: false,
+        },
+        b'"' => token(TokenKind::Str, content_len(&text[1..])? + 2, false),
+        b'\\' => token(TokenKind::Char, 1 + character_len(&text[1..]), false),
+        b'(' | b'[' | b'{' => token(TokenKind::Open, 1, true),
+        b')' | b']' | b'}' => token(TokenKind::Close, 1, true),
+        b'#' => hash_piece(text),
+        _ => run_piece(text),
+    };
+    Some(found)
+}

@@ -1,0 +1,87 @@
+//! What a run is.
+
+ghost use Rattle.std.specs.Prelude.{◌≡◌, ◌<◌, length};
+ghost use Rattle.std.specs.List.{list_all};
+ghost use Rattle.std.specs.Char.{is_ascii_digit};
+ghost use Rattle.hist_types.specs.Tokens.{is_sign as is_sign_byte, without_sign as behind_sign, without_n as before_n, is_whole as is_whole_number, is_int as is_integer, is_keyword as is_key, is_symbol as is_name, run_kind as kind_of_run};
+ghost use Rattle.edn_lex.specs.Kinds.{kind_of};
+
+use crate::types::TokenKind;
+
+fn without_sign(run: &[u8]) -> &[u8]
+    ensures { result.now ≡ behind_sign run.now }
+{
+    match run.first() {
+        Some(b'+' | b'-') => &run[1..],
+        _ => run,
+    }
+}
+
+fn without_n(run: &[u8]) -> &[u8]
+    ensures { result.now ≡ before_n run.now }
+{
+    if run.ends_with(b"N") {
+        &run[..run.len() - 1]
+    } else {
+        run
+    }
+}
+
+fn all_digits(bytes: &[u8]) -> bool
+    ensures { result ≡ list_all is_ascii_digit bytes.now }
+{
+    bytes.iter().all(|b| b.is_ascii_digit())
+}
+
+/// `0`, or digits that don't begin with 0.
+fn is_whole(digits: &[u8]) -> bool
+    ensures { result ≡ is_whole_number digits.now }
+{
+    !digits.is_empty() && (digits[0] != b'0' || digits.len() == 1) && all_digits(digits)
+}
+
+fn is_int(run: &[u8]) -> bool
+    ensures { result ≡ is_integer run.now }
+{
+    is_whole(without_n(without_sign(run)))
+}
+
+fn is_keyword(run: &[u8]) -> bool
+    ensures { result ≡ is_key run.now }
+{
+    run.len() > 1 && run[0] == b':'
+}
+
+fn is_symbol(run: &[u8]) -> bool
+    requires { 0 < length run.now }
+    ensures { result ≡ is_name run.now }
+{
+    let second_is_digit = run.len() > 1 && run[1].is_ascii_digit();
+    match run[0] {
+        b':' | b'#' => false,
+        b'+' | b'-' | b'.' => !second_is_digit,
+        first => !first.is_ascii_digit(),
+    }
+}
+
+/// The first of the kinds that fits.
+pub(crate) fn run_kind(run: &[u8]) -> TokenKind
+    requires { 0 < length run.now }
+    ensures { kind_of result ≡ kind_of_run run.now }
+{
+    if run == b"nil".as_slice() {
+        TokenKind::Nil
+    } else if run == b"true".as_slice() {
+        TokenKind::True
+    } else if run == b"false".as_slice() {
+        TokenKind::False
+    } else if is_int(run) {
+        TokenKind::Int
+    } else if is_keyword(run) {
+        TokenKind::Keyword
+    } else if is_symbol(run) {
+        TokenKind::Symbol
+    } else {
+        TokenKind::Other
+    }
+}
