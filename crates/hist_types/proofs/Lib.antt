@@ -5,3 +5,4 @@ pub mod Blocks
 pub mod Runs
 pub mod Members
 pub mod OrderEdges
+pub mod OneCut

@@ -1,6 +1,6 @@
 //! Laws of this crate's definitions: the contracts of functions that do nothing.
 
-ghost use Rattle.std.specs.Prelude.{◌≡◌, ◌↔◌, ℕ, List, [], ◌∷◌, ◌++◌, length, drop, Bool, false, ◌==◌, IsTrue, None, All, Contains};
+ghost use Rattle.std.specs.Prelude.{◌≡◌, ◌↔◌, ℕ, List, [], ◌∷◌, ◌++◌, length, drop, Bool, false, ◌==◌, IsTrue, Option, None, All, Contains};
 ghost use Rattle.std.specs.Ordering.{nat_cmp};
 ghost use Rattle.hist_types.specs.Bytes.{is_run_byte};
 ghost use Rattle.hist_types.specs.Atoms.{Atom, Value, atom_eq, value_eq};
@@ -10,9 +10,11 @@ ghost use Rattle.hist_types.specs.Journal.{Write, write_eq, first_broken, events
 ghost use Rattle.hist_types.specs.Laws.{RunEndsAt, LeavesOne, LeadsToOne, HasRealtimeTwin};
 ghost use Rattle.hist_types.specs.Operations.{Operation};
 ghost use Rattle.hist_types.specs.Phenomena.{height};
+ghost use Rattle.hist_types.specs.Reading.{Entry, Reads};
 ghost use Rattle.hist_types.specs.Refusals.{number_of, name_of};
-ghost use Rattle.hist_types.specs.Tokens.{run_of, run_len};
+ghost use Rattle.hist_types.specs.Tokens.{Item, HasTokens, run_of, run_len};
 ghost use Rattle.hist_types.specs.Transactions.{Transaction, Read, read_eq, nodes};
+ghost use Rattle.hist_types.specs.declared.types.Fault.{Fault};
 ghost use Rattle.hist_types.specs.declared.types.Level.{Level};
 ghost use Rattle.hist_types.specs.declared.types.Level.TheVariants.{Process, Realtime};
 ghost use Rattle.hist_types.specs.declared.types.Refusal.{Refusal};
@@ -53,6 +55,12 @@ pub fn runs_longest()
     ensures front { (text : List ℕ) → text ≡ run_of text ++ drop (length (run_of text)) text }
     ensures end { (text : List ℕ) → RunEndsAt text (length (run_of text)) }
     ensures len { (text : List ℕ) → run_len text ≡ length (run_of text) }
+{}
+
+/// A text has one row of tokens and one reading.
+pub fn texts_read_one_way()
+    ensures tokens { (text : List ℕ) → (ts us : List Item) → (e d : Option Fault) → HasTokens text ts e → HasTokens text us d → (ts ≡ us) × (e ≡ d) }
+    ensures readings { (text : List ℕ) → (entries others : List Entry) → (fault other : Option Fault) → Reads text entries fault → Reads text others other → (entries ≡ others) × (fault ≡ other) }
 {}
 
 /// Order edges are those of all pairs of which the second end is a node; their first end is one by itself.

@@ -109,6 +109,7 @@ fn laws_return() {
     laws::equality_decided();
     laws::blocks_one_after_another();
     laws::runs_longest();
+    laws::texts_read_one_way();
     laws::order_edges_between_nodes();
     laws::process_order_in_realtime();
     laws::thinned_among_order_edges();
