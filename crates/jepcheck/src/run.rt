@@ -7,17 +7,15 @@ ghost use Rattle.txn_pairs.specs.Txns.{transaction_of_txn};
 ghost use Rattle.jepcheck.specs.Answers.{IsAnswer, IsRefused, HasAnswered, CountedBy, memory_fault};
 ghost use Rattle.jepcheck.specs.Statuses.{code_of, status_by};
 
-use std::alloc::{AllocError, Global};
-
-use hist_types::device::{Failed, Sink, Source};
-use hist_types::types::{Fault, Refusal};
-use journal_core::types::Core;
-use txn_pairs::types::Txn;
-
 use crate::bad_reads::{BadReads, bad_reads};
 use crate::devices::{ReadFault, read_all, write_all};
 use crate::inputs::{MEMORY, accept_all, pair, read_operations};
 use crate::text::{write_reads, write_refusal};
+use hist_types::device::{Failed, Sink, Source};
+use hist_types::types::{Fault, Refusal};
+use journal_core::types::Core;
+use std::alloc::{AllocError, Global};
+use txn_pairs::types::Txn;
 
 /// What the program is asked to do.
 #[derive(Clone, Copy, Debug, PartialEq, Eq)]
@@ -90,7 +88,13 @@ fn report(alloc: Global, core: &Core, txns: &[Txn<'_>]) -> Result<Answer, AllocE
 {
     let found = bad_reads(alloc, txns)?;
     let mut printed = Vec::new(alloc);
-    write_reads(alloc, &mut printed, core.events(), txns.len() as u64, &found)?;
+    write_reads(
+        alloc,
+        &mut printed,
+        core.events(),
+        txns.len() as u64,
+        &found,
+    )?;
     Ok(Answer {
         status: status_of(&found),
         printed,
@@ -142,7 +146,12 @@ pub fn print_memory<T: Sink>(sink: &mut T) -> Status
 }
 
 /// Reads the whole source and prints the command's answer to it.
-pub fn run<S: Source, T: Sink>(alloc: Global, command: Command, source: &mut S, sink: &mut T) -> Status
+pub fn run<S: Source, T: Sink>(
+    alloc: Global,
+    command: Command,
+    source: &mut S,
+    sink: &mut T,
+) -> Status
     ensures answered { IfSome (S.tells source.old) (λ text. HasAnswered result text (T.tells sink.old) (T.tells sink.new)) }
     ensures counted { CountedBy result (S.failures source.old) (S.failures source.new) (T.failures sink.old) (T.failures sink.new) }
 {

@@ -6,12 +6,10 @@ ghost use Rattle.edn_ops.specs.Owned.{atom_of_owned};
 ghost use Rattle.jepcheck.specs.Reports.{reads_lines};
 ghost use Rattle.jepcheck.specs.Writers.{bad_read_of};
 
-use std::alloc::{AllocError, Global};
-
+use crate::bad_reads::{BadRead, BadReads};
 use edn_ops::types::OwnedAtom;
 use hist_types::types::Fault;
-
-use crate::bad_reads::{BadRead, BadReads};
+use std::alloc::{AllocError, Global};
 
 fn write_atom(alloc: Global, out: &mut Vec<u8>, atom: &OwnedAtom) -> Result<(), AllocError>
     ensures { OnOk result (out.new.items ≡ out.old.items ++ atom_text (atom_of_owned atom.now)) }
@@ -47,7 +45,12 @@ fn write_witness(alloc: Global, out: &mut Vec<u8>, read: &BadRead<'_>) -> Result
 }
 
 /// Appends the lines of a phenomenon that is shown by a bad read.
-fn write_bad_read(alloc: Global, out: &mut Vec<u8>, name: &str, found: &Option<BadRead<'_>>) -> Result<(), AllocError>
+fn write_bad_read(
+    alloc: Global,
+    out: &mut Vec<u8>,
+    name: &str,
+    found: &Option<BadRead<'_>>,
+) -> Result<(), AllocError>
     ensures { OnOk result (out.new.items ≡ out.old.items ++ bad_read_lines name.now (option_map bad_read_of found.now)) }
 {
     match found {
@@ -65,7 +68,13 @@ fn write_bad_read(alloc: Global, out: &mut Vec<u8>, name: &str, found: &Option<B
 }
 
 /// Appends the text of `reads`, from the number of events, the number of transactions and what was found.
-pub fn write_reads(alloc: Global, out: &mut Vec<u8>, events: u64, txns: u64, found: &BadReads<'_>) -> Result<(), AllocError>
+pub fn write_reads(
+    alloc: Global,
+    out: &mut Vec<u8>,
+    events: u64,
+    txns: u64,
+    found: &BadReads<'_>,
+) -> Result<(), AllocError>
     ensures { OnOk result (out.new.items ≡ out.old.items ++ reads_lines events txns (option_map bad_read_of found.now.aborted) (option_map bad_read_of found.now.intermediate) found.now.stray) }
 {
     write_number(alloc, out, "prefix", events)?;
