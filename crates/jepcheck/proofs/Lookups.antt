@@ -58,12 +58,15 @@ atom_congr (symbol s) (symbol t) (symbol u) e = nat_list_eq_equiv.congr s t u e
 atom_congr (symbol s) (symbol t) c e = refl
 atom_congr a b c e = absurd (false≢true e)
 
+-- the laws of `==` of atoms
 pub atom_laws : IsEquivalence atom_eq
 atom_laws = record { refl = atom_refl; symm = atom_symm; congr = atom_congr }
 
+-- the laws of `==` of writes
 pub write_laws : IsEquivalence write_eq
 write_laws = and_equiv (on_equiv (λ (w : Write). w.key) atom_laws) (on_equiv (λ (w : Write). w.value) atom_laws)
 
+-- the laws of `==` of the index's keys
 pub written_laws : IsEquivalence written_eq
 written_laws =
     record {
@@ -91,6 +94,7 @@ after_note-inserted es k q n true is e =
 after_note-inserted es k q n false is e =
     ap (λ t. cond t (Some (add (unwrap_or (lookup (written_eq q) es) nobody) n)) (lookup (written_eq q) es)) (sym (same_test k q n is ∙ e))
 
+-- one of two
 or-false-or : (a b : Bool) → ((a || false) || b) ≡ (a || b)
 or-false-or true b = refl
 or-false-or false b = refl

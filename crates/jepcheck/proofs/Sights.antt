@@ -22,6 +22,7 @@ use Rattle.jepcheck.proofs.Noting.{aborts_write, overwrites, index-aborted, inde
 abbrev seen_by : ℕ → Read → List Sight
 seen_by reader r = map (sight reader) (seen_write r)
 
+-- one of three, in another order
 or_swap : (a b c : Bool) → (a || (b || c)) ≡ (b || (a || c))
 or_swap true true c = refl
 or_swap true false c = refl
@@ -41,6 +42,7 @@ has_key-behind_read key [] k v = refl
 has_key-behind_read key (read k' v' ∷ before) k v = has_key-behind_read key before k v
 has_key-behind_read key (write k' v' ∷ before) k v = ap (λ b. atom_eq key k' || b) (has_key-behind_read key before k v)
 
+-- a read that is external or not
 read_passing : (b : Bool) (reader : ℕ) (r : Read) (rs : List Read) →
     cond b [] (seen_by reader r) ++ flat_map (seen_by reader) rs ≡ flat_map (seen_by reader) (cond b rs (r ∷ rs))
 read_passing true reader r rs = refl
@@ -54,7 +56,7 @@ sights_behind-are reader before written (read k v ∷ mops) same =
     let rest = reads_after written mops in
     ap (λ b. cond b [] (map (sight reader) (seen_value k v)) ++ sights_behind reader (before ++ read k v ∷ []) mops) (same k)
     ∙ (ap (λ ys. cond (list_any (atom_eq k) written) [] (map (sight reader) (seen_value k v)) ++ ys)
-        (sights_behind-are reader (before ++ read k v ∷ []) written mops (λ key. has_key-behind_read key before k v ∙ same key))
+    (sights_behind-are reader (before ++ read k v ∷ []) written mops (λ key. has_key-behind_read key before k v ∙ same key))
     ∙ read_passing (list_any (atom_eq k) written) reader (record { key = k; value = v }) rest)
 sights_behind-are reader before written (write k v ∷ mops) same =
     sights_behind-are reader (before ++ write k v ∷ []) (k ∷ written) mops (λ key. has_key-behind key before k v ∙ ap (λ b. atom_eq key k || b) (same key))
@@ -64,12 +66,12 @@ pub over_sights : {B : Type 0} (g : Sight → List B) (ts : List Transaction) �
 over_sights g ts =
     flat_map-flat_map g sights_of (filter is_ok ts)
     ∙ flat_map-same (λ t. flat_map g (sights_of t)) (λ t. flat_map (λ r. flat_map (λ w. g (sight t.invocation w)) (seen_write r)) (external_reads t))
-        (λ t.
-            ap (flat_map g) (sights_behind-are t.invocation [] [] t.mops (λ key. refl))
-            ∙ (flat_map-flat_map g (seen_by t.invocation) (external_reads t)
-            ∙ flat_map-same (λ r. flat_map g (seen_by t.invocation r)) (λ r. flat_map (λ w. g (sight t.invocation w)) (seen_write r))
-                (λ r. flat_map-mapped g (sight t.invocation) (seen_write r)) (external_reads t)))
-        (filter is_ok ts)
+    (λ t.
+    ap (flat_map g) (sights_behind-are t.invocation [] [] t.mops (λ key. refl))
+    ∙ (flat_map-flat_map g (seen_by t.invocation) (external_reads t)
+    ∙ flat_map-same (λ r. flat_map g (seen_by t.invocation r)) (λ r. flat_map (λ w. g (sight t.invocation w)) (seen_write r))
+    (λ r. flat_map-mapped g (sight t.invocation) (seen_write r)) (external_reads t)))
+    (filter is_ok ts)
 
 -- the first bad read of a value has the first writer
 first_bad : (s : Sight) (ts : List Transaction) → first_of (map (λ (t : Transaction). bad_sight s t.invocation) ts) ≡ option_map (bad_sight s) (first_of (map (λ t. t.invocation) ts))
@@ -83,7 +85,7 @@ g1a-is ts =
     ap first_of (sym (over_sights found ts))
     ∙ (first_of-flat_map found (sights ts)
     ∙ first_some-same (λ s. first_of (found s)) (λ s. aborted_sight (after_notes s.write None (notes ts)) s)
-        (λ s. first_bad s (filter (aborts_write s.write) ts) ∙ ap (option_map (bad_sight s)) (sym (index-aborted s.write ts))) (sights ts))
+    (λ s. first_bad s (filter (aborts_write s.write) ts) ∙ ap (option_map (bad_sight s)) (sym (index-aborted s.write ts))) (sights ts))
 
 -- the first intermediate read, likewise
 pub g1b-is : (ts : List Transaction) → g1b ts ≡ first_some (λ s. intermediate_sight (after_notes s.write None (notes ts)) s) (sights ts)
@@ -92,8 +94,9 @@ g1b-is ts =
     ap first_of (sym (over_sights found ts))
     ∙ (first_of-flat_map found (sights ts)
     ∙ first_some-same (λ s. first_of (found s)) (λ s. intermediate_sight (after_notes s.write None (notes ts)) s)
-        (λ s. first_bad s (filter (overwrites s.reader s.write) ts) ∙ ap (option_map (bad_sight s)) (sym (index-intermediate s.reader s.write ts))) (sights ts))
+    (λ s. first_bad s (filter (overwrites s.reader s.write) ts) ∙ ap (option_map (bad_sight s)) (sym (index-intermediate s.reader s.write ts))) (sights ts))
 
+-- one read, counted or not
 stray_passing : (b : Bool) (w : Write) → length (cond b [] (w ∷ [])) ≡ cond (not b) 1 0
 stray_passing true w = refl
 stray_passing false w = refl
@@ -105,10 +108,11 @@ stray-is ts =
     ap length (sym (over_sights found ts))
     ∙ (length-flat_map found (sights ts)
     ∙ sum_by-same (λ s. length (found s)) (λ s. cond (not (is_some (after_notes s.write None (notes ts)))) 1 0)
-        (λ s. stray_passing (list_any (λ t. has_write (writes_of t.mops) s.write) ts) s.write ∙ ap (λ b. cond (not b) 1 0) (sym (index-written s.write ts))) (sights ts))
+    (λ s. stray_passing (list_any (λ t. has_write (writes_of t.mops) s.write) ts) s.write ∙ ap (λ b. cond (not b) 1 0) (sym (index-written s.write ts))) (sights ts))
 
 -- ---- what the look-ups of all values seen give, where they know what the notes say
 
+-- the first aborted read
 pub g1a-found : (ts : List Transaction) (known : Written → Option Writers) (seen : List Seen) → ((q : Written) → known q ≡ after_notes (write_of q) None (notes ts)) →
     map sight_of seen ≡ sights ts → first_some (λ s. aborted_sight (known s.written) (sight_of s)) seen ≡ g1a ts
 g1a-found ts known seen is same =
@@ -116,6 +120,7 @@ g1a-found ts known seen is same =
     first_some-same (λ s. aborted_sight (known s.written) (sight_of s)) (λ s. told (sight_of s)) (λ s. ap (λ o. aborted_sight o (sight_of s)) (is s.written)) seen
     ∙ (sym (first_some-map sight_of told seen) ∙ (ap (first_some told) same ∙ sym (g1a-is ts)))
 
+-- the first intermediate read
 pub g1b-found : (ts : List Transaction) (known : Written → Option Writers) (seen : List Seen) → ((q : Written) → known q ≡ after_notes (write_of q) None (notes ts)) →
     map sight_of seen ≡ sights ts → first_some (λ s. intermediate_sight (known s.written) (sight_of s)) seen ≡ g1b ts
 g1b-found ts known seen is same =
@@ -123,6 +128,7 @@ g1b-found ts known seen is same =
     first_some-same (λ s. intermediate_sight (known s.written) (sight_of s)) (λ s. told (sight_of s)) (λ s. ap (λ o. intermediate_sight o (sight_of s)) (is s.written)) seen
     ∙ (sym (first_some-map sight_of told seen) ∙ (ap (first_some told) same ∙ sym (g1b-is ts)))
 
+-- the number of stray reads
 pub stray-found : (ts : List Transaction) (known : Written → Option Writers) (seen : List Seen) → ((q : Written) → known q ≡ after_notes (write_of q) None (notes ts)) →
     map sight_of seen ≡ sights ts → count_by (λ s. not (is_some (known s.written))) seen ≡ stray ts
 stray-found ts known seen is same =

@@ -11,10 +11,9 @@ ghost use Rattle.jepcheck.specs.declared.bad_reads.Written.{Written};
 ghost use Rattle.std.specs.Prelude.{count_by};
 ghost use Rattle.jepcheck.specs.Writers.{first_some, aborted_sight, intermediate_sight, add, note_of, notes, notes_of, after_note, after_notes, write_of, written_eq, sight_of, sights_of, sights, bad_read_of, bad_sight, over_apart, nobody};
 
+use edn_ops::types::{OwnedAtom, OwnedMop};
 use std::alloc::{AllocError, Global};
 use std::collections::HashMap;
-
-use edn_ops::types::{OwnedAtom, OwnedMop};
 use txn_pairs::types::{Status, Txn};
 
 /// A read of an ok transaction, and the transaction that wrote its value, each by the index of its invocation.
@@ -146,7 +145,10 @@ fn note<'a>(index: &mut HashMap<Written<'a>, Writers>, noted: Noted<'a>) -> Resu
 }
 
 /// Notes the writes of a transaction.
-fn note_writes<'a>(index: &mut HashMap<Written<'a>, Writers>, txn: &Txn<'a>) -> Result<(), AllocError>
+fn note_writes<'a>(
+    index: &mut HashMap<Written<'a>, Writers>,
+    txn: &Txn<'a>,
+) -> Result<(), AllocError>
     ensures { OnOk result ((q : Written) → get written_eq index.new q ≡ after_notes (write_of q) (get written_eq index.old q) (notes_of (transaction_of_txn txn.now))) }
 {
     let failed = is_failed(txn.status);
@@ -155,7 +157,15 @@ fn note_writes<'a>(index: &mut HashMap<Written<'a>, Writers>, txn: &Txn<'a>) -> 
         if let OwnedMop::Write { key, value } = mop {
             let over = any_writes(later, key);
             let written = Written { key, value };
-            note(index, Noted { written, writer: txn.invocation, failed, over })?;
+            note(
+                index,
+                Noted {
+                    written,
+                    writer: txn.invocation,
+                    failed,
+                    over,
+                },
+            )?;
         }
         rest = later;
     }
@@ -175,7 +185,10 @@ fn is_ok(status: Status) -> bool
 }
 
 /// Who wrote what.
-fn index_writes<'a>(alloc: Global, txns: &[Txn<'a>]) -> Result<HashMap<Written<'a>, Writers>, AllocError>
+fn index_writes<'a>(
+    alloc: Global,
+    txns: &[Txn<'a>],
+) -> Result<HashMap<Written<'a>, Writers>, AllocError>
     ensures { IfOk result (λ index. (q : Written) → get written_eq index q ≡ after_notes (write_of q) None (notes (map transaction_of_txn txns.now))) }
 {
     let mut index = HashMap::new(alloc);
@@ -190,12 +203,19 @@ fn note_reads<'a>(seen: &mut Vec<Seen<'a>>, txn: &Txn<'a>) -> Result<(), AllocEr
     ensures { OnOk result (map sight_of seen.new.items ≡ map sight_of seen.old.items ++ sights_of (transaction_of_txn txn.now)) }
 {
     for (place, mop) in txn.mops.iter().enumerate() {
-        let OwnedMop::Read { key, value: Some(value) } = mop else {
+        let OwnedMop::Read {
+            key,
+            value: Some(value),
+        } = mop
+        else {
             continue;
         };
         if !any_writes(&txn.mops[..place], key) {
             let written = Written { key, value };
-            seen.push(Seen { reader: txn.invocation, written })?;
+            seen.push(Seen {
+                reader: txn.invocation,
+                written,
+            })?;
         }
     }
     Ok(())
@@ -231,7 +251,8 @@ fn judge<'a>(index: &HashMap<Written<'a>, Writers>, seen: &[Seen<'a>]) -> BadRea
             continue;
         };
         found.aborted = found.aborted.or(read.of(writers.aborted));
-        found.intermediate = found.intermediate.or(read.of(writers.over_apart_from(read.reader)));
+        let overwriter = writers.over_apart_from(read.reader);
+        found.intermediate = found.intermediate.or(read.of(overwriter));
     }
     found
 }

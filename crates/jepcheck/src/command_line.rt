@@ -4,11 +4,9 @@ ghost use Rattle.std.specs.Prelude.{◌≡◌, ℕ, List, [], ◌∷◌, map, co
 ghost use Rattle.clap.specs.Words.{app_of, kind_of};
 ghost use Rattle.jepcheck.specs.Lines.{program_app};
 
-use std::alloc::{AllocError, Global};
-
-use clap::error::ErrorKind;
-
 use crate::run::Command;
+use clap::error::ErrorKind;
+use std::alloc::{AllocError, Global};
 
 /// What a command line asks for.
 #[derive(Clone, Copy, Debug, PartialEq, Eq)]

@@ -4,9 +4,8 @@ ghost use Rattle.std.specs.Prelude.{◌≡◌, OnOk, OnErr, IfOk, IfErr, IfSome,
 ghost use Rattle.hist_types.specs.Devices.{Took, CountsFailure};
 ghost use Rattle.jepcheck.specs.Pieces.{IsCounted, TookBeginning};
 
-use std::alloc::{AllocError, Global};
-
 use hist_types::device::{Failed, Sink, Source};
+use std::alloc::{AllocError, Global};
 
 /// How many bytes are asked of a source at once.
 const PIECE: usize = 65_536;

@@ -4,20 +4,20 @@
 mod bad_reads;
 mod command_line;
 mod devices;
+#[cfg(test)]
+mod examples;
 mod inputs;
 mod run;
 mod standard;
-mod text;
-
 #[cfg(test)]
 mod tests;
-
-use std::env;
-use std::process::ExitCode;
+mod text;
 
 use command_line::{Asked, LineFault};
 use run::Status;
 use standard::{StandardInput, StandardOutput};
+use std::env;
+use std::process::ExitCode;
 
 /// What the process's command line asks for.
 fn asked(rt: &HostRuntime) -> Result<Asked, LineFault> {

@@ -92,7 +92,13 @@ fn report(alloc: Global, core: &Core, txns: &[Txn<'_>]) -> Result<Answer, AllocE
 {
     let found = bad_reads(alloc, txns)?;
     let mut printed = Vec::new(alloc);
-    write_reads(alloc, &mut printed, core.events(), txns.len() as u64, &found)?;
+    write_reads(
+        alloc,
+        &mut printed,
+        core.events(),
+        txns.len() as u64,
+        &found,
+    )?;
     Ok(Answer {
         status: status_of(&found),
         printed,
@@ -144,7 +150,12 @@ pub fn print_memory<T: Sink>(sink: &mut T) -> Status
 }
 
 /// Reads the whole source and prints the command's answer to it.
-pub fn run<S: Source, T: Sink>(alloc: Global, command: Command, source: &mut S, sink: &mut T) -> Status
+pub fn run<S: Source, T: Sink>(
+    alloc: Global,
+    command: Command,
+    source: &mut S,
+    sink: &mut T,
+) -> Status
     ensures answered { IfSome (S.tells source.old) (λ text. HasAnswered result text (T.tells sink.old) (T.tells sink.new)) }
     ensures counted { CountedBy result (S.failures source.old) (S.failures source.new) (T.failures sink.old) (T.failures sink.new) }
 {

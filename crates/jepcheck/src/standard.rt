@@ -2,9 +2,8 @@
 
 ghost use Rattle.std.specs.Prelude.{None};
 
-use std::io::{Read, Stdin, Stdout, Write};
-
 use hist_types::device::{Failed, Sink, Source};
+use std::io::{Read, Stdin, Stdout, Write};
 
 #[derive(Drop)]
 pub struct StandardInput {

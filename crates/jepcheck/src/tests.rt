@@ -1,18 +1,16 @@
 ghost use Rattle.std.specs.Prelude.{None};
 
-use std::alloc::{AllocError, Global};
-use std::test::Fail;
-
-use edn_ops::types::{OwnedAtom, OwnedMop};
-use hist_types::device::{Failed, MemorySink, MemorySource, Sink, Source};
-use hist_types::types::{At, Fault, Process, Refusal};
-use txn_pairs::types::{Status as TxnStatus, Txn};
-
 use crate::bad_reads::bad_reads;
 use crate::command_line::{Asked, LineFault, command_line};
 use crate::devices::{ReadFault, read_all, write_all};
 use crate::run::{Command, Status, run};
 use crate::text::{write_reads, write_refusal};
+use edn_ops::types::{OwnedAtom, OwnedMop};
+use hist_types::device::{Failed, MemorySink, MemorySource, Sink, Source};
+use hist_types::types::{At, Fault, Process, Refusal};
+use std::alloc::{AllocError, Global};
+use std::test::Fail;
+use txn_pairs::types::{Status as TxnStatus, Txn};
 
 fn keyword(alloc: Global, spelling: &[u8]) -> Result<OwnedAtom, AllocError> {
     Ok(OwnedAtom::Keyword(spelling.to_vec(alloc)?))
@@ -61,7 +59,10 @@ fn an_aborted_read(rt: HostRuntime) -> Result<(), Fail> {
         txn(process, 2, TxnStatus::Ok, &reader),
     ];
     let text = text_of(alloc, 4, &txns)?;
-    assert_eq!(rt; text.as_slice(), b"prefix 4\ntxns 2\nG1a yes\n  T2 read :x 1 of T0\nG1b none\nstray 0\n".as_slice());
+    assert_eq!(rt;
+        text.as_slice(),
+        b"prefix 4\ntxns 2\nG1a yes\n  T2 read :x 1 of T0\nG1b none\nstray 0\n".as_slice()
+    );
     Ok(())
 }
 
@@ -92,7 +93,10 @@ fn a_value_of_an_info_writer_is_no_aborted_read(rt: HostRuntime) -> Result<(), F
         txn(process, 2, TxnStatus::Ok, &reader),
     ];
     let text = text_of(alloc, 4, &txns)?;
-    assert_eq!(rt; text.as_slice(), b"prefix 4\ntxns 2\nG1a none\nG1b none\nstray 0\n".as_slice());
+    assert_eq!(rt;
+        text.as_slice(),
+        b"prefix 4\ntxns 2\nG1a none\nG1b none\nstray 0\n".as_slice()
+    );
     Ok(())
 }
 
@@ -109,7 +113,10 @@ fn an_intermediate_read(rt: HostRuntime) -> Result<(), Fail> {
         txn(process, 4, TxnStatus::Ok, &second),
     ];
     let text = text_of(alloc, 6, &txns)?;
-    assert_eq!(rt; text.as_slice(), b"prefix 6\ntxns 3\nG1a none\nG1b yes\n  T4 read :x 1 of T0\nstray 0\n".as_slice());
+    assert_eq!(rt;
+        text.as_slice(),
+        b"prefix 6\ntxns 3\nG1a none\nG1b yes\n  T4 read :x 1 of T0\nstray 0\n".as_slice()
+    );
     Ok(())
 }
 
@@ -124,7 +131,10 @@ fn stray_reads_are_counted_but_for_nil(rt: HostRuntime) -> Result<(), Fail> {
         txn(process, 2, TxnStatus::Ok, &nil),
     ];
     let text = text_of(alloc, 4, &txns)?;
-    assert_eq!(rt; text.as_slice(), b"prefix 4\ntxns 2\nG1a none\nG1b none\nstray 1\n".as_slice());
+    assert_eq!(rt;
+        text.as_slice(),
+        b"prefix 4\ntxns 2\nG1a none\nG1b none\nstray 1\n".as_slice()
+    );
     Ok(())
 }
 
@@ -262,12 +272,18 @@ fn a_sink_that_fails_ends_the_run(rt: HostRuntime) -> Result<(), Fail> {
 #[test]
 fn words_of_the_command_line(rt: HostRuntime) -> Result<(), Fail> {
     let alloc = rt.alloc();
-    let words = vec![in alloc; String::from_str(alloc, "jepcheck")?, String::from_str(alloc, "reads")?]?;
+    let words = vec![in alloc;
+        String::from_str(alloc, "jepcheck")?,
+        String::from_str(alloc, "reads")?,
+    ]?;
     match command_line(alloc, words.as_slice()) {
         Ok(Asked::Run(command)) => assert!(rt; matches!(command, Command::Reads)),
         Err(fault) => assert!(rt; matches!(&fault, LineFault::Memory)),
     }
-    let words = vec![in alloc; String::from_str(alloc, "jepcheck")?, String::from_str(alloc, "--help")?]?;
+    let words = vec![in alloc;
+        String::from_str(alloc, "jepcheck")?,
+        String::from_str(alloc, "--help")?,
+    ]?;
     assert!(rt; command_line(alloc, words.as_slice()).is_err());
     Ok(())
 }

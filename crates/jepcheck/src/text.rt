@@ -1,29 +1,13 @@
 //! What is printed.
 
 ghost use Rattle.std.specs.Prelude.{◌≡◌, ◌++◌, codes, OnOk, option_map};
-ghost use Rattle.hist_types.specs.Texts.{atom_text, number_line, bad_read_lines, bad_read_text, indented, refusal_line};
-ghost use Rattle.edn_ops.specs.Owned.{atom_of_owned};
+ghost use Rattle.hist_types.specs.Texts.{number_line, bad_read_lines, bad_read_text, indented, refusal_line};
 ghost use Rattle.jepcheck.specs.Reports.{reads_lines};
 ghost use Rattle.jepcheck.specs.Writers.{bad_read_of};
 
-use std::alloc::{AllocError, Global};
-
-use edn_ops::types::OwnedAtom;
-use hist_types::types::Fault;
-
 use crate::bad_reads::{BadRead, BadReads};
-
-fn write_atom(alloc: Global, out: &mut Vec<u8>, atom: &OwnedAtom) -> Result<(), AllocError>
-    ensures { OnOk result (out.new.items ≡ out.old.items ++ atom_text (atom_of_owned atom.now)) }
-{
-    match atom {
-        OwnedAtom::Int(number) => {
-            let text = number.to_string(alloc)?;
-            out.extend_from_slice(text.as_bytes())
-        }
-        OwnedAtom::Keyword(spelling) => out.extend_from_slice(spelling),
-    }
-}
+use hist_types::types::Fault;
+use std::alloc::{AllocError, Global};
 
 /// Appends a line of a word and a number.
 fn write_number(alloc: Global, out: &mut Vec<u8>, word: &str, number: u64) -> Result<(), AllocError>
@@ -39,15 +23,20 @@ fn write_witness(alloc: Global, out: &mut Vec<u8>, read: &BadRead<'_>) -> Result
 {
     let reader = format!(in alloc; "  T{} read ", read.reader)?;
     out.extend_from_slice(reader.as_bytes())?;
-    write_atom(alloc, out, read.key)?;
+    read.key.write(out)?;
     out.extend_from_slice(b" ")?;
-    write_atom(alloc, out, read.value)?;
+    read.value.write(out)?;
     let writer = format!(in alloc; " of T{}\n", read.writer)?;
     out.extend_from_slice(writer.as_bytes())
 }
 
 /// Appends the lines of a phenomenon that is shown by a bad read.
-fn write_bad_read(alloc: Global, out: &mut Vec<u8>, name: &str, found: &Option<BadRead<'_>>) -> Result<(), AllocError>
+fn write_bad_read(
+    alloc: Global,
+    out: &mut Vec<u8>,
+    name: &str,
+    found: &Option<BadRead<'_>>,
+) -> Result<(), AllocError>
     ensures { OnOk result (out.new.items ≡ out.old.items ++ bad_read_lines name.now (option_map bad_read_of found.now)) }
 {
     match found {
@@ -65,7 +54,13 @@ fn write_bad_read(alloc: Global, out: &mut Vec<u8>, name: &str, found: &Option<B
 }
 
 /// Appends the text of `reads`, from the number of events, the number of transactions and what was found.
-pub fn write_reads(alloc: Global, out: &mut Vec<u8>, events: u64, txns: u64, found: &BadReads<'_>) -> Result<(), AllocError>
+pub fn write_reads(
+    alloc: Global,
+    out: &mut Vec<u8>,
+    events: u64,
+    txns: u64,
+    found: &BadReads<'_>,
+) -> Result<(), AllocError>
     ensures { OnOk result (out.new.items ≡ out.old.items ++ reads_lines events txns (option_map bad_read_of found.now.aborted) (option_map bad_read_of found.now.intermediate) found.now.stray) }
 {
     write_number(alloc, out, "prefix", events)?;

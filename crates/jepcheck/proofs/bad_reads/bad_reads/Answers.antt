@@ -12,7 +12,7 @@ returns-clause-aborted c =
     c.judge.ensures.aborted
     ∙ (ap (first_some (λ s. aborted_sight (get written_eq index s.written) (sight_of s))) c.deref.ensures.value
     ∙ g1a-found (map transaction_of_txn c.args.txns.now) (get written_eq index) c.in_ok-seen.seen.items
-        c.in_ok-index.ensures c.in_ok-seen.ensures)
+    c.in_ok-index.ensures c.in_ok-seen.ensures)
 
 pub returns-clause-intermediate : goal.returns-clause-intermediate
 returns-clause-intermediate c =
@@ -20,7 +20,7 @@ returns-clause-intermediate c =
     c.judge.ensures.intermediate
     ∙ (ap (first_some (λ s. intermediate_sight (get written_eq index s.written) (sight_of s))) c.deref.ensures.value
     ∙ g1b-found (map transaction_of_txn c.args.txns.now) (get written_eq index) c.in_ok-seen.seen.items
-        c.in_ok-index.ensures c.in_ok-seen.ensures)
+    c.in_ok-index.ensures c.in_ok-seen.ensures)
 
 pub returns-clause-stray : goal.returns-clause-stray
 returns-clause-stray c =
@@ -28,4 +28,4 @@ returns-clause-stray c =
     c.judge.ensures.stray
     ∙ (ap (count_by (λ s. not (is_some (get written_eq index s.written)))) c.deref.ensures.value
     ∙ stray-found (map transaction_of_txn c.args.txns.now) (get written_eq index) c.in_ok-seen.seen.items
-        c.in_ok-index.ensures c.in_ok-seen.ensures)
+    c.in_ok-index.ensures c.in_ok-seen.ensures)

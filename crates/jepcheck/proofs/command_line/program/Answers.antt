@@ -8,5 +8,5 @@ use Rattle.jepcheck.proofs.command_line.program.Goals as goal
 pub returns : goal.returns
 returns c =
     let required : app_of c.subcommand_required-program.result ≡ with_required (new_app (codes "jepcheck")) =
-        ap app_of_fields c.subcommand_required-program.ensures ∙ ap with_required c.new.ensures.app in
+    ap app_of_fields c.subcommand_required-program.ensures ∙ ap with_required c.new.ensures.app in
     IfOk-weaker c.subcommand.result _ _ (λ r h. h.shape (search rules) ∙ ap₂ with_subcommand required (ap (λ (a : App). a.top) c.new-reads.ensures.app)) c.subcommand.ensures

@@ -30,9 +30,9 @@ loop-preserved g c =
     let taken = c.loop.taken.items in
     let count = c.in-Ok-read.count in
     let extended : c.extend_from_slice.new.self.items ≡ taken ++ take count c.read.new.room =
-        c.extend_from_slice.ensures.items
-        ∙ (ap (λ b. cond b (taken ++ take count c.deref.result.now) taken) (c.is_err.ensures.negation ∙ ap not c.if-is_err.false)
-        ∙ ap (λ room. taken ++ take count room) (c.deref.ensures.value ∙ room_kept c.loop.room.len c.read.new.room _ (omega (arith, c.read.auto.room, c.deref_mut.ensures.len)))) in
+    c.extend_from_slice.ensures.items
+    ∙ (ap (λ b. cond b (taken ++ take count c.deref.result.now) taken) (c.is_err.ensures.negation ∙ ap not c.if-is_err.false)
+    ∙ ap (λ room. taken ++ take count room) (c.deref.ensures.value ∙ room_kept c.loop.room.len c.read.new.room _ (omega (arith, c.read.auto.room, c.deref_mut.ensures.len)))) in
     record {
       gave = subst P (sym extended) (gave_more _ _ _ _ _ c.loop.invariant.gave c.in-Ok-read.ensures.gave);
       counted = c.in-Ok-read.ensures.no_failure ∙ c.loop.invariant.counted;
