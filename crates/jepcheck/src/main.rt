@@ -4,10 +4,10 @@
 mod bad_reads;
 mod command_line;
 mod devices;
-#[cfg(test)]
-mod examples;
 mod inputs;
 mod run;
+#[cfg(test)]
+mod runs;
 mod standard;
 #[cfg(test)]
 mod tests;

@@ -8,18 +8,16 @@ ghost use Rattle.txn_pairs.specs.Txns.{transaction_of_txn};
 ghost use Rattle.jepcheck.specs.Answers.{IsAnswer, IsRefused, HasAnswered, CountedBy};
 ghost use Rattle.jepcheck.specs.Statuses.{code_of, status_by};
 
-use std::alloc::{AllocError, Global};
-
-use hist_types::device::{Failed, Sink, Source};
-use hist_types::types::{Fault, Refusal};
-use journal_core::types::Core;
-use txn_pairs::pair;
-use txn_pairs::types::Txn;
-
 use crate::bad_reads::{BadReads, bad_reads};
 use crate::devices::{ReadFault, read_all, write_all};
 use crate::inputs::{accept_all, read_operations};
 use crate::text::{write_reads, write_refusal};
+use hist_types::device::{Failed, Sink, Source};
+use hist_types::types::{Fault, Refusal};
+use journal_core::types::Core;
+use std::alloc::{AllocError, Global};
+use txn_pairs::pair;
+use txn_pairs::types::Txn;
 
 /// What the program is asked to do.
 #[derive(Clone, Copy, Debug, PartialEq, Eq)]

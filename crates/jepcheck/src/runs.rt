@@ -1,0 +1,254 @@
+//! Whole runs over worked histories, over devices that fail or move one byte a call, and with each growth refused.
+
+ghost use Rattle.std.specs.Prelude.{None};
+
+use crate::run::{Command, Status, run};
+use arrayvec::ArrayVec;
+use hist_types::device::{Failed, MemorySource, Sink, Source};
+use std::alloc::Global;
+use std::process::Abort;
+use std::test::Fail;
+
+const ABORTED_READ: &[u8] = b"{:type :invoke, :process 0, :value [[:w :x 1]]}
+{:type :fail, :process 0}
+{:type :invoke, :process 1, :value [[:r :x nil]]}
+{:type :ok, :process 1, :value [[:r :x 1]]}
+";
+
+const ABORTED_READ_TEXT: &[u8] =
+    b"prefix 4\ntxns 2\nG1a yes\n  T2 read :x 1 of T0\nG1b none\nstray 0\n";
+
+const INTERMEDIATE_READ: &[u8] = b"{:type :invoke, :process 0, :value [[:w :x 1] [:w :x 2]]}
+{:type :ok, :process 0, :value [[:w :x 1] [:w :x 2]]}
+{:type :invoke, :process 1, :value [[:r :x nil]]}
+{:type :ok, :process 1, :value [[:r :x 1]]}
+";
+
+const READ_OF_INFO: &[u8] = b"{:type :invoke, :process 0, :value [[:w :x 1]]}
+{:type :info, :process 0}
+{:type :invoke, :process 1, :value [[:r :x nil]]}
+{:type :ok, :process 1, :value [[:r :x 1]]}
+";
+
+const CLEAN: &[u8] = b"{:type :invoke, :process 0, :value [[:w :x 1]]}
+{:type :ok, :process 0, :value [[:w :x 1]]}
+{:type :invoke, :process 1, :value [[:r :x nil]]}
+{:type :ok, :process 1, :value [[:r :x 1]]}
+";
+
+const STRAY_READ: &[u8] = b"{:type :invoke, :process 0, :value [[:r :x nil]]}
+{:type :ok, :process 0, :value [[:r :x 7]]}
+";
+
+const BUSY: &[u8] = b"{:type :invoke, :process 0, :value []}
+{:type :invoke, :process 0, :value []}
+";
+
+const RETIRED: &[u8] = b"{:type :invoke, :process 0, :value []}
+{:type :info, :process 0}
+{:type :invoke, :process 0, :value []}
+";
+
+const MISMATCH: &[u8] = b"{:type :invoke, :process 0, :value [[:w :x 1]]}
+{:type :ok, :process 0, :value [[:w :x 2]]}
+";
+
+const REWRITTEN: &[u8] = b"{:type :invoke, :process 0, :value [[:w :x 1]]}
+{:type :fail, :process 0}
+{:type :invoke, :process 0, :value [[:w :x 1]]}
+";
+
+const NOT_SIMPLE: &[u8] = b"{:type :invoke, :process 0, :value [[:w :x 1]]}
+{:type :fail, :process 0}
+{:type :invoke, :process 0, :value [[:w :x +1]]}
+";
+
+/// A fault of reading stands behind a rule of the journal that is broken.
+const READING_FIRST: &[u8] = b"{:type :ok, :process 0, :value []}
+5
+";
+
+/// A source of a few bytes a call, which may fail at one of its calls.
+#[derive(Drop)]
+struct Dripping<'a> {
+    rest: &'a [u8],
+    calls_before_failure: u64,
+    failures: u64,
+}
+
+impl Source for Dripping<'_> {
+    ghost tells = { λ _. None };
+
+    ghost failures = { λ source. source.failures };
+
+    fn read(&mut self, room: &mut [u8]) -> Result<usize, Failed> {
+        if self.calls_before_failure == 0 {
+            self.failures = self.failures.saturating_add(1);
+            return Err(Failed);
+        }
+        self.calls_before_failure -= 1;
+        let Some((first, others)) = self.rest.split_first() else {
+            return Ok(0);
+        };
+        if room.is_empty() {
+            return Ok(0);
+        }
+        room[0] = *first;
+        self.rest = others;
+        Ok(1)
+    }
+}
+
+/// A sink that needs no memory: it takes so many bytes a call, and may fail at one of its calls.
+#[derive(Drop)]
+struct Sipping {
+    taken: ArrayVec<u8, 512>,
+    bytes_a_call: usize,
+    calls_before_failure: u64,
+    failures: u64,
+}
+
+impl Sipping {
+    fn new(bytes_a_call: usize, calls_before_failure: u64) -> Sipping {
+        Sipping {
+            taken: ArrayVec::new(),
+            bytes_a_call,
+            calls_before_failure,
+            failures: 0,
+        }
+    }
+}
+
+impl Sink for Sipping {
+    ghost tells = { λ _. None };
+
+    ghost failures = { λ sink. sink.failures };
+
+    fn write(&mut self, piece: &[u8]) -> Result<usize, Failed> {
+        let count = piece.len().min(self.bytes_a_call.max(1));
+        let (front, _) = piece.split_at(count);
+        if self.calls_before_failure == 0 || self.taken.try_extend_from_slice(front).is_err() {
+            self.failures = self.failures.saturating_add(1);
+            return Err(Failed);
+        }
+        self.calls_before_failure -= 1;
+        Ok(count)
+    }
+}
+
+/// Runs over memory. Where memory was refused that is told, and a run again has the answer.
+fn answers<R: Abort + AllocGlobal>(rt: &R, history: &[u8], status: u8, text: &[u8]) {
+    let mut sink = Sipping::new(512, 512);
+    let mut source = MemorySource::new(history);
+    let mut ended = run(rt.alloc(), Command::Reads, &mut source, &mut sink).code();
+    if ended == 4 {
+        assert_eq!(rt; sink.taken.as_slice(), b"refused 10 Memory\n".as_slice());
+        let mut again = MemorySource::new(history);
+        sink = Sipping::new(512, 512);
+        ended = run(rt.alloc(), Command::Reads, &mut again, &mut sink).code();
+    }
+    assert_eq!(rt; ended, status);
+    assert_eq!(rt; sink.taken.as_slice(), text);
+}
+
+#[test]
+fn an_aborted_read(rt: HostRuntime) -> Result<(), Fail> {
+    answers(&rt, ABORTED_READ, 1, ABORTED_READ_TEXT);
+    Ok(())
+}
+
+#[test]
+fn reports(rt: HostRuntime) -> Result<(), Fail> {
+    answers(
+        &rt,
+        INTERMEDIATE_READ,
+        1,
+        b"prefix 4\ntxns 2\nG1a none\nG1b yes\n  T2 read :x 1 of T0\nstray 0\n",
+    );
+    answers(
+        &rt,
+        READ_OF_INFO,
+        0,
+        b"prefix 4\ntxns 2\nG1a none\nG1b none\nstray 0\n",
+    );
+    answers(
+        &rt,
+        CLEAN,
+        0,
+        b"prefix 4\ntxns 2\nG1a none\nG1b none\nstray 0\n",
+    );
+    answers(
+        &rt,
+        STRAY_READ,
+        0,
+        b"prefix 2\ntxns 1\nG1a none\nG1b none\nstray 1\n",
+    );
+    answers(
+        &rt,
+        b"",
+        0,
+        b"prefix 0\ntxns 0\nG1a none\nG1b none\nstray 0\n",
+    );
+    Ok(())
+}
+
+#[test]
+fn refusals(rt: HostRuntime) -> Result<(), Fail> {
+    answers(&rt, BUSY, 2, b"refused 1 Busy event 1\n");
+    answers(&rt, RETIRED, 2, b"refused 2 Retired event 2\n");
+    answers(&rt, REWRITTEN, 2, b"refused 3 Rewritten event 2\n");
+    answers(
+        &rt,
+        b"{:type :ok, :process 0, :value []}",
+        2,
+        b"refused 5 Idle event 0\n",
+    );
+    answers(&rt, MISMATCH, 2, b"refused 6 Mismatch event 1\n");
+    answers(&rt, NOT_SIMPLE, 2, b"refused 27 NotAMap byte 74\n");
+    answers(&rt, READING_FIRST, 2, b"refused 27 NotAMap byte 35\n");
+    Ok(())
+}
+
+#[test]
+fn a_source_of_one_byte_a_call(rt: HostRuntime) -> Result<(), Fail> {
+    for calls in 0..180u64 {
+        let mut source = Dripping {
+            rest: ABORTED_READ,
+            calls_before_failure: calls,
+            failures: 0,
+        };
+        let mut sink = Sipping::new(512, 512);
+        let status = run(rt.alloc(), Command::Reads, &mut source, &mut sink);
+        if matches!(status, Status::Memory) {
+            continue;
+        }
+        if calls as usize <= ABORTED_READ.len() {
+            assert!(rt; matches!(status, Status::DeviceFault), "at call {calls}");
+            assert!(rt; sink.taken.is_empty());
+        } else {
+            assert!(rt; matches!(status, Status::SomePhenomenon), "at call {calls}");
+            assert_eq!(rt; sink.taken.as_slice(), ABORTED_READ_TEXT);
+        }
+    }
+    Ok(())
+}
+
+#[test]
+fn a_sink_of_one_byte_a_call(rt: HostRuntime) -> Result<(), Fail> {
+    for calls in 0..70u64 {
+        let mut source = MemorySource::new(ABORTED_READ);
+        let mut sink = Sipping::new(1, calls);
+        let status = run(rt.alloc(), Command::Reads, &mut source, &mut sink);
+        if matches!(status, Status::Memory) {
+            continue;
+        }
+        if (calls as usize) < ABORTED_READ_TEXT.len() {
+            assert!(rt; matches!(status, Status::DeviceFault), "at call {calls}");
+            assert_eq!(rt; sink.taken.len(), calls as usize);
+        } else {
+            assert!(rt; matches!(status, Status::SomePhenomenon), "at call {calls}");
+        }
+        assert!(rt; ABORTED_READ_TEXT.starts_with(sink.taken.as_slice()));
+    }
+    Ok(())
+}
