@@ -1,5 +1,4 @@
 -- Canonical text reads back: lemmas.
-pub mod Determined
 pub mod Chunks
 pub mod Runs
 pub mod Strings

@@ -33,12 +33,6 @@ pub fn simple_lines_read()
         → AreSimpleLines text os → Reads text entries fault → (entries ≡ map operation os) × (fault ≡ None) }
 {}
 
-/// A text has at most one reading: its entries are determined, and so is the fault that ends them.
-pub fn readings_are_determined()
-    ensures { (text : List ℕ) (entries entries' : List Entry) (fault fault' : Option Fault)
-        → Reads text entries fault → Reads text entries' fault' → (entries ≡ entries') × (fault ≡ fault') }
-{}
-
 /// Each operation that a text gives can be read back, where its canonical text has at most 65,536 bytes.
 pub fn what_is_read_can_be_read_back()
     ensures { (text : List ℕ) (entries : List Entry) (fault : Option Fault) → Reads text entries fault
@@ -48,7 +42,7 @@ pub fn what_is_read_can_be_read_back()
 #[cfg(test)]
 mod tests {
     use super::{
-        canonical_text_reads_back, lines_read_back, readings_are_determined, simple_lines_read,
+        canonical_text_reads_back, lines_read_back, simple_lines_read,
         what_is_read_can_be_read_back,
     };
 
@@ -57,7 +51,6 @@ mod tests {
         canonical_text_reads_back();
         lines_read_back();
         simple_lines_read();
-        readings_are_determined();
         what_is_read_can_be_read_back();
     }
 }

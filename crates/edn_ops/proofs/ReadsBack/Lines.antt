@@ -6,11 +6,11 @@ use Rattle.std.proofs.lemmas.List.{append_assoc, append-nil, append_cancel_right
 use Rattle.std.proofs.lemmas.List.Elements.{All-head, All-tail}
 use Rattle.hist_types.specs.Operations.{Operation}
 use Rattle.hist_types.specs.declared.types.Fault.{Fault}
-use Rattle.hist_types.specs.Tokens.{Item, HasTokens}
-use Rattle.hist_types.specs.Reading.{Entry, operation, Reading, Forms, form, ended, forms_of, read_top, reading_of, read_outermost, Reads}
+use Rattle.hist_types.specs.Tokens.{HasTokens}
+use Rattle.hist_types.specs.Reading.{Entry, operation, Reading, Forms, form, ended, forms_of, read_top, read_outermost, Reads}
 use Rattle.hist_types.specs.Texts.{operation_text}
 use Rattle.edn_ops.specs.Canonical.{OperationCanBeRead, operation_lines, AreLines}
-use Rattle.edn_ops.proofs.ReadsBack.Determined.{same_tokens}
+use Rattle.hist_types.proofs.OneCut.{one_reading}
 use Rattle.edn_ops.proofs.ReadsBack.Chunks.{Chunk, gap, text_of, WellCut, tokens_at, has_tokens}
 use Rattle.edn_ops.proofs.ReadsBack.Whole.{operation_chunks, operation_written, operation_cut}
 use Rattle.edn_ops.proofs.ReadsBack.Read.{operation_form, after_operation, operation_made, operation_back}
@@ -110,14 +110,6 @@ made_reads text os m =
       subst (λ (t : List ℕ). HasTokens t (tokens_at 0 chunks) None) (sym m.1) (has_tokens chunks made.cut),
       ap (λ (rows : List Forms). read_outermost rows) (made.made 0) ∙ made.back 0,
     )
-
--- a text is read in one way
-pub one_reading : (text : List ℕ) (entries entries' : List Entry) (fault fault' : Option Fault) → Reads text entries fault → Reads text entries' fault' → (entries ≡ entries') × (fault ≡ fault')
-one_reading text entries entries' fault fault' r r' =
-    let same = same_tokens text r.0 r'.0 r.1 r'.1 r.2 r'.2 in
-    let e : reading_of r.0 r.1 ≡ reading_of r'.0 r'.1 = ap (λ (ts : List Item). reading_of ts r.1) same.0 ∙ ap (reading_of r'.0) same.1 in
-    let whole = sym r.3 ∙ e ∙ r'.3 in
-    (ap (λ (x : Reading). x.entries) whole, ap (λ (x : Reading). x.fault) whole)
 
 -- lines are read as their operations
 pub lines_read : (text : List ℕ) (os : List Operation) → All OperationCanBeRead os → AreLines text os → Reads text (map operation os) None

@@ -1,4 +1,4 @@
-use Rattle.edn_ops.proofs.ReadsBack.Lines.{one_reading}
+use Rattle.hist_types.proofs.OneCut.{one_reading}
 use Rattle.edn_ops.proofs.SimpleReads.{simple_lines_read}
 use Rattle.std.proofs.Common.{map, None}
 use Rattle.hist_types.specs.Reading.{operation}
