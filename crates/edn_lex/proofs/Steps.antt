@@ -10,7 +10,8 @@ use Rattle.edn_lex.specs.declared.types.TokenKind.{TokenKind}
 use Rattle.edn_lex.specs.declared.types.TokenKind.TheVariants as kinds
 use Rattle.edn_lex.specs.Kinds.{kind_of, item_of}
 use Rattle.edn_lex.specs.State.{State, left, tokens_of, IsCutFrom, RestIf, Rest, GivesToken, GivesFault, GivesEnd, PassesOver, Passes, after_item, Gives, items_given, fault_given}
-use Rattle.edn_lex.proofs.Cuts.{item, IsCut-first, IsCut-unique}
+use Rattle.edn_lex.proofs.Cuts.{item, IsCut-first}
+use Rattle.hist_types.proofs.OneCut.{one_cut}
 
 -- the item that was passed over
 abbrev pub item_at : State → ItemKind → ℕ → Item
@@ -201,7 +202,7 @@ GivesToken-from s t u token g going passed =
 fault_only :
     (t : State) (fault : Fault) (items : List Item) (ending : Option Fault) → BeginsWithFault (left t) t.offset t.closers fault → IsCutFrom t items ending →
     (items ≡ []) × (ending ≡ Some fault)
-fault_only t fault items ending bad cut = IsCut-unique items [] (left t) t.offset t.closers ending (Some fault) cut bad
+fault_only t fault items ending bad cut = one_cut (left t) t.offset t.closers items [] ending (Some fault) cut bad
 
 -- behind a gap a fault stands
 pub GivesFault-from :
@@ -231,7 +232,7 @@ GivesEnd-at_end s t g going end =
       only = λ tokens ending rest.
           let split = rest_cut s tokens ending was_going rest in
           let first = g.back split.0 ending split.1 in
-          let done = IsCut-unique first.0 [] (left t) t.offset t.closers ending None first.2 nothing in
+          let done = one_cut (left t) t.offset t.closers first.0 [] ending None first.2 nothing in
           (split.2 ∙ ap tokens_of (first.1 ∙ ap (λ xs. g.gap ++ xs) done.0) ∙ gap_nothing g.gap g.is_gap, done.1);
       after = rest_going t [] None going ([], nothing, refl);
     }

@@ -1,5 +1,5 @@
-use Rattle.edn_lex.proofs.Cuts.{HasTokens-unique}
+use Rattle.hist_types.proofs.OneCut.{one_row_of_tokens}
 use Rattle.edn_lex.proofs.laws.tokens_are_unique.Goals as goal
 
 pub returns : goal.returns
-returns c = HasTokens-unique
+returns c = one_row_of_tokens
