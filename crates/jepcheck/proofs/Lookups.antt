@@ -1,13 +1,11 @@
 -- Look-ups in the index of writers.
-use Rattle.std.proofs.Common.{◌≡◌, ℕ, List, [], ◌∷◌, ◌++◌, Bool, true, false, ◌&&◌, ◌||◌, Option, Some, None, refl, sym, ◌∙◌, ap, cond, map, unwrap_or}
+use Rattle.std.proofs.Common.{◌≡◌, List, [], ◌∷◌, Bool, true, false, ◌&&◌, ◌||◌, Some, refl, sym, ◌∙◌, ap, cond, map, unwrap_or}
 use Rattle.std.specs.Cmp.{IsEquivalence, int_eq_equiv, on_equiv, and_equiv}
 use Rattle.std.specs.Cmp.Lexicographic.{nat_list_eq_equiv}
 use Rattle.std.specs.Map.{lookup}
-use Rattle.std.specs.Ordering.{eq_of_both, on}
 use Rattle.std.specs.List.{list_any}
 use Rattle.std.proofs.lemmas.Bool.{false≢true}
 use Rattle.hist_types.specs.Atoms.{Atom, integer, keyword, string, symbol, atom_eq}
-use Rattle.hist_types.specs.Operations.{Mop, read, write}
 use Rattle.hist_types.specs.Journal.{Write, write_eq, writes_of}
 use Rattle.hist_types.specs.Transactions.{has_key}
 use Rattle.edn_ops.specs.Owned.{atom_of_owned, mop_of_owned}

@@ -1,5 +1,5 @@
 -- What the index of writers tells after all notes.
-use Rattle.std.proofs.Common.{append_assoc, subst, ◌≡◌, ℕ, ◌+◌, ◌<◌, List, [], ◌∷◌, ◌++◌, Bool, true, false, not, ◌&&◌, ◌||◌, ◌==◌, Option, Some, None, refl, sym, ◌∙◌, ap, cond, map, unwrap_or, option_map, is_some}
+use Rattle.std.proofs.Common.{append_assoc, subst, ◌≡◌, ℕ, List, [], ◌∷◌, ◌++◌, Bool, true, false, not, ◌&&◌, ◌||◌, ◌==◌, Option, Some, None, refl, sym, ◌∙◌, ap, cond, map, unwrap_or, is_some}
 use Rattle.std.specs.Prelude.{flat_map, filter, option_and_then}
 use Rattle.std.specs.Option.{option_or}
 use Rattle.std.proofs.lemmas.Grind.{flat_map-append}

@@ -1,5 +1,5 @@
 -- Bytes given and taken piece by piece.
-use Rattle.std.proofs.Common.{◌≡◌, ℕ, ◌+◌, List, [], ◌∷◌, ◌++◌, Option, Some, None, refl, sym, ◌∙◌, ap, option_map, append_assoc, subst, take, drop, length}
+use Rattle.std.proofs.Common.{◌≡◌, ℕ, ◌+◌, List, [], ◌++◌, Option, Some, None, refl, sym, ◌∙◌, ap, option_map, append_assoc, subst, take, drop, length}
 use Rattle.std.specs.Prelude.{IfSome}
 use Rattle.std.proofs.Common.{◌≤◌, ◌-◌, arith}
 use Rattle.std.proofs.lemmas.Grind.{common_steps}

@@ -1,10 +1,8 @@
 -- The values that ok transactions read externally, and what the index of writers says of them.
-use Rattle.std.proofs.Common.{◌≡◌, ℕ, ◌+◌, List, [], ◌∷◌, ◌++◌, Bool, true, false, not, ◌&&◌, ◌||◌, ◌==◌, Option, Some, None, refl, sym, ◌∙◌, ap, cond, map, option_map, is_some, length}
-use Rattle.std.specs.Prelude.{flat_map, filter, option_and_then, count_by}
+use Rattle.std.proofs.Common.{◌≡◌, ℕ, List, [], ◌∷◌, ◌++◌, Bool, true, false, not, ◌||◌, Option, None, refl, sym, ◌∙◌, ap, cond, map, option_map, is_some, length}
+use Rattle.std.specs.Prelude.{flat_map, filter, count_by}
 use Rattle.std.specs.List.{list_any, sum_by}
-use Rattle.std.specs.HashMap.{HashMap, get}
 use Rattle.std.proofs.lemmas.List.Concat.{length-flat_map}
-use Rattle.std.proofs.lemmas.List.Folds.{list_any-append}
 use Rattle.hist_types.specs.Atoms.{Atom, atom_eq}
 use Rattle.hist_types.specs.Operations.{Mop, read, write}
 use Rattle.hist_types.specs.Journal.{Write, writes_of}
@@ -14,8 +12,8 @@ use Rattle.hist_types.specs.Phenomena as phenomena
 use Rattle.jepcheck.specs.declared.bad_reads.Written.{Written}
 use Rattle.jepcheck.specs.declared.bad_reads.Writers.{Writers}
 use Rattle.jepcheck.specs.declared.bad_reads.Seen.{Seen}
-use Rattle.jepcheck.specs.Writers.{Sight, sight, sight_of, sights, sights_of, sights_behind, write_of, written_eq, notes, after_notes, bad_sight, over_apart, aborted_sight, intermediate_sight, first_some}
-use Rattle.jepcheck.proofs.Lists.{first_of-map, first_of-flat_map, first_some-same, first_some-map, sum_by-same, sum_by-mapped, flat_map-flat_map, flat_map-same, flat_map-mapped}
+use Rattle.jepcheck.specs.Writers.{Sight, sight, sight_of, sights, sights_of, sights_behind, write_of, notes, after_notes, bad_sight, aborted_sight, intermediate_sight, first_some}
+use Rattle.jepcheck.proofs.Lists.{first_of-flat_map, first_some-same, first_some-map, sum_by-same, sum_by-mapped, flat_map-flat_map, flat_map-same, flat_map-mapped}
 use Rattle.jepcheck.proofs.Noting.{aborts_write, overwrites, index-aborted, index-intermediate, index-written}
 
 -- what an external read saw

@@ -1,5 +1,5 @@
 -- What the program answers to a text.
-use Rattle.std.specs.Prelude.{◌≡◌, ◌≢◌, ◌⊎◌, ℕ, ◌-◌, List, [], length, Option, Some, None, option_map, IsTrue, IsFalse, IfSome}
+use Rattle.std.specs.Prelude.{◌≡◌, ◌≢◌, ◌⊎◌, ℕ, ◌-◌, List, [], length, Option, Some, None, option_map, IsTrue, IsFalse}
 use Rattle.hist_types.specs.Operations.{Operation}
 use Rattle.hist_types.specs.Reading.{Entry, Reads, operations_of}
 use Rattle.hist_types.specs.Journal.{first_broken}

@@ -1,9 +1,9 @@
 -- The index of writers, by key and value, and the reads that are looked up in it.
-use Rattle.std.specs.Prelude.{◌≡◌, ℕ, List, [], ◌∷◌, ◌++◌, Bool, true, false, not, ◌&&◌, ◌==◌, if◌then◌else◌, Option, Some, None, option_map, option_and_then, map, flat_map, filter, unwrap_or, is_some}
+use Rattle.std.specs.Prelude.{ℕ, List, [], ◌∷◌, ◌++◌, Bool, false, not, ◌&&◌, ◌==◌, if◌then◌else◌, Option, Some, None, option_map, option_and_then, map, flat_map, filter, unwrap_or}
 use Rattle.std.specs.Option.{option_or}
 use Rattle.hist_types.specs.Operations.{Mop, read, write}
 use Rattle.hist_types.specs.Journal.{Write, write_eq, writes_of}
-use Rattle.hist_types.specs.Transactions.{Transaction, Read, has_key, is_ok, is_failed, external_reads}
+use Rattle.hist_types.specs.Transactions.{Transaction, has_key, is_ok, is_failed}
 use Rattle.hist_types.specs.Phenomena.{seen_value, seen_write}
 use Rattle.hist_types.specs.Phenomena as phenomena
 use Rattle.edn_ops.specs.Owned.{atom_of_owned}

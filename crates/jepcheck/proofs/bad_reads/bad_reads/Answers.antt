@@ -2,7 +2,7 @@ use Rattle.std.proofs.Common.{◌∙◌, ap, not, is_some, map}
 use Rattle.txn_pairs.specs.Txns.{transaction_of_txn}
 use Rattle.std.specs.Prelude.{count_by}
 use Rattle.std.specs.HashMap.{get}
-use Rattle.jepcheck.specs.Writers.{written_eq, write_of, sight_of, sights, notes, after_notes, aborted_sight, intermediate_sight, first_some}
+use Rattle.jepcheck.specs.Writers.{written_eq, sight_of, aborted_sight, intermediate_sight, first_some}
 use Rattle.jepcheck.proofs.Sights.{g1a-found, g1b-found, stray-found}
 use Rattle.jepcheck.proofs.bad_reads.bad_reads.Goals as goal
 

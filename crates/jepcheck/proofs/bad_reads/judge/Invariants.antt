@@ -1,4 +1,4 @@
-use Rattle.std.proofs.Common.{◌≡◌, ◌+◌, ◌≤◌, map, drop, None, option_map, is_some, not}
+use Rattle.std.proofs.Common.{◌≡◌, ◌+◌, ◌≤◌, drop, option_map, is_some, not}
 use Rattle.std.specs.Prelude.{count_by}
 use Rattle.std.specs.HashMap.{get}
 use Rattle.std.specs.Option.{option_or}

@@ -1,4 +1,4 @@
-use Rattle.std.proofs.Common.{◌≡◌, ℕ, ◌<◌, ◌∙◌, List, length, take, refl, ap, cond, not, ◌++◌, sym, subst, arith, rules}
+use Rattle.std.proofs.Common.{◌≡◌, ℕ, ◌<◌, ◌∙◌, List, length, take, refl, ap, cond, not, ◌++◌, sym, subst, arith}
 use Rattle.hist_types.specs.Devices.{Gave, CountsFailure}
 use Rattle.jepcheck.proofs.Pieces.{gave_more, gave_all, gave_none, take_nothing, room_kept}
 use Rattle.jepcheck.proofs.devices.read_all.Goals as goal

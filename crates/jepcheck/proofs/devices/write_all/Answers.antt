@@ -1,4 +1,4 @@
-use Rattle.std.proofs.Common.{◌+◌, ◌∙◌, List, ℕ, take, subst}
+use Rattle.std.proofs.Common.{◌∙◌, List, ℕ, subst}
 use Rattle.hist_types.specs.Devices.{Took}
 use Rattle.jepcheck.proofs.Pieces.{took_more, piece_within, front_more}
 use Rattle.jepcheck.proofs.devices.write_all.Goals as goal

@@ -1,4 +1,4 @@
-use Rattle.jepcheck.proofs.Outcomes.{of_any, of_same, counted_same}
+use Rattle.jepcheck.proofs.Outcomes.{of_any, counted_same}
 use Rattle.jepcheck.proofs.run.run.Goals as goal
 
 pub returns-in-Err-Memory-clause-answered : goal.returns-in-Err-Memory-clause-answered
