@@ -93,8 +93,8 @@ last_line text rest o (p ∷ ps) e r h = absurd (no_line_of_nothing rest p ps r 
 line_before : (text rest spelled : List ℕ) (o : Operation) (os : List Operation) → spelled ≡ operation_text o → text ≡ spelled ++ line_feed ∷ rest → AreLines rest os → AreLines text (o ∷ os)
 line_before text rest spelled o os s e h =
     elim h [
-      inl r ↦ inl (e ∙ (ap (λ (t : List ℕ). spelled ++ line_feed ∷ t) r ∙ (sym (append_assoc spelled (line_feed ∷ []) (operation_lines os)) ∙ ap (λ (t : List ℕ). (t ++ line_feed ∷ []) ++ operation_lines os) s)))
-    | inr r ↦ inr (ap (λ (t : List ℕ). t ++ line_feed ∷ []) e ∙ (append_assoc spelled (line_feed ∷ rest) (line_feed ∷ []) ∙ (ap (λ (t : List ℕ). spelled ++ line_feed ∷ t) r ∙ (sym (append_assoc spelled (line_feed ∷ []) (operation_lines os)) ∙ ap (λ (t : List ℕ). (t ++ line_feed ∷ []) ++ operation_lines os) s))))
+      | inl r ↦ inl (e ∙ (ap (λ (t : List ℕ). spelled ++ line_feed ∷ t) r ∙ (sym (append_assoc spelled (line_feed ∷ []) (operation_lines os)) ∙ ap (λ (t : List ℕ). (t ++ line_feed ∷ []) ++ operation_lines os) s)))
+      | inr r ↦ inr (ap (λ (t : List ℕ). t ++ line_feed ∷ []) e ∙ (append_assoc spelled (line_feed ∷ rest) (line_feed ∷ []) ∙ (ap (λ (t : List ℕ). spelled ++ line_feed ∷ t) r ∙ (sym (append_assoc spelled (line_feed ∷ []) (operation_lines os)) ∙ ap (λ (t : List ℕ). (t ++ line_feed ∷ []) ++ operation_lines os) s))))
     ]
 
 -- simple lines are lines
@@ -102,8 +102,8 @@ are_lines : (text : List ℕ) (os : List Operation) → AreSimpleLines text os �
 are_lines text [] h = inl h
 are_lines text (o ∷ os) h =
     elim h.1.1 [
-      inl p ↦ last_line text h.1.0 o os p.0 p.1 h.1.2
-    | inr q ↦ line_before text h.1.0 (operation_text o) o os refl q (are_lines h.1.0 os h.1.2)
+      | inl p ↦ last_line text h.1.0 o os p.0 p.1 h.1.2
+      | inr q ↦ line_before text h.1.0 (operation_text o) o os refl q (are_lines h.1.0 os h.1.2)
     ]
 
 pub simple_lines_read : (text : List ℕ) (os : List Operation) → AreSimpleLines text os → Reads text (map operation os) None
