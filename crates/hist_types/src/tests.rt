@@ -47,6 +47,13 @@ fn refusals_bear_their_titles(rt: HostRuntime) {
     }
 }
 
+#[test]
+fn refused_memory_stands_nowhere(rt: HostRuntime) {
+    let fault = Fault::memory();
+    assert_eq!(rt; fault.refusal.number(), 10);
+    assert_eq!(rt; fault.at, At::Nowhere);
+}
+
 /// What it says and what it prints can differ; memory may be refused here, and then there is nothing to compare.
 #[test]
 fn faults_print_their_lines(rt: HostRuntime) {
