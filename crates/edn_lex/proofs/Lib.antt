@@ -4,3 +4,4 @@ pub mod Cuts
 pub mod Exists
 pub mod Steps
 pub mod Passing
+pub mod RunKinds

@@ -1,5 +1,5 @@
 -- What kinds of tokens and tokens stand for.
-use Rattle.std.specs.Prelude.{ℕ, List, slice_range}
+use Rattle.std.specs.Prelude.{ℕ, List, Bool, nat_lt, slice_range}
 use Rattle.hist_types.specs.Tokens.{ItemKind, Opener, Closer, Str, Char, Drop, Tag, Nil, True, False, Int, Keyword, Symbol, Other, Item}
 use Rattle.edn_lex.specs.declared.types.TokenKind.{TokenKind}
 use Rattle.edn_lex.specs.declared.types.TokenKind.TheVariants as kinds
@@ -24,3 +24,7 @@ kind_of kinds.Other = Other
 -- the item of a text that a token stands for
 abbrev pub item_of : List ℕ → Token → Item
 item_of text token = record { kind = kind_of token.kind; start = token.start; bytes = slice_range text token.start token.end }
+
+-- a byte of ASCII
+abbrev pub is_low : ℕ → Bool
+is_low b = nat_lt b 128

@@ -62,7 +62,11 @@ fn run_piece(text: &[u8]) -> Piece
     ensures ascii { IsTrue result.ascii → IsAscii (take result.len text.now) }
 {
     let found = first_run(text);
-    token(run_kind(&text[..found.len]), found.len, found.ascii)
+    token(
+        run_kind(&text[..found.len], found.ascii),
+        found.len,
+        found.ascii,
+    )
 }
 
 /// The item at the front of a text that begins with `#`.

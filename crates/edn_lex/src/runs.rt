@@ -4,7 +4,7 @@ ghost use Rattle.std.specs.Prelude.{◌≡◌, ◌<◌, length};
 ghost use Rattle.std.specs.List.{list_all};
 ghost use Rattle.std.specs.Char.{is_ascii_digit};
 ghost use Rattle.hist_types.specs.Tokens.{is_sign as is_sign_byte, without_sign as behind_sign, without_n as before_n, is_whole as is_whole_number, is_int as is_integer, is_keyword as is_key, is_symbol as is_name, run_kind as kind_of_run};
-ghost use Rattle.edn_lex.specs.Kinds.{kind_of};
+ghost use Rattle.edn_lex.specs.Kinds.{is_low, kind_of};
 
 use crate::types::TokenKind;
 
@@ -64,21 +64,23 @@ fn is_symbol(run: &[u8]) -> bool
     }
 }
 
-/// The first of the kinds that fits.
-pub(crate) fn run_kind(run: &[u8]) -> TokenKind
-    requires { 0 < length run.now }
+/// The kind of a run, the frequent ones first. A run with a byte of 128 or more is not looked through for digits.
+#[tactic(auto, using(crate::proofs::RunKinds::wide_no_int, crate::proofs::RunKinds::keyword_is, crate::proofs::RunKinds::int_is))]
+pub(crate) fn run_kind(run: &[u8], ascii: bool) -> TokenKind
+    requires nonempty { 0 < length run.now }
+    requires ascii { ascii ≡ list_all is_low run.now }
     ensures { kind_of result ≡ kind_of_run run.now }
 {
-    if run == b"nil".as_slice() {
+    if is_keyword(run) {
+        TokenKind::Keyword
+    } else if ascii && is_int(run) {
+        TokenKind::Int
+    } else if run == b"nil".as_slice() {
         TokenKind::Nil
     } else if run == b"true".as_slice() {
         TokenKind::True
     } else if run == b"false".as_slice() {
         TokenKind::False
-    } else if is_int(run) {
-        TokenKind::Int
-    } else if is_keyword(run) {
-        TokenKind::Keyword
     } else if is_symbol(run) {
         TokenKind::Symbol
     } else {

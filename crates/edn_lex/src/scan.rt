@@ -1,7 +1,8 @@
 //! Where items end.
 
 ghost use Rattle.std.specs.Prelude.{◌≡◌, ◌<◌, ◌≤◌, ◌==◌, length, take, false, IsTrue, not, MatchOption, IfSome};
-ghost use Rattle.std.specs.List.{prefix_len};
+ghost use Rattle.std.specs.List.{prefix_len, list_all};
+ghost use Rattle.edn_lex.specs.Kinds.{is_low};
 ghost use Rattle.std.specs.Str.{IsAscii};
 ghost use Rattle.std.specs.Str.Lossy.{utf8_valid_len};
 ghost use Rattle.hist_types.specs.Bytes.{is_run_byte, line_feed};
@@ -31,6 +32,7 @@ pub(crate) fn first_run(text: &[u8]) -> Run
     ensures len { result.len ≡ longest_run text.now }
     ensures fits { result.len ≤ length text.now }
     ensures ascii { IsTrue result.ascii → IsAscii (take result.len text.now) }
+    ensures wide { result.ascii ≡ list_all is_low (take result.len text.now) }
 {
     let mut ascii = true;
     for (i, b) in text.iter().enumerate() {

@@ -6,3 +6,4 @@ pub mod Runs
 pub mod Members
 pub mod OrderEdges
 pub mod OneCut
+pub mod Keywords
