@@ -3,6 +3,9 @@ use Rattle.std.proofs.Common.{◌≡◌, List, [], ◌∷◌, Some, None, codes,
 use Rattle.hist_types.specs.Atoms.{string, symbol}
 use Rattle.hist_types.specs.Operations.{write, Operation}
 use Rattle.hist_types.specs.Journal.{first_broken, events_of}
+use Rattle.hist_types.specs.Transactions.{transactions_of, nodes, Fail}
+use Rattle.hist_types.specs.Versions.{version_pairs}
+use Rattle.hist_types.specs.Edges.{dependency_edges}
 use Rattle.hist_types.specs.declared.types.Refusal.TheVariants.{Busy, Retired, Rewritten, Idle, Mismatch}
 use Rattle.hist_types.proofs.Rows.History.{x, y, number, sets, gets, finds_nil, invoke, ok, fail, info}
 
@@ -54,6 +57,20 @@ rewritten_value = invoke 0 (sets x 1 ∷ []) ∷ fail 0 ∷ invoke 0 (sets x 1 �
 -- That a transaction failed does not free its values.
 rewritten : first_broken [] rewritten_value ≡ Some (Rewritten, 2)
 rewritten = refl
+
+-- In blocks of one operation the first two events stand, and the third block adds none.
+rewritten-events :
+    events_of ((invoke 0 (sets x 1 ∷ []) ∷ []) ∷ (fail 0 ∷ []) ∷ (invoke 0 (sets x 1 ∷ []) ∷ []) ∷ []) ≡ invoke 0 (sets x 1 ∷ []) ∷ fail 0 ∷ []
+rewritten-events = refl
+
+-- They make one transaction, which failed and is no node; so there is no version pair and no edge.
+rewritten-transactions :
+    (transactions_of (invoke 0 (sets x 1 ∷ []) ∷ fail 0 ∷ [])
+    ≡ record { process = 0; invocation = 0; completion = Some 1; status = Fail; mops = sets x 1 ∷ [] } ∷ [])
+    × (nodes (transactions_of (invoke 0 (sets x 1 ∷ []) ∷ fail 0 ∷ [])) ≡ [])
+    × (version_pairs (transactions_of (invoke 0 (sets x 1 ∷ []) ∷ fail 0 ∷ [])) ≡ [])
+    × (dependency_edges (transactions_of (invoke 0 (sets x 1 ∷ []) ∷ fail 0 ∷ [])) ≡ [])
+rewritten-transactions = (refl, refl, refl, refl)
 
 -- The values of open, unknown and ok transactions are not free either, and a transaction may not write one twice itself.
 rewritten-others :
