@@ -138,21 +138,47 @@ fn the_line_of_a_refusal(rt: HostRuntime) -> Result<(), Fail> {
     Ok(())
 }
 
-#[test]
-fn words_of_the_command_line(rt: HostRuntime) -> Result<(), Fail> {
-    let alloc = rt.alloc();
-    let words = vec![in alloc;
-        String::from_str(alloc, "jepcheck")?,
-        String::from_str(alloc, "reads")?,
-    ]?;
-    match command_line(alloc, words.as_slice()) {
-        Ok(Asked::Run(command)) => assert!(rt; matches!(command, Command::Reads)),
-        Err(fault) => assert!(rt; matches!(&fault, LineFault::Memory)),
+/// What `jepcheck` and these words ask for; asked once more where memory was refused.
+fn asked(alloc: Global, words: &[&str]) -> Result<Result<Asked, LineFault>, AllocError> {
+    let mut line = vec![in alloc; String::from_str(alloc, "jepcheck")?]?;
+    for word in words {
+        line.push(String::from_str(alloc, word)?)?;
     }
-    let words = vec![in alloc;
-        String::from_str(alloc, "jepcheck")?,
-        String::from_str(alloc, "--help")?,
-    ]?;
-    assert!(rt; command_line(alloc, words.as_slice()).is_err());
+    match command_line(alloc, line.as_slice()) {
+        Err(LineFault::Memory) => Ok(command_line(alloc, line.as_slice())),
+        asked => Ok(asked),
+    }
+}
+
+#[test]
+fn one_command_line_is_known(rt: HostRuntime) -> Result<(), Fail> {
+    assert!(rt;
+        matches!(
+            asked(rt.alloc(), &["reads"])?,
+            Ok(Asked::Run(Command::Reads))
+        )
+    );
+    Ok(())
+}
+
+#[test]
+fn every_other_line_gets_a_text_that_helps(rt: HostRuntime) -> Result<(), Fail> {
+    let lines: [&[&str]; 9] = [
+        &[],
+        &[""],
+        &["help"],
+        &["--help"],
+        &["-h"],
+        &["check"],
+        &["Reads"],
+        &["reads", "history.edn"],
+        &["reads", "--help"],
+    ];
+    for words in lines {
+        match asked(rt.alloc(), words)? {
+            Err(LineFault::Usage(text)) => assert!(rt; text.contains("Usage: jepcheck")),
+            _ => assert!(rt; false),
+        }
+    }
     Ok(())
 }
