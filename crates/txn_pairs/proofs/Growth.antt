@@ -1,16 +1,35 @@
 -- The transactions of events and one more, by those of the events.
-use Rattle.std.proofs.Common.{◌≡◌, ℕ, zero, suc, ◌+◌, ◌<◌, List, [], ◌∷◌, ◌++◌, length, Bool, true, false, not, ◌&&◌, ◌||◌, ◌==◌, cond, Option, Some, None, option_map, refl, sym, ap, ◌∙◌, arith, add-zero, zero-add, map, set, get_or}
+use Rattle.std.proofs.Common.{◌≡◌, if◌then◌else◌, ℕ, zero, suc, ◌+◌, ◌<◌, List, [], ◌∷◌, ◌++◌, length, Bool, true, false, not, ◌&&◌, ◌||◌, ◌==◌, cond, Option, Some, None, option_map, refl, sym, ap, ◌∙◌, arith, add-zero, zero-add, map, set, get_or}
 use Rattle.std.proofs.lemmas.Bool.{eqb-true, eqb-false, eq-eqb, ne_eqb, or_parts}
 use Rattle.hist_types.specs.Journal.{is_invoke}
 use Rattle.hist_types.specs.Operations.{Operation}
 use Rattle.hist_types.specs.Transactions.{Transaction, Indexed, completion_in, transaction_by, transactions_from, transactions_of}
 use Rattle.txn_pairs.specs.declared.types.Txn.{Txn}
 use Rattle.txn_pairs.specs.Txns.{transaction_of_txn}
-use Rattle.txn_pairs.specs.Places.{is_seen, behind, open_place, completed, completed_at, with_completed}
+use Rattle.txn_pairs.specs.Places.{completed, completed_at, with_completed}
 
 -- an event and its index
 abbrev indexed : ℕ → Operation → Indexed
 indexed index event = record { index = index; event = event }
+
+-- ---- places
+
+-- whether an event is of the process
+abbrev is_seen : ℕ → List Operation → Bool
+is_seen process [] = false
+is_seen process (event ∷ events) = (event.process == process) || is_seen process events
+
+-- a place among the transactions of later events, with one more event in front
+abbrev behind : Operation → Option ℕ → Option ℕ
+behind event place = if is_invoke event.kind then option_map suc place else place
+
+-- the place of the process's open transaction among the events' transactions: it has one where its last event is an invoke
+abbrev open_place : ℕ → List Operation → Option ℕ
+open_place process [] = None
+open_place process (event ∷ events) =
+    if is_seen process events
+    then behind event (open_place process events)
+    else (if (event.process == process) && is_invoke event.kind then Some 0 else None)
 
 -- ---- completions
 
