@@ -3,7 +3,7 @@ use Rattle.std.proofs.Common.{◌≡◌, ℕ, suc, ◌+◌, ◌<◌, ◌≤◌, 
 use Rattle.std.specs.List.{prefix_len}
 use Rattle.std.proofs.lemmas.Bool.Decides.{nat_tests}
 use Rattle.hist_types.specs.Bytes.{is_blank, is_opener, is_closer, is_run_byte, quote, semicolon, hash, open_brace, underscore}
-use Rattle.hist_types.specs.Tokens.{ItemKind, run_of, run_len, first_byte, run_kind, front, hash_front, BeginsWith}
+use Rattle.hist_types.specs.Tokens.{ItemKind, Blank, run_of, run_len, first_byte, run_kind, front, hash_front, BeginsWith}
 
 -- where none of five tests passes
 none_of :
@@ -64,6 +64,22 @@ front-run (b ∷ rest) h n m =
     front-run_cons b rest runs n m
     ∙ sym (ap (λ p. (run_kind p, Some (suc (run_len rest)))) (run_of-cons b rest runs))
     ∙ sym (ap (λ p. (run_kind (run_of (b ∷ rest)), Some p)) (run_len-cons b rest runs))
+
+-- a byte that no other item begins with, nor a blank
+pub run_len-some :
+    (text : List ℕ) → 0 < length text → is_blank (first_byte text) ≡ false → is_opener (first_byte text) ≡ false → is_closer (first_byte text) ≡ false →
+    ¬ (first_byte text ≡ 34) → ¬ (first_byte text ≡ 59) → 0 < run_len text
+run_len-some [] some no_blank no_opener no_closer not_quote not_semicolon = some
+run_len-some (b ∷ rest) some no_blank no_opener no_closer not_quote not_semicolon =
+    let no_quote = is_false b 34 not_quote in
+    let no_semicolon = is_false b 59 not_semicolon in
+    let runs : is_run_byte b ≡ true = rw (no_blank, no_opener, no_closer, no_quote, no_semicolon) refl in
+    let len = run_len-cons b rest runs in
+    omega arith
+
+-- a text that begins with a blank
+pub front-blank : (b : ℕ) (rest : List ℕ) → is_blank b ≡ true → front b rest ≡ (Blank, Some 1)
+front-blank b rest h = rw h refl
 
 -- what follows the first of two hashes
 hash_front-two : (rest : List ℕ) → first_byte rest ≡ 35 → hash_front rest ≡ (run_kind (run_of (35 ∷ rest)), Some (run_len (35 ∷ rest)))

@@ -1,4 +1,5 @@
 pub mod Strings
+pub mod Flags
 pub mod Fronts
 pub mod Cuts
 pub mod Exists

@@ -1,16 +1,21 @@
 -- What stands at the front of what is left, from what was found there.
-use Rattle.std.proofs.Common.{◌≡◌, ℕ, ◌+◌, ◌-◌, ◌<◌, ◌≤◌, List, [], ◌∷◌, length, drop, take, true, false, nat_lt, Option, Some, None, Ok, refl, sym, ◌∙◌, ap, arith, subst, inr, length-drop}
+use Rattle.std.proofs.Common.{◌≡◌, ℕ, ◌+◌, ◌-◌, ◌<◌, ◌≤◌, List, [], ◌∷◌, length, drop, take, get_or, true, false, nat_lt, Option, Some, None, Ok, refl, sym, ◌∙◌, ap, arith, subst, inr, length-drop}
 use Rattle.std.specs.Option.{MatchOption, option_map}
 use Rattle.std.specs.Str.Lossy.{utf8_valid_len}
+use Rattle.std.proofs.lemmas.Bool.{and_from}
 use Rattle.std.proofs.lemmas.Bool.Decides.{nat_tests}
+use Rattle.std.proofs.lemmas.List.{get_or-drop}
+use Rattle.std.proofs.lemmas.Str.{utf8_valid_len-IsUtf8, IsUtf8-from_ascii}
 use Rattle.hist_types.specs.declared.types.Fault.{Fault}
 use Rattle.hist_types.specs.declared.types.Refusal.{Refusal}
 use Rattle.hist_types.specs.declared.types.Refusal.TheVariants.{BadUtf8}
-use Rattle.hist_types.specs.Tokens.{ItemKind, first_byte, front, BeginsWith, BeginsWithFault, item_fault, open_after, nesting_refusal, is_token, byte_fault}
+use Rattle.hist_types.specs.Bytes.{is_blank}
+use Rattle.hist_types.specs.Tokens.{ItemKind, Blank, first_byte, front, BeginsWith, BeginsWithFault, item_fault, open_after, nesting_refusal, is_token, byte_fault}
 use Rattle.edn_lex.specs.declared.types.Token.{Token}
-use Rattle.edn_lex.specs.Kinds.{kind_of}
+use Rattle.edn_lex.specs.Kinds.{is_low, kind_of}
 use Rattle.edn_lex.specs.State.{State, left, PassesOver, Passes}
-use Rattle.edn_lex.proofs.Fronts.{BeginsWith-front}
+use Rattle.edn_lex.proofs.Flags.{IsAscii_from_low}
+use Rattle.edn_lex.proofs.Fronts.{BeginsWith-front, front-blank}
 
 -- an item with a fault is a fault
 BeginsWithFault-item :
@@ -87,3 +92,26 @@ module _ (s : State) (xs : List ℕ) (kind : ItemKind) (len : ℕ) (same : xs �
         subst (λ n. PassesOver s (kind_of t.kind) n u) e
             (subst (λ k. PassesOver s k len u) (sym is.0) (passes_over closers within some valid fine after)),
       )
+
+-- ---- a blank
+
+blank_low : (b : ℕ) → is_blank b ≡ true → is_low b ≡ true
+blank_low b h = grind (arith, nat_tests)
+
+-- a text that begins with a blank
+blank_found :
+    (xs : List ℕ) → 0 < length xs → is_blank (first_byte xs) ≡ true →
+    (front (first_byte xs) (drop 1 xs) ≡ (Blank, Some 1)) × (utf8_valid_len (take 1 xs) ≡ length (take 1 xs))
+blank_found [] some h = absurd (omega arith)
+blank_found (b ∷ rest) some h =
+    (front-blank b rest h, utf8_valid_len-IsUtf8 (b ∷ []) (IsUtf8-from_ascii (b ∷ []) (IsAscii_from_low (b ∷ []) (and_from (is_low b) true (blank_low b h) refl))))
+
+-- a blank is passed over
+pub passes_blank :
+    (s : State) → s.offset < length s.text → is_blank (get_or s.text s.offset 0) ≡ true → PassesOver s Blank 1 (record s { offset = s.offset + 1 })
+passes_blank s within h =
+    let xs = left s in
+    let some : 0 < length xs = omega (arith, length-drop s.offset s.text) in
+    let begins_with : is_blank (first_byte xs) ≡ true = ap is_blank (get_or-drop s.offset s.text 0 0 ∙ ap (λ n. get_or s.text n 0) (omega arith)) ∙ h in
+    let found = blank_found xs some begins_with in
+    passes_over s xs Blank 1 refl some some found.0 s.closers (omega arith) (omega arith) found.1 refl refl

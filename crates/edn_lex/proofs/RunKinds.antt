@@ -1,6 +1,6 @@
 -- Which kinds of runs exclude one another: keywords and integers are no other kind, and a run with a byte of 128 or more is
 -- no integer.
-use Rattle.std.proofs.Common.{◌≡◌, ℕ, ◌-◌, List, [], ◌∷◌, length, take, drop, Bool, true, false, cond, refl, sym, ◌∙◌, ap, subst, arith}
+use Rattle.std.proofs.Common.{◌≡◌, ℕ, ◌-◌, ◌<◌, ◌||◌, not, List, [], ◌∷◌, length, take, drop, Bool, true, false, cond, refl, sym, ◌∙◌, ap, subst, arith}
 use Rattle.std.specs.List.{list_all, ends_with}
 use Rattle.std.specs.Prelude.{nat_eq, nat_lt, ◌==◌, ◌&&◌, bytes_eq, codes}
 use Rattle.std.specs.Char.{is_ascii_digit}
@@ -10,7 +10,7 @@ use Rattle.std.proofs.lemmas.List.{take-append-drop}
 use Rattle.std.proofs.lemmas.List.Folds.{list_all-append}
 use Rattle.std.proofs.lemmas.Slice.Eq.{bytes_eq-Decides}
 use Rattle.hist_types.specs.Tokens.{Keyword, Int, run_kind, is_keyword, is_int, is_sign, without_sign, without_n, first_byte}
-use Rattle.hist_types.specs.Bytes.{colon}
+use Rattle.hist_types.specs.Bytes.{colon, zero_digit, letter_n}
 use Rattle.hist_types.proofs.Keywords.{keyword_kind}
 use Rattle.edn_lex.specs.Kinds.{is_low}
 
@@ -78,3 +78,36 @@ keyword_is (a ∷ []) h = absurd (true≢false (sym (and_parts (a == colon) fals
 keyword_is (a ∷ b ∷ bs) h =
     let is_colon : a ≡ colon = eqb-true a colon (and_parts (a == colon) _ h).0 in
     subst (λ (c : ℕ). run_kind (c ∷ b ∷ bs) ≡ Keyword) (sym is_colon) (keyword_kind b bs)
+
+-- ---- digits alone
+
+-- a digit is no sign, and no `N`
+digit_no_sign : (b : ℕ) → is_ascii_digit b ≡ true → is_sign b ≡ false
+digit_no_sign b h = grind (arith, nat_tests)
+
+no_sign : (run : List ℕ) → 0 < length run → list_all is_ascii_digit run ≡ true → without_sign run ≡ run
+no_sign [] some h = refl
+no_sign (b ∷ bs) some h =
+    let no = digit_no_sign b (and_parts (is_ascii_digit b) (list_all is_ascii_digit bs) h).0 in
+    rw no refl
+
+no_n : (run : List ℕ) → list_all is_ascii_digit run ≡ true → without_n run ≡ run
+no_n run h = by_case (ends_with nat_eq run (letter_n ∷ [])) refl
+  where
+    by_case : (b : Bool) → ends_with nat_eq run (letter_n ∷ []) ≡ b → without_n run ≡ run
+    by_case false e = rw e refl
+    by_case true e =
+        let n = length run - 1 in
+        let last : letter_n ∷ [] ≡ drop n run = (bytes_eq-Decides (letter_n ∷ []) (drop n run)).0 e in
+        let parts = and_parts (list_all is_ascii_digit (take n run)) _ (sym (list_all-append is_ascii_digit (take n run) (drop n run)) ∙ ap (list_all is_ascii_digit) (take-append-drop n run) ∙ h) in
+        let clash : list_all is_ascii_digit (letter_n ∷ []) ≡ true = ap (list_all is_ascii_digit) last ∙ parts.1 in
+        absurd (true≢false (sym clash))
+
+-- digits with no 0 in front of others
+pub digits_are : (run : List ℕ) → 0 < length run → list_all is_ascii_digit run ≡ true → (not (first_byte run == zero_digit) || (length run == 1)) ≡ true → run_kind run ≡ Int
+digits_are run some digits leading =
+    let plain : without_n (without_sign run) ≡ run = ap without_n (no_sign run some digits) ∙ no_n run digits in
+    let is_some : nat_lt 0 (length run) ≡ true = grind (arith, nat_tests) in
+    let whole : (list_all is_ascii_digit run && nat_lt 0 (length run) && (not (first_byte run == zero_digit) || (length run == 1))) ≡ true =
+    rw (digits, is_some) leading in
+    int_is run (subst (λ (bs : List ℕ). (list_all is_ascii_digit bs && nat_lt 0 (length bs) && (not (first_byte bs == zero_digit) || (length bs == 1))) ≡ true) (sym plain) whole)

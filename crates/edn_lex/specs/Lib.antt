@@ -1,4 +1,5 @@
 pub mod Kinds
+pub mod Flags
 pub mod Pieces
 pub mod Collections
 pub mod State

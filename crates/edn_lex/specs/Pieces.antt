@@ -1,6 +1,6 @@
 -- What the items that are found at the front of a text stand for.
 use Rattle.std.specs.Prelude.{ℕ, Option, Some, None}
-use Rattle.hist_types.specs.Tokens.{ItemKind, Blank, Comment, Str}
+use Rattle.hist_types.specs.Tokens.{ItemKind, Comment, Str}
 use Rattle.edn_lex.specs.declared.pieces.PieceKind.{PieceKind}
 use Rattle.edn_lex.specs.declared.pieces.PieceKind.TheVariants as pieces
 use Rattle.edn_lex.specs.declared.pieces.Piece.{Piece}
@@ -8,7 +8,6 @@ use Rattle.edn_lex.specs.Kinds.{kind_of}
 
 -- the kind of item
 abbrev pub kind_of_piece : PieceKind → ItemKind
-kind_of_piece pieces.Blank = Blank
 kind_of_piece pieces.Comment = Comment
 kind_of_piece (pieces.Token kind) = kind_of kind
 

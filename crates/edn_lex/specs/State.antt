@@ -103,8 +103,8 @@ pub record PassesOver (s : State) (kind : ItemKind) (len : ℕ) (t : State) : Ty
   pub no_fault : item_fault kind s.offset (take len (left s)) s.closers ≡ None
   pub after : t ≡ after_item s kind len
 
--- What a call that looks at one item does: it passes over a blank or a comment, or over a token that it gives, or gives the
--- fault that stands there.
+-- What a call that looks at one item does: it passes over a comment, or over a token that it gives, or gives the fault that
+-- stands there.
 abbrev pub Passes : State → Result (Option Token) Fault → State → Type 0
 Passes s (Ok None) t = (kind : ItemKind) × (len : ℕ) × (is_token kind ≡ false) × PassesOver s kind len t
 Passes s (Ok (Some token)) t = (token.start ≡ s.offset) × PassesOver s (kind_of token.kind) (token.end - token.start) t

@@ -1,6 +1,7 @@
 //! The lexer: an iterator over the tokens of a text.
 
-ghost use Rattle.std.specs.Prelude.{◌≡◌, ◌<◌, length, List, Option, IsNone};
+ghost use Rattle.std.specs.Prelude.{◌≡◌, ◌<◌, length, get_or, false, List, Option, IsNone};
+ghost use Rattle.hist_types.specs.Bytes.{is_blank as is_blank_byte};
 ghost use Rattle.hist_types.specs.Tokens.{nesting_refusal, open_after, closer_of, byte_fault, Item, HasTokens};
 ghost use Rattle.hist_types.specs.declared.types.Fault.{Fault};
 ghost use Rattle.edn_lex.specs.Pieces.{kind_of_piece};
@@ -8,7 +9,7 @@ ghost use Rattle.edn_lex.specs.Collections.{closer_byte, closers_of};
 ghost use Rattle.edn_lex.specs.State.{state_at_start, Rest, Passes};
 
 use crate::pieces::{PieceKind, first_piece};
-use crate::scan::utf8_end;
+use crate::scan::{is_blank, utf8_end};
 use crate::types::{Token, TokenKind};
 use arrayvec::ArrayVec;
 use hist_types::limits::MAX_OPEN_COLLECTIONS;
@@ -129,9 +130,10 @@ impl<'a> Lexer<'a> {
         }
     }
 
-    /// Passes over the item at the front of what is left, and gives it where it is a token.
+    /// Passes over the item at the front of what is left, which is no blank, and gives it where it is a token.
     fn pass(&mut self) -> Result<Option<Token>, Fault>
-        requires { self.old.offset < length self.old.text }
+        requires left { self.old.offset < length self.old.text }
+        requires unblank { is_blank_byte (get_or self.old.text self.old.offset 0) ≡ false }
         ensures { Passes self.old result self.new }
     {
         let start = self.offset;
@@ -162,6 +164,10 @@ impl Iterator for Lexer<'_> {
 
     fn next(&mut self) -> Option<Result<Token, Fault>> {
         while !self.ended && self.offset < self.text.len() {
+            if is_blank(self.text[self.offset]) {
+                self.offset += 1;
+                continue;
+            }
             match self.pass() {
                 Ok(Some(token)) => return Some(Ok(token)),
                 Ok(None) => {}

@@ -2,7 +2,7 @@
 
 ghost use Rattle.std.specs.Prelude.{◌≡◌, ◌<◌, ◌≤◌, length, drop, take, false, IsTrue, MatchOption, Some, IfSome};
 ghost use Rattle.std.specs.Str.{IsAscii};
-ghost use Rattle.hist_types.specs.Bytes.{hash};
+ghost use Rattle.hist_types.specs.Bytes.{is_blank, hash};
 ghost use Rattle.hist_types.specs.Tokens.{is_token, first_byte, run_kind as kind_of_run, run_of, run_len, hash_front, front};
 ghost use Rattle.edn_lex.specs.Kinds.{kind_of};
 ghost use Rattle.edn_lex.specs.Pieces.{kind_of_piece, front_of_piece, front_of_found};
@@ -14,7 +14,6 @@ use crate::types::{Token, TokenKind};
 /// What an item is: nothing that is given, or a token.
 #[derive(Clone, Copy)]
 pub(crate) enum PieceKind {
-    Blank,
     Comment,
     Token(TokenKind),
 }
@@ -36,7 +35,7 @@ impl PieceKind {
     {
         match self {
             PieceKind::Token(kind) => Some(Token { kind, start, end }),
-            PieceKind::Blank | PieceKind::Comment => None,
+            PieceKind::Comment => None,
         }
     }
 }
@@ -54,6 +53,7 @@ const fn token(kind: TokenKind, len: usize, ascii: bool) -> Piece
 }
 
 /// The run at the front of a text that begins with a byte of a run.
+#[tactic(auto, using(crate::proofs::Flags::IsAscii_from_low))]
 fn run_piece(text: &[u8]) -> Piece
     requires { 0 < run_len text.now }
     ensures front { front_of_piece result ≡ (kind_of_run (run_of text.now), Some (run_len text.now)) }
@@ -63,7 +63,7 @@ fn run_piece(text: &[u8]) -> Piece
 {
     let found = first_run(text);
     token(
-        run_kind(&text[..found.len], found.ascii),
+        run_kind(&text[..found.len], found.ascii, found.digits),
         found.len,
         found.ascii,
     )
@@ -85,20 +85,16 @@ fn hash_piece(text: &[u8]) -> Piece
     }
 }
 
-/// The item at the front of the text; none where it is a string that nothing closes.
+/// The item at the front of the text, which begins with no blank; none where it is a string that nothing closes.
 pub(crate) fn first_piece(text: &[u8]) -> Option<Piece>
-    requires { 0 < length text.now }
+    requires nonempty { 0 < length text.now }
+    requires unblank { is_blank (first_byte text.now) ≡ false }
     ensures front { front (first_byte text.now) (drop 1 text.now) ≡ front_of_found result }
     ensures some { IfSome result (λ p. 0 < p.len) }
     ensures fits { IfSome result (λ p. p.len ≤ length text.now) }
     ensures ascii { IfSome result (λ p. IsTrue p.ascii → IsAscii (take p.len text.now)) }
 {
     let found = match text[0] {
-        9 | 10 | 11 | 12 | 13 | b' ' | b',' => Piece {
-            kind: PieceKind::Blank,
-            len: 1,
-            ascii: true,
-        },
         b';' => Piece {
             kind: PieceKind::Comment,
             len: 1 + comment_len(&text[1..]),

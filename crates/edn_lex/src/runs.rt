@@ -1,9 +1,10 @@
 //! What a run is.
 
-ghost use Rattle.std.specs.Prelude.{◌≡◌, ◌<◌, length};
+ghost use Rattle.std.specs.Prelude.{◌≡◌, ◌<◌, ◌==◌, ◌||◌, length, not, false};
 ghost use Rattle.std.specs.List.{list_all};
 ghost use Rattle.std.specs.Char.{is_ascii_digit};
-ghost use Rattle.hist_types.specs.Tokens.{is_sign as is_sign_byte, without_sign as behind_sign, without_n as before_n, is_whole as is_whole_number, is_int as is_integer, is_keyword as is_key, is_symbol as is_name, run_kind as kind_of_run};
+ghost use Rattle.hist_types.specs.Bytes.{zero_digit};
+ghost use Rattle.hist_types.specs.Tokens.{first_byte, is_sign as is_sign_byte, without_sign as behind_sign, without_n as before_n, is_whole as is_whole_number, is_int as is_integer, is_keyword as is_key, is_symbol as is_name, run_kind as kind_of_run};
 ghost use Rattle.edn_lex.specs.Kinds.{is_low, kind_of};
 
 use crate::types::TokenKind;
@@ -33,11 +34,19 @@ fn all_digits(bytes: &[u8]) -> bool
     bytes.iter().all(|b| b.is_ascii_digit())
 }
 
+/// No 0 stands in front of another digit.
+fn has_no_leading_zero(digits: &[u8]) -> bool
+    requires { 0 < length digits.now }
+    ensures { result ≡ (not (first_byte digits.now == zero_digit) || (length digits.now == 1)) }
+{
+    digits[0] != b'0' || digits.len() == 1
+}
+
 /// `0`, or digits that don't begin with 0.
 fn is_whole(digits: &[u8]) -> bool
     ensures { result ≡ is_whole_number digits.now }
 {
-    !digits.is_empty() && (digits[0] != b'0' || digits.len() == 1) && all_digits(digits)
+    !digits.is_empty() && has_no_leading_zero(digits) && all_digits(digits)
 }
 
 fn is_int(run: &[u8]) -> bool
@@ -64,16 +73,16 @@ fn is_symbol(run: &[u8]) -> bool
     }
 }
 
-/// The kind of a run, the frequent ones first. A run with a byte of 128 or more is not looked through for digits.
-#[tactic(auto, using(crate::proofs::RunKinds::wide_no_int, crate::proofs::RunKinds::keyword_is, crate::proofs::RunKinds::int_is))]
-pub(crate) fn run_kind(run: &[u8], ascii: bool) -> TokenKind
+/// The kind of a run that is no keyword. A run with a byte of 128 or more is not looked through for digits.
+#[inline(never)]
+#[tactic(auto, using(crate::proofs::RunKinds::wide_no_int, crate::proofs::RunKinds::int_is))]
+fn word_kind(run: &[u8], ascii: bool) -> TokenKind
     requires nonempty { 0 < length run.now }
     requires ascii { ascii ≡ list_all is_low run.now }
+    requires word { is_key run.now ≡ false }
     ensures { kind_of result ≡ kind_of_run run.now }
 {
-    if is_keyword(run) {
-        TokenKind::Keyword
-    } else if ascii && is_int(run) {
+    if ascii && is_int(run) {
         TokenKind::Int
     } else if run == b"nil".as_slice() {
         TokenKind::Nil
@@ -85,5 +94,22 @@ pub(crate) fn run_kind(run: &[u8], ascii: bool) -> TokenKind
         TokenKind::Symbol
     } else {
         TokenKind::Other
+    }
+}
+
+/// The kind of a run, the frequent ones first.
+#[tactic(auto, using(crate::proofs::RunKinds::keyword_is, crate::proofs::RunKinds::digits_are))]
+pub(crate) fn run_kind(run: &[u8], ascii: bool, digits: bool) -> TokenKind
+    requires nonempty { 0 < length run.now }
+    requires ascii { ascii ≡ list_all is_low run.now }
+    requires digits { digits ≡ list_all is_ascii_digit run.now }
+    ensures { kind_of result ≡ kind_of_run run.now }
+{
+    if is_keyword(run) {
+        TokenKind::Keyword
+    } else if digits && has_no_leading_zero(run) {
+        TokenKind::Int
+    } else {
+        word_kind(run, ascii)
     }
 }

@@ -1,49 +1,90 @@
 //! Where items end.
 
 ghost use Rattle.std.specs.Prelude.{◌≡◌, ◌<◌, ◌≤◌, ◌==◌, length, take, false, IsTrue, not, MatchOption, IfSome};
+ghost use Rattle.std.specs.Char.{is_ascii_digit};
 ghost use Rattle.std.specs.List.{prefix_len, list_all};
-ghost use Rattle.edn_lex.specs.Kinds.{is_low};
 ghost use Rattle.std.specs.Str.{IsAscii};
 ghost use Rattle.std.specs.Str.Lossy.{utf8_valid_len};
-ghost use Rattle.hist_types.specs.Bytes.{is_run_byte, line_feed};
+ghost use Rattle.hist_types.specs.Bytes.{is_blank as is_blank_byte, is_run_byte, line_feed};
+ghost use Rattle.edn_lex.specs.Flags.{has_flag};
+ghost use Rattle.edn_lex.specs.Kinds.{is_low};
 ghost use Rattle.hist_types.specs.Tokens.{run_len as longest_run, content_len as len_of_content, character_len as len_of_character};
 
 use memchr::{memchr, memchr2};
 
-/// How many bytes a run has, and whether all of them are below 128.
+/// A byte that is no decimal digit.
+const NOT_DIGIT: u8 = 1;
+
+/// A byte of 128 or more.
+const PAST_ASCII: u8 = 2;
+
+/// A bracket, a quote or a semicolon.
+const MARK: u8 = 4;
+
+const BLANK: u8 = 8;
+
+const ENDS_RUN: u8 = MARK | BLANK;
+
+// For each byte a digit, whose low four bits are the flags above.
+static FLAGS: [u8; 256] = *b"\
+    11111111199999111111111111111111\
+    91511111551191110000000000151111\
+    11111111111111111111111111151511\
+    11111111111111111111111111151511\
+    33333333333333333333333333333333\
+    33333333333333333333333333333333\
+    33333333333333333333333333333333\
+    33333333333333333333333333333333";
+
+/// How many bytes a run has, and of what kind all of them are.
 #[derive(Clone, Copy)]
 pub(crate) struct Run {
     pub(crate) len: usize,
+    /// All of them are below 128.
     pub(crate) ascii: bool,
+    /// All of them are decimal digits.
+    pub(crate) digits: bool,
 }
 
-/// Whether a run goes on over the byte.
-pub(crate) fn continues_run(b: u8) -> bool
-    ensures { result ≡ is_run_byte b }
+/// The flags of a byte.
+fn flags_of(b: u8) -> u8
+    ensures run { has_flag result 12 ≡ not (is_run_byte b) }
+    ensures blank { has_flag result 8 ≡ is_blank_byte b }
+    ensures ascii { has_flag result 2 ≡ not (is_low b) }
+    ensures digit { has_flag result 1 ≡ not (is_ascii_digit b) }
+    ensures fits { result < 256 }
 {
-    !matches!(
-        b,
-        9 | 10 | 11 | 12 | 13 | b' ' | b',' | b'(' | b'[' | b'{' | b')' | b']' | b'}' | b'"' | b';'
-    )
+    FLAGS[b as usize]
+}
+
+/// Whether the byte is a blank.
+pub(crate) fn is_blank(b: u8) -> bool
+    ensures { result ≡ is_blank_byte b }
+{
+    flags_of(b) & BLANK != 0
 }
 
 /// The longest run at the front of the text.
 pub(crate) fn first_run(text: &[u8]) -> Run
     ensures len { result.len ≡ longest_run text.now }
     ensures fits { result.len ≤ length text.now }
-    ensures ascii { IsTrue result.ascii → IsAscii (take result.len text.now) }
-    ensures wide { result.ascii ≡ list_all is_low (take result.len text.now) }
+    ensures ascii { result.ascii ≡ list_all is_low (take result.len text.now) }
+    ensures digits { result.digits ≡ list_all is_ascii_digit (take result.len text.now) }
 {
-    let mut ascii = true;
-    for (i, b) in text.iter().enumerate() {
-        if !continues_run(*b) {
-            return Run { len: i, ascii };
+    let mut len = 0;
+    let mut seen = 0;
+    while len < text.len() {
+        let flags = flags_of(text[len]);
+        if flags & ENDS_RUN != 0 {
+            break;
         }
-        ascii = ascii && *b < 128;
+        seen |= flags;
+        len += 1;
     }
     Run {
-        len: text.len(),
-        ascii,
+        len,
+        ascii: seen & PAST_ASCII == 0,
+        digits: seen & NOT_DIGIT == 0,
     }
 }
 

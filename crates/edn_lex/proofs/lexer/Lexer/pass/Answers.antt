@@ -23,7 +23,7 @@ pub returns-in-Some-utf8_end : goal.returns-in-Some-utf8_end
 returns-in-Some-utf8_end c =
     let s = seen c.self.inside in
     let P : State → Type 0 = λ x. BeginsWithFault (left x) x.offset x.closers c.fault_at-in-Some-utf8_end.result in
-    let below : s.offset < length s.text = subst (λ (x : State). x.offset < length x.text) (sym c.self.view_is) c.requires in (
+    let below : s.offset < length s.text = subst (λ (x : State). x.offset < length x.text) (sym c.self.view_is) c.requires.left in (
       subst P c.self.view_is
           (fault-utf8 s (rest_of s) (kind_of_piece c.in-Some.piece.kind) c.in-Some.piece.len (take_rest s.text s.offset) (rest_of-some s below)
           c.in-Some.ensures.fits c.in-Some.ensures.front c.in-Some-utf8_end.valid _ c.in-Some-utf8_end.ensures.0 c.in-Some-utf8_end.ensures.1
@@ -35,7 +35,7 @@ pub returns-in-Some-nest : goal.returns-in-Some-nest
 returns-in-Some-nest c =
     let s = seen c.self.inside in
     let P : State → Type 0 = λ x. BeginsWithFault (left x) x.offset x.closers c.fault_at-in-Some-nest.result in
-    let below : s.offset < length s.text = subst (λ (x : State). x.offset < length x.text) (sym c.self.view_is) c.requires in (
+    let below : s.offset < length s.text = subst (λ (x : State). x.offset < length x.text) (sym c.self.view_is) c.requires.left in (
       subst P c.self.view_is
           (fault-nesting s (rest_of s) (kind_of_piece c.in-Some.piece.kind) c.in-Some.piece.len (take_rest s.text s.offset) (rest_of-some s below)
           c.in-Some.ensures.fits c.in-Some.ensures.front c.in-Some-nest.refusal _ c.in_default-utf8_end.ensures c.in-Some-nest.ensures.refusal
@@ -48,7 +48,7 @@ returns c =
     let s = seen c.self.inside in
     let t : State = record s { offset = s.offset + c.in-Some.piece.len; closers = closers_of c.nest.new.within.items } in
     let P : State → Type 0 = λ x. Passes x (Ok c.token.result) t in
-    let below : s.offset < length s.text = subst (λ (x : State). x.offset < length x.text) (sym c.self.view_is) c.requires in
+    let below : s.offset < length s.text = subst (λ (x : State). x.offset < length x.text) (sym c.self.view_is) c.requires.left in
     subst P c.self.view_is
     (passes s (rest_of s) (kind_of_piece c.in-Some.piece.kind) c.in-Some.piece.len (take_rest s.text s.offset) (rest_of-some s below)
     c.in-Some.ensures.fits c.in-Some.ensures.front (closers_of c.nest.new.within.items) c.token.result (omega arith) c.in-Some.ensures.some
