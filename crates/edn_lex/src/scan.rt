@@ -89,6 +89,7 @@ pub(crate) fn first_run(text: &[u8]) -> Run
 }
 
 /// How many bytes of a comment stand before the byte 10 that ends it, or before the text's end.
+#[inline(never)]
 pub(crate) fn comment_len(text: &[u8]) -> usize
     ensures len { result ≡ prefix_len (λ c. not (c == line_feed)) text.now }
     ensures fits { result ≤ length text.now }
@@ -100,6 +101,7 @@ pub(crate) fn comment_len(text: &[u8]) -> usize
 }
 
 /// How many bytes stand before the quote that closes a string, if one does.
+#[inline(never)]
 pub(crate) fn content_len(text: &[u8]) -> Option<usize>
     ensures len { result ≡ len_of_content false text.now }
     ensures fits { IfSome result (λ n. n < length text.now) }
@@ -136,9 +138,14 @@ pub(crate) fn utf8_end(bytes: &[u8], ascii: bool) -> Option<usize>
     requires { IsTrue ascii → IsAscii bytes.now }
     ensures { MatchOption result (utf8_valid_len bytes.now ≡ length bytes.now) (λ n. (utf8_valid_len bytes.now ≡ n) × (n < length bytes.now)) }
 {
-    if ascii {
-        return None;
-    }
+    if ascii { None } else { wide_utf8_end(bytes) }
+}
+
+/// The same where nothing is known of the bytes.
+#[inline(never)]
+fn wide_utf8_end(bytes: &[u8]) -> Option<usize>
+    ensures { MatchOption result (utf8_valid_len bytes.now ≡ length bytes.now) (λ n. (utf8_valid_len bytes.now ≡ n) × (n < length bytes.now)) }
+{
     match std::str::from_utf8(bytes) {
         Ok(_) => None,
         Err(error) => Some(error.valid_up_to()),

@@ -4,6 +4,3 @@ use Rattle.edn_lex.proofs.scan.utf8_end.Goals as goal
 
 pub returns-then-ascii : goal.returns-then-ascii
 returns-then-ascii c = utf8_valid_len-IsUtf8 _ (IsUtf8-from_ascii _ (c.requires (search rules)))
-
-pub returns-in-Ok : goal.returns-in-Ok
-returns-in-Ok c = utf8_valid_len-IsUtf8 _ c.in-Ok.ensures.cases.1
