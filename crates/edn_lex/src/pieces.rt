@@ -11,7 +11,7 @@ use crate::runs::run_kind;
 use crate::scan::{character_len, comment_len, content_len, first_run};
 use crate::types::{Token, TokenKind};
 
-/// What an item is: nothing that is given, or a token.
+/// What an item is, if it is no blank: a comment, which is not given, or a token.
 #[derive(Clone, Copy)]
 pub(crate) enum PieceKind {
     Comment,

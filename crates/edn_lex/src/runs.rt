@@ -73,13 +73,13 @@ fn is_symbol(run: &[u8]) -> bool
     }
 }
 
-/// The kind of a run that is no keyword. A run with a byte of 128 or more is not looked through for digits.
+/// The kind of a run that is no keyword; not inlined, since most runs are keywords or digits. A run with a byte of 128 or more is not looked through for digits.
 #[inline(never)]
 #[tactic(auto, using(crate::proofs::RunKinds::wide_no_int, crate::proofs::RunKinds::int_is))]
-fn word_kind(run: &[u8], ascii: bool) -> TokenKind
+fn other_run_kind(run: &[u8], ascii: bool) -> TokenKind
     requires nonempty { 0 < length run.now }
     requires ascii { ascii ≡ list_all is_low run.now }
-    requires word { is_key run.now ≡ false }
+    requires no_keyword { is_key run.now ≡ false }
     ensures { kind_of result ≡ kind_of_run run.now }
 {
     if ascii && is_int(run) {
@@ -110,6 +110,6 @@ pub(crate) fn run_kind(run: &[u8], ascii: bool, digits: bool) -> TokenKind
     } else if digits && has_no_leading_zero(run) {
         TokenKind::Int
     } else {
-        word_kind(run, ascii)
+        other_run_kind(run, ascii)
     }
 }

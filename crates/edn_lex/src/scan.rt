@@ -1,4 +1,4 @@
-//! Where items end.
+//! Where items end. The scans of what is seldom found are not inlined, so that those of the frequent items stay short.
 
 ghost use Rattle.std.specs.Prelude.{◌≡◌, ◌<◌, ◌≤◌, ◌==◌, length, take, false, IsTrue, not, MatchOption, IfSome};
 ghost use Rattle.std.specs.Char.{is_ascii_digit};
@@ -6,6 +6,7 @@ ghost use Rattle.std.specs.List.{prefix_len, list_all};
 ghost use Rattle.std.specs.Str.{IsAscii};
 ghost use Rattle.std.specs.Str.Lossy.{utf8_valid_len};
 ghost use Rattle.hist_types.specs.Bytes.{is_blank as is_blank_byte, is_run_byte, line_feed};
+ghost use Rattle.edn_lex.specs.declared.scan.TheConstants.{NOT_DIGIT, PAST_ASCII, BLANK, ENDS_RUN};
 ghost use Rattle.edn_lex.specs.Flags.{has_flag};
 ghost use Rattle.edn_lex.specs.Kinds.{is_low};
 ghost use Rattle.hist_types.specs.Tokens.{run_len as longest_run, content_len as len_of_content, character_len as len_of_character};
@@ -48,10 +49,10 @@ pub(crate) struct Run {
 
 /// The flags of a byte.
 fn flags_of(b: u8) -> u8
-    ensures run { has_flag result 12 ≡ not (is_run_byte b) }
-    ensures blank { has_flag result 8 ≡ is_blank_byte b }
-    ensures ascii { has_flag result 2 ≡ not (is_low b) }
-    ensures digit { has_flag result 1 ≡ not (is_ascii_digit b) }
+    ensures run { has_flag result ENDS_RUN ≡ not (is_run_byte b) }
+    ensures blank { has_flag result BLANK ≡ is_blank_byte b }
+    ensures ascii { has_flag result PAST_ASCII ≡ not (is_low b) }
+    ensures digit { has_flag result NOT_DIGIT ≡ not (is_ascii_digit b) }
     ensures fits { result < 256 }
 {
     FLAGS[b as usize]
