@@ -22,6 +22,7 @@ const PAST_ASCII: u8 = 2;
 /// A bracket, a quote or a semicolon.
 const MARK: u8 = 4;
 
+/// A byte from 9 to 13, a space or a comma.
 const BLANK: u8 = 8;
 
 const ENDS_RUN: u8 = MARK | BLANK;
@@ -53,7 +54,6 @@ fn flags_of(b: u8) -> u8
     ensures blank { has_flag result BLANK ≡ is_blank_byte b }
     ensures ascii { has_flag result PAST_ASCII ≡ not (is_low b) }
     ensures digit { has_flag result NOT_DIGIT ≡ not (is_ascii_digit b) }
-    ensures fits { result < 256 }
 {
     FLAGS[b as usize]
 }
