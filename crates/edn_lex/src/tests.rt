@@ -434,7 +434,11 @@ const OPENERS: &[u8; 65] = b"(((((((((((((((((((((((((((((((((((((((((((((((((((
 #[test]
 fn depth(rt: HostRuntime) {
     let mut lexer = Lexer::new(&OPENERS[..64]);
-    assert_eq!(rt; lexer.by_ref().count(), 64);
+    assert_eq!(rt;
+        lexer.by_ref().take_while(|given| given.is_ok()).count(),
+        64
+    );
+    assert_eq!(rt; lexer.next(), None);
     let mut deeper = Lexer::new(OPENERS);
     let last = deeper.by_ref().last();
     let fault = Fault {
