@@ -2,8 +2,10 @@ use crate::device::{Failed, MemorySink, MemorySource, Sink, Source};
 use crate::laws;
 use crate::limits::MAX_PROCESS;
 use crate::types::{At, Fault, Level, Process, Refusal};
-use std::alloc::Global;
+use std::alloc::{AllocError, Global};
 use std::cmp::Ordering;
+use std::fmt;
+use std::process::Abort;
 use std::test::Fail;
 
 /// The table of numbers and names, as the users' guide prints it.
@@ -54,9 +56,16 @@ fn refused_memory_stands_nowhere(rt: HostRuntime) {
     assert_eq!(rt; fault.at, At::Nowhere);
 }
 
-/// What it says and what it prints can differ; memory may be refused here, and then there is nothing to compare.
+/// What a value prints. Where memory was refused it is printed once more.
+fn printed<T: fmt::Display>(alloc: Global, value: &T) -> Result<String, AllocError> {
+    match value.to_string(alloc) {
+        Ok(text) => Ok(text),
+        Err(_) => value.to_string(alloc),
+    }
+}
+
 #[test]
-fn faults_print_their_lines(rt: HostRuntime) {
+fn faults_print_their_lines(rt: HostRuntime) -> Result<(), Fail> {
     for (refusal, at, line) in [
         (
             Refusal::Unclosed,
@@ -72,20 +81,19 @@ fn faults_print_their_lines(rt: HostRuntime) {
         ),
         (Refusal::BadUtf8, At::Byte(0), "refused 20 BadUtf8 byte 0"),
     ] {
-        if let Ok(printed) = (Fault { refusal, at }).to_string(rt.alloc()) {
-            assert_eq!(rt; printed.as_str(), line);
-        }
+        let text = printed(rt.alloc(), &Fault { refusal, at })?;
+        assert_eq!(rt; text.as_str(), line);
     }
+    Ok(())
 }
 
 #[test]
-fn errors_say_what_happened(rt: HostRuntime) {
-    if let Ok(said) = Refusal::Busy.to_string(rt.alloc()) {
-        assert_eq!(rt; said.as_str(), "the process has an open invocation");
-    }
-    if let Ok(said) = Failed.to_string(rt.alloc()) {
-        assert_eq!(rt; said.as_str(), "device fault");
-    }
+fn errors_say_what_happened(rt: HostRuntime) -> Result<(), Fail> {
+    let said = printed(rt.alloc(), &Refusal::Busy)?;
+    assert_eq!(rt; said.as_str(), "the process has an open invocation");
+    let said = printed(rt.alloc(), &Failed)?;
+    assert_eq!(rt; said.as_str(), "device fault");
+    Ok(())
 }
 
 #[test]
@@ -136,28 +144,42 @@ fn source_gives_pieces(rt: HostRuntime) {
     assert_eq!(rt; room, *b"fd");
 }
 
-/// A piece that was refused can be written again.
-#[test]
-fn sink_takes_pieces(rt: HostRuntime) {
-    let mut sink = MemorySink::new(rt.alloc());
-    let mut taken = 0;
-    for piece in [b"abc".as_slice(), b"", b"abcde", b"fgh"] {
-        match sink.write(piece) {
-            Ok(count) => {
-                assert_eq!(rt; count, piece.len());
-                assert!(rt; sink.bytes().ends_with(piece));
-                taken = sink.bytes().len();
-            }
-            Err(Failed) => assert_eq!(rt; sink.bytes().len(), taken),
+/// Writes a piece. A refused one leaves no trace, and is written once more.
+fn put<R: Abort>(rt: &R, sink: &mut MemorySink, piece: &[u8]) -> Result<usize, Failed> {
+    let before = sink.bytes().len();
+    match sink.write(piece) {
+        Ok(count) => Ok(count),
+        Err(Failed) => {
+            assert_eq!(rt; sink.bytes().len(), before);
+            sink.write(piece)
         }
     }
 }
 
-/// Carries one piece from any source to any sink, and answers how many bytes the sink took of it.
+#[test]
+fn sink_takes_pieces(rt: HostRuntime) {
+    let mut sink = MemorySink::new(rt.alloc());
+    for (piece, taken) in [
+        (b"abc".as_slice(), b"abc".as_slice()),
+        (b"", b"abc"),
+        (b"abcde", b"abcabcde"),
+        (b"fgh", b"abcabcdefgh"),
+    ] {
+        assert_eq!(rt; put(&rt, &mut sink, piece), Ok(piece.len()));
+        assert_eq!(rt; sink.bytes(), taken);
+    }
+}
+
+/// Carries one piece from any source to any sink, and answers how many bytes the sink took of it. A sink that failed is
+/// given the piece once more.
 fn carry<S: Source, K: Sink>(source: &mut S, sink: &mut K) -> Result<usize, Failed> {
     let mut room = [0; 4];
     let count = source.read(&mut room)?;
-    sink.write(&room[..count])
+    let piece = &room[..count];
+    match sink.write(piece) {
+        Ok(taken) => Ok(taken),
+        Err(Failed) => sink.write(piece),
+    }
 }
 
 /// A device that works twice and then fails.
@@ -186,24 +208,21 @@ impl Source for Faulty {
 }
 
 #[test]
-fn any_source_feeds_any_sink(rt: HostRuntime) -> Result<(), Fail> {
+fn any_source_feeds_any_sink(rt: HostRuntime) {
     let mut source = MemorySource::new(b"abcdefg");
     let mut sink = MemorySink::new(rt.alloc());
-    if carry(&mut source, &mut sink) == Ok(4) && carry(&mut source, &mut sink) == Ok(3) {
-        assert_eq!(rt; sink.bytes(), b"abcdefg".as_slice());
-        assert_eq!(rt; carry(&mut source, &mut sink), Ok(0));
+    for taken in [4, 3, 0] {
+        assert_eq!(rt; carry(&mut source, &mut sink), Ok(taken));
     }
+    assert_eq!(rt; sink.bytes(), b"abcdefg".as_slice());
     let mut faulty = Faulty {
         left: 2,
         failures: 0,
     };
     let mut sink = MemorySink::new(rt.alloc());
-    if carry(&mut faulty, &mut sink) == Ok(4) && carry(&mut faulty, &mut sink) == Ok(4) {
-        for failures in 1..3 {
-            assert_eq!(rt; carry(&mut faulty, &mut sink), Err(Failed));
-            assert_eq!(rt; faulty.failures, failures);
-        }
-        assert_eq!(rt; sink.bytes(), b"xxxxxxxx".as_slice());
+    for answer in [Ok(4), Ok(4), Err(Failed), Err(Failed)] {
+        assert_eq!(rt; carry(&mut faulty, &mut sink), answer);
     }
-    Ok(())
+    assert_eq!(rt; faulty.failures, 2);
+    assert_eq!(rt; sink.bytes(), b"xxxxxxxx".as_slice());
 }
