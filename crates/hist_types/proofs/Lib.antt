@@ -5,5 +5,6 @@ pub mod Blocks
 pub mod Runs
 pub mod Members
 pub mod OrderEdges
+pub mod EdgeOrder
 pub mod OneCut
 pub mod Keywords

@@ -10,5 +10,7 @@ pub mod Refused
 pub mod Order
 pub mod Cutting
 pub mod Texts
+pub mod Printed
 pub mod Absence
 pub mod Verdicts
+pub mod Explanations

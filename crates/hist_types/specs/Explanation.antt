@@ -1,4 +1,4 @@
--- Strict serial explanations (strict serializability).
+-- Strict serial explanations (strict serializability, after Papadimitriou; outcomes are Jepsen's, and registers as in Elle).
 --
 -- An explanation is a choice of transactions, all ok ones among them, no failed one, and any of the others, in a total order
 -- in which T stands before U wherever T is ok and completed before U's invocation, and in which each ok transaction's reads

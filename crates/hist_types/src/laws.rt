@@ -7,11 +7,12 @@ ghost use Rattle.hist_types.specs.Atoms.{Atom, Value, atom_eq, value_eq};
 ghost use Rattle.hist_types.specs.Edges.{Label, Edge, edge, order_labels, all_order_edges, order_edges};
 ghost use Rattle.hist_types.specs.Frontier.{all_thinned_edges, thinned_edges};
 ghost use Rattle.hist_types.specs.Journal.{Write, write_eq, first_broken, events_after, events_of};
-ghost use Rattle.hist_types.specs.Laws.{RunEndsAt, LeavesOne, LeadsToOne, HasRealtimeTwin};
+ghost use Rattle.hist_types.specs.Laws.{RunEndsAt, LeavesOne, LeadsToOne, HasRealtimeTwin, Rise, HasOneAtItsPlace};
 ghost use Rattle.hist_types.specs.Operations.{Operation};
 ghost use Rattle.hist_types.specs.Phenomena.{height};
 ghost use Rattle.hist_types.specs.Reading.{Entry, Reads};
 ghost use Rattle.hist_types.specs.Refusals.{number_of, name_of};
+ghost use Rattle.hist_types.specs.Texts.{in_order};
 ghost use Rattle.hist_types.specs.Tokens.{Item, HasTokens, run_of, run_len};
 ghost use Rattle.hist_types.specs.Transactions.{Transaction, Read, read_eq, nodes};
 ghost use Rattle.hist_types.specs.declared.types.Fault.{Fault};
@@ -80,4 +81,11 @@ pub fn process_order_in_realtime()
 pub fn thinned_among_order_edges()
     ensures nodes { (level : Level) → (ts : List Transaction) → (e : Edge) → Contains (thinned_edges level ts) e → Contains (order_edges level ts) e }
     ensures all { (level : Level) → (ts : List Transaction) → (e : Edge) → Contains (all_thinned_edges level ts) e → Contains (all_order_edges level ts) e }
+{}
+
+/// Edges in order are those that were given, one for each place, and they rise.
+pub fn edges_in_order()
+    ensures among { (es : List Edge) → (e : Edge) → Contains (in_order es) e → Contains es e }
+    ensures places { (es : List Edge) → (e : Edge) → Contains es e → HasOneAtItsPlace (in_order es) e }
+    ensures rising { (es : List Edge) → Rise (in_order es) }
 {}

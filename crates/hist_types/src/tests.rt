@@ -128,6 +128,7 @@ fn laws_return() {
     laws::order_edges_between_nodes();
     laws::process_order_in_realtime();
     laws::thinned_among_order_edges();
+    laws::edges_in_order();
 }
 
 #[test]

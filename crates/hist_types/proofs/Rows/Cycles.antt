@@ -109,6 +109,11 @@ updates_of_nil-edges :
     ∷ []
 updates_of_nil-edges = refl
 
+-- Each of the two edges is printed once.
+updates_of_nil-text : edges_text updates_of_nil ≡ codes "prefix 4\ntxns 2\nT0 -rw :x nil 2-> T1\nT1 -rw :x nil 1-> T0\nedges 2\n"
+unfolding digits
+updates_of_nil-text = refl
+
 -- from one to the other and back
 abbrev pub updates_of_nil_walk : List Edge
 updates_of_nil_walk = rw_nil_edge 0 1 x 2 ∷ rw_nil_edge 1 0 x 1 ∷ []
@@ -249,7 +254,7 @@ crossed_updates-not_g0 = (refl, refl, refl)
 -- ---- an update that is read by the next one
 
 -- One reads nil and writes, and the next one reads that and writes again.
-abbrev chained_updates : List Operation
+abbrev pub chained_updates : List Operation
 chained_updates =
     invoke 0 (finds_nil x ∷ sets x 1 ∷ [])
     ∷ ok 0 (finds_nil x ∷ sets x 1 ∷ [])
