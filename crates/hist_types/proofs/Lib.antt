@@ -4,6 +4,8 @@ pub mod Equality
 pub mod Blocks
 pub mod Runs
 pub mod Members
+pub mod Processes
+pub mod Externals
 pub mod OrderEdges
 pub mod EdgeOrder
 pub mod OneCut

@@ -1,14 +1,66 @@
 -- What the laws of these definitions say, where they need a word of their own.
-use Rattle.std.specs.Prelude.{◌≡◌, ℕ, List, [], ◌∷◌, IsFalse, IfSome, slice_get, All, Contains, ⊤}
+use Rattle.std.specs.Prelude.{◌≡◌, ℕ, ◌+◌, List, [], ◌∷◌, ◌++◌, length, IsFalse, IfSome, slice_get, All, Contains, ⊤}
 use Rattle.std.specs.declared.cmp.Ordering.TheVariants.{Less, Equal}
 use Rattle.hist_types.specs.Bytes.{is_run_byte}
-use Rattle.hist_types.specs.Transactions.{Transaction}
+use Rattle.hist_types.specs.Atoms.{Atom}
+use Rattle.hist_types.specs.Journal.{Write, writes_of}
+use Rattle.hist_types.specs.Operations.{Mop, read, write, Operation}
+use Rattle.hist_types.specs.Transactions.{Transaction, Read, Indexed}
 use Rattle.hist_types.specs.Edges.{realtime, Edge}
 use Rattle.hist_types.specs.Texts.{edge_cmp}
+
+-- ---- runs
 
 -- no run byte stands at the place, if a byte does
 abbrev pub RunEndsAt : List ℕ → ℕ → Type 0
 RunEndsAt text place = IfSome (slice_get text place) (λ b. IsFalse (is_run_byte b))
+
+-- ---- events of one process
+
+abbrev pub IsOfAnother : ℕ → Operation → Type 0
+IsOfAnother process event = ¬ (event.process ≡ process)
+
+-- the first event of the process among the events, of which the first has the index
+abbrev pub IsNextOf : ℕ → ℕ → List Operation → Indexed → Type 0
+IsNextOf process index events found =
+    (before : List Operation)
+    × (after : List Operation)
+    × (events ≡ before ++ found.event ∷ after)
+    × All (IsOfAnother process) before
+    × (found.event.process ≡ process)
+    × (found.index ≡ index + length before)
+
+-- the last event of the process among the events
+abbrev pub IsLastOf : ℕ → List Operation → Operation → Type 0
+IsLastOf process events event =
+    (before : List Operation)
+    × (after : List Operation)
+    × (events ≡ before ++ event ∷ after)
+    × (event.process ≡ process)
+    × All (IsOfAnother process) after
+
+-- ---- reads and writes of one transaction
+
+abbrev pub WritesAnother : Atom → Write → Type 0
+WritesAnother key w = ¬ (w.key ≡ key)
+
+-- the read is one of the list's, and no write of its key stands before it
+abbrev pub ReadsFirst : List Mop → Read → Type 0
+ReadsFirst mops r =
+    (before : List Mop)
+    × (after : List Mop)
+    × (mops ≡ before ++ read r.key r.value ∷ after)
+    × All (WritesAnother r.key) (writes_of before)
+
+-- the write is one of the list's, and no write of its key stands after it
+abbrev pub WritesLast : List Mop → Write → Type 0
+WritesLast mops w =
+    (before : List Mop)
+    × (after : List Mop)
+    × (mops ≡ before ++ write w.key w.value ∷ after)
+    × All (WritesAnother w.key) (writes_of after)
+
+-- ---- edges
 
 -- the edge's first end is among the transactions
 abbrev pub LeavesOne : List Transaction → Edge → Type 0

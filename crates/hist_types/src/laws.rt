@@ -1,20 +1,20 @@
-//! Laws of this crate's definitions: the contracts of functions that do nothing.
+//! Laws of this crate's definitions: the contracts of functions that do nothing, and of one that compares levels.
 
-ghost use Rattle.std.specs.Prelude.{◌≡◌, ◌↔◌, ℕ, List, [], ◌∷◌, ◌++◌, length, drop, Bool, false, ◌==◌, IsTrue, Option, None, All, Contains};
+ghost use Rattle.std.specs.Prelude.{◌≡◌, ◌↔◌, ℕ, List, [], ◌∷◌, ◌++◌, length, drop, Bool, false, ◌==◌, IsTrue, IsFalse, Option, Some, None, All, Contains};
 ghost use Rattle.std.specs.Ordering.{nat_cmp};
 ghost use Rattle.hist_types.specs.Bytes.{is_run_byte};
 ghost use Rattle.hist_types.specs.Atoms.{Atom, Value, atom_eq, value_eq};
 ghost use Rattle.hist_types.specs.Edges.{Label, Edge, edge, order_labels, all_order_edges, order_edges};
 ghost use Rattle.hist_types.specs.Frontier.{all_thinned_edges, thinned_edges};
-ghost use Rattle.hist_types.specs.Journal.{Write, write_eq, first_broken, events_after, events_of};
-ghost use Rattle.hist_types.specs.Laws.{RunEndsAt, LeavesOne, LeadsToOne, HasRealtimeTwin, Rise, HasOneAtItsPlace};
+ghost use Rattle.hist_types.specs.Journal.{Write, write_eq, is_invoke, last_event, first_broken, events_after, events_of};
+ghost use Rattle.hist_types.specs.Laws.{RunEndsAt, IsNextOf, IsLastOf, ReadsFirst, WritesLast, LeavesOne, LeadsToOne, HasRealtimeTwin, Rise, HasOneAtItsPlace};
 ghost use Rattle.hist_types.specs.Operations.{Operation};
 ghost use Rattle.hist_types.specs.Phenomena.{height};
 ghost use Rattle.hist_types.specs.Reading.{Entry, Reads};
 ghost use Rattle.hist_types.specs.Refusals.{number_of, name_of};
 ghost use Rattle.hist_types.specs.Texts.{in_order};
 ghost use Rattle.hist_types.specs.Tokens.{Item, HasTokens, run_of, run_len};
-ghost use Rattle.hist_types.specs.Transactions.{Transaction, Read, read_eq, nodes};
+ghost use Rattle.hist_types.specs.Transactions.{Transaction, Indexed, completion_in, Read, read_eq, external_reads, external_writes, nodes};
 ghost use Rattle.hist_types.specs.declared.types.Fault.{Fault};
 ghost use Rattle.hist_types.specs.declared.types.Level.{Level};
 ghost use Rattle.hist_types.specs.declared.types.Level.TheVariants.{Process, Realtime};
@@ -48,6 +48,18 @@ pub fn equality_decided()
 pub fn blocks_one_after_another()
     ensures push { (blocks : List (List Operation)) → (block : List Operation) → events_of (blocks ++ block ∷ []) ≡ events_after (events_of blocks) block }
     ensures parts { (events front rest : List Operation) → (first_broken events (front ++ rest) ≡ None) ↔ ((first_broken events front ≡ None) × (first_broken (events ++ front) rest ≡ None)) }
+{}
+
+/// A completion is the next event of its process, where that is no invocation; what a process did last is its last event.
+pub fn events_of_a_process()
+    ensures completion { (process index : ℕ) → (events : List Operation) → (found : Indexed) → (completion_in process index events ≡ Some found) ↔ (IsNextOf process index events found × IsFalse (is_invoke found.event.kind)) }
+    ensures last { (process : ℕ) → (events : List Operation) → (event : Operation) → (last_event process events ≡ Some event) ↔ IsLastOf process events event }
+{}
+
+/// An external read has no write of its key before it in its transaction, and an external write none after it.
+pub fn external_reads_and_writes()
+    ensures reads { (t : Transaction) → (r : Read) → Contains (external_reads t) r ↔ ReadsFirst t.mops r }
+    ensures writes { (t : Transaction) → (w : Write) → Contains (external_writes t) w ↔ WritesLast t.mops w }
 {}
 
 /// A run is the longest row of its bytes at the front of a text.

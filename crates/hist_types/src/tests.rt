@@ -123,6 +123,8 @@ fn laws_return() {
     laws::no_two_refusals_alike();
     laws::equality_decided();
     laws::blocks_one_after_another();
+    laws::events_of_a_process();
+    laws::external_reads_and_writes();
     laws::runs_longest();
     laws::texts_read_one_way();
     laws::order_edges_between_nodes();
