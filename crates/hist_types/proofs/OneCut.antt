@@ -1,7 +1,7 @@
 -- A text is cut in one way.
-use Rattle.std.proofs.Common.{◌≡◌, inl, inr, ℕ, ◌+◌, List, [], ◌∷◌, length, take, drop, filter, Option, Some, None, refl, sym, ◌∙◌, ap, subst, arith}
+use Rattle.std.proofs.Common.{◌≡◌, inl, inr, ℕ, ◌+◌, List, [], ◌∷◌, length, take, drop, Option, Some, None, refl, sym, ◌∙◌, ap, subst, arith}
 use Rattle.std.proofs.lemmas.Option.{none-some, same_Some}
-use Rattle.hist_types.specs.Tokens.{Item, ItemKind, front, item_fault, open_after, BeginsWith, BeginsWithFault, is_token, IsCut, HasTokens}
+use Rattle.hist_types.specs.Tokens.{Item, ItemKind, front, item_fault, open_after, BeginsWith, BeginsWithFault, tokens_of, IsCut, HasTokens}
 use Rattle.hist_types.specs.Reading.{Entry, Reading, reading_of, Reads}
 use Rattle.hist_types.specs.declared.types.Fault.{Fault}
 
@@ -94,7 +94,7 @@ one_cut text offset closers (i ∷ is) (j ∷ js) e d first second =
 pub one_row_of_tokens : (text : List ℕ) (ts us : List Item) (e d : Option Fault) → HasTokens text ts e → HasTokens text us d → (ts ≡ us) × (e ≡ d)
 one_row_of_tokens text ts us e d first second =
     let same = one_cut text 0 [] first.0 second.0 e d first.1 second.1 in
-    (first.2 ∙ (ap (λ (items : List Item). filter (λ item. is_token item.kind) items) same.0 ∙ sym second.2), same.1)
+    (first.2 ∙ (ap tokens_of same.0 ∙ sym second.2), same.1)
 
 pub one_reading :
     (text : List ℕ) (entries others : List Entry) (fault other : Option Fault)

@@ -190,6 +190,10 @@ is_token Blank = false
 is_token Comment = false
 is_token kind = true
 
+-- the items without blanks and comments
+abbrev pub tokens_of : List Item → List Item
+tokens_of items = filter (λ item. is_token item.kind) items
+
 -- The text has these tokens, and then it ends or a fault stands.
 abbrev pub HasTokens : List ℕ → List Item → Option Fault → Type 0
-HasTokens text tokens ending = (items : List Item) × IsCut text 0 [] items ending × (tokens ≡ filter (λ item. is_token item.kind) items)
+HasTokens text tokens ending = (items : List Item) × IsCut text 0 [] items ending × (tokens ≡ tokens_of items)

@@ -11,7 +11,7 @@ use Rattle.std.specs.Prelude.{ℕ, ◌+◌, List, [], ◌∷◌, Bool, true, fal
 use Rattle.std.specs.List.{list_any}
 use Rattle.hist_types.specs.Atoms.{Atom, Value, atom_eq, value_eq}
 use Rattle.hist_types.specs.Operations.{Mop, read, write, Operation}
-use Rattle.hist_types.specs.Journal.{Write, write_eq, writes_of, is_invoke}
+use Rattle.hist_types.specs.Journal.{Write, writes_of, is_invoke}
 use Rattle.hist_types.specs.declared.types.OpKind.{OpKind}
 use Rattle.hist_types.specs.declared.types.OpKind.TheVariants as kinds
 
@@ -130,9 +130,6 @@ intermediate_writes t = overwritten (writes_of t.mops)
 
 abbrev pub reads_externally : Transaction → Read → Bool
 reads_externally t r = list_any (read_eq r) (external_reads t)
-
-abbrev pub writes_externally : Transaction → Write → Bool
-writes_externally t w = list_any (write_eq w) (external_writes t)
 
 -- the read that returns what was written
 abbrev pub read_of : Write → Read

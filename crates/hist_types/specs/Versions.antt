@@ -13,9 +13,6 @@ pub record VersionPair : Type 0 where
   pub earlier : Value
   pub later : Atom
 
-abbrev pub pair_eq : VersionPair → VersionPair → Bool
-pair_eq a b = atom_eq a.key b.key && value_eq a.earlier b.earlier && atom_eq a.later b.later
-
 -- nil comes before each write
 abbrev pub nil_first : Transaction → List VersionPair
 nil_first t = map (λ (w : Write). record { key = w.key; earlier = None; later = w.value }) (external_writes t)

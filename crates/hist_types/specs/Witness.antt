@@ -2,11 +2,11 @@
 --
 -- A witness of a phenomenon at a level is a closed walk that shows it there, with no transaction twice and, round the whole
 -- cycle, no two order edges side by side, told from its least transaction. Where several fit, any is right.
-use Rattle.std.specs.Prelude.{ℕ, ◌<◌, List, [], ◌∷◌, Bool, true, false, not, ◌&&◌, nat_eq, nat_le, IsTrue, Option, Some, None, map}
+use Rattle.std.specs.Prelude.{ℕ, List, [], ◌∷◌, Bool, true, false, not, ◌&&◌, nat_eq, nat_le, IsTrue, Option, IfSome, option_map, map}
 use Rattle.std.specs.List.{list_all, list_any}
 use Rattle.hist_types.specs.Transactions.{Transaction}
 use Rattle.hist_types.specs.Edges.{Edge}
-use Rattle.hist_types.specs.Phenomena.{Shows, Has, is_order, height}
+use Rattle.hist_types.specs.Phenomena.{Shows, is_order, IsLowestLevel}
 use Rattle.hist_types.specs.declared.types.Level.{Level}
 use Rattle.hist_types.specs.declared.types.Phenomenon.{Phenomenon}
 
@@ -47,6 +47,6 @@ pub record Finding : Type 0 where
   pub walk : List Edge
 
 abbrev pub IsFinding : Phenomenon → List Transaction → Option Finding → Type 0
-IsFinding phenomenon ts None = (level : Level) → ¬ Has phenomenon level ts
-IsFinding phenomenon ts (Some found) =
-    IsWitness phenomenon found.level ts found.walk × ((lower : Level) → height lower < height found.level → ¬ Has phenomenon lower ts)
+IsFinding phenomenon ts found =
+    IsLowestLevel phenomenon ts (option_map (λ (f : Finding). f.level) found)
+    × IfSome found (λ f. IsWitness phenomenon f.level ts f.walk)

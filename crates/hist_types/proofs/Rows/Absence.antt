@@ -1,13 +1,13 @@
 -- That a phenomenon is not there: a written-out list of edges has no closed walk of its kind.
-use Rattle.std.proofs.Common.{◌≡◌, inl, inr, ◌||◌, ℕ, ◌+◌, ◌<◌, ◌≤◌, List, [], ◌∷◌, Bool, true, not, ◌&&◌, ◌==◌, nat_lt, cond, None, All, Contains, count_by, refl, sym, ◌∙◌, ap, arith}
+use Rattle.std.proofs.Common.{◌≡◌, inl, inr, ◌||◌, ℕ, ◌+◌, ◌<◌, ◌≤◌, List, [], ◌∷◌, Bool, true, not, ◌&&◌, ◌==◌, nat_lt, cond, Some, None, All, Contains, count_by, refl, sym, ◌∙◌, ap, arith}
 use Rattle.std.specs.List.{AllByRecursion, list_all, list_any}
 use Rattle.std.proofs.lemmas.Bool.{false≢true, and_parts, or_cases, ltb-true, eqb-true, eqb-false, not-true}
 use Rattle.std.proofs.lemmas.List.Elements.{All-from_recursion, recursion_from_All, All-weaker, All-contains}
 use Rattle.std.proofs.lemmas.List.Sums.{sum_by-cons}
 use Rattle.hist_types.specs.Transactions.{Transaction}
 use Rattle.hist_types.specs.Edges.{Label, rw, Edge, edges_at}
-use Rattle.hist_types.specs.Phenomena.{Leads, IsClosedWalk, is_ww_label, is_wr_label, is_rw_label, is_ww, is_wr, is_rw, is_order, Has, height}
-use Rattle.hist_types.specs.Witness.{IsFinding}
+use Rattle.hist_types.specs.Phenomena.{Leads, IsClosedWalk, is_ww_label, is_wr_label, is_rw_label, is_ww, is_wr, is_rw, is_order, Has, height, IsLowestLevel}
+use Rattle.hist_types.specs.Witness.{IsWitness, Finding, IsFinding}
 use Rattle.hist_types.specs.declared.types.Level.{Level}
 use Rattle.hist_types.specs.declared.types.Level.TheVariants.{Plain, Process, Realtime}
 use Rattle.hist_types.specs.declared.types.Phenomenon.{Phenomenon}
@@ -143,10 +143,26 @@ only_rw level ts all has =
 
 -- ---- findings
 
+no_level :
+    (phenomenon : Phenomenon) (ts : List Transaction)
+    → ¬ Has phenomenon Plain ts
+    → ¬ Has phenomenon Process ts
+    → ¬ Has phenomenon Realtime ts
+    → IsLowestLevel phenomenon ts None
+no_level phenomenon ts plain process realtime Plain = plain
+no_level phenomenon ts plain process realtime Process = process
+no_level phenomenon ts plain process realtime Realtime = realtime
+
 pub at_no_level : (phenomenon : Phenomenon) (ts : List Transaction) → ¬ Has phenomenon Plain ts → ¬ Has phenomenon Process ts → ¬ Has phenomenon Realtime ts → IsFinding phenomenon ts None
-at_no_level phenomenon ts plain process realtime Plain = plain
-at_no_level phenomenon ts plain process realtime Process = process
-at_no_level phenomenon ts plain process realtime Realtime = realtime
+at_no_level phenomenon ts plain process realtime = (no_level phenomenon ts plain process realtime, tt)
+
+-- a level with a witness, and no lower one
+pub at_level :
+    (phenomenon : Phenomenon) (ts : List Transaction) (found : Finding)
+    → IsWitness phenomenon found.level ts found.walk
+    → ((lower : Level) → height lower < height found.level → ¬ Has phenomenon lower ts)
+    → IsFinding phenomenon ts (Some found)
+at_level phenomenon ts found witness lower = (((found.walk, witness.shows), lower), witness)
 
 -- nothing is below plain
 pub below_plain : (phenomenon : Phenomenon) (ts : List Transaction) → (lower : Level) → height lower < height Plain → ¬ Has phenomenon lower ts

@@ -1,11 +1,11 @@
 -- A text is cut by computation: for a written-out text the relation of tokens, and with it the reading, then holds by `refl`.
-use Rattle.std.proofs.Common.{◌≡◌, inl, inr, ℕ, zero, suc, ◌+◌, List, [], ◌∷◌, length, take, drop, filter, Bool, true, false, ◌==◌, if◌then◌else◌, Option, Some, None, option_map, is_some, refl, ap, subst}
+use Rattle.std.proofs.Common.{◌≡◌, inl, inr, ℕ, zero, suc, ◌+◌, List, [], ◌∷◌, length, take, drop, Bool, true, false, ◌==◌, if◌then◌else◌, Option, Some, None, option_map, is_some, refl, ap, subst}
 use Rattle.std.specs.Bool.{⊤}
 use Rattle.std.specs.Str.{is_utf8, chars}
 use Rattle.std.specs.Str.Lossy.{utf8_valid_len}
 use lib.Utf8.{encode}
 use Rattle.std.proofs.lemmas.Bool.{eqb-true, false≢true}
-use Rattle.hist_types.specs.Tokens.{Item, ItemKind, Str, front, item_fault, open_after, byte_fault, is_token, IsCut, BeginsWith, HasTokens}
+use Rattle.hist_types.specs.Tokens.{Item, ItemKind, Str, front, item_fault, open_after, byte_fault, tokens_of, IsCut, BeginsWith, HasTokens}
 use Rattle.hist_types.specs.Reading.{Entry, Reading, reading_of, Reads}
 use Rattle.hist_types.specs.declared.types.Fault.{Fault}
 use Rattle.hist_types.specs.declared.types.Refusal.{Refusal}
@@ -109,15 +109,12 @@ cutting-holds (suc n) (b ∷ rest) offset closers =
 
 -- ---- what is cut, and what is read from it
 
-abbrev tokens_of : Cut → List Item
-tokens_of c = filter (λ item. is_token item.kind) c.items
-
 -- the tokens with the fault that ends them
 abbrev ended_tokens : Cut → List Item × Option Fault
-ended_tokens c = (tokens_of c, c.ending)
+ended_tokens c = (tokens_of c.items, c.ending)
 
 abbrev read_cut : Cut → Reading
-read_cut c = reading_of (tokens_of c) c.ending
+read_cut c = reading_of (tokens_of c.items) c.ending
 
 -- the tokens of a text with at most so many items, and the fault that ends them
 abbrev pub tokens_at : ℕ → List ℕ → Option (List Item × Option Fault)
@@ -134,7 +131,7 @@ tokens_from_cut :
     → HasTokens text tokens ending
 tokens_from_cut text tokens ending None holds e = elim (false≢true (ap is_some e)) [ ]
 tokens_from_cut text tokens ending (Some c) holds e =
-    let p : (tokens_of c, c.ending) ≡ (tokens, ending) = cc in
+    let p : (tokens_of c.items, c.ending) ≡ (tokens, ending) = cc in
     subst (λ (found : List Item × Option Fault). HasTokens text found.0 found.1) p (c.items, holds, refl)
 
 -- A text has the tokens that are cut from it.
@@ -147,7 +144,7 @@ reading_from_cut :
     → option_map read_cut r ≡ Some (record { entries = entries; fault = fault })
     → Reads text entries fault
 reading_from_cut text entries fault None holds e = elim (false≢true (ap is_some e)) [ ]
-reading_from_cut text entries fault (Some c) holds e = (tokens_of c, c.ending, (c.items, holds, refl), cc)
+reading_from_cut text entries fault (Some c) holds e = (tokens_of c.items, c.ending, (c.items, holds, refl), cc)
 
 -- A text reads as what its cut gives.
 pub reads : (n : ℕ) (text : List ℕ) (entries : List Entry) (fault : Option Fault) → reading_at n text ≡ Some (record { entries = entries; fault = fault }) → Reads text entries fault

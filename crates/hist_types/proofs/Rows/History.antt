@@ -1,4 +1,4 @@
--- Short names in which the worked histories are written, and the histories that several files speak of.
+-- Short names in which the worked histories are written, and what makes a written-out walk a witness.
 use Rattle.std.proofs.Common.{◌≡◌, ℕ, List, [], ◌∷◌, length, get_or, pos, codes, Some, None, true, nat_lt, map}
 use Rattle.std.specs.Bool.{⊤}
 use Rattle.std.specs.List.{AllByRecursion, Contains}

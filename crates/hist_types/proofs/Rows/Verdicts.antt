@@ -5,7 +5,7 @@ use Rattle.hist_types.specs.Transactions.{transactions_of}
 use Rattle.hist_types.specs.Texts.{IsVerdictText}
 use Rattle.hist_types.specs.declared.types.Level.TheVariants.{Plain, Process, Realtime}
 use Rattle.hist_types.specs.declared.types.Phenomenon.TheVariants.{G0, G1c, GSingle, G2Item}
-use Rattle.hist_types.proofs.Rows.Absence.{no_cycle, no_g1c_cycle, no_ww, no_wr, no_rw, no_single_rw, only_rw, at_no_level, below_plain, below_process, below_realtime}
+use Rattle.hist_types.proofs.Rows.Absence.{no_cycle, no_g1c_cycle, no_ww, no_wr, no_rw, no_single_rw, only_rw, at_no_level, at_level, below_plain, below_process, below_realtime}
 use Rattle.hist_types.proofs.Rows.Cycles.{crossed_reads, crossed_reads_walk, crossed_reads-witness, updates_of_nil, updates_of_nil_walk, updates_of_nil-witness, crossed_updates, ww_walk, crossed_updates-g0, read_back_walk, crossed_updates-read_back}
 use Rattle.hist_types.proofs.Rows.Orders.{stale_read, stale_read_walk, stale_read-witness, own_stale_read, own_stale_read_walk, own_stale_read-witness, unknown_write, unknown_write_walk, unknown_write-witness}
 
@@ -43,7 +43,7 @@ crossed_reads-verdict =
       single = None;
       item = None;
       is_g0 = at_no_level G0 (transactions_of crossed_reads) (no_ww Plain (transactions_of crossed_reads) refl) (no_ww Process (transactions_of crossed_reads) refl) (no_ww Realtime (transactions_of crossed_reads) refl);
-      is_g1c = (crossed_reads-witness, below_plain G1c (transactions_of crossed_reads));
+      is_g1c = at_level G1c (transactions_of crossed_reads) (record { level = Plain; walk = crossed_reads_walk }) crossed_reads-witness (below_plain G1c (transactions_of crossed_reads));
       is_single = at_no_level GSingle (transactions_of crossed_reads) (no_single_rw Plain (transactions_of crossed_reads) refl) (no_single_rw Process (transactions_of crossed_reads) refl) (no_single_rw Realtime (transactions_of crossed_reads) refl);
       is_item = at_no_level G2Item (transactions_of crossed_reads) (no_rw Plain (transactions_of crossed_reads) refl) (no_rw Process (transactions_of crossed_reads) refl) (no_rw Realtime (transactions_of crossed_reads) refl);
       lines = refl;
@@ -61,7 +61,7 @@ updates_of_nil-verdict =
       is_g0 = at_no_level G0 (transactions_of updates_of_nil) (no_ww Plain (transactions_of updates_of_nil) refl) (no_ww Process (transactions_of updates_of_nil) refl) (no_ww Realtime (transactions_of updates_of_nil) refl);
       is_g1c = at_no_level G1c (transactions_of updates_of_nil) (no_wr Plain (transactions_of updates_of_nil) refl) (no_wr Process (transactions_of updates_of_nil) refl) (no_wr Realtime (transactions_of updates_of_nil) refl);
       is_single = at_no_level GSingle (transactions_of updates_of_nil) (only_rw Plain (transactions_of updates_of_nil) refl) (only_rw Process (transactions_of updates_of_nil) refl) (only_rw Realtime (transactions_of updates_of_nil) refl);
-      is_item = (updates_of_nil-witness, below_plain G2Item (transactions_of updates_of_nil));
+      is_item = at_level G2Item (transactions_of updates_of_nil) (record { level = Plain; walk = updates_of_nil_walk }) updates_of_nil-witness (below_plain G2Item (transactions_of updates_of_nil));
       lines = refl;
     }
 
@@ -74,8 +74,8 @@ crossed_updates-verdict =
       g1c = Some (record { level = Plain; walk = read_back_walk });
       single = None;
       item = None;
-      is_g0 = (crossed_updates-g0, below_plain G0 (transactions_of crossed_updates));
-      is_g1c = (crossed_updates-read_back, below_plain G1c (transactions_of crossed_updates));
+      is_g0 = at_level G0 (transactions_of crossed_updates) (record { level = Plain; walk = ww_walk }) crossed_updates-g0 (below_plain G0 (transactions_of crossed_updates));
+      is_g1c = at_level G1c (transactions_of crossed_updates) (record { level = Plain; walk = read_back_walk }) crossed_updates-read_back (below_plain G1c (transactions_of crossed_updates));
       is_single = at_no_level GSingle (transactions_of crossed_updates) (no_single_rw Plain (transactions_of crossed_updates) refl) (no_single_rw Process (transactions_of crossed_updates) refl) (no_single_rw Realtime (transactions_of crossed_updates) refl);
       is_item = at_no_level G2Item (transactions_of crossed_updates) (no_rw Plain (transactions_of crossed_updates) refl) (no_rw Process (transactions_of crossed_updates) refl) (no_rw Realtime (transactions_of crossed_updates) refl);
       lines = refl;
@@ -92,8 +92,8 @@ stale_read-verdict =
       item = Some (record { level = Realtime; walk = stale_read_walk });
       is_g0 = at_no_level G0 (transactions_of stale_read) (no_ww Plain (transactions_of stale_read) refl) (no_ww Process (transactions_of stale_read) refl) (no_ww Realtime (transactions_of stale_read) refl);
       is_g1c = at_no_level G1c (transactions_of stale_read) (no_wr Plain (transactions_of stale_read) refl) (no_wr Process (transactions_of stale_read) refl) (no_wr Realtime (transactions_of stale_read) refl);
-      is_single = (stale_read-witness.0, below_realtime GSingle (transactions_of stale_read) (no_cycle GSingle Plain (transactions_of stale_read) (λ n. n) refl) (no_cycle GSingle Process (transactions_of stale_read) (λ n. n) refl));
-      is_item = (stale_read-witness.1, below_realtime G2Item (transactions_of stale_read) (no_cycle G2Item Plain (transactions_of stale_read) (λ n. n) refl) (no_cycle G2Item Process (transactions_of stale_read) (λ n. n) refl));
+      is_single = at_level GSingle (transactions_of stale_read) (record { level = Realtime; walk = stale_read_walk }) stale_read-witness.0 (below_realtime GSingle (transactions_of stale_read) (no_cycle GSingle Plain (transactions_of stale_read) (λ n. n) refl) (no_cycle GSingle Process (transactions_of stale_read) (λ n. n) refl));
+      is_item = at_level G2Item (transactions_of stale_read) (record { level = Realtime; walk = stale_read_walk }) stale_read-witness.1 (below_realtime G2Item (transactions_of stale_read) (no_cycle G2Item Plain (transactions_of stale_read) (λ n. n) refl) (no_cycle G2Item Process (transactions_of stale_read) (λ n. n) refl));
       lines = refl;
     }
 
@@ -108,8 +108,8 @@ own_stale_read-verdict =
       item = Some (record { level = Process; walk = own_stale_read_walk });
       is_g0 = at_no_level G0 (transactions_of own_stale_read) (no_ww Plain (transactions_of own_stale_read) refl) (no_ww Process (transactions_of own_stale_read) refl) (no_ww Realtime (transactions_of own_stale_read) refl);
       is_g1c = at_no_level G1c (transactions_of own_stale_read) (no_wr Plain (transactions_of own_stale_read) refl) (no_wr Process (transactions_of own_stale_read) refl) (no_wr Realtime (transactions_of own_stale_read) refl);
-      is_single = (own_stale_read-witness.0, below_process GSingle (transactions_of own_stale_read) (no_cycle GSingle Plain (transactions_of own_stale_read) (λ n. n) refl));
-      is_item = (own_stale_read-witness.1, below_process G2Item (transactions_of own_stale_read) (no_cycle G2Item Plain (transactions_of own_stale_read) (λ n. n) refl));
+      is_single = at_level GSingle (transactions_of own_stale_read) (record { level = Process; walk = own_stale_read_walk }) own_stale_read-witness.0 (below_process GSingle (transactions_of own_stale_read) (no_cycle GSingle Plain (transactions_of own_stale_read) (λ n. n) refl));
+      is_item = at_level G2Item (transactions_of own_stale_read) (record { level = Process; walk = own_stale_read_walk }) own_stale_read-witness.1 (below_process G2Item (transactions_of own_stale_read) (no_cycle G2Item Plain (transactions_of own_stale_read) (λ n. n) refl));
       lines = refl;
     }
 
@@ -124,7 +124,7 @@ unknown_write-verdict =
       item = Some (record { level = Process; walk = unknown_write_walk });
       is_g0 = at_no_level G0 (transactions_of unknown_write) (no_ww Plain (transactions_of unknown_write) refl) (no_ww Process (transactions_of unknown_write) refl) (no_ww Realtime (transactions_of unknown_write) refl);
       is_g1c = at_no_level G1c (transactions_of unknown_write) (no_g1c_cycle Plain (transactions_of unknown_write) forth refl) (no_g1c_cycle Process (transactions_of unknown_write) forth refl) (no_g1c_cycle Realtime (transactions_of unknown_write) forth refl);
-      is_single = (unknown_write-witness.0, below_process GSingle (transactions_of unknown_write) (no_cycle GSingle Plain (transactions_of unknown_write) seen_last refl));
-      is_item = (unknown_write-witness.1, below_process G2Item (transactions_of unknown_write) (no_cycle G2Item Plain (transactions_of unknown_write) seen_last refl));
+      is_single = at_level GSingle (transactions_of unknown_write) (record { level = Process; walk = unknown_write_walk }) unknown_write-witness.0 (below_process GSingle (transactions_of unknown_write) (no_cycle GSingle Plain (transactions_of unknown_write) seen_last refl));
+      is_item = at_level G2Item (transactions_of unknown_write) (record { level = Process; walk = unknown_write_walk }) unknown_write-witness.1 (below_process G2Item (transactions_of unknown_write) (no_cycle G2Item Plain (transactions_of unknown_write) seen_last refl));
       lines = refl;
     }
