@@ -37,21 +37,10 @@ atom_parts_cmp = then_cmp (on rank nat_cmp) (then_cmp (on number_in int_cmp) (on
 
 atom_by_parts : (a b : Atom) → atom_parts_cmp a b ≡ atom_cmp a b
 atom_by_parts (integer a) (integer b) = then_equal (int_cmp a b)
-atom_by_parts (integer a) (keyword b) = refl
-atom_by_parts (integer a) (string b) = refl
-atom_by_parts (integer a) (symbol b) = refl
-atom_by_parts (keyword a) (integer b) = refl
 atom_by_parts (keyword a) (keyword b) = refl
-atom_by_parts (keyword a) (string b) = refl
-atom_by_parts (keyword a) (symbol b) = refl
-atom_by_parts (string a) (integer b) = refl
-atom_by_parts (string a) (keyword b) = refl
 atom_by_parts (string a) (string b) = refl
-atom_by_parts (string a) (symbol b) = refl
-atom_by_parts (symbol a) (integer b) = refl
-atom_by_parts (symbol a) (keyword b) = refl
-atom_by_parts (symbol a) (string b) = refl
 atom_by_parts (symbol a) (symbol b) = refl
+atom_by_parts a b = refl
 
 pub atom_cmp_total : IsTotalOrder atom_cmp
 atom_cmp_total =
@@ -77,31 +66,12 @@ abbrev label_parts_cmp : Label → Label → Ordering
 label_parts_cmp = then_cmp (on label_rank nat_cmp) (then_cmp (on key_in atom_cmp) (on version_in value_cmp))
 
 label_by_parts : (a b : Label) → label_parts_cmp a b ≡ label_cmp a b
-label_by_parts (ww k v w) (ww k' v' w') = refl
-label_by_parts (ww k v w) (wr k' v') = refl
-label_by_parts (ww k v w) (rw k' v' w') = refl
-label_by_parts (ww k v w) (process p') = refl
-label_by_parts (ww k v w) (realtime c' i') = refl
-label_by_parts (wr k v) (ww k' v' w') = refl
-label_by_parts (wr k v) (wr k' v') = refl
-label_by_parts (wr k v) (rw k' v' w') = refl
-label_by_parts (wr k v) (process p') = refl
-label_by_parts (wr k v) (realtime c' i') = refl
-label_by_parts (rw k v w) (ww k' v' w') = refl
-label_by_parts (rw k v w) (wr k' v') = refl
-label_by_parts (rw k v w) (rw k' v' w') = refl
-label_by_parts (rw k v w) (process p') = refl
-label_by_parts (rw k v w) (realtime c' i') = refl
-label_by_parts (process p) (ww k' v' w') = refl
-label_by_parts (process p) (wr k' v') = refl
-label_by_parts (process p) (rw k' v' w') = refl
-label_by_parts (process p) (process p') = refl
-label_by_parts (process p) (realtime c' i') = refl
-label_by_parts (realtime c i) (ww k' v' w') = refl
-label_by_parts (realtime c i) (wr k' v') = refl
-label_by_parts (realtime c i) (rw k' v' w') = refl
-label_by_parts (realtime c i) (process p') = refl
-label_by_parts (realtime c i) (realtime c' i') = refl
+label_by_parts (ww k v w) (ww l x y) = refl
+label_by_parts (wr k v) (wr l x) = refl
+label_by_parts (rw k v w) (rw l x y) = refl
+label_by_parts (process p) (process q) = refl
+label_by_parts (realtime c d) (realtime e f) = refl
+label_by_parts a b = refl
 
 pub label_cmp_total : IsTotalOrder label_cmp
 label_cmp_total =

@@ -8,5 +8,6 @@ pub mod Processes
 pub mod Externals
 pub mod OrderEdges
 pub mod EdgeOrder
+pub mod PrintedEdges
 pub mod OneCut
 pub mod Keywords

@@ -10,13 +10,13 @@ use Rattle.hist_types.specs.declared.types.Level.{Level}
 use Rattle.hist_types.specs.declared.types.Level.TheVariants.{Plain, Process, Realtime}
 use Rattle.hist_types.proofs.Members.{In, in_from_Contains, Contains_from_in, in_each, in_some, in_mapped, in_map, in_filter, in_filtered}
 
-abbrev Labels : Type 0
+abbrev pub Labels : Type 0
 Labels = Transaction → Transaction → List Label
 
 -- ---- what stands between each two transactions
 
 -- an edge with what it comes from: two transactions, not the same, and a label
-abbrev Comes : List Transaction → Labels → Edge → Type 0
+abbrev pub Comes : List Transaction → Labels → Edge → Type 0
 Comes ts f e = (t u : Transaction) × In t ts × In u ts × ((t.invocation == u.invocation) ≡ false) × In e (map (edge t u) (f t u))
 
 different_ends :
@@ -26,7 +26,7 @@ different_ends :
 different_ends t u true e es i = elim i [ ]
 different_ends t u false e es i = (refl, i)
 
-comes_from : (ts : List Transaction) (f : Labels) (e : Edge) → In e (between_each ts f) → Comes ts f e
+pub comes_from : (ts : List Transaction) (f : Labels) (e : Edge) → In e (between_each ts f) → Comes ts f e
 comes_from ts f e i =
     let first = in_some (λ (t : Transaction). flat_map (λ (u : Transaction). if t.invocation == u.invocation then [] else map (edge t u) (f t u)) ts) e ts i in
     let t : Transaction = first.0 in

@@ -4,7 +4,7 @@ ghost use Rattle.std.specs.Prelude.{◌≡◌, ◌↔◌, ℕ, List, [], ◌∷�
 ghost use Rattle.std.specs.Ordering.{nat_cmp};
 ghost use Rattle.hist_types.specs.Bytes.{is_run_byte};
 ghost use Rattle.hist_types.specs.Atoms.{Atom, Value, atom_eq, value_eq};
-ghost use Rattle.hist_types.specs.Edges.{Label, Edge, edge, order_labels, all_order_edges, order_edges};
+ghost use Rattle.hist_types.specs.Edges.{Label, Edge, edge, dependency_edges, order_labels, all_order_edges, order_edges};
 ghost use Rattle.hist_types.specs.Frontier.{all_thinned_edges, thinned_edges};
 ghost use Rattle.hist_types.specs.Journal.{Write, write_eq, is_invoke, last_event, first_broken, events_after, events_of};
 ghost use Rattle.hist_types.specs.Laws.{RunEndsAt, IsNextOf, IsLastOf, ReadsFirst, WritesLast, LeavesOne, LeadsToOne, HasRealtimeTwin, Rise, HasOneAtItsPlace};
@@ -14,7 +14,7 @@ ghost use Rattle.hist_types.specs.Reading.{Entry, Reads};
 ghost use Rattle.hist_types.specs.Refusals.{number_of, name_of};
 ghost use Rattle.hist_types.specs.Texts.{in_order};
 ghost use Rattle.hist_types.specs.Tokens.{Item, HasTokens, run_of, run_len};
-ghost use Rattle.hist_types.specs.Transactions.{Transaction, Indexed, completion_in, Read, read_eq, external_reads, external_writes, nodes};
+ghost use Rattle.hist_types.specs.Transactions.{Transaction, Indexed, completion_in, transactions_of, Read, read_eq, external_reads, external_writes, nodes};
 ghost use Rattle.hist_types.specs.declared.types.Fault.{Fault};
 ghost use Rattle.hist_types.specs.declared.types.Level.{Level};
 ghost use Rattle.hist_types.specs.declared.types.Level.TheVariants.{Process, Realtime};
@@ -95,9 +95,10 @@ pub fn thinned_among_order_edges()
     ensures all { (level : Level) → (ts : List Transaction) → (e : Edge) → Contains (all_thinned_edges level ts) e → Contains (all_order_edges level ts) e }
 {}
 
-/// Edges in order are those that were given, one for each place, and they rise.
+/// Edges in order are those that were given, one for each place, and they rise. All dependency edges of a history are there.
 pub fn edges_in_order()
     ensures among { (es : List Edge) → (e : Edge) → Contains (in_order es) e → Contains es e }
     ensures places { (es : List Edge) → (e : Edge) → Contains es e → HasOneAtItsPlace (in_order es) e }
     ensures rising { (es : List Edge) → Rise (in_order es) }
+    ensures dependencies { (events : List Operation) → (e : Edge) → Contains (dependency_edges (transactions_of events)) e → Contains (in_order (dependency_edges (transactions_of events))) e }
 {}
