@@ -6,6 +6,7 @@ use Rattle.hist_types.specs.Journal.{first_broken, events_of}
 use Rattle.hist_types.specs.Transactions.{transactions_of, nodes}
 use Rattle.hist_types.specs.Versions.{version_pairs}
 use Rattle.hist_types.specs.Edges.{Edge, dependency_edges, order_edges, edges_at}
+use Rattle.hist_types.specs.Frontier.{thinned_edges}
 use Rattle.hist_types.specs.Phenomena.{g1a}
 use Rattle.hist_types.specs.Witness.{IsWitness}
 use Rattle.hist_types.specs.Texts.{finding_lines}
@@ -48,6 +49,10 @@ stale_read-edges = refl
 -- In real time the write comes before the read: it was over at 1, and the read began at 2.
 stale_read-order : order_edges Realtime (transactions_of stale_read) ≡ realtime_edge 0 2 1 2 ∷ []
 stale_read-order = refl
+
+-- Nothing stands between them, so thinning leaves the edge.
+stale_read-thinned : thinned_edges Realtime (transactions_of stale_read) ≡ realtime_edge 0 2 1 2 ∷ []
+stale_read-thinned = refl
 
 -- They are of two processes, so there is no process edge.
 stale_read-no_process : order_edges Process (transactions_of stale_read) ≡ []
@@ -123,6 +128,12 @@ own_stale_read-order = refl
 -- In real time the same pair is told by its indexes; the level realtime has no process edges.
 own_stale_read-realtime : order_edges Realtime (transactions_of own_stale_read) ≡ realtime_edge 0 2 1 2 ∷ []
 own_stale_read-realtime = refl
+
+-- Thinning leaves both, each at its level.
+own_stale_read-thinned :
+    (thinned_edges Process (transactions_of own_stale_read) ≡ process_edge 0 2 0 ∷ [])
+    × (thinned_edges Realtime (transactions_of own_stale_read) ≡ realtime_edge 0 2 1 2 ∷ [])
+own_stale_read-thinned = (refl, refl)
 
 -- forth within the process, and back since the read missed the write
 abbrev pub own_stale_read_walk : List Edge
@@ -257,6 +268,12 @@ unknown_write-order = refl
 -- An info tells nothing of when the write happened: no order edge begins at it.
 unknown_write-realtime : order_edges Realtime (transactions_of unknown_write) ≡ realtime_edge 2 4 3 4 ∷ []
 unknown_write-realtime = refl
+
+-- Thinning leaves both, each at its level.
+unknown_write-thinned :
+    (thinned_edges Process (transactions_of unknown_write) ≡ process_edge 2 4 1 ∷ [])
+    × (thinned_edges Realtime (transactions_of unknown_write) ≡ realtime_edge 2 4 3 4 ∷ [])
+unknown_write-thinned = (refl, refl)
 
 -- from the write to its reader, on to the next read, and back
 abbrev pub unknown_write_walk : List Edge

@@ -395,6 +395,10 @@ only_open_ones_behind =
     ∷ invoke 1 []
     ∷ []
 
+-- It keeps the rules.
+only_open_ones_behind-legal : first_broken [] only_open_ones_behind ≡ None
+only_open_ones_behind-legal = refl
+
 -- The open ones are no nodes, so nothing is ordered,
 only_open_ones_behind-order : (order_edges Process (transactions_of only_open_ones_behind) ≡ []) × (order_edges Realtime (transactions_of only_open_ones_behind) ≡ [])
 only_open_ones_behind-order = (refl, refl)
