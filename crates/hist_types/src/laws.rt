@@ -50,7 +50,7 @@ pub fn blocks_one_after_another()
     ensures parts { (events front rest : List Operation) → (first_broken events (front ++ rest) ≡ None) ↔ ((first_broken events front ≡ None) × (first_broken (events ++ front) rest ≡ None)) }
 {}
 
-/// A completion is the next event of its process, where that is no invocation; what a process did last is its last event.
+/// A completion is the next event of its process, where that is no invocation. Behind a process's last event stands none of its own.
 pub fn events_of_a_process()
     ensures completion { (process index : ℕ) → (events : List Operation) → (found : Indexed) → (completion_in process index events ≡ Some found) ↔ (IsNextOf process index events found × IsFalse (is_invoke found.event.kind)) }
     ensures last { (process : ℕ) → (events : List Operation) → (event : Operation) → (last_event process events ≡ Some event) ↔ IsLastOf process events event }
