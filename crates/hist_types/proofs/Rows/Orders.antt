@@ -195,6 +195,12 @@ read_of_own_future-edges :
     dependency_edges (transactions_of read_of_own_future) ≡ ww_edge 2 0 x 1 2 ∷ wr_edge 2 0 x 1 ∷ []
 read_of_own_future-edges = refl
 
+-- One process runs them one after the other, and thinning leaves that.
+read_of_own_future-order :
+    (order_edges Process (transactions_of read_of_own_future) ≡ process_edge 0 2 0 ∷ [])
+    × (thinned_edges Process (transactions_of read_of_own_future) ≡ process_edge 0 2 0 ∷ [])
+read_of_own_future-order = (refl, refl)
+
 -- back over the writes
 abbrev written_before_walk : List Edge
 written_before_walk = process_edge 0 2 0 ∷ ww_edge 2 0 x 1 2 ∷ []
@@ -339,6 +345,12 @@ unknown_pair-pairs = refl
 -- One read saw the write of x, the other one missed that of y.
 unknown_pair-edges : dependency_edges (transactions_of unknown_pair) ≡ wr_edge 0 2 x 1 ∷ rw_nil_edge 4 0 y 1 ∷ []
 unknown_pair-edges = refl
+
+-- The two reads are of one process, and thinning leaves them in order.
+unknown_pair-order :
+    (order_edges Process (transactions_of unknown_pair) ≡ process_edge 2 4 1 ∷ [])
+    × (thinned_edges Process (transactions_of unknown_pair) ≡ process_edge 2 4 1 ∷ [])
+unknown_pair-order = (refl, refl)
 
 -- from one key to the other
 abbrev unknown_pair_walk : List Edge

@@ -1,12 +1,12 @@
 -- Operations that break a rule of the journal: the first broken rule, and the index that the operation would have had.
-use Rattle.std.proofs.Common.{◌≡◌, List, [], ◌∷◌, Some, None, codes, refl}
+use Rattle.std.proofs.Common.{◌≡◌, List, [], ◌∷◌, length, true, false, nat_le, Some, None, codes, refl}
 use Rattle.hist_types.specs.Atoms.{string, symbol}
-use Rattle.hist_types.specs.Operations.{write, Operation}
-use Rattle.hist_types.specs.Journal.{first_broken, events_of}
+use Rattle.hist_types.specs.Operations.{Mop, write, Operation}
+use Rattle.hist_types.specs.Journal.{invocation_refusal, broken, first_broken, events_of}
 use Rattle.hist_types.specs.Transactions.{transactions_of, nodes, Fail}
 use Rattle.hist_types.specs.Versions.{version_pairs}
 use Rattle.hist_types.specs.Edges.{dependency_edges}
-use Rattle.hist_types.specs.declared.types.Refusal.TheVariants.{Busy, Retired, Rewritten, Idle, Mismatch}
+use Rattle.hist_types.specs.declared.types.Refusal.TheVariants.{Busy, Retired, Rewritten, Idle, Mismatch, TooManyEvents}
 use Rattle.hist_types.proofs.Rows.History.{x, y, number, sets, gets, finds_nil, invoke, ok, fail, info}
 
 -- ---- each rule
@@ -47,6 +47,17 @@ no_mismatch :
     (first_broken [] (invoke 0 (gets x 5 ∷ []) ∷ ok 0 (gets x 7 ∷ []) ∷ []) ≡ None)
     × (first_broken [] (invoke 0 (sets x 1 ∷ []) ∷ fail 0 ∷ []) ≡ None)
 no_mismatch = (refl, refl)
+
+-- ---- the greatest number of events
+
+-- Whatever the operation, the journal takes none behind 1,048,576 events, and this rule comes before all others.
+too_many_events : (events : List Operation) (o : Operation) → nat_le 1048576 (length events) ≡ true → broken events o ≡ Some TooManyEvents
+too_many_events events o full = rw full refl
+
+-- Behind one event less the other rules decide, here for an invocation.
+not_too_many :
+    (events : List Operation) (mops : List Mop) → nat_le 1048576 (length events) ≡ false → broken events (invoke 0 mops) ≡ invocation_refusal events (invoke 0 mops)
+not_too_many events mops room = rw room refl
 
 -- ---- values that are written twice
 
