@@ -5,9 +5,8 @@ use Rattle.std.specs.List.{prefix_len}
 use Rattle.std.proofs.lemmas.List.Sums.{prefix_len-le-length}
 use Rattle.hist_types.specs.declared.types.Fault.{Fault}
 use Rattle.hist_types.specs.Bytes.{is_blank, is_opener, is_closer, is_run_byte, quote, semicolon, backslash, hash, line_feed, open_brace, underscore}
-use Rattle.hist_types.specs.Tokens.{ItemKind, Blank, Comment, Opener, Closer, Str, Char, Drop, Tag, Item, run_of, run_len, run_kind, character_len, content_len, hash_front, front, BeginsWith, IsCut, item_fault, open_after, byte_fault, HasTokens}
+use Rattle.hist_types.specs.Tokens.{ItemKind, Blank, Comment, Opener, Closer, Str, Char, Drop, Tag, Item, run_of, run_len, run_kind, character_len, content_len, hash_front, front, BeginsWith, IsCut, item_fault, open_after, byte_fault, tokens_of, HasTokens}
 use Rattle.hist_types.specs.declared.types.Refusal.TheVariants.{UnclosedString}
-use Rattle.edn_lex.specs.State.{tokens_of}
 use Rattle.edn_lex.proofs.Cuts.{item}
 
 -- An item within a text of n bytes, or a string that nothing closes.

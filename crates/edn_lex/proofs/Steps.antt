@@ -4,12 +4,12 @@ use Rattle.std.specs.Iterator.{Yields}
 use Rattle.std.proofs.lemmas.List.{drop_all}
 use Rattle.std.proofs.lemmas.List.Elements.{filter-append}
 use Rattle.hist_types.specs.declared.types.Fault.{Fault}
-use Rattle.hist_types.specs.Tokens.{ItemKind, Item, BeginsWithFault, IsCut, open_after, is_token}
+use Rattle.hist_types.specs.Tokens.{tokens_of, ItemKind, Item, BeginsWithFault, IsCut, open_after, is_token}
 use Rattle.edn_lex.specs.declared.types.Token.{Token}
 use Rattle.edn_lex.specs.declared.types.TokenKind.{TokenKind}
 use Rattle.edn_lex.specs.declared.types.TokenKind.TheVariants as kinds
 use Rattle.edn_lex.specs.Kinds.{kind_of, item_of}
-use Rattle.edn_lex.specs.State.{State, left, tokens_of, IsCutFrom, RestIf, Rest, GivesToken, GivesFault, GivesEnd, PassesOver, Passes, after_item, Gives, items_given, fault_given}
+use Rattle.edn_lex.specs.State.{State, left, IsCutFrom, RestIf, Rest, GivesToken, GivesFault, GivesEnd, PassesOver, Passes, after_item, Gives, items_given, fault_given}
 use Rattle.edn_lex.proofs.Cuts.{item, IsCut-first}
 use Rattle.hist_types.proofs.OneCut.{one_cut}
 

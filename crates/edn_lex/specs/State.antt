@@ -1,9 +1,9 @@
 -- What a lexer is seen as between two tokens, and what it has still to give.
-use Rattle.std.specs.Prelude.{◌≡◌, ℕ, List, ◌∷◌, [], ◌++◌, take, drop, length, Bool, true, false, ◌<◌, ◌≤◌, ◌+◌, ◌-◌, cond, Option, Some, None, Result, Ok, Err, filter, refl}
+use Rattle.std.specs.Prelude.{◌≡◌, ℕ, List, ◌∷◌, [], ◌++◌, take, drop, length, Bool, true, false, ◌<◌, ◌≤◌, ◌+◌, ◌-◌, cond, Option, Some, None, Result, Ok, Err, refl}
 use Rattle.std.specs.Iterator.{Count, at_most}
 use Rattle.std.specs.Coded.{Coded, code_by, coded×, coded_ℕ, coded_bool, coded_list}
 use Rattle.hist_types.specs.declared.types.Fault.{Fault}
-use Rattle.hist_types.specs.Tokens.{ItemKind, Item, IsCut, is_token, BeginsWith, BeginsWithFault, item_fault, open_after}
+use Rattle.hist_types.specs.Tokens.{ItemKind, Item, IsCut, is_token, tokens_of, BeginsWith, BeginsWithFault, item_fault, open_after}
 use Rattle.edn_lex.specs.declared.types.Token.{Token}
 use Rattle.edn_lex.specs.Kinds.{kind_of, item_of}
 
@@ -30,10 +30,6 @@ state_at_start text = record { text = text; offset = 0; closers = []; ended = fa
 -- the text that has not been passed
 abbrev pub left : State → List ℕ
 left s = drop s.offset s.text
-
--- the tokens among the items
-abbrev pub tokens_of : List Item → List Item
-tokens_of items = filter (λ item. is_token item.kind) items
 
 -- what is left is cut into these items, and then it ends or the fault stands
 abbrev pub IsCutFrom : State → List Item → Option Fault → Type 0
