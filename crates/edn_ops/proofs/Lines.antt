@@ -13,13 +13,13 @@ use Rattle.hist_types.specs.declared.types.OpKind.{OpKind}
 use Rattle.hist_types.specs.declared.types.OpKind.TheVariants as kinds
 use Rattle.edn_ops.specs.declared.types.MopShape.{MopShape}
 use Rattle.edn_ops.specs.declared.types.OpShape.{OpShape}
-use Rattle.edn_ops.specs.SimpleLines.{IsSimpleMop, FitsKind, IsSimple, BeginsWithLine, BeginsWithNoLine, IsSpanOf, AreMopShapesOf, HasLine}
+use Rattle.edn_ops.specs.SimpleLines.{IsSimpleMop, FitsKind, IsSimple, BeginsWithLine, BeginsWithNoLine, IsSpanOf, AreMopShapesOf, StandInARow, text_before_mops, HasLine}
 use Rattle.edn_ops.specs.Scan.{◌>>=◌, or_else, keep_if, strip, number_at, process_at, span_between, mops_at, kind_at, head_at, value_field_at, ShapeParts, parts_of, operation_at, next_line, line_at}
 use Rattle.hist_types.specs.declared.types.Fault.{Fault}
 use Rattle.edn_ops.specs.Reader.{Reader, left, not_a_map, HasRefused}
 use Rattle.edn_ops.proofs.Parts.{then_takes, or_takes, keep_takes, strip_takes, strip_again}
 use Rattle.edn_ops.proofs.Digits.{number_takes, number_again}
-use Rattle.edn_ops.proofs.Mops.{EndsWith, behind, span_takes, TakesTransaction, mops_takes, mops_again}
+use Rattle.edn_ops.proofs.Mops.{EndsWith, behind, place_behind, span_takes, TakesTransaction, mops_takes, mops_again}
 
 -- ---- up to the process
 
@@ -106,14 +106,18 @@ record TakesField (kind : OpKind) (text bytes : List ℕ) (shapes : List MopShap
   simple : AllByRecursion IsSimpleMop mops
   parts : bytes ≡ value_field_text kind mops ++ rest
   shapes_of : AreMopShapesOf text shapes mops
+  row : StandInARow ((length text - length bytes) + 10) shapes
   count : length mops ≤ MAX_MICRO_OPS
 
 valued_takes : (text bytes : List ℕ) (shapes : List MopShape) (rest : List ℕ) → EndsWith text bytes → (strip (codes ", :value ") bytes >>= mops_at (length text)) ≡ Some (shapes, rest)
-    → (inside : List ℕ) × (bytes ≡ codes ", :value " ++ inside) × TakesTransaction text inside shapes rest
+    → (inside : List ℕ) × (bytes ≡ codes ", :value " ++ inside) × TakesTransaction text inside shapes rest × StandInARow ((length text - length bytes) + 10) shapes
 valued_takes text bytes shapes rest ends e =
     let inside = then_takes (strip (codes ", :value ") bytes) (mops_at (length text)) (shapes, rest) e in
     let opened = strip_takes (codes ", :value ") bytes inside.0 inside.1 in
-    (inside.0, opened, mops_takes text inside.0 shapes rest (behind text bytes (codes ", :value ") inside.0 ends opened) inside.2)
+    let t = mops_takes text inside.0 shapes rest (behind text bytes (codes ", :value ") inside.0 ends opened) inside.2 in
+    let inside_begins : length text - length inside.0 ≡ (length text - length bytes) + 9 = place_behind text bytes (codes ", :value ") inside.0 ends opened in
+    let first_begins : (length text - length inside.0) + 1 ≡ (length text - length bytes) + 10 = omega arith in
+    (inside.0, opened, t, subst (λ (k : ℕ). StandInARow k shapes) first_begins t.row)
 
 value_parts : (mops : List Mop) (rest : List ℕ) → codes ", :value " ++ (mops_text mops ++ rest) ≡ (codes ", :value " ++ mops_text mops) ++ rest
 value_parts mops rest = sym (append_assoc (codes ", :value ") (mops_text mops) rest)
@@ -123,17 +127,17 @@ unfolding value_field_at
 field_takes kinds.Invoke text bytes shapes rest ends e =
     let found = valued_takes text bytes shapes rest ends e in
     let t = found.2 in
-    record { mops = t.mops; fits = tt; simple = t.simple; parts = found.1 ∙ ap (λ (x : List ℕ). codes ", :value " ++ x) t.parts ∙ value_parts t.mops rest; shapes_of = t.shapes_of; count = t.count }
+    record { mops = t.mops; fits = tt; simple = t.simple; parts = found.1 ∙ ap (λ (x : List ℕ). codes ", :value " ++ x) t.parts ∙ value_parts t.mops rest; shapes_of = t.shapes_of; row = found.3; count = t.count }
 field_takes kinds.Ok text bytes shapes rest ends e =
     let found = valued_takes text bytes shapes rest ends e in
     let t = found.2 in
-    record { mops = t.mops; fits = tt; simple = t.simple; parts = found.1 ∙ ap (λ (x : List ℕ). codes ", :value " ++ x) t.parts ∙ value_parts t.mops rest; shapes_of = t.shapes_of; count = t.count }
+    record { mops = t.mops; fits = tt; simple = t.simple; parts = found.1 ∙ ap (λ (x : List ℕ). codes ", :value " ++ x) t.parts ∙ value_parts t.mops rest; shapes_of = t.shapes_of; row = found.3; count = t.count }
 field_takes kinds.Fail text bytes shapes rest ends e =
     subst (λ (x : List MopShape × List ℕ). TakesField kinds.Fail text bytes x.0 x.1) (same_Some ([], bytes) (shapes, rest) e)
-    (record { mops = []; fits = refl; simple = tt; parts = refl; shapes_of = tt; count = omega arith })
+    (record { mops = []; fits = refl; simple = tt; parts = refl; shapes_of = tt; row = tt; count = omega arith })
 field_takes kinds.Info text bytes shapes rest ends e =
     subst (λ (x : List MopShape × List ℕ). TakesField kinds.Info text bytes x.0 x.1) (same_Some ([], bytes) (shapes, rest) e)
-    (record { mops = []; fits = refl; simple = tt; parts = refl; shapes_of = tt; count = omega arith })
+    (record { mops = []; fits = refl; simple = tt; parts = refl; shapes_of = tt; row = tt; count = omega arith })
 
 valued_again : (total : ℕ) (mops : List Mop) (rest : List ℕ) → AllByRecursion IsSimpleMop mops → length mops ≤ MAX_MICRO_OPS
     → (shapes : List MopShape) × ((strip (codes ", :value ") ((codes ", :value " ++ mops_text mops) ++ rest) >>= mops_at total) ≡ Some (shapes, rest))
@@ -164,6 +168,7 @@ pub record ArePartsOf (text : List ℕ) (shape : ShapeParts) (op : Operation) : 
   pub kind : shape.kind ≡ op.kind
   pub process : shape.process ≡ op.process
   pub mops : AreMopShapesOf text shape.mops op.mops
+  pub row : StandInARow (shape.span.start + length (text_before_mops op.kind op.process)) shape.mops
 
 -- an operation at the front, which is simple if it is short
 record TakesOperation (text bytes : List ℕ) (shape : ShapeParts) (rest : List ℕ) : Type 0 where
@@ -173,6 +178,7 @@ record TakesOperation (text bytes : List ℕ) (shape : ShapeParts) (rest : List 
   count : length op.mops ≤ MAX_MICRO_OPS
   atoms : AllByRecursion IsSimpleMop op.mops
   parts : bytes ≡ operation_text op ++ rest
+  begins : shape.span.start ≡ length text - length bytes
   shape_of : ArePartsOf text shape op
 
 in_a_row : (a b c d e f rest : List ℕ) → a ++ (b ++ (c ++ (d ++ (e ++ (f ++ rest))))) ≡ (a ++ b ++ c ++ d ++ e ++ f) ++ rest
@@ -181,10 +187,21 @@ in_a_row a b c d e f rest = sym (simp append_assoc)
 op_parts : (op : Operation) (rest : List ℕ) → headed op.kind op.process (value_field_text op.kind op.mops ++ (codes "}" ++ rest)) ≡ operation_text op ++ rest
 op_parts op rest = in_a_row (codes "{:type ") (kind_text op.kind) (codes ", :process ") (decimal op.process) (value_field_text op.kind op.mops) (codes "}") rest
 
+abbrev head_text : OpKind → ℕ → List ℕ
+head_text kind process = codes "{:type " ++ kind_text kind ++ codes ", :process " ++ decimal process
+
+headed_parts : (kind : OpKind) (process : ℕ) (rest : List ℕ) → headed kind process rest ≡ head_text kind process ++ rest
+headed_parts kind process rest = sym (simp append_assoc)
+
 headed_ends : (text bytes : List ℕ) (kind : OpKind) (process : ℕ) (rest : List ℕ) → EndsWith text bytes → bytes ≡ headed kind process rest → EndsWith text rest
-headed_ends text bytes kind process rest ends e =
-    let grouped : headed kind process rest ≡ (codes "{:type " ++ kind_text kind ++ codes ", :process " ++ decimal process) ++ rest = sym (simp append_assoc) in
-    behind text bytes (codes "{:type " ++ kind_text kind ++ codes ", :process " ++ decimal process) rest ends (e ∙ grouped)
+headed_ends text bytes kind process rest ends e = behind text bytes (head_text kind process) rest ends (e ∙ headed_parts kind process rest)
+
+-- where the first micro-operation begins
+first_begins : (text bytes : List ℕ) (kind : OpKind) (process : ℕ) (field : List ℕ) → EndsWith text bytes → bytes ≡ headed kind process field → (length text - length field) + 10 ≡ (length text - length bytes) + length (text_before_mops kind process)
+first_begins text bytes kind process field ends e =
+    let field_begins : length text - length field ≡ (length text - length bytes) + length (head_text kind process) = place_behind text bytes (head_text kind process) field ends (e ∙ headed_parts kind process field) in
+    let size : length (text_before_mops kind process) ≡ length (head_text kind process) + 10 = length-append (head_text kind process) (codes ", :value [") in
+    omega arith
 
 -- what was read, put together
 makes : (text bytes : List ℕ) (kind : OpKind) (process : ℕ) (field : List ℕ) (shapes : List MopShape) (closer rest : List ℕ) → EndsWith text bytes
@@ -201,7 +218,14 @@ makes text bytes kind process field shapes closer rest ends e le value closed =
       count = value.count;
       atoms = value.simple;
       parts = spelled;
-      shape_of = record { map = span_takes text bytes (operation_text op) rest ends spelled; kind = refl; process = refl; mops = value.shapes_of };
+      begins = refl;
+      shape_of = record {
+        map = span_takes text bytes (operation_text op) rest ends spelled;
+        kind = refl;
+        process = refl;
+        mops = value.shapes_of;
+        row = subst (λ (k : ℕ). StandInARow k shapes) (first_begins text bytes kind process field ends e) value.row;
+      };
     }
 
 operation_takes : (text bytes : List ℕ) (shape : ShapeParts) (rest : List ℕ) → EndsWith text bytes → operation_at (length text) bytes ≡ Some (shape, rest) → TakesOperation text bytes shape rest
@@ -244,6 +268,7 @@ pub record TakesLine (text bytes : List ℕ) (shape : ShapeParts) (next : List �
   pub op : Operation
   pub simple : IsSimple op
   pub line : BeginsWithLine bytes op next
+  pub begins : shape.span.start ≡ length text - length bytes
   pub shape_of : ArePartsOf text shape op
   pub ends : EndsWith text next
 
@@ -257,6 +282,7 @@ ended text bytes shape rest next ends t short end =
       | inl p ↦ record {
         op = t.op;
         simple = simple;
+        begins = t.begins;
         shape_of = t.shape_of;
         line = inl (t.parts ∙ ap (λ (x : List ℕ). operation_text t.op ++ x) p.0 ∙ append-nil (operation_text t.op), p.1);
         ends = record { before = rest_ends.before; whole = rest_ends.whole ∙ ap (λ (x : List ℕ). rest_ends.before ++ x) (p.0 ∙ sym p.1) };
@@ -264,6 +290,7 @@ ended text bytes shape rest next ends t short end =
       | inr p ↦ record {
         op = t.op;
         simple = simple;
+        begins = t.begins;
         shape_of = t.shape_of;
         line = inr (t.parts ∙ ap (λ (x : List ℕ). operation_text t.op ++ x) p);
         ends = behind text rest (10 ∷ []) next rest_ends p;
@@ -296,8 +323,8 @@ line_again total bytes op next simple (inr p) = line_again_at total bytes op (10
 
 -- ---- at a place of a text
 
-pub line_found : (text : List ℕ) (place : ℕ) (shape : OpShape) (next : List ℕ) → line_at (length text) (drop place text) ≡ Some (parts_of shape, next) → HasLine text place shape (length text - length next)
-line_found text place shape next e =
+pub line_found : (text : List ℕ) (place : ℕ) (shape : OpShape) (next : List ℕ) → place ≤ length text → line_at (length text) (drop place text) ≡ Some (parts_of shape, next) → HasLine text place shape (length text - length next)
+line_found text place shape next within e =
     let t = line_takes text (drop place text) (parts_of shape) next (record { before = take place text; whole = sym (take-append-drop place text) }) e in
     let before = t.ends.before in
     let size : length text ≡ length before + length next = ap length t.ends.whole ∙ length-append before next in
@@ -307,13 +334,14 @@ line_found text place shape next e =
       op = t.op;
       simple = t.simple;
       line = subst (BeginsWithLine (drop place text) t.op) (sym left) t.line;
-      shape_of = record { map = t.shape_of.map; kind = t.shape_of.kind; process = t.shape_of.process; mops = t.shape_of.mops };
+      begins = t.begins ∙ omega (arith, length-drop place text);
+      shape_of = record { map = t.shape_of.map; kind = t.shape_of.kind; process = t.shape_of.process; mops = t.shape_of.mops; row = t.shape_of.row };
       within = omega arith;
     }
 
 -- the same of the code's slices and numbers
-pub line_found_at : (text : List ℕ) (place : ℕ) (bytes : List ℕ) (shape : OpShape) (next : List ℕ) (at : ℕ) → bytes ≡ drop place text → line_at (length text) bytes ≡ Some (parts_of shape, next) → at ≡ length text - length next → HasLine text place shape at
-line_found_at text place bytes shape next at here e there = rw there (line_found text place shape next (ap (line_at (length text)) (sym here) ∙ e))
+pub line_found_at : (text : List ℕ) (place : ℕ) (bytes : List ℕ) (shape : OpShape) (next : List ℕ) (at : ℕ) → place ≤ length text → bytes ≡ drop place text → line_at (length text) bytes ≡ Some (parts_of shape, next) → at ≡ length text - length next → HasLine text place shape at
+line_found_at text place bytes shape next at within here e there = rw there (line_found text place shape next within (ap (line_at (length text)) (sym here) ∙ e))
 
 pub no_line : (total : ℕ) (bytes : List ℕ) → line_at total bytes ≡ None → BeginsWithNoLine bytes
 no_line total bytes none op rest simple line =

@@ -8,7 +8,7 @@ use Rattle.hist_types.specs.Operations.{Mop, read, write}
 use Rattle.hist_types.specs.Texts.{atom_text, value_text, mop_text, mops_text}
 use Rattle.hist_types.specs.declared.limits.TheConstants.{MAX_MICRO_OPS}
 use Rattle.edn_ops.specs.declared.types.MopShape.{MopShape}
-use Rattle.edn_ops.specs.SimpleLines.{IsSimpleMop, IsSpanOf, IsMopShapeOf, AreMopShapesOf}
+use Rattle.edn_ops.specs.SimpleLines.{IsSimpleMop, IsSpanOf, IsMopShapeOf, AreMopShapesOf, StandInARow}
 use Rattle.edn_ops.specs.Scan.{◌>>=◌, or_else, strip, after_atom, after_value, span_between, mop_head_at, mop_at, with_more, some_mops_at, mops_at}
 use Rattle.edn_ops.proofs.Parts.{then_takes, or_takes, strip_takes}
 use Rattle.edn_ops.proofs.Atoms.{blank_ends, closer_ends, atom_takes, atom_again, written_takes, written_again, returned_takes, returned_again}
@@ -22,6 +22,13 @@ pub record EndsWith (text bytes : List ℕ) : Type 0 where
 
 pub behind : (text bytes spelled rest : List ℕ) → EndsWith text bytes → bytes ≡ spelled ++ rest → EndsWith text rest
 behind text bytes spelled rest ends e = record { before = ends.before ++ spelled; whole = ends.whole ∙ ap (λ (x : List ℕ). ends.before ++ x) e ∙ sym (append_assoc ends.before spelled rest) }
+
+-- where the bytes behind a part stand
+pub place_behind : (text bytes spelled rest : List ℕ) → EndsWith text bytes → bytes ≡ spelled ++ rest → length text - length rest ≡ (length text - length bytes) + length spelled
+place_behind text bytes spelled rest ends e =
+    let len : length text ≡ length ends.before + length bytes = ap length ends.whole ∙ length-append ends.before bytes in
+    let parts : length bytes ≡ length spelled + length rest = ap length e ∙ length-append spelled rest in
+    omega arith
 
 pub span_takes : (text from spelled to : List ℕ) → EndsWith text from → from ≡ spelled ++ to → IsSpanOf text (span_between (length text) from to) spelled
 span_takes text from spelled to ends e =
@@ -49,6 +56,9 @@ pub record TakesMop (text bytes : List ℕ) (shape : MopShape) (rest : List ℕ)
   pub simple : IsSimpleMop mop
   pub parts : bytes ≡ mop_text mop ++ rest
   pub shape_of : IsMopShapeOf text shape mop
+  pub key_begins : shape.key.start ≡ (length text - length bytes) + 4
+  pub value_begins : shape.value.start ≡ shape.key.end + 1
+  pub rest_begins : length text - length rest ≡ shape.value.end + 1
 
 head_takes : (bytes : List ℕ) (head : Bool × List ℕ) → mop_head_at bytes ≡ Some head → ((head.0 ≡ false) × (bytes ≡ codes "[:r " ++ head.1)) ⊎ ((head.0 ≡ true) × (bytes ≡ codes "[:w " ++ head.1))
 unfolding mop_head_at
@@ -91,6 +101,9 @@ joins text bytes key_at gap value_at closer rest is_write ends (inl p) key-is ga
       mop = read key.atom value.value;
       simple = (key.simple, value.simple);
       parts = spelled ∙ read_parts key.atom value.value rest;
+      key_begins = place_behind text bytes (codes "[:r ") key_at ends p.1;
+      value_begins = place_behind text gap (codes " ") value_at gap_ends gap-is;
+      rest_begins = place_behind text closer (codes "]") rest (behind text value_at (value_text value.value) closer value_ends value.parts) closer-is;
       shape_of = (p.0, span_takes text key_at (atom_text key.atom) gap key_ends key.parts, span_takes text value_at (value_text value.value) closer value_ends value.parts);
     }
 joins text bytes key_at gap value_at closer rest is_write ends (inr p) key-is gap-is value-is closer-is =
@@ -105,6 +118,9 @@ joins text bytes key_at gap value_at closer rest is_write ends (inr p) key-is ga
       mop = write key.atom value.atom;
       simple = (key.simple, value.simple);
       parts = spelled ∙ write_parts key.atom value.atom rest;
+      key_begins = place_behind text bytes (codes "[:w ") key_at ends p.1;
+      value_begins = place_behind text gap (codes " ") value_at gap_ends gap-is;
+      rest_begins = place_behind text closer (codes "]") rest (behind text value_at (atom_text value.atom) closer value_ends value.parts) closer-is;
       shape_of = (p.0, span_takes text key_at (atom_text key.atom) gap key_ends key.parts, span_takes text value_at (atom_text value.atom) closer value_ends value.parts);
     }
 
@@ -164,15 +180,16 @@ pub record TakesMops (most : ℕ) (text bytes : List ℕ) (shapes : List MopShap
   pub simple : AllByRecursion IsSimpleMop mops
   pub parts : bytes ≡ join_by mop_text (codes " ") mops ++ (codes "]" ++ rest)
   pub shapes_of : AreMopShapesOf text shapes mops
+  pub row : StandInARow (length text - length bytes) shapes
   pub count : length mops ≤ most
   pub some : 0 < length mops
 
 -- one more in front
 one_more : (most : ℕ) (text bytes : List ℕ) (first : MopShape) (after next : List ℕ) (shapes : List MopShape) (rest : List ℕ) → TakesMop text bytes first after → after ≡ codes " " ++ next
-    → (mops : List Mop) → AllByRecursion IsSimpleMop mops → next ≡ join_by mop_text (codes " ") mops ++ (codes "]" ++ rest) → AreMopShapesOf text shapes mops → length mops ≤ most → 0 < length mops
+    → (mops : List Mop) → AllByRecursion IsSimpleMop mops → next ≡ join_by mop_text (codes " ") mops ++ (codes "]" ++ rest) → AreMopShapesOf text shapes mops → StandInARow (first.value.end + 2) shapes → length mops ≤ most → 0 < length mops
     → TakesMops (suc most) text bytes (first ∷ shapes) rest
-one_more most text bytes first after next shapes rest one blank [] simple parts shapes_of count some = absurd (omega arith)
-one_more most text bytes first after next shapes rest one blank (n ∷ ms) simple parts shapes_of count some =
+one_more most text bytes first after next shapes rest one blank [] simple parts shapes_of row count some = absurd (omega arith)
+one_more most text bytes first after next shapes rest one blank (n ∷ ms) simple parts shapes_of row count some =
     let others = join_by mop_text (codes " ") (n ∷ ms) in
     let spelled : bytes ≡ mop_text one.mop ++ (codes " " ++ (others ++ (codes "]" ++ rest))) =
     one.parts ∙ ap (λ (x : List ℕ). mop_text one.mop ++ x) (blank ∙ ap (λ (x : List ℕ). codes " " ++ x) parts) in
@@ -183,6 +200,7 @@ one_more most text bytes first after next shapes rest one blank (n ∷ ms) simpl
       simple = (one.simple, simple);
       parts = spelled ∙ grouped ∙ ap (λ (x : List ℕ). x ++ (codes "]" ++ rest)) (sym (join_more one.mop n ms));
       shapes_of = (one.shape_of, shapes_of);
+      row = (one.key_begins, one.value_begins, row);
       count = omega arith;
       some = omega arith;
     }
@@ -194,6 +212,7 @@ last_one most text bytes first after rest one closer =
       simple = (one.simple, tt);
       parts = one.parts ∙ ap (λ (x : List ℕ). mop_text one.mop ++ x) closer ∙ ap (λ (x : List ℕ). x ++ (codes "]" ++ rest)) (sym (append-nil (mop_text one.mop)));
       shapes_of = (one.shape_of, tt);
+      row = (one.key_begins, one.value_begins, tt);
       count = omega arith;
       some = omega arith;
     }
@@ -216,9 +235,12 @@ some_takes (suc most) text bytes shapes rest ends e =
           let blank = strip_takes (codes " ") after next.0 next.1 in
           let others = then_takes (some_mops_at most (length text) next.0) (λ x. Some (shape ∷ x.0, x.1)) (shapes, rest) next.2 in
           let after_ends = behind text bytes (mop_text one.mop) after ends one.parts in
+          let blank_behind : length text - length next.0 ≡ (length text - length after) + 1 = place_behind text after (codes " ") next.0 after_ends blank in
+          let rest_begins : length text - length after ≡ shape.value.end + 1 = one.rest_begins in
+          let next_begins : length text - length next.0 ≡ shape.value.end + 2 = omega arith in
           let more = some_takes most text next.0 others.0.0 others.0.1 (behind text after (codes " ") next.0 after_ends blank) others.1 in
           subst (λ (x : List MopShape × List ℕ). TakesMops (suc most) text bytes x.0 x.1) (same_Some (shape ∷ others.0.0, others.0.1) (shapes, rest) others.2)
-          (one_more most text bytes shape after next.0 others.0.0 others.0.1 one blank more.mops more.simple more.parts more.shapes_of more.count more.some)
+          (one_more most text bytes shape after next.0 others.0.0 others.0.1 one blank more.mops more.simple more.parts more.shapes_of (subst (λ (k : ℕ). StandInARow k others.0.0) next_begins more.row) more.count more.some)
     ]
 
 -- the first and the others are read
@@ -253,6 +275,7 @@ pub record TakesTransaction (text bytes : List ℕ) (shapes : List MopShape) (re
   pub simple : AllByRecursion IsSimpleMop mops
   pub parts : bytes ≡ mops_text mops ++ rest
   pub shapes_of : AreMopShapesOf text shapes mops
+  pub row : StandInARow ((length text - length bytes) + 1) shapes
   pub count : length mops ≤ MAX_MICRO_OPS
 
 mops_parts : (mops : List Mop) (rest : List ℕ) → codes "[" ++ (join_by mop_text (codes " ") mops ++ (codes "]" ++ rest)) ≡ mops_text mops ++ rest
@@ -269,10 +292,17 @@ mops_takes text bytes shapes rest ends e =
           let after = then_takes (strip (codes "]") inside.0) (λ after. Some ([], after)) (shapes, rest) p in
           let spelled : bytes ≡ mops_text [] ++ after.0 = opened ∙ ap (λ (x : List ℕ). codes "[" ++ x) (strip_takes (codes "]") inside.0 after.0 after.1) in
           subst (λ (x : List MopShape × List ℕ). TakesTransaction text bytes x.0 x.1) (same_Some ([], after.0) (shapes, rest) after.2)
-          (record { mops = []; simple = tt; parts = spelled; shapes_of = tt; count = omega arith })
+          (record { mops = []; simple = tt; parts = spelled; shapes_of = tt; row = tt; count = omega arith })
       | inr p ↦
           let some = some_takes MAX_MICRO_OPS text inside.0 shapes rest (behind text bytes (codes "[") inside.0 ends opened) p in
-          record { mops = some.mops; simple = some.simple; parts = opened ∙ ap (λ (x : List ℕ). codes "[" ++ x) some.parts ∙ mops_parts some.mops rest; shapes_of = some.shapes_of; count = some.count }
+          record {
+            mops = some.mops;
+            simple = some.simple;
+            parts = opened ∙ ap (λ (x : List ℕ). codes "[" ++ x) some.parts ∙ mops_parts some.mops rest;
+            shapes_of = some.shapes_of;
+            row = subst (λ (k : ℕ). StandInARow k shapes) (place_behind text bytes (codes "[") inside.0 ends opened) some.row;
+            count = some.count;
+          }
     ]
 
 -- no micro-operation begins with the end of a list

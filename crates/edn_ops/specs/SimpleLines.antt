@@ -1,13 +1,13 @@
 -- Simple lines (this project's own).
 -- A simple line is the canonical text of an operation that reading accepts, with integers of 64 bits and ASCII keywords
 -- as its only atoms. It ends with a line feed, or with the text.
-use Rattle.std.specs.Prelude.{◌≡◌, ℕ, ◌<◌, ◌≤◌, List, [], ◌∷◌, ◌++◌, length, drop, slice_range, Bool, true, false, ◌&&◌, nat_lt, IfSome, ◌⊎◌}
+use Rattle.std.specs.Prelude.{◌≡◌, ℕ, ◌+◌, ◌<◌, ◌≤◌, List, [], ◌∷◌, ◌++◌, length, drop, slice_range, Bool, true, false, ◌&&◌, nat_lt, IfSome, ◌⊎◌, codes, decimal}
 use Rattle.std.specs.List.{list_all, AllByRecursion}
 use Rattle.hist_types.specs.Bytes.{colon, line_feed, is_run_byte}
 use Rattle.hist_types.specs.Atoms.{Atom, integer, keyword, string, symbol}
 use Rattle.hist_types.specs.Operations.{Mop, read, write, Operation}
 use Rattle.hist_types.specs.Reading.{is_64_bit}
-use Rattle.hist_types.specs.Texts.{atom_text, value_text, operation_text}
+use Rattle.hist_types.specs.Texts.{atom_text, value_text, kind_text, operation_text}
 use Rattle.hist_types.specs.declared.limits.TheConstants.{MAX_PROCESS, MAX_MICRO_OPS, MAX_OPERATION_BYTES}
 use Rattle.hist_types.specs.declared.types.OpKind.{OpKind}
 use Rattle.hist_types.specs.declared.types.OpKind.TheVariants as kinds
@@ -78,18 +78,32 @@ AreMopShapesOf text [] (mop ∷ mops) = ⊥
 AreMopShapesOf text (shape ∷ shapes) [] = ⊥
 AreMopShapesOf text (shape ∷ shapes) (mop ∷ mops) = IsMopShapeOf text shape mop × AreMopShapesOf text shapes mops
 
+-- From a place on stand micro-operations as canonical text has them: `[:r ` or `[:w `, the key, a blank, the value and `]`,
+-- with a blank before the next.
+abbrev pub StandInARow : ℕ → List MopShape → Type 0
+StandInARow place [] = Unit {0}
+StandInARow place (shape ∷ shapes) =
+    (shape.key.start ≡ place + length (codes "[:r ")) × (shape.value.start ≡ shape.key.end + length (codes " "))
+    × StandInARow (shape.value.end + length (codes "] ")) shapes
+
+-- what stands before the first micro-operation
+abbrev pub text_before_mops : OpKind → (process : ℕ) → List ℕ
+text_before_mops kind process = codes "{:type " ++ kind_text kind ++ codes ", :process " ++ decimal process ++ codes ", :value ["
+
 -- where a text has an operation
 pub record IsShapeOf (text : List ℕ) (shape : OpShape) (op : Operation) : Type 0 where
   pub map : IsSpanOf text shape.span (operation_text op)
   pub kind : shape.kind ≡ op.kind
   pub process : shape.process ≡ op.process
   pub mops : AreMopShapesOf text shape.mops.items op.mops
+  pub row : StandInARow (shape.span.start + length (text_before_mops op.kind op.process)) shape.mops.items
 
 -- At a place of a text stands the line of a simple operation, with this shape. Behind the line comes the next place.
 pub record HasLine (text : List ℕ) (place : ℕ) (shape : OpShape) (next : ℕ) : Type 0 where
   pub op : Operation
   pub simple : IsSimple op
   pub line : BeginsWithLine (drop place text) op (drop next text)
+  pub begins : shape.span.start ≡ place
   pub shape_of : IsShapeOf text shape op
   pub within : next ≤ length text
 
