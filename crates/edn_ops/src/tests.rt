@@ -33,14 +33,22 @@ fn next_op(reader: &mut OpReader) -> Result<Option<OpShape>, Fault> {
 /// How many simple lines stand at the front of the text, and the fault after them.
 fn count(alloc: Global, text: &[u8]) -> (usize, Option<Fault>) {
     let mut reader = OpReader::new(alloc, text);
-    for ops in 0..text.len() {
+    for ops in 0..=text.len() {
         match next_op(&mut reader) {
             Ok(Some(_)) => {}
             Ok(None) => return (ops, None),
             Err(fault) => return (ops, Some(fault)),
         }
     }
-    (0, None)
+    (usize::MAX, None)
+}
+
+/// Appends the bytes. Where memory is refused the text stays as it was, and they are appended again.
+fn grow(text: &mut Vec<u8>, bytes: &[u8]) -> Result<(), AllocError> {
+    match text.extend_from_slice(bytes) {
+        Ok(()) => Ok(()),
+        Err(_) => text.extend_from_slice(bytes),
+    }
 }
 
 #[test]
@@ -101,9 +109,10 @@ fn refuses_what_is_not_simple(rt: HostRuntime) -> Result<(), Fail> {
         "{:type :ok",
     ];
     for line in lines {
-        let mut text = Vec::from_slice(rt.alloc(), GOOD.as_bytes())?;
-        text.extend_from_slice(line.as_bytes())?;
-        text.extend_from_slice(b"\n{:type :fail, :process 0}\n")?;
+        let mut text = Vec::new(rt.alloc());
+        grow(&mut text, GOOD.as_bytes())?;
+        grow(&mut text, line.as_bytes())?;
+        grow(&mut text, b"\n{:type :fail, :process 0}\n")?;
         let mut reader = OpReader::new(rt.alloc(), &text);
         assert!(rt;
             matches!(next_op(&mut reader), Ok(Some(_))),
@@ -162,24 +171,26 @@ fn gives_shapes(rt: HostRuntime) -> Result<(), Fail> {
 
 /// A transaction of so many reads.
 fn wide(alloc: Global, mops: usize) -> Result<Vec<u8>, AllocError> {
-    let mut text = Vec::from_slice(alloc, b"{:type :invoke, :process 0, :value [")?;
+    let mut text = Vec::new(alloc);
+    grow(&mut text, b"{:type :invoke, :process 0, :value [")?;
     for i in 0..mops {
         if 0 < i {
-            text.extend_from_slice(b" ")?;
+            grow(&mut text, b" ")?;
         }
-        text.extend_from_slice(b"[:r :k nil]")?;
+        grow(&mut text, b"[:r :k nil]")?;
     }
-    text.extend_from_slice(b"]}\n")?;
+    grow(&mut text, b"]}\n")?;
     Ok(text)
 }
 
 /// A write of a keyword with so many bytes behind its colon: 46 bytes more.
 fn long(alloc: Global, bytes: usize) -> Result<Vec<u8>, AllocError> {
-    let mut text = Vec::from_slice(alloc, b"{:type :invoke, :process 0, :value [[:w 1 :")?;
+    let mut text = Vec::new(alloc);
+    grow(&mut text, b"{:type :invoke, :process 0, :value [[:w 1 :")?;
     for _ in 0..bytes {
-        text.push(b'a')?;
+        grow(&mut text, b"a")?;
     }
-    text.extend_from_slice(b"]]}\n")?;
+    grow(&mut text, b"]]}\n")?;
     Ok(text)
 }
 
@@ -200,9 +211,9 @@ fn keeps_to_the_limits(rt: HostRuntime) -> Result<(), Fail> {
 fn reads_a_long_history(rt: HostRuntime) -> Result<(), Fail> {
     let mut text = Vec::new(rt.alloc());
     for _ in 0..1_000 {
-        text.extend_from_slice(GOOD.as_bytes())?;
-        text.extend_from_slice(FORMS.as_bytes())?;
-        text.extend_from_slice(b"\n{:type :fail, :process 0}\n")?;
+        grow(&mut text, GOOD.as_bytes())?;
+        grow(&mut text, FORMS.as_bytes())?;
+        grow(&mut text, b"\n{:type :fail, :process 0}\n")?;
     }
     assert_eq!(rt; count(rt.alloc(), &text), (3_000, None));
     Ok(())
@@ -247,10 +258,7 @@ fn append(atom: &OwnedAtom, out: &mut Vec<u8>) -> Result<(), AllocError> {
     if atom.write(out).is_err() {
         atom.write(out)?;
     }
-    if out.push(b' ').is_err() {
-        out.push(b' ')?;
-    }
-    Ok(())
+    grow(out, b" ")
 }
 
 #[test]
