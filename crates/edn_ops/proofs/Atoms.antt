@@ -1,9 +1,11 @@
 -- Atoms: what is read is spelled so, and what is spelled so is read.
 use Rattle.std.proofs.Common.{◌≡◌, ℕ, suc, ◌-◌, ◌^◌, ◌<◌, ◌≤◌, ◌⊎◌, pos, negsuc, Bool, true, false, cond, nat_lt, nat_le, ◌==◌, ◌&&◌, List, [], ◌∷◌, ◌++◌, length, take, drop, Option, Some, None, refl, sym, ap, ◌∙◌, arith, inl, inr, codes, take-append-drop}
+use Rattle.std.specs.Bool.{then_some}
 use Rattle.std.specs.Prelude.{decimal, IfSome}
 use Rattle.std.specs.Char.{is_ascii_digit}
 use Rattle.std.specs.List.{prefix_len, list_all}
 use Rattle.std.specs.Str.{all_ascii_digits}
+use Rattle.std.specs.Option.{option_or}
 use Rattle.std.proofs.lemmas.Bool.{ltb-true, lt-ltb, leb-true, le-leb, eqb-true, eq-eqb, ne_eqb, and_parts, and_from, cond-true, cond-false}
 use Rattle.std.proofs.lemmas.Fmt.{digits_decimal, decimal_nonempty}
 use Rattle.std.proofs.lemmas.List.{drop_at, length-take}
@@ -12,8 +14,8 @@ use Rattle.std.proofs.lemmas.Str.Parse.{digit_at}
 use Rattle.hist_types.specs.Atoms.{Atom, integer, keyword, string, symbol}
 use Rattle.hist_types.specs.Texts.{atom_text, value_text}
 use Rattle.edn_ops.specs.SimpleLines.{is_keyword_byte, IsSimpleAtom}
-use Rattle.edn_ops.specs.Scan.{◌>>=◌, or_else, keep_if, strip, number_at, after_positive, after_negative, after_run, after_atom, after_value}
-use Rattle.edn_ops.proofs.Parts.{then_takes, or_takes, keep_takes, strip_takes, all-front, front_again, front_within}
+use Rattle.edn_ops.specs.Scan.{◌>>=◌, strip, number_at, after_positive, after_negative, after_run, after_atom, after_value}
+use Rattle.edn_ops.proofs.Parts.{then_takes, or_takes, keep_takes, kept, strip_takes, all-front, front_again, front_within}
 use Rattle.edn_ops.proofs.Digits.{own, number_takes, number_again}
 
 -- no byte that would go on with an atom
@@ -39,7 +41,7 @@ which false x y z e = inr (refl, e)
 positive_takes : (bytes rest : List ℕ) → after_positive bytes ≡ Some rest → (n : ℕ) × (n < 2 ^ 63) × (bytes ≡ decimal n ++ rest)
 unfolding after_positive
 positive_takes bytes rest e =
-    let found = then_takes (number_at bytes) (λ n. keep_if (nat_lt n.0 (2 ^ 63)) n.1) rest e in
+    let found = then_takes (number_at bytes) (λ n. then_some (nat_lt n.0 (2 ^ 63)) n.1) rest e in
     let n = found.0 in
     let kept = keep_takes (nat_lt n.0 (2 ^ 63)) n.1 rest found.2 in
     let read = number_takes bytes n.0 n.1 found.1 in
@@ -48,13 +50,13 @@ positive_takes bytes rest e =
 positive_again : (n : ℕ) (rest : List ℕ) → n < 2 ^ 63 → EndsAtom rest → after_positive (decimal n ++ rest) ≡ Some rest
 unfolding after_positive
 positive_again n rest lt ends =
-    ap (λ (o : Option (ℕ × List ℕ)). o >>= λ n. keep_if (nat_lt n.0 (2 ^ 63)) n.1) (number_again n rest (omega arith) ends.digits)
-    ∙ cond-true (nat_lt n (2 ^ 63)) (Some rest) None (lt-ltb n (2 ^ 63) lt)
+    ap (λ (o : Option (ℕ × List ℕ)). o >>= λ n. then_some (nat_lt n.0 (2 ^ 63)) n.1) (number_again n rest (omega arith) ends.digits)
+    ∙ kept (nat_lt n (2 ^ 63)) rest (lt-ltb n (2 ^ 63) lt)
 
 negative_takes : (bytes rest : List ℕ) → after_negative bytes ≡ Some rest → (m : ℕ) × (m < 2 ^ 63) × (bytes ≡ decimal (suc m) ++ rest)
 unfolding after_negative
 negative_takes bytes rest e =
-    let found = then_takes (number_at bytes) (λ n. keep_if (nat_lt 0 n.0 && nat_le n.0 (2 ^ 63)) n.1) rest e in
+    let found = then_takes (number_at bytes) (λ n. then_some (nat_lt 0 n.0 && nat_le n.0 (2 ^ 63)) n.1) rest e in
     let n = found.0 in
     let kept = keep_takes (nat_lt 0 n.0 && nat_le n.0 (2 ^ 63)) n.1 rest found.2 in
     let tests = and_parts (nat_lt 0 n.0) (nat_le n.0 (2 ^ 63)) kept.0 in
@@ -67,8 +69,8 @@ negative_takes bytes rest e =
 negative_again : (m : ℕ) (rest : List ℕ) → m < 2 ^ 63 → EndsAtom rest → after_negative (decimal (suc m) ++ rest) ≡ Some rest
 unfolding after_negative
 negative_again m rest lt ends =
-    ap (λ (o : Option (ℕ × List ℕ)). o >>= λ n. keep_if (nat_lt 0 n.0 && nat_le n.0 (2 ^ 63)) n.1) (number_again (suc m) rest (omega arith) ends.digits)
-    ∙ cond-true (nat_lt 0 (suc m) && nat_le (suc m) (2 ^ 63)) (Some rest) None (and_from _ _ (lt-ltb 0 (suc m) (omega arith)) (le-leb (suc m) (2 ^ 63) (omega arith)))
+    ap (λ (o : Option (ℕ × List ℕ)). o >>= λ n. then_some (nat_lt 0 n.0 && nat_le n.0 (2 ^ 63)) n.1) (number_again (suc m) rest (omega arith) ends.digits)
+    ∙ kept (nat_lt 0 (suc m) && nat_le (suc m) (2 ^ 63)) rest (and_from _ _ (lt-ltb 0 (suc m) (omega arith)) (le-leb (suc m) (2 ^ 63) (omega arith)))
 
 -- ---- keywords
 
@@ -84,8 +86,8 @@ run_takes bytes rest e =
 run_again : (run rest : List ℕ) → 0 < length run → list_all is_keyword_byte run ≡ true → EndsAtom rest → after_run (run ++ rest) ≡ Some rest
 unfolding after_run
 run_again run rest some all ends =
-    ap (λ (k : ℕ). keep_if (nat_lt 0 k) (drop k (run ++ rest))) (front_again is_keyword_byte run rest all ends.run)
-    ∙ cond-true (nat_lt 0 (length run)) (Some (drop (length run) (run ++ rest))) None (lt-ltb 0 (length run) some)
+    ap (λ (k : ℕ). then_some (nat_lt 0 k) (drop k (run ++ rest))) (front_again is_keyword_byte run rest all ends.run)
+    ∙ kept (nat_lt 0 (length run)) (drop (length run) (run ++ rest)) (lt-ltb 0 (length run) some)
     ∙ ap (λ (r : List ℕ). Some r) (drop_at run rest (length run) refl)
 
 -- ---- atoms
@@ -168,5 +170,5 @@ no_atom rest = refl
 
 pub returned_again : (value : Option Atom) (rest : List ℕ) → IfSome value IsSimpleAtom → EndsAtom rest → after_value false (value_text value ++ rest) ≡ Some rest
 unfolding after_value
-returned_again None rest simple ends = ap (λ (o : Option (List ℕ)). or_else o (strip (codes "nil") (codes "nil" ++ rest))) (no_atom rest)
-returned_again (Some a) rest simple ends = ap (λ (o : Option (List ℕ)). or_else o (strip (codes "nil") (atom_text a ++ rest))) (atom_again a rest simple ends)
+returned_again None rest simple ends = ap (λ (o : Option (List ℕ)). option_or o (strip (codes "nil") (codes "nil" ++ rest))) (no_atom rest)
+returned_again (Some a) rest simple ends = ap (λ (o : Option (List ℕ)). option_or o (strip (codes "nil") (atom_text a ++ rest))) (atom_again a rest simple ends)

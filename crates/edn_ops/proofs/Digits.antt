@@ -1,17 +1,19 @@
 -- Numbers in decimal: what is read is how the number is written, and what is written is read again.
-use Rattle.std.proofs.Common.{◌≡◌, ℕ, ◌^◌, ◌<◌, Bool, true, not, nat_lt, ◌==◌, ◌&&◌, ◌||◌, List, [], ◌∷◌, ◌++◌, length, get_or, take, drop, Some, None, Err, refl, sym, ap, subst, ◌∙◌, arith, inl, inr, take-append-drop}
+use Rattle.std.proofs.Common.{◌≡◌, ℕ, ◌^◌, ◌<◌, Bool, true, not, nat_lt, ◌==◌, ◌&&◌, ◌||◌, List, [], ◌∷◌, ◌++◌, length, get_or, take, drop, Option, Some, None, Result, Ok, Err, refl, sym, ap, subst, ◌∙◌, arith, inl, inr, take-append-drop}
+use Rattle.std.specs.Bool.{then_some}
 use Rattle.std.specs.Prelude.{decimal}
 use Rattle.std.specs.Char.{is_ascii_digit}
 use Rattle.std.specs.List.{prefix_len, list_all}
+use Rattle.std.specs.Result.{result_ok}
 use Rattle.std.specs.Str.{all_ascii_digits, IsUtf8}
 use Rattle.std.specs.Str.Parse.{digits_value, ParsesUnsigned}
-use Rattle.std.proofs.lemmas.Bool.{cond-false, false_from_ne_true, ltb-true, lt-ltb, eqb-true, eq-eqb, ne_eqb, and_parts, and_from, or_cases, or_left, not-true, cases_eq}
+use Rattle.std.proofs.lemmas.Bool.{false_from_ne_true, ltb-true, lt-ltb, eqb-true, eq-eqb, ne_eqb, and_parts, and_from, or_cases, or_left, not-true, cases_eq}
 use Rattle.std.proofs.lemmas.Fmt.{decimal_digit, IsAscii-from_digits, digits_decimal, digits_value-decimal, decimal-digits_value, decimal_nonempty, first_decimal}
 use Rattle.std.proofs.lemmas.Str.{IsUtf8-from_ascii}
 use Rattle.std.proofs.lemmas.List.{take_at, drop_at}
 use Rattle.std.proofs.lemmas.Str.Parse.{parse_digits, IsNumeralModel, numerals_by_value, tells_all_ascii_digits}
-use Rattle.edn_ops.specs.Scan.{keep_if, is_plain, number_at}
-use Rattle.edn_ops.proofs.Parts.{keep_takes, all-front, front_again}
+use Rattle.edn_ops.specs.Scan.{Gives, is_plain, number_at}
+use Rattle.edn_ops.proofs.Parts.{keep_takes, kept, left_out, all-front, front_again}
 
 pub own : IsNumeralModel (λ ds. all_ascii_digits ds ≡ true) (digits_value 10)
 own = numerals_by_value (λ ds. all_ascii_digits ds ≡ true) tells_all_ascii_digits
@@ -69,16 +71,29 @@ number_again n rest lt ends =
     let front : take (length (decimal n)) (decimal n ++ rest) ≡ decimal n = take_at (decimal n) rest (length (decimal n)) refl in
     let back : drop (length (decimal n)) (decimal n ++ rest) ≡ rest = drop_at (decimal n) rest (length (decimal n)) refl in
     let value : digits_value 10 (decimal n) ≡ n = digits_value-decimal own n lt in
-    subst (λ (k : ℕ). keep_if {A = ℕ × List ℕ} (is_plain (take k (decimal n ++ rest)) && nat_lt (digits_value 10 (take k (decimal n ++ rest))) (2 ^ 64)) (digits_value 10 (take k (decimal n ++ rest)), drop k (decimal n ++ rest)) ≡ Some (n, rest)) (sym len)
-    (subst (λ (ds : List ℕ). keep_if {A = ℕ × List ℕ} (is_plain ds && nat_lt (digits_value 10 ds) (2 ^ 64)) (digits_value 10 ds, drop (length (decimal n)) (decimal n ++ rest)) ≡ Some (n, rest)) (sym front)
-    (subst (λ (v : ℕ). keep_if {A = ℕ × List ℕ} (is_plain (decimal n) && nat_lt v (2 ^ 64)) (v, drop (length (decimal n)) (decimal n ++ rest)) ≡ Some (n, rest)) (sym value)
-    (subst (λ (b : Bool). keep_if {A = ℕ × List ℕ} b (n, drop (length (decimal n)) (decimal n ++ rest)) ≡ Some (n, rest)) (sym (and_from _ _ (plain_decimal n lt) (lt-ltb n (2 ^ 64) lt)))
+    subst (λ (k : ℕ). then_some {T = ℕ × List ℕ} (is_plain (take k (decimal n ++ rest)) && nat_lt (digits_value 10 (take k (decimal n ++ rest))) (2 ^ 64)) (digits_value 10 (take k (decimal n ++ rest)), drop k (decimal n ++ rest)) ≡ Some (n, rest)) (sym len)
+    (subst (λ (ds : List ℕ). then_some {T = ℕ × List ℕ} (is_plain ds && nat_lt (digits_value 10 ds) (2 ^ 64)) (digits_value 10 ds, drop (length (decimal n)) (decimal n ++ rest)) ≡ Some (n, rest)) (sym front)
+    (subst (λ (v : ℕ). then_some {T = ℕ × List ℕ} (is_plain (decimal n) && nat_lt v (2 ^ 64)) (v, drop (length (decimal n)) (decimal n ++ rest)) ≡ Some (n, rest)) (sym value)
+    (subst (λ (b : Bool). then_some {T = ℕ × List ℕ} b (n, drop (length (decimal n)) (decimal n ++ rest)) ≡ Some (n, rest)) (sym (and_from _ _ (plain_decimal n lt) (lt-ltb n (2 ^ 64) lt)))
     (ap (λ (r : List ℕ). Some (n, r)) back))))
 
--- where the code's parse fails, the digits are of more than 64 bits
-pub parse_fails : {E : Type 0} (e : E) (text ds : List ℕ) → text ≡ ds → ParsesUnsigned 64 10 text (Err e) → all_ascii_digits ds ≡ true → 0 < length ds → keep_if (nat_lt (digits_value 10 ds) (2 ^ 64)) (digits_value 10 ds) ≡ None
-parse_fails {E} e text ds same h all some =
-    let h' : ParsesUnsigned 64 10 ds (Err e) = subst (λ (t : List ℕ). ParsesUnsigned {E = E} 64 10 t (Err e)) same h in
-    let fails : ¬ ((all_ascii_digits ds ≡ true) × (0 < length ds) × (digits_value 10 ds < 2 ^ 64)) = λ p. parse_digits own 64 ds (Err e) h' all (p.1, p.2) in
-    cond-false (nat_lt (digits_value 10 ds) (2 ^ 64)) (Some (digits_value 10 ds)) None
-    (false_from_ne_true (nat_lt (digits_value 10 ds) (2 ^ 64)) (λ t. fails (all, some, ltb-true (digits_value 10 ds) (2 ^ 64) t)))
+-- what the code's parse gives
+parse_is : {E : Type 0} (ds : List ℕ) (r : Result ℕ E) → ParsesUnsigned 64 10 ds r → all_ascii_digits ds ≡ true → 0 < length ds → result_ok r ≡ then_some (nat_lt (digits_value 10 ds) (2 ^ 64)) (digits_value 10 ds)
+parse_is {E} ds (Ok n) h all some =
+    let given : Result ℕ E = Ok n in
+    let found = parse_digits own 64 ds given h all in
+    ap (λ (v : ℕ). Some v) found.1 ∙ sym (kept (nat_lt (digits_value 10 ds) (2 ^ 64)) (digits_value 10 ds) (lt-ltb (digits_value 10 ds) (2 ^ 64) found.0.1))
+parse_is {E} ds (Err e) h all some =
+    let given : Result ℕ E = Err e in
+    let fails = parse_digits own 64 ds given h all in
+    sym (left_out (nat_lt (digits_value 10 ds) (2 ^ 64)) (digits_value 10 ds)
+    (false_from_ne_true (nat_lt (digits_value 10 ds) (2 ^ 64)) (λ t. fails (some, ltb-true (digits_value 10 ds) (2 ^ 64) t))))
+
+gives_same : (o read : Option ℕ) → o ≡ read → Gives (λ (n : ℕ). n) o read
+gives_same None read e = sym e
+gives_same (Some n) read e = sym e
+
+pub parse_gives : {E : Type 0} (text ds : List ℕ) (r : Result ℕ E) (o : Option ℕ) → o ≡ result_ok r → text ≡ ds → ParsesUnsigned 64 10 text r → all_ascii_digits ds ≡ true → 0 < length ds
+    → Gives (λ (n : ℕ). n) o (then_some (nat_lt (digits_value 10 ds) (2 ^ 64)) (digits_value 10 ds))
+parse_gives {E} text ds r o was same h all some =
+    gives_same o (then_some (nat_lt (digits_value 10 ds) (2 ^ 64)) (digits_value 10 ds)) (was ∙ parse_is ds r (subst (λ (t : List ℕ). ParsesUnsigned {E = E} 64 10 t r) same h) all some)

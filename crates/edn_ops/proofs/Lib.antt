@@ -1,4 +1,5 @@
 pub mod ReadsBack
+pub mod SimpleMops
 pub mod SimpleReads
 pub mod Parts
 pub mod Digits

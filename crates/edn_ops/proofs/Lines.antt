@@ -1,10 +1,13 @@
 -- Lines: what is read is the line of a simple operation with its shape, and the line of each simple operation is read.
 use Rattle.std.proofs.Common.{◌≡◌, ℕ, ◌+◌, ◌-◌, ◌<◌, ◌≤◌, ◌⊎◌, true, nat_le, ◌==◌, List, [], ◌∷◌, ◌++◌, length, take, drop, Option, Some, None, refl, sym, ap, subst, ◌∙◌, arith, inl, inr, codes, append_assoc, take-append-drop}
+use Rattle.std.specs.Bool.{then_some}
 use Rattle.std.specs.Prelude.{◌≢◌, decimal}
 use Rattle.std.specs.Char.{is_ascii_digit}
 use Rattle.std.specs.List.{AllByRecursion, prefix_len}
-use Rattle.std.proofs.lemmas.Bool.{leb-true, le-leb, eqb-true, cond-true}
+use Rattle.std.specs.Option.{option_or}
+use Rattle.std.proofs.lemmas.Bool.{leb-true, le-leb, eqb-true}
 use Rattle.std.proofs.lemmas.List.{drop_at, length-append, length-drop, append-nil}
+use Rattle.std.proofs.lemmas.List.Elements.{All-from_recursion}
 use Rattle.std.proofs.lemmas.Option.{none-some, same_Some}
 use Rattle.hist_types.specs.Operations.{Mop, Operation}
 use Rattle.hist_types.specs.Texts.{kind_text, mops_text, value_field_text, operation_text}
@@ -13,12 +16,14 @@ use Rattle.hist_types.specs.declared.types.OpKind.{OpKind}
 use Rattle.hist_types.specs.declared.types.OpKind.TheVariants as kinds
 use Rattle.edn_ops.specs.declared.types.MopShape.{MopShape}
 use Rattle.edn_ops.specs.declared.types.OpShape.{OpShape}
-use Rattle.edn_ops.specs.SimpleLines.{IsSimpleMop, FitsKind, IsSimple, BeginsWithLine, BeginsWithNoLine, IsSpanOf, AreMopShapesOf, StandInARow, text_before_mops, HasLine}
-use Rattle.edn_ops.specs.Scan.{◌>>=◌, or_else, keep_if, strip, number_at, process_at, span_between, mops_at, kind_at, head_at, value_field_at, ShapeParts, parts_of, operation_at, next_line, line_at}
+use Rattle.edn_ops.specs.Canonical.{MopCanBeRead, MopsCanBeRead}
+use Rattle.edn_ops.specs.SimpleLines.{IsSimpleMop, IsSimple, BeginsWithLine, BeginsWithNoLine, IsSpanOf, AreMopShapesOf, StandInARow, text_before_mops, HasLine}
+use Rattle.edn_ops.specs.Scan.{◌>>=◌, strip, number_at, process_at, span_between, mops_at, kind_at, head_at, value_field_at, ShapeParts, parts_of, operation_at, next_line, line_at}
 use Rattle.hist_types.specs.declared.types.Fault.{Fault}
 use Rattle.edn_ops.specs.Reader.{Reader, left, not_a_map, HasRefused}
-use Rattle.edn_ops.proofs.Parts.{then_takes, or_takes, keep_takes, strip_takes, strip_again}
+use Rattle.edn_ops.proofs.Parts.{then_takes, or_takes, keep_takes, kept, strip_takes, strip_again}
 use Rattle.edn_ops.proofs.Digits.{number_takes, number_again}
+use Rattle.edn_ops.proofs.SimpleMops.{all_can}
 use Rattle.edn_ops.proofs.Mops.{EndsWith, behind, place_behind, span_takes, TakesTransaction, mops_takes, mops_again}
 
 -- ---- up to the process
@@ -37,9 +42,9 @@ kind_takes bytes found e =
     let ok = strip (codes ":ok") bytes >>= λ after. Some (kinds.Ok, after) in
     let fail = strip (codes ":fail") bytes >>= λ after. Some (kinds.Fail, after) in
     let info = strip (codes ":info") bytes >>= λ after. Some (kinds.Info, after) in
-    elim (or_takes invoke (or_else ok (or_else fail info)) found e) [
+    elim (or_takes invoke (option_or ok (option_or fail info)) found e) [
       | inl p ↦ kind_of_takes bytes (codes ":invoke") kinds.Invoke found refl p
-      | inr q ↦ elim (or_takes ok (or_else fail info) found q) [
+      | inr q ↦ elim (or_takes ok (option_or fail info) found q) [
         | inl p ↦ kind_of_takes bytes (codes ":ok") kinds.Ok found refl p
         | inr r ↦ elim (or_takes fail info found r) [
           | inl p ↦ kind_of_takes bytes (codes ":fail") kinds.Fail found refl p
@@ -58,7 +63,7 @@ kind_again kinds.Info rest = refl
 process_takes : (bytes : List ℕ) (found : ℕ × List ℕ) → process_at bytes ≡ Some found → (bytes ≡ decimal found.0 ++ found.1) × (found.0 ≤ MAX_PROCESS)
 unfolding process_at
 process_takes bytes found e =
-    let n = then_takes (number_at bytes) (λ n. keep_if (nat_le n.0 MAX_PROCESS) n) found e in
+    let n = then_takes (number_at bytes) (λ n. then_some (nat_le n.0 MAX_PROCESS) n) found e in
     let kept = keep_takes (nat_le n.0.0 MAX_PROCESS) n.0 found n.2 in
     let read = number_takes bytes n.0.0 n.0.1 n.1 in
     subst (λ (x : ℕ × List ℕ). (bytes ≡ decimal x.0 ++ x.1) × (x.0 ≤ MAX_PROCESS)) kept.1 (read.0, leb-true n.0.0 MAX_PROCESS kept.0)
@@ -66,8 +71,8 @@ process_takes bytes found e =
 process_again : (n : ℕ) (rest : List ℕ) → n ≤ MAX_PROCESS → prefix_len is_ascii_digit rest ≡ 0 → process_at (decimal n ++ rest) ≡ Some (n, rest)
 unfolding process_at
 process_again n rest le ends =
-    ap (λ (o : Option (ℕ × List ℕ)). o >>= λ n. keep_if (nat_le n.0 MAX_PROCESS) n) (number_again n rest (omega arith) ends)
-    ∙ cond-true (nat_le n MAX_PROCESS) (Some (n, rest)) None (le-leb n MAX_PROCESS le)
+    ap (λ (o : Option (ℕ × List ℕ)). o >>= λ n. then_some (nat_le n.0 MAX_PROCESS) n) (number_again n rest (omega arith) ends)
+    ∙ kept (nat_le n MAX_PROCESS) (n, rest) (le-leb n MAX_PROCESS le)
 
 -- an operation's text up to its process, and what follows
 abbrev headed : OpKind → ℕ → List ℕ → List ℕ
@@ -102,12 +107,11 @@ head_again kind process rest le ends =
 -- the value's field at the front, where the kind has one
 record TakesField (kind : OpKind) (text bytes : List ℕ) (shapes : List MopShape) (rest : List ℕ) : Type 0 where
   mops : List Mop
-  fits : FitsKind kind mops
+  can_be_read : MopsCanBeRead kind mops
   simple : AllByRecursion IsSimpleMop mops
   parts : bytes ≡ value_field_text kind mops ++ rest
   shapes_of : AreMopShapesOf text shapes mops
   row : StandInARow ((length text - length bytes) + 10) shapes
-  count : length mops ≤ MAX_MICRO_OPS
 
 valued_takes : (text bytes : List ℕ) (shapes : List MopShape) (rest : List ℕ) → EndsWith text bytes → (strip (codes ", :value ") bytes >>= mops_at (length text)) ≡ Some (shapes, rest)
     → (inside : List ℕ) × (bytes ≡ codes ", :value " ++ inside) × TakesTransaction text inside shapes rest × StandInARow ((length text - length bytes) + 10) shapes
@@ -127,17 +131,17 @@ unfolding value_field_at
 field_takes kinds.Invoke text bytes shapes rest ends e =
     let found = valued_takes text bytes shapes rest ends e in
     let t = found.2 in
-    record { mops = t.mops; fits = tt; simple = t.simple; parts = found.1 ∙ ap (λ (x : List ℕ). codes ", :value " ++ x) t.parts ∙ value_parts t.mops rest; shapes_of = t.shapes_of; row = found.3; count = t.count }
+    record { mops = t.mops; can_be_read = (t.count, All-from_recursion MopCanBeRead t.mops (all_can t.mops t.simple)); simple = t.simple; parts = found.1 ∙ ap (λ (x : List ℕ). codes ", :value " ++ x) t.parts ∙ value_parts t.mops rest; shapes_of = t.shapes_of; row = found.3 }
 field_takes kinds.Ok text bytes shapes rest ends e =
     let found = valued_takes text bytes shapes rest ends e in
     let t = found.2 in
-    record { mops = t.mops; fits = tt; simple = t.simple; parts = found.1 ∙ ap (λ (x : List ℕ). codes ", :value " ++ x) t.parts ∙ value_parts t.mops rest; shapes_of = t.shapes_of; row = found.3; count = t.count }
+    record { mops = t.mops; can_be_read = (t.count, All-from_recursion MopCanBeRead t.mops (all_can t.mops t.simple)); simple = t.simple; parts = found.1 ∙ ap (λ (x : List ℕ). codes ", :value " ++ x) t.parts ∙ value_parts t.mops rest; shapes_of = t.shapes_of; row = found.3 }
 field_takes kinds.Fail text bytes shapes rest ends e =
     subst (λ (x : List MopShape × List ℕ). TakesField kinds.Fail text bytes x.0 x.1) (same_Some ([], bytes) (shapes, rest) e)
-    (record { mops = []; fits = refl; simple = tt; parts = refl; shapes_of = tt; row = tt; count = omega arith })
+    (record { mops = []; can_be_read = refl; simple = tt; parts = refl; shapes_of = tt; row = tt })
 field_takes kinds.Info text bytes shapes rest ends e =
     subst (λ (x : List MopShape × List ℕ). TakesField kinds.Info text bytes x.0 x.1) (same_Some ([], bytes) (shapes, rest) e)
-    (record { mops = []; fits = refl; simple = tt; parts = refl; shapes_of = tt; row = tt; count = omega arith })
+    (record { mops = []; can_be_read = refl; simple = tt; parts = refl; shapes_of = tt; row = tt })
 
 valued_again : (total : ℕ) (mops : List Mop) (rest : List ℕ) → AllByRecursion IsSimpleMop mops → length mops ≤ MAX_MICRO_OPS
     → (shapes : List MopShape) × ((strip (codes ", :value ") ((codes ", :value " ++ mops_text mops) ++ rest) >>= mops_at total) ≡ Some (shapes, rest))
@@ -145,13 +149,13 @@ valued_again total mops rest simple count =
     let found = mops_again total mops rest simple count in
     (found.0, ap (λ (o : Option (List ℕ)). o >>= mops_at total) (ap (strip (codes ", :value ")) (sym (value_parts mops rest)) ∙ strip_again (codes ", :value ") (mops_text mops ++ rest)) ∙ found.1)
 
-field_again : (kind : OpKind) (total : ℕ) (mops : List Mop) (rest : List ℕ) → FitsKind kind mops → AllByRecursion IsSimpleMop mops → length mops ≤ MAX_MICRO_OPS
+field_again : (kind : OpKind) (total : ℕ) (mops : List Mop) (rest : List ℕ) → MopsCanBeRead kind mops → AllByRecursion IsSimpleMop mops
     → (shapes : List MopShape) × (value_field_at kind total (value_field_text kind mops ++ rest) ≡ Some (shapes, rest))
 unfolding value_field_at
-field_again kinds.Invoke total mops rest fits simple count = valued_again total mops rest simple count
-field_again kinds.Ok total mops rest fits simple count = valued_again total mops rest simple count
-field_again kinds.Fail total mops rest fits simple count = ([], refl)
-field_again kinds.Info total mops rest fits simple count = ([], refl)
+field_again kinds.Invoke total mops rest can simple = valued_again total mops rest simple can.0
+field_again kinds.Ok total mops rest can simple = valued_again total mops rest simple can.0
+field_again kinds.Fail total mops rest can simple = ([], refl)
+field_again kinds.Info total mops rest can simple = ([], refl)
 
 -- no digit stands behind the process
 field_ends : (kind : OpKind) (mops : List Mop) (rest : List ℕ) → prefix_len is_ascii_digit (value_field_text kind mops ++ (codes "}" ++ rest)) ≡ 0
@@ -174,8 +178,7 @@ pub record ArePartsOf (text : List ℕ) (shape : ShapeParts) (op : Operation) : 
 record TakesOperation (text bytes : List ℕ) (shape : ShapeParts) (rest : List ℕ) : Type 0 where
   op : Operation
   process : op.process ≤ MAX_PROCESS
-  fits : FitsKind op.kind op.mops
-  count : length op.mops ≤ MAX_MICRO_OPS
+  can_be_read : MopsCanBeRead op.kind op.mops
   atoms : AllByRecursion IsSimpleMop op.mops
   parts : bytes ≡ operation_text op ++ rest
   begins : shape.span.start ≡ length text - length bytes
@@ -214,8 +217,7 @@ makes text bytes kind process field shapes closer rest ends e le value closed =
     record {
       op = op;
       process = le;
-      fits = value.fits;
-      count = value.count;
+      can_be_read = value.can_be_read;
       atoms = value.simple;
       parts = spelled;
       begins = refl;
@@ -251,9 +253,9 @@ operation_again : (total : ℕ) (op : Operation) (rest : List ℕ) → IsSimple 
 operation_again total op rest simple =
     let closer = codes "}" ++ rest in
     let field = value_field_text op.kind op.mops ++ closer in
-    let mops = field_again op.kind total op.mops closer simple.fits simple.atoms simple.count in
+    let mops = field_again op.kind total op.mops closer simple.can_be_read.mops simple.atoms in
     subst (λ (bytes : List ℕ). (shape : ShapeParts) × (operation_at total bytes ≡ Some (shape, rest))) (op_parts op rest)
-    (operation_runs total (headed op.kind op.process field) field op.kind op.process mops.0 closer rest (head_again op.kind op.process field simple.process (field_ends op.kind op.mops rest)) mops.1 refl)
+    (operation_runs total (headed op.kind op.process field) field op.kind op.process mops.0 closer rest (head_again op.kind op.process field simple.can_be_read.process (field_ends op.kind op.mops rest)) mops.1 refl)
 
 -- ---- lines
 
@@ -277,7 +279,7 @@ ended : (text bytes : List ℕ) (shape : ShapeParts) (rest next : List ℕ) → 
 ended text bytes shape rest next ends t short end =
     let size : length bytes ≡ length (operation_text t.op) + length rest = ap length t.parts ∙ length-append (operation_text t.op) rest in
     let rest_ends = behind text bytes (operation_text t.op) rest ends t.parts in
-    let simple : IsSimple t.op = record { process = t.process; fits = t.fits; count = t.count; atoms = t.atoms; bytes = omega arith } in
+    let simple : IsSimple t.op = record { can_be_read = record { process = t.process; mops = t.can_be_read; bytes = omega arith }; atoms = t.atoms } in
     elim end [
       | inl p ↦ record {
         op = t.op;
@@ -300,21 +302,21 @@ ended text bytes shape rest next ends t short end =
 line_takes : (text bytes : List ℕ) (shape : ShapeParts) (next : List ℕ) → EndsWith text bytes → line_at (length text) bytes ≡ Some (shape, next) → TakesLine text bytes shape next
 unfolding line_at
 line_takes text bytes shape next ends e =
-    let found = then_takes (operation_at (length text) bytes) (λ found. next_line found.1 >>= λ next. keep_if (nat_le (length bytes - length found.1) MAX_OPERATION_BYTES) (found.0, next)) (shape, next) e in
-    let after = then_takes (next_line found.0.1) (λ next. keep_if (nat_le (length bytes - length found.0.1) MAX_OPERATION_BYTES) (found.0.0, next)) (shape, next) found.2 in
+    let found = then_takes (operation_at (length text) bytes) (λ found. next_line found.1 >>= λ next. then_some (nat_le (length bytes - length found.1) MAX_OPERATION_BYTES) (found.0, next)) (shape, next) e in
+    let after = then_takes (next_line found.0.1) (λ next. then_some (nat_le (length bytes - length found.0.1) MAX_OPERATION_BYTES) (found.0.0, next)) (shape, next) found.2 in
     let kept = keep_takes (nat_le (length bytes - length found.0.1) MAX_OPERATION_BYTES) (found.0.0, after.0) (shape, next) after.2 in
     subst (λ (x : ShapeParts × List ℕ). TakesLine text bytes x.0 x.1) kept.1
     (ended text bytes found.0.0 found.0.1 after.0 ends (operation_takes text bytes found.0.0 found.0.1 ends found.1) (leb-true (length bytes - length found.0.1) MAX_OPERATION_BYTES kept.0) (next_takes found.0.1 after.0 after.1))
 
 line_runs : (total : ℕ) (bytes : List ℕ) (shape : ShapeParts) (rest next : List ℕ) → operation_at total bytes ≡ Some (shape, rest) → next_line rest ≡ Some next → length bytes - length rest ≤ MAX_OPERATION_BYTES → line_at total bytes ≡ Some (shape, next)
 unfolding line_at
-line_runs total bytes shape rest next a b short = rw (a, b) (cond-true (nat_le (length bytes - length rest) MAX_OPERATION_BYTES) (Some (shape, next)) None (le-leb (length bytes - length rest) MAX_OPERATION_BYTES short))
+line_runs total bytes shape rest next a b short = rw (a, b) (kept (nat_le (length bytes - length rest) MAX_OPERATION_BYTES) (shape, next) (le-leb (length bytes - length rest) MAX_OPERATION_BYTES short))
 
 line_again_at : (total : ℕ) (bytes : List ℕ) (op : Operation) (rest next : List ℕ) → IsSimple op → bytes ≡ operation_text op ++ rest → next_line rest ≡ Some next → (shape : ShapeParts) × (line_at total bytes ≡ Some (shape, next))
 line_again_at total bytes op rest next simple parts end =
     let found = operation_again total op rest simple in
     let size : length bytes ≡ length (operation_text op) + length rest = ap length parts ∙ length-append (operation_text op) rest in
-    let short : length (operation_text op) ≤ MAX_OPERATION_BYTES = simple.bytes in
+    let short : length (operation_text op) ≤ MAX_OPERATION_BYTES = simple.can_be_read.bytes in
     (found.0, line_runs total bytes found.0 rest next (ap (operation_at total) parts ∙ found.1) end (omega arith))
 
 line_again : (total : ℕ) (bytes : List ℕ) (op : Operation) (next : List ℕ) → IsSimple op → BeginsWithLine bytes op next → (shape : ShapeParts) × (line_at total bytes ≡ Some (shape, next))

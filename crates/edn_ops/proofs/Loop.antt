@@ -1,7 +1,8 @@
 -- Micro-operations read one after the other, as a loop does.
 use Rattle.std.proofs.Common.{◌≡◌, ℕ, suc, ◌-◌, ◌+◌, ◌≤◌, ◌<◌, List, [], ◌∷◌, ◌++◌, Option, Some, None, refl, sym, ap, ◌∙◌, append_assoc, codes, arith}
+use Rattle.std.specs.Option.{option_or}
 use Rattle.edn_ops.specs.declared.types.MopShape.{MopShape}
-use Rattle.edn_ops.specs.Scan.{◌>>=◌, or_else, strip, mop_at, with_more, some_mops_at}
+use Rattle.edn_ops.specs.Scan.{◌>>=◌, strip, mop_at, with_more, some_mops_at}
 
 -- what was read before, and what is still read
 abbrev pub with_front : List MopShape → Option (List MopShape × List ℕ) → Option (List MopShape × List ℕ)
@@ -24,7 +25,7 @@ pub ends : (front : List MopShape) (most i total : ℕ) (bytes : List ℕ) (firs
 ends front most i total bytes first after end whole lt h closer so_far =
     let more = some_mops_at (most - (i + 1)) total in
     let last : with_front front (with_more first more after) ≡ Some (front ++ first ∷ [], end) =
-    ap (λ (o : Option (List ℕ)). with_front front (or_else (o >>= λ x. Some (first ∷ [], x)) (strip (codes " ") after >>= λ next. more next >>= λ x. Some (first ∷ x.0, x.1)))) closer in
+    ap (λ (o : Option (List ℕ)). with_front front (option_or (o >>= λ x. Some (first ∷ [], x)) (strip (codes " ") after >>= λ next. more next >>= λ x. Some (first ∷ x.0, x.1)))) closer in
     sym so_far ∙ opened front most i total bytes first after lt h ∙ last
 
 pub goes_on : (front : List MopShape) (most i total : ℕ) (bytes : List ℕ) (first : MopShape) (after next : List ℕ) (whole : Option (List MopShape × List ℕ)) → i < most → mop_at total bytes ≡ Some (first, after)
@@ -33,7 +34,7 @@ pub goes_on : (front : List MopShape) (most i total : ℕ) (bytes : List ℕ) (f
 goes_on front most i total bytes first after next whole lt h no_closer blank so_far =
     let more = some_mops_at (most - (i + 1)) total in
     let one : with_front front (with_more first more after) ≡ with_front front (more next >>= λ x. Some (first ∷ x.0, x.1)) =
-    ap (λ (o : Option (List ℕ)). with_front front (or_else (o >>= λ x. Some (first ∷ [], x)) (strip (codes " ") after >>= λ next. more next >>= λ x. Some (first ∷ x.0, x.1)))) no_closer
+    ap (λ (o : Option (List ℕ)). with_front front (option_or (o >>= λ x. Some (first ∷ [], x)) (strip (codes " ") after >>= λ next. more next >>= λ x. Some (first ∷ x.0, x.1)))) no_closer
     ∙ ap (λ (o : Option (List ℕ)). with_front front (o >>= λ next. more next >>= λ x. Some (first ∷ x.0, x.1))) blank in
     sym (regroup front first (more next)) ∙ sym one ∙ sym (opened front most i total bytes first after lt h) ∙ so_far
 
@@ -43,7 +44,7 @@ pub breaks_off : (front : List MopShape) (most i total : ℕ) (bytes : List ℕ)
 breaks_off front most i total bytes first after whole lt h no_closer no_blank so_far =
     let more = some_mops_at (most - (i + 1)) total in
     let one : with_front front (with_more first more after) ≡ None =
-    ap (λ (o : Option (List ℕ)). with_front front (or_else (o >>= λ x. Some (first ∷ [], x)) (strip (codes " ") after >>= λ next. more next >>= λ x. Some (first ∷ x.0, x.1)))) no_closer
+    ap (λ (o : Option (List ℕ)). with_front front (option_or (o >>= λ x. Some (first ∷ [], x)) (strip (codes " ") after >>= λ next. more next >>= λ x. Some (first ∷ x.0, x.1)))) no_closer
     ∙ ap (λ (o : Option (List ℕ)). with_front front (o >>= λ next. more next >>= λ x. Some (first ∷ x.0, x.1))) no_blank in
     sym so_far ∙ opened front most i total bytes first after lt h ∙ one
 

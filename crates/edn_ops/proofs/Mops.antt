@@ -1,6 +1,7 @@
 -- Micro-operations: what is read is spelled so and has its shape, and what is spelled so is read.
 use Rattle.std.proofs.Common.{◌≡◌, ℕ, zero, suc, ◌+◌, ◌-◌, ◌<◌, ◌≤◌, ◌⊎◌, Bool, true, false, List, [], ◌∷◌, ◌++◌, length, take, drop, Option, Some, None, refl, sym, ap, subst, ◌∙◌, arith, inl, inr, codes, append_assoc}
 use Rattle.std.specs.List.{AllByRecursion, join_by, flat_map}
+use Rattle.std.specs.Option.{option_or}
 use Rattle.std.proofs.lemmas.List.{take_at, drop_at, length-append, append-nil}
 use Rattle.std.proofs.lemmas.Option.{none-some, same_Some}
 use Rattle.hist_types.specs.Atoms.{Atom}
@@ -9,7 +10,7 @@ use Rattle.hist_types.specs.Texts.{atom_text, value_text, mop_text, mops_text}
 use Rattle.hist_types.specs.declared.limits.TheConstants.{MAX_MICRO_OPS}
 use Rattle.edn_ops.specs.declared.types.MopShape.{MopShape}
 use Rattle.edn_ops.specs.SimpleLines.{IsSimpleMop, IsSpanOf, IsMopShapeOf, AreMopShapesOf, StandInARow}
-use Rattle.edn_ops.specs.Scan.{◌>>=◌, or_else, strip, after_atom, after_value, span_between, mop_head_at, mop_at, with_more, some_mops_at, mops_at}
+use Rattle.edn_ops.specs.Scan.{◌>>=◌, strip, after_atom, after_value, span_between, mop_head_at, mop_at, with_more, some_mops_at, mops_at}
 use Rattle.edn_ops.proofs.Parts.{then_takes, or_takes, strip_takes}
 use Rattle.edn_ops.proofs.Atoms.{blank_ends, closer_ends, atom_takes, atom_again, written_takes, written_again, returned_takes, returned_again}
 
@@ -285,7 +286,7 @@ pub mops_takes : (text bytes : List ℕ) (shapes : List MopShape) (rest : List �
 unfolding mops_at
 mops_takes text bytes shapes rest ends e =
     let total = length text in
-    let inside = then_takes (strip (codes "[") bytes) (λ inside. or_else (strip (codes "]") inside >>= λ after. Some ([], after)) (some_mops_at MAX_MICRO_OPS total inside)) (shapes, rest) e in
+    let inside = then_takes (strip (codes "[") bytes) (λ inside. option_or (strip (codes "]") inside >>= λ after. Some ([], after)) (some_mops_at MAX_MICRO_OPS total inside)) (shapes, rest) e in
     let opened = strip_takes (codes "[") bytes inside.0 inside.1 in
     elim (or_takes (strip (codes "]") inside.0 >>= λ after. Some ([], after)) (some_mops_at MAX_MICRO_OPS total inside.0) (shapes, rest) inside.2) [
       | inl p ↦
@@ -318,6 +319,6 @@ mops_again total (m ∷ ms) rest simple count =
     let inside = join_by mop_text (codes " ") (m ∷ ms) ++ (codes "]" ++ rest) in (
       some.0,
       ap (mops_at total) (sym (mops_parts (m ∷ ms) rest))
-          ∙ ap (λ (o : Option (List ℕ)). or_else (o >>= λ after. Some ([], after)) (some_mops_at MAX_MICRO_OPS total inside)) (opens m ms (codes "]" ++ rest))
+          ∙ ap (λ (o : Option (List ℕ)). option_or (o >>= λ after. Some ([], after)) (some_mops_at MAX_MICRO_OPS total inside)) (opens m ms (codes "]" ++ rest))
           ∙ some.1,
     )

@@ -1,10 +1,12 @@
 -- Steps that may find nothing, literals and runs.
 use Rattle.std.proofs.Common.{◌≡◌, ℕ, suc, ◌+◌, ◌≤◌, ◌⊎◌, Bool, true, false, cond, ◌==◌, List, [], ◌∷◌, ◌++◌, length, take, Option, Some, None, refl, ap, ◌∙◌, arith, inl, inr, Bor}
 use Rattle.std.specs.Prelude.{◌≢◌, MatchOption}
+use Rattle.std.specs.Bool.{then_some}
 use Rattle.std.specs.List.{prefix_len, list_all}
+use Rattle.std.specs.Option.{option_or}
 use Rattle.std.proofs.lemmas.Bool.{eq-eqb, eqb-true, cond-true, cond_both, and_parts}
 use Rattle.std.proofs.lemmas.Option.{none-some, same_Some}
-use Rattle.edn_ops.specs.Scan.{◌>>=◌, or_else, keep_if, Gives, strip}
+use Rattle.edn_ops.specs.Scan.{◌>>=◌, Gives, strip}
 
 -- ---- steps
 
@@ -14,14 +16,20 @@ then_takes None f y e = absurd (none-some y e)
 then_takes (Some x) f y e = (x, refl, e)
 
 -- which of two found it
-pub or_takes : {A : Type 0} (o other : Option A) (y : A) → or_else o other ≡ Some y → (o ≡ Some y) ⊎ (other ≡ Some y)
+pub or_takes : {A : Type 0} (o other : Option A) (y : A) → option_or o other ≡ Some y → (o ≡ Some y) ⊎ (other ≡ Some y)
 or_takes None other y e = inr e
 or_takes (Some x) other y e = inl e
 
 -- what was found passed the test
-pub keep_takes : {A : Type 0} (test : Bool) (x y : A) → keep_if test x ≡ Some y → (test ≡ true) × (x ≡ y)
+pub keep_takes : {A : Type 0} (test : Bool) (x y : A) → then_some test x ≡ Some y → (test ≡ true) × (x ≡ y)
 keep_takes true x y e = (refl, same_Some x y e)
 keep_takes false x y e = absurd (none-some y e)
+
+pub kept : {A : Type 0} (test : Bool) (x : A) → test ≡ true → then_some test x ≡ Some x
+kept test x e = ap (λ (b : Bool). then_some b x) e
+
+pub left_out : {A : Type 0} (test : Bool) (x : A) → test ≡ false → then_some test x ≡ None
+left_out test x e = ap (λ (b : Bool). then_some b x) e
 
 -- ---- literals
 

@@ -1,80 +1,19 @@
 -- Simple lines are canonical text, so they read as their operations.
-use Rattle.std.proofs.Common.{◌≡◌, ℕ, ◌≤◌, List, [], ◌∷◌, ◌++◌, length, true, Some, None, refl, sym, ◌∙◌, ap, subst, inl, inr, append_assoc, append-nil, arith, nat_lt}
-use Rattle.std.specs.List.{AllByRecursion, list_all}
-use Rattle.std.specs.Prelude.{◌&&◌, map, IfSome}
-use Rattle.std.proofs.lemmas.Bool.{and_parts, and_from}
+use Rattle.std.proofs.Common.{◌≡◌, ℕ, List, [], ◌∷◌, ◌++◌, None, sym, ◌∙◌, ap, refl, inl, inr, append_assoc, append-nil}
+use Rattle.std.specs.List.{AllByRecursion}
+use Rattle.std.specs.Prelude.{map}
 use Rattle.std.proofs.lemmas.List.Elements.{All-from_recursion}
-use Rattle.hist_types.specs.Bytes.{line_feed, is_run_byte}
-use Rattle.hist_types.specs.Atoms.{Atom, integer, keyword, string, symbol, Value}
-use Rattle.hist_types.specs.Operations.{Mop, read, write, Operation}
+use Rattle.hist_types.specs.Bytes.{line_feed}
+use Rattle.hist_types.specs.Operations.{Operation}
 use Rattle.hist_types.specs.Reading.{operation, Reads}
 use Rattle.hist_types.specs.Texts.{operation_text}
-use Rattle.hist_types.specs.declared.limits.TheConstants.{MAX_MICRO_OPS}
-use Rattle.hist_types.specs.declared.types.OpKind.{OpKind}
-use Rattle.hist_types.specs.declared.types.OpKind.TheVariants as kinds
-use Rattle.edn_ops.specs.Canonical.{CanBeRead, ValueCanBeRead, MopCanBeRead, MopsCanBeRead, OperationCanBeRead, operation_lines, AreLines}
-use Rattle.edn_ops.specs.SimpleLines.{is_keyword_byte, IsAsciiKeyword, IsSimpleAtom, IsSimpleMop, FitsKind, IsSimple, AreSimpleLines}
+use Rattle.edn_ops.specs.Canonical.{OperationCanBeRead, operation_lines, AreLines}
+use Rattle.edn_ops.specs.SimpleLines.{AreSimpleLines}
 use Rattle.edn_ops.proofs.ReadsBack.Lines.{lines_read}
-use Rattle.edn_ops.proofs.ReadsBack.Spellings.{ascii_keyword_can}
-
--- ---- atoms
-
--- the bytes of an ASCII keyword are bytes of a run, and ASCII
-run_bytes : (bs : List ℕ) → list_all is_keyword_byte bs ≡ true → list_all is_run_byte bs ≡ true
-unfolding is_keyword_byte
-run_bytes [] h = refl
-run_bytes (b ∷ bs) h =
-    let parts = and_parts (is_run_byte b && nat_lt b 128) (list_all is_keyword_byte bs) h in
-    and_from (is_run_byte b) (list_all is_run_byte bs) (and_parts (is_run_byte b) (nat_lt b 128) parts.0).0 (run_bytes bs parts.1)
-
-ascii_bytes : (bs : List ℕ) → list_all is_keyword_byte bs ≡ true → list_all (λ b. nat_lt b 128) bs ≡ true
-unfolding is_keyword_byte
-ascii_bytes [] h = refl
-ascii_bytes (b ∷ bs) h =
-    let parts = and_parts (is_run_byte b && nat_lt b 128) (list_all is_keyword_byte bs) h in
-    and_from (nat_lt b 128) (list_all (λ c. nat_lt c 128) bs) (and_parts (is_run_byte b) (nat_lt b 128) parts.0).1 (ascii_bytes bs parts.1)
-
--- an ASCII keyword can be read
-keyword_can : (bs : List ℕ) → IsAsciiKeyword bs → CanBeRead (keyword bs)
-keyword_can [] h = absurd h
-keyword_can (first ∷ []) h = absurd (omega (arith, h.1))
-keyword_can (first ∷ b ∷ bs) h =
-    subst (λ (c : ℕ). CanBeRead (keyword (c ∷ b ∷ bs))) (sym h.0) (ascii_keyword_can b bs (run_bytes (b ∷ bs) h.2) (ascii_bytes (b ∷ bs) h.2))
-
--- ---- operations
-
-atom_can : (a : Atom) → IsSimpleAtom a → CanBeRead a
-atom_can (integer n) h = h
-atom_can (keyword spelling) h = keyword_can spelling h
-atom_can (string content) h = absurd h
-atom_can (symbol spelling) h = absurd h
-
-value_can : (v : Value) → IfSome v IsSimpleAtom → ValueCanBeRead v
-value_can None h = tt
-value_can (Some a) h = atom_can a h
-
-mop_can : (m : Mop) → IsSimpleMop m → MopCanBeRead m
-mop_can (read key value) h = (atom_can key h.0, value_can value h.1)
-mop_can (write key value) h = (atom_can key h.0, atom_can value h.1)
-
-all_can : (ms : List Mop) → AllByRecursion IsSimpleMop ms → AllByRecursion MopCanBeRead ms
-all_can [] h = tt
-all_can (m ∷ ms) h = (mop_can m h.0, all_can ms h.1)
-
-mops_can : (kind : OpKind) (ms : List Mop) → FitsKind kind ms → length ms ≤ MAX_MICRO_OPS → AllByRecursion IsSimpleMop ms → MopsCanBeRead kind ms
-mops_can kinds.Invoke ms fits count h = (count, All-from_recursion MopCanBeRead ms (all_can ms h))
-mops_can kinds.Ok ms fits count h = (count, All-from_recursion MopCanBeRead ms (all_can ms h))
-mops_can kinds.Fail ms fits count h = fits
-mops_can kinds.Info ms fits count h = fits
-
-operation_can : (o : Operation) → IsSimple o → OperationCanBeRead o
-operation_can o h = record { process = h.process; mops = mops_can o.kind o.mops h.fits h.count h.atoms; bytes = h.bytes }
 
 each_can : (text : List ℕ) (os : List Operation) → AreSimpleLines text os → AllByRecursion OperationCanBeRead os
 each_can text [] h = tt
-each_can text (o ∷ os) h = (operation_can o h.0, each_can h.1.0 os h.1.2)
-
--- ---- lines
+each_can text (o ∷ os) h = (h.0.can_be_read, each_can h.1.0 os h.1.2)
 
 -- a list with a first element is not empty
 empty_first : {x : ℕ} {xs : List ℕ} → [] ≡ x ∷ xs → ⊥

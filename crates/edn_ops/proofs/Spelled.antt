@@ -1,17 +1,16 @@
 -- The texts of atoms and shapes, told apart for operations that own their parts.
-use Rattle.std.proofs.Common.{◌≡◌, ℕ, zero, suc, ◌+◌, ◌^◌, ◌<◌, ◌≤◌, ℤ, pos, negsuc, true, List, [], ◌∷◌, ◌++◌, length, get_or, take, Some, None, Result, Ok, Err, refl, sym, ap, ◌∙◌, arith, codes}
+use Rattle.std.proofs.Common.{◌≡◌, ℕ, zero, suc, ◌+◌, ◌^◌, ◌<◌, ◌≤◌, ℤ, pos, negsuc, true, List, [], ◌∷◌, ◌++◌, length, get_or, take, Option, Some, None, Result, Ok, refl, sym, ap, ◌∙◌, arith, codes}
 use Rattle.std.specs.Prelude.{IfSome}
 use Rattle.std.specs.Fmt.{signed_decimal}
 use Rattle.std.specs.Int.{w64}
 use Rattle.std.specs.Int.RustNames.{FitsSigned}
 use Rattle.std.specs.Int.Signed.{mag}
-use mir.Val.{of_z, to_z}
 use Rattle.std.specs.List.{AllByRecursion}
+use Rattle.std.specs.Result.{result_ok}
 use Rattle.std.specs.Str.{IsUtf8}
 use Rattle.std.specs.Str.Parse.{ParsesSigned}
 use Rattle.std.proofs.lemmas.Bool.{ltb-true}
 use Rattle.std.proofs.lemmas.Fmt.{IsAscii-signed, parse-signed_decimal}
-use Rattle.std.proofs.lemmas.Int.{to_z-of_z}
 use Rattle.std.proofs.lemmas.List.{take_all}
 use Rattle.std.proofs.lemmas.Option.{none-some}
 use Rattle.std.proofs.lemmas.Str.{IsUtf8-from_ascii}
@@ -39,23 +38,9 @@ number_text z spelled h e = rw e (IsUtf8-from_ascii (signed_decimal z) (IsAscii-
 parsed : {E : Type 0} (z : ℤ) (text spelled : List ℕ) (r : Result ℤ E) → is_64_bit z ≡ true → text ≡ spelled → spelled ≡ signed_decimal z → ParsesSigned w64 10 text r → r ≡ Ok z
 parsed z text spelled r h same e p = parse-signed_decimal w64 z text r (fits z h) (mag_fits z h) (same ∙ e) p
 
-ok_is : {E : Type 0} (x y : ℤ) → ◌≡◌ {A = Result ℤ E} (Ok x) (Ok y) → x ≡ y
-ok_is x y e = cc
-
-ok_or_err : {E : Type 0} (e : E) (y : ℤ) → ◌≡◌ {A = Result ℤ E} (Err e) (Ok y) → ⊥
-ok_or_err e y h = absurd cc
-
 -- what the code's parse gives
-pub parsed_is : {E : Type 0} (z number : ℤ) (text spelled : List ℕ) (r : Result ℤ E) → r ≡ Ok number → is_64_bit z ≡ true → text ≡ spelled → spelled ≡ signed_decimal z → ParsesSigned w64 10 text r → number ≡ z
-parsed_is {E} z number text spelled r was h same e p = ok_is {E = E} number z (sym was ∙ parsed z text spelled r h same e p)
-
--- it does not fail
-pub parse_works : {E : Type 0} (z : ℤ) (fault : E) (text spelled : List ℕ) → is_64_bit z ≡ true → text ≡ spelled → spelled ≡ signed_decimal z → ParsesSigned w64 10 text (Err fault) → ⊥
-parse_works {E} z fault text spelled h same e p = ok_or_err fault z (parsed z text spelled (Err fault) h same e p)
-
--- the code's number, by its bits
-pub as_bits : (z number : ℤ) → is_64_bit z ≡ true → number ≡ z → Some (to_z w64 (of_z w64 number)) ≡ Some z
-as_bits z number h same = ap (λ (n : ℤ). Some (to_z w64 (of_z w64 n))) same ∙ ap (λ (n : ℤ). Some n) (to_z-of_z w64 z (fits z h))
+pub parsed_is : {E : Type 0} (z : ℤ) (text spelled : List ℕ) (r : Result ℤ E) (o : Option ℤ) → o ≡ result_ok r → is_64_bit z ≡ true → text ≡ spelled → spelled ≡ signed_decimal z → ParsesSigned w64 10 text r → o ≡ Some z
+parsed_is z text spelled r o was h same e p = was ∙ ap result_ok (parsed z text spelled r h same e p)
 
 -- ---- nil
 

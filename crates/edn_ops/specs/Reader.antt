@@ -1,7 +1,7 @@
 -- A reader of operations: a text, up to where it was read, and whether the reader is stuck there.
 use Rattle.std.specs.Prelude.{◌≡◌, ℕ, List, [], drop, Bool, true, false, ◌≢◌}
 use Rattle.hist_types.specs.Refusals.{memory_fault}
-use Rattle.hist_types.specs.declared.types.At.TheVariants.{Byte}
+use Rattle.hist_types.specs.Tokens.{byte_fault}
 use Rattle.hist_types.specs.declared.types.Fault.{Fault}
 use Rattle.hist_types.specs.declared.types.Refusal.TheVariants.{NotAMap}
 use Rattle.edn_ops.specs.declared.types.OpShape.{OpShape}
@@ -18,7 +18,7 @@ left r = drop r.place r.text
 
 -- the fault of a line that is not simple, at its first byte
 abbrev pub not_a_map : ℕ → Fault
-not_a_map place = record { refusal = NotAMap; at = Byte place }
+not_a_map place = byte_fault NotAMap place
 
 -- The line of an operation with this shape was read, and nothing else.
 pub record HasRead (old : Reader) (shape : OpShape) (new : Reader) : Type 0 where

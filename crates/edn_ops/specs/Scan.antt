@@ -1,8 +1,10 @@
 -- Simple lines read from left to right, as functions on lists. Each answers what it read, and the bytes after it.
-use Rattle.std.specs.Prelude.{◌≡◌, ℕ, zero, suc, ◌-◌, ◌^◌, List, [], ◌∷◌, length, get_or, take, drop, Bool, true, false, not, ◌&&◌, ◌||◌, cond, nat_lt, nat_le, ◌==◌, codes, Option, Some, None, Result, Ok, Err}
+use Rattle.std.specs.Prelude.{◌≡◌, ℕ, zero, suc, ◌-◌, ◌^◌, List, [], ◌∷◌, length, get_or, take, drop, Bool, true, false, not, ◌&&◌, ◌||◌, cond, nat_lt, nat_le, ◌==◌, codes, Option, Some, None, option_and_then, Result, Ok, Err}
 use Rattle.std.specs.declared.alloc.AllocError.{AllocError}
+use Rattle.std.specs.Bool.{then_some}
 use Rattle.std.specs.Char.{is_ascii_digit}
 use Rattle.std.specs.List.{prefix_len}
+use Rattle.std.specs.Option.{option_or}
 use Rattle.std.specs.Str.Parse.{digits_value}
 use Rattle.hist_types.specs.Bytes.{colon, minus, zero_digit, line_feed}
 use Rattle.hist_types.specs.declared.limits.TheConstants.{MAX_PROCESS, MAX_MICRO_OPS, MAX_OPERATION_BYTES}
@@ -16,16 +18,7 @@ use Rattle.edn_ops.specs.SimpleLines.{is_keyword_byte}
 infixl 10 ◌>>=◌
 -- a step that comes only where the one before found something
 abbrev pub ◌>>=◌ : {A B : Type 0} → Option A → (A → Option B) → Option B
-None >>= f = None
-(Some x) >>= f = f x
-
--- the second where the first found nothing
-abbrev pub or_else : {A : Type 0} → Option A → Option A → Option A
-or_else None other = other
-or_else (Some x) other = Some x
-
-abbrev pub keep_if : {A : Type 0} → Bool → A → Option A
-keep_if test x = cond test (Some x) None
+o >>= f = option_and_then f o
 
 -- What a function returned, seen by view, is what the function on lists gives.
 abbrev pub Gives : {X Y : Type 0} → (X → Y) → Option X → Option Y → Type 0
@@ -55,24 +48,24 @@ is_plain digits = nat_lt 0 (length digits) && (not (get_or digits 0 0 == zero_di
 unfoldable pub number_at : List ℕ → Option (ℕ × List ℕ)
 number_at bytes =
     let digits = take (prefix_len is_ascii_digit bytes) bytes in
-    keep_if (is_plain digits && nat_lt (digits_value 10 digits) (2 ^ 64)) (digits_value 10 digits, drop (prefix_len is_ascii_digit bytes) bytes)
+    then_some (is_plain digits && nat_lt (digits_value 10 digits) (2 ^ 64)) (digits_value 10 digits, drop (prefix_len is_ascii_digit bytes) bytes)
 
 unfoldable pub process_at : List ℕ → Option (ℕ × List ℕ)
-process_at bytes = number_at bytes >>= λ n. keep_if (nat_le n.0 MAX_PROCESS) n
+process_at bytes = number_at bytes >>= λ n. then_some (nat_le n.0 MAX_PROCESS) n
 
 -- ---- atoms
 
 -- behind an integer that has no sign
 unfoldable pub after_positive : List ℕ → Option (List ℕ)
-after_positive bytes = number_at bytes >>= λ n. keep_if (nat_lt n.0 (2 ^ 63)) n.1
+after_positive bytes = number_at bytes >>= λ n. then_some (nat_lt n.0 (2 ^ 63)) n.1
 
 -- behind an integer whose sign was taken
 unfoldable pub after_negative : List ℕ → Option (List ℕ)
-after_negative bytes = number_at bytes >>= λ n. keep_if (nat_lt 0 n.0 && nat_le n.0 (2 ^ 63)) n.1
+after_negative bytes = number_at bytes >>= λ n. then_some (nat_lt 0 n.0 && nat_le n.0 (2 ^ 63)) n.1
 
 -- behind a keyword whose colon was taken
 unfoldable pub after_run : List ℕ → Option (List ℕ)
-after_run bytes = keep_if (nat_lt 0 (prefix_len is_keyword_byte bytes)) (drop (prefix_len is_keyword_byte bytes) bytes)
+after_run bytes = then_some (nat_lt 0 (prefix_len is_keyword_byte bytes)) (drop (prefix_len is_keyword_byte bytes) bytes)
 
 unfoldable pub after_atom : List ℕ → Option (List ℕ)
 after_atom [] = None
@@ -81,7 +74,7 @@ after_atom (b ∷ bytes) = cond (b == colon) (after_run bytes) (cond (b == minus
 -- behind what a read returned or a write wrote
 unfoldable pub after_value : (is_write : Bool) → List ℕ → Option (List ℕ)
 after_value true bytes = after_atom bytes
-after_value false bytes = or_else (after_atom bytes) (strip (codes "nil") bytes)
+after_value false bytes = option_or (after_atom bytes) (strip (codes "nil") bytes)
 
 -- ---- micro-operations
 
@@ -92,7 +85,7 @@ span_between total from to = record { start = total - length from; end = total -
 -- whether it is a write
 unfoldable pub mop_head_at : List ℕ → Option (Bool × List ℕ)
 mop_head_at bytes =
-    or_else (strip (codes "[:r ") bytes >>= λ after. Some (false, after)) (strip (codes "[:w ") bytes >>= λ after. Some (true, after))
+    option_or (strip (codes "[:r ") bytes >>= λ after. Some (false, after)) (strip (codes "[:w ") bytes >>= λ after. Some (true, after))
 
 unfoldable pub mop_at : (total : ℕ) → List ℕ → Option (MopShape × List ℕ)
 mop_at total bytes = do
@@ -106,7 +99,7 @@ mop_at total bytes = do
 -- behind a micro-operation stands a blank, and then more of them, or the end of their list
 abbrev pub with_more : MopShape → (more : List ℕ → Option (List MopShape × List ℕ)) → List ℕ → Option (List MopShape × List ℕ)
 with_more shape more bytes =
-    or_else (strip (codes "]") bytes >>= λ after. Some (shape ∷ [], after)) (strip (codes " ") bytes >>= λ next. more next >>= λ x. Some (shape ∷ x.0, x.1))
+    option_or (strip (codes "]") bytes >>= λ after. Some (shape ∷ [], after)) (strip (codes " ") bytes >>= λ next. more next >>= λ x. Some (shape ∷ x.0, x.1))
 
 -- at least one micro-operation, and at most so many
 unfoldable pub some_mops_at : (most : ℕ) (total : ℕ) → List ℕ → Option (List MopShape × List ℕ)
@@ -116,15 +109,15 @@ some_mops_at (suc most) total bytes = mop_at total bytes >>= λ first. with_more
 unfoldable pub mops_at : (total : ℕ) → List ℕ → Option (List MopShape × List ℕ)
 mops_at total bytes =
     strip (codes "[") bytes >>= λ inside.
-    or_else (strip (codes "]") inside >>= λ after. Some ([], after)) (some_mops_at MAX_MICRO_OPS total inside)
+    option_or (strip (codes "]") inside >>= λ after. Some ([], after)) (some_mops_at MAX_MICRO_OPS total inside)
 
 -- ---- operations and lines
 
 unfoldable pub kind_at : List ℕ → Option (OpKind × List ℕ)
 kind_at bytes =
-    or_else (strip (codes ":invoke") bytes >>= λ after. Some (kinds.Invoke, after))
-    (or_else (strip (codes ":ok") bytes >>= λ after. Some (kinds.Ok, after))
-    (or_else (strip (codes ":fail") bytes >>= λ after. Some (kinds.Fail, after))
+    option_or (strip (codes ":invoke") bytes >>= λ after. Some (kinds.Invoke, after))
+    (option_or (strip (codes ":ok") bytes >>= λ after. Some (kinds.Ok, after))
+    (option_or (strip (codes ":fail") bytes >>= λ after. Some (kinds.Fail, after))
     (strip (codes ":info") bytes >>= λ after. Some (kinds.Info, after))))
 
 -- an operation up to its process
@@ -163,10 +156,10 @@ operation_at total bytes = do
 -- what comes after the end of a line
 abbrev pub next_line : List ℕ → Option (List ℕ)
 next_line [] = Some []
-next_line (b ∷ bytes) = keep_if (b == line_feed) bytes
+next_line (b ∷ bytes) = then_some (b == line_feed) bytes
 
 unfoldable pub line_at : (total : ℕ) → List ℕ → Option (ShapeParts × List ℕ)
 line_at total bytes =
     operation_at total bytes >>= λ found.
     next_line found.1 >>= λ next.
-    keep_if (nat_le (length bytes - length found.1) MAX_OPERATION_BYTES) (found.0, next)
+    then_some (nat_le (length bytes - length found.1) MAX_OPERATION_BYTES) (found.0, next)

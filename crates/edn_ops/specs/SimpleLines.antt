@@ -8,12 +8,11 @@ use Rattle.hist_types.specs.Atoms.{Atom, integer, keyword, string, symbol}
 use Rattle.hist_types.specs.Operations.{Mop, read, write, Operation}
 use Rattle.hist_types.specs.Reading.{is_64_bit}
 use Rattle.hist_types.specs.Texts.{atom_text, value_text, kind_text, operation_text}
-use Rattle.hist_types.specs.declared.limits.TheConstants.{MAX_PROCESS, MAX_MICRO_OPS, MAX_OPERATION_BYTES}
 use Rattle.hist_types.specs.declared.types.OpKind.{OpKind}
-use Rattle.hist_types.specs.declared.types.OpKind.TheVariants as kinds
 use Rattle.edn_ops.specs.declared.types.Span.{Span}
 use Rattle.edn_ops.specs.declared.types.MopShape.{MopShape}
 use Rattle.edn_ops.specs.declared.types.OpShape.{OpShape}
+use Rattle.edn_ops.specs.Canonical.{OperationCanBeRead}
 
 -- ---- simple operations
 
@@ -36,20 +35,10 @@ abbrev pub IsSimpleMop : Mop → Type 0
 IsSimpleMop (read key value) = IsSimpleAtom key × IfSome value IsSimpleAtom
 IsSimpleMop (write key value) = IsSimpleAtom key × IsSimpleAtom value
 
--- a fail and an info have no micro-operations
-abbrev pub FitsKind : OpKind → List Mop → Type 0
-FitsKind kinds.Invoke mops = Unit {0}
-FitsKind kinds.Ok mops = Unit {0}
-FitsKind kinds.Fail mops = mops ≡ []
-FitsKind kinds.Info mops = mops ≡ []
-
 -- an operation with a simple line
 pub record IsSimple (op : Operation) : Type 0 where
-  pub process : op.process ≤ MAX_PROCESS
-  pub fits : FitsKind op.kind op.mops
-  pub count : length op.mops ≤ MAX_MICRO_OPS
+  pub can_be_read : OperationCanBeRead op
   pub atoms : AllByRecursion IsSimpleMop op.mops
-  pub bytes : length (operation_text op) ≤ MAX_OPERATION_BYTES
 
 -- a text begins with the line of an operation, and after it comes the rest
 abbrev pub BeginsWithLine : List ℕ → Operation → List ℕ → Type 0

@@ -23,10 +23,7 @@ fn integer_of(spelled: &[u8]) -> Option<i64>
     let Ok(text) = str::from_utf8(spelled) else {
         return None;
     };
-    match text.parse::<i64>() {
-        Ok(number) => Some(number),
-        Err(_) => None,
-    }
+    text.parse::<i64>().ok()
 }
 
 /// The integer or ASCII keyword that is written so.

@@ -1,6 +1,6 @@
 //! The operations of a text, one after the other.
 
-ghost use Rattle.std.specs.Prelude.{◌≡◌, ◌≤◌, ◌⊎◌, [], true, false, length, drop, IfOk, IfErr, IsErrAnd, IfSome, IfNone};
+ghost use Rattle.std.specs.Prelude.{◌≡◌, ◌≤◌, ◌⊎◌, true, false, length, drop, IfOk, IfErr, IsErrAnd, IfSome, IfNone};
 ghost use Rattle.edn_ops.specs.SimpleLines.{HasLine, BeginsWithNoLine};
 ghost use Rattle.edn_ops.specs.Reader.{Reader, not_a_map, HasRead, HasEnded, HasRefused, HadNoMemory};
 

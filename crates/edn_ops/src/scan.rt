@@ -1,12 +1,13 @@
 //! Simple lines, read from left to right.
 
 ghost use Rattle.std.specs.Prelude.{◌≡◌, ◌<◌, ◌≤◌, ◌^◌, true, length, nat_lt};
+ghost use Rattle.std.specs.Bool.{then_some};
 ghost use Rattle.std.specs.Char.{is_ascii_digit};
 ghost use Rattle.std.specs.List.{prefix_len};
 ghost use Rattle.std.specs.Str.{all_ascii_digits};
 ghost use Rattle.std.specs.Str.Parse.{digits_value};
 ghost use Rattle.edn_ops.specs.SimpleLines.{is_keyword_byte};
-ghost use Rattle.edn_ops.specs.Scan.{Gives, GivesUnlessMemory, keep_if, is_plain, strip, number_at, process_at, after_positive, after_negative, after_run, after_atom, after_value, mop_head_at, mop_at, some_mops_at, mops_at, kind_at, head_at, value_field_at, parts_of, operation_at, next_line, line_at, span_between};
+ghost use Rattle.edn_ops.specs.Scan.{Gives, GivesUnlessMemory, is_plain, strip, number_at, process_at, after_positive, after_negative, after_run, after_atom, after_value, mop_head_at, mop_at, some_mops_at, mops_at, kind_at, head_at, value_field_at, parts_of, operation_at, next_line, line_at, span_between};
 
 use crate::types::{MopShape, OpShape, Span};
 use hist_types::limits::{MAX_MICRO_OPS, MAX_OPERATION_BYTES};
@@ -42,15 +43,12 @@ fn is_plain_number(digits: &[u8]) -> bool
 fn digits_number(digits: &[u8]) -> Option<u64>
     requires digits { all_ascii_digits digits.now ≡ true }
     requires some { 0 < length digits.now }
-    ensures { Gives (λ n. n) result (keep_if (nat_lt (digits_value 10 digits.now) (2 ^ 64)) (digits_value 10 digits.now)) }
+    ensures { Gives (λ n. n) result (then_some (nat_lt (digits_value 10 digits.now) (2 ^ 64)) (digits_value 10 digits.now)) }
 {
     let Ok(text) = str::from_utf8(digits) else {
         return None;
     };
-    match text.parse::<u64>() {
-        Ok(number) => Some(number),
-        Err(_) => None,
-    }
+    text.parse::<u64>().ok()
 }
 
 #[tactic(auto, unfolding(crate::specs::Scan::number_at))]
