@@ -11,7 +11,8 @@ use Rattle.hist_types.specs.Journal.{Write, write_eq, writes_of}
 use Rattle.hist_types.specs.Transactions.{Transaction, is_failed, has_key, overwritten, intermediate_writes}
 use Rattle.hist_types.specs.Phenomena.{has_write, first_of}
 use Rattle.jepcheck.specs.declared.bad_reads.Writers.{Writers}
-use Rattle.jepcheck.specs.Writers.{Note, notes, notes_of, notes_of_mops, add, nobody, after_note, after_notes, only_if, is_another, over_apart, option_is}
+use Rattle.std.specs.Bool.{then_some}
+use Rattle.jepcheck.specs.Writers.{Note, notes, notes_of, notes_of_mops, add, nobody, after_note, after_notes, is_another, over_apart, option_is}
 use Rattle.jepcheck.proofs.Lists.{first_of-append, filter-append, append-nil-right, option_or-assoc, option_or-none}
 
 -- notes, and more notes
@@ -30,15 +31,15 @@ abbrev aborts : Write → List Note → List ℕ
 aborts w ns = flat_map (aborts_at w) ns
 
 -- a number under a test, as a list
-first_only_if : (b : Bool) (x : ℕ) → only_if b x ≡ first_of (cond b (x ∷ []) [])
-first_only_if true x = refl
-first_only_if false x = refl
+first_then_some : (b : Bool) (x : ℕ) → then_some b x ≡ first_of (cond b (x ∷ []) [])
+first_then_some true x = refl
+first_then_some false x = refl
 
 -- one more note for the failed writer
 abort_step : (b : Bool) (n : Note) (known : Option Writers) →
     (unwrap_or (cond b (Some (add (unwrap_or known nobody) n)) known) nobody).aborted ≡ option_or (unwrap_or known nobody).aborted (first_of (cond (b && n.failed) (n.writer ∷ []) []))
 abort_step false n known = sym (option_or-none (unwrap_or known nobody).aborted)
-abort_step true n known = ap (option_or (unwrap_or known nobody).aborted) (first_only_if n.failed n.writer)
+abort_step true n known = ap (option_or (unwrap_or known nobody).aborted) (first_then_some n.failed n.writer)
 
 -- the failed writer after several notes
 abort_steps : (w : Write) (known : Option Writers) (ns : List Note) →
@@ -51,13 +52,13 @@ abort_steps w known (n ∷ ns) =
     ∙ ap (option_or (unwrap_or known nobody).aborted) (sym (first_of-append (aborts_at w n) (aborts w ns)))))
 
 -- one more write, for the failed writer
-abort_write : (b f h : Bool) (x : ℕ) (xs : List ℕ) → first_of xs ≡ only_if (f && h) x → first_of (cond (b && f) (x ∷ []) [] ++ xs) ≡ only_if (f && (b || h)) x
+abort_write : (b f h : Bool) (x : ℕ) (xs : List ℕ) → first_of xs ≡ then_some (f && h) x → first_of (cond (b && f) (x ∷ []) [] ++ xs) ≡ then_some (f && (b || h)) x
 abort_write true true h x xs e = refl
 abort_write true false h x xs e = e
 abort_write false f h x xs e = e
 
 -- the first of a transaction's notes that tells of a failed write
-abort_mops : (w : Write) (x : ℕ) (f : Bool) (mops : List Mop) → first_of (aborts w (notes_of_mops x f mops)) ≡ only_if (f && has_write (writes_of mops) w) x
+abort_mops : (w : Write) (x : ℕ) (f : Bool) (mops : List Mop) → first_of (aborts w (notes_of_mops x f mops)) ≡ then_some (f && has_write (writes_of mops) w) x
 abort_mops w x true [] = refl
 abort_mops w x false [] = refl
 abort_mops w x f (read k v ∷ mops) = abort_mops w x f mops
@@ -69,7 +70,7 @@ abbrev pub aborts_write : Write → Transaction → Bool
 aborts_write w t = is_failed t && has_write (writes_of t.mops) w
 
 -- the first that passes, or the first of the rest
-first_passing : (b : Bool) (x : ℕ) (xs ys : List ℕ) (o : Option ℕ) → o ≡ only_if b x → first_of xs ≡ first_of ys → option_or o (first_of xs) ≡ first_of (cond b (x ∷ ys) ys)
+first_passing : (b : Bool) (x : ℕ) (xs ys : List ℕ) (o : Option ℕ) → o ≡ then_some b x → first_of xs ≡ first_of ys → option_or o (first_of xs) ≡ first_of (cond b (x ∷ ys) ys)
 first_passing true x xs ys o e same = ap (λ p. option_or p (first_of xs)) e
 first_passing false x xs ys o e same = ap (λ p. option_or p (first_of xs)) e ∙ same
 
@@ -124,24 +125,24 @@ record Stand (u : Writers) (xs : List ℕ) : Type 0 where
 
 -- one more writer that wrote the value over
 other_more : (xs : List ℕ) (y : ℕ) (first : Option ℕ) (other : Option ℕ) → first ≡ first_of xs → other ≡ other_in xs →
-    option_or other (only_if (is_another first y) y) ≡ other_in (xs ++ y ∷ [])
-other_more [] y first other e e' = ap (λ o. option_or o (only_if (is_another first y) y)) e' ∙ ap (λ o. option_or None (only_if (is_another o y) y)) e
+    option_or other (then_some (is_another first y) y) ≡ other_in (xs ++ y ∷ [])
+other_more [] y first other e e' = ap (λ o. option_or o (then_some (is_another first y) y)) e' ∙ ap (λ o. option_or None (then_some (is_another o y) y)) e
 other_more (x ∷ xs) y first other e e' =
-    ap (λ o. option_or o (only_if (is_another first y) y)) e'
-    ∙ (ap (λ o. option_or (first_of (apart x xs)) (only_if (is_another o y) y)) e
-    ∙ (ap (option_or (first_of (apart x xs))) (first_only_if (not (y == x)) y)
+    ap (λ o. option_or o (then_some (is_another first y) y)) e'
+    ∙ (ap (λ o. option_or (first_of (apart x xs)) (then_some (is_another o y) y)) e
+    ∙ (ap (option_or (first_of (apart x xs))) (first_then_some (not (y == x)) y)
     ∙ (sym (first_of-append (apart x xs) (apart x (y ∷ [])))
     ∙ ap first_of (sym (filter-append (λ z. not (z == x)) xs (y ∷ []))))))
 
 -- one more note of a write
 over_step_at : (o : Bool) (n : Note) (u : Writers) (xs : List ℕ) → n.over ≡ o → Stand u xs → Stand (add u n) (xs ++ cond o (n.writer ∷ []) [])
 over_step_at true n u xs e s = record {
-  over = ap (λ o. option_or u.over (only_if o n.writer)) e ∙ (ap (λ o. option_or o (Some n.writer)) s.over ∙ sym (first_of-append xs (n.writer ∷ [])));
-  other = ap (λ o. option_or u.other (only_if (o && is_another u.over n.writer) n.writer)) e ∙ other_more xs n.writer u.over u.other s.over s.other;
+  over = ap (λ o. option_or u.over (then_some o n.writer)) e ∙ (ap (λ o. option_or o (Some n.writer)) s.over ∙ sym (first_of-append xs (n.writer ∷ [])));
+  other = ap (λ o. option_or u.other (then_some (o && is_another u.over n.writer) n.writer)) e ∙ other_more xs n.writer u.over u.other s.over s.other;
 }
 over_step_at false n u xs e s = record {
-  over = ap (λ o. option_or u.over (only_if o n.writer)) e ∙ (option_or-none u.over ∙ (s.over ∙ ap first_of (sym (append-nil-right xs))));
-  other = ap (λ o. option_or u.other (only_if (o && is_another u.over n.writer) n.writer)) e ∙ (option_or-none u.other ∙ (s.other ∙ ap other_in (sym (append-nil-right xs))));
+  over = ap (λ o. option_or u.over (then_some o n.writer)) e ∙ (option_or-none u.over ∙ (s.over ∙ ap first_of (sym (append-nil-right xs))));
+  other = ap (λ o. option_or u.other (then_some (o && is_another u.over n.writer) n.writer)) e ∙ (option_or-none u.other ∙ (s.other ∙ ap other_in (sym (append-nil-right xs))));
 }
 
 -- one more note for those that wrote the value over
@@ -180,23 +181,23 @@ overwrites r w t = not (t.invocation == r) && has_write (intermediate_writes t) 
 
 -- one more write, for those that wrote it over
 over_write : (b o : Bool) (r x : ℕ) (w v : Write) (ws : List Write) (ne : Bool) (xs : List ℕ) → write_eq w v ≡ b → not (x == r) ≡ ne →
-    first_of (apart r xs) ≡ only_if (ne && has_write ws w) x →
-    first_of (apart r (cond (b && o) (x ∷ []) [] ++ xs)) ≡ only_if (ne && has_write (cond o (v ∷ ws) ws) w) x
+    first_of (apart r xs) ≡ then_some (ne && has_write ws w) x →
+    first_of (apart r (cond (b && o) (x ∷ []) [] ++ xs)) ≡ then_some (ne && has_write (cond o (v ∷ ws) ws) w) x
 over_write true true r x w v ws true xs eb en e =
-    ap (λ c. first_of (cond c (x ∷ apart r xs) (apart r xs))) en ∙ ap (λ c. only_if (c || has_write ws w) x) (sym eb)
+    ap (λ c. first_of (cond c (x ∷ apart r xs) (apart r xs))) en ∙ ap (λ c. then_some (c || has_write ws w) x) (sym eb)
 over_write true true r x w v ws false xs eb en e = ap (λ c. first_of (cond c (x ∷ apart r xs) (apart r xs))) en ∙ e
 over_write true false r x w v ws ne xs eb en e = e
 over_write false false r x w v ws ne xs eb en e = e
-over_write false true r x w v ws ne xs eb en e = e ∙ ap (λ c. only_if (ne && (c || has_write ws w)) x) (sym eb)
+over_write false true r x w v ws ne xs eb en e = e ∙ ap (λ c. then_some (ne && (c || has_write ws w)) x) (sym eb)
 
 -- no write
-over_none : (b : Bool) (x : ℕ) → None ≡ only_if (b && false) x
+over_none : (b : Bool) (x : ℕ) → None ≡ then_some (b && false) x
 over_none true x = refl
 over_none false x = refl
 
 -- the first of a transaction's notes that tells of a write that it wrote over, for a reader
 over_mops : (r : ℕ) (w : Write) (x : ℕ) (f : Bool) (mops : List Mop) →
-    first_of (apart r (overs w (notes_of_mops x f mops))) ≡ only_if (not (x == r) && has_write (overwritten (writes_of mops)) w) x
+    first_of (apart r (overs w (notes_of_mops x f mops))) ≡ then_some (not (x == r) && has_write (overwritten (writes_of mops)) w) x
 over_mops r w x f [] = over_none (not (x == r)) x
 over_mops r w x f (read k v ∷ mops) = over_mops r w x f mops
 over_mops r w x f (write k v ∷ mops) =

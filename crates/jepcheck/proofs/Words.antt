@@ -1,10 +1,64 @@
 -- What the parse takes.
-use Rattle.std.proofs.Common.{◌≡◌, ℕ, List, [], ◌∷◌, refl, codes, true}
-use Rattle.clap.specs.Words.{takes}
+use Rattle.std.proofs.Common.{◌≡◌, ◌∙◌, ℕ, List, [], ◌∷◌, Option, Some, None, option_map, refl, sym, ap, subst, codes, true, inl, inr}
+use Rattle.clap.specs.Words.{App, is_simple, is_simple_and_free, subcommand_rows_of, HasMatchesOf, HasKind, Kinds, fault_of, kind_of}
+use Rattle.clap.specs.Matches.{subcommand_name_of}
+use Rattle.clap.specs.declared.error.Error.{Error}
+use Rattle.clap.specs.declared.error.kind.ErrorKind.TheVariants.{OutOfMemory}
+use Rattle.clap.specs.declared.parser.matches.ArgMatches.{ArgMatches}
+use Rattle.clap.specs.declared.parser.matches.ArgMatches.TheViews.{out-ArgMatches}
 use Rattle.clap.proofs.OnLiterals.{clap_on_literals}
-use Rattle.jepcheck.specs.Lines.{program_app}
+use Rattle.jepcheck.specs.Lines.{program_app, AskForReads}
 
--- a name and `reads` are taken
-pub reads_is_taken : (name : List ℕ) → takes program_app (name ∷ codes "reads" ∷ []) ≡ true
+-- clap's definitions speak of the program's lines
+program_is_simple : is_simple program_app ≡ true
 unfolding clap_on_literals
-reads_is_taken name = refl
+program_is_simple = refl
+
+program_is_free : is_simple_and_free program_app ≡ true
+unfolding clap_on_literals
+program_is_free = refl
+
+-- a name and `reads` ask for `reads`
+pub reads_is_asked : (name : List ℕ) → AskForReads (name ∷ codes "reads" ∷ [])
+unfolding clap_on_literals
+reads_is_asked name = record { no_fault = refl; named = refl }
+
+-- the firsts of pairs that may be there
+firsts : {A B C : Type 0} (f : A → B) (g : A → C) (o : Option A) → option_map (λ (p : B × C). p.0) (option_map (λ (x : A). (f x, g x)) o) ≡ option_map f o
+firsts f g None = refl
+firsts f g (Some x) = refl
+
+name_of_rows : (m : ArgMatches) → option_map (λ subcommand. subcommand.0) (subcommand_rows_of m) ≡ subcommand_name_of m
+name_of_rows m = firsts _ _ (out-ArgMatches m).subcommand
+
+-- matches with the subcommand `reads` come of words that ask for it
+pub asks_for_reads : (app : App) (words : List (List ℕ)) (m : ArgMatches) → app ≡ program_app → HasMatchesOf app words m
+    → (is_simple_and_free app ≡ true → fault_of app words ≡ []) → subcommand_name_of m ≡ Some (codes "reads") → AskForReads words
+asks_for_reads app words m e matches no_fault named =
+    let has : HasMatchesOf program_app words m = subst (λ (a : App). HasMatchesOf a words m) e matches in
+    let faultless : is_simple_and_free program_app ≡ true → fault_of program_app words ≡ [] =
+    subst (λ (a : App). is_simple_and_free a ≡ true → fault_of a words ≡ []) e no_fault in
+    record {
+      no_fault = faultless program_is_free;
+      named = ap (option_map (λ subcommand. subcommand.0)) (sym (has program_is_simple).1) ∙ (name_of_rows m ∙ named);
+    }
+
+-- matches of words that ask for `reads` have that subcommand
+pub meets_reads : (app : App) (words : List (List ℕ)) (m : ArgMatches) → app ≡ program_app → HasMatchesOf app words m → AskForReads words
+    → subcommand_name_of m ≡ Some (codes "reads")
+meets_reads app words m e matches asked =
+    let has : HasMatchesOf program_app words m = subst (λ (a : App). HasMatchesOf a words m) e matches in
+    sym (name_of_rows m) ∙ (ap (option_map (λ subcommand. subcommand.0)) (has program_is_simple).1 ∙ asked.named)
+
+-- words that ask for `reads` fail only for want of memory
+pub fails_for_memory : (app : App) (words : List (List ℕ)) (error : Error) → app ≡ program_app
+    → (is_simple_and_free app ≡ true → HasKind (fault_of app words) error) → AskForReads words → kind_of error ≡ OutOfMemory
+fails_for_memory app words error e fails asked =
+    let has : is_simple_and_free program_app ≡ true → HasKind (fault_of program_app words) error =
+    subst (λ (a : App). is_simple_and_free a ≡ true → HasKind (fault_of a words) error) e fails in
+    memory_alone _ asked.no_fault (has program_is_free)
+  where
+    memory_alone : (kinds : Kinds) → kinds ≡ [] → HasKind kinds error → kind_of error ≡ OutOfMemory
+    memory_alone [] e (inl memory) = memory
+    memory_alone [] e (inr among) = absurd among
+    memory_alone (kind ∷ kinds) e has = absurd cc

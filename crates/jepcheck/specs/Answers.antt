@@ -1,7 +1,7 @@
 -- What the program answers to a text.
-use Rattle.std.specs.Prelude.{◌≡◌, ◌≢◌, ◌⊎◌, ℕ, ◌-◌, List, [], length, Option, Some, None, option_map, IsTrue, IsFalse}
+use Rattle.std.specs.Prelude.{◌≡◌, ◌≢◌, ◌⊎◌, ℕ, ◌-◌, List, [], length, map, Option, Some, None, option_map, IsTrue, IsFalse}
 use Rattle.hist_types.specs.Operations.{Operation}
-use Rattle.hist_types.specs.Reading.{Entry, Reads, operations_of}
+use Rattle.hist_types.specs.Reading.{operation, Reads}
 use Rattle.hist_types.specs.Journal.{first_broken}
 use Rattle.hist_types.specs.Refusals.{memory_fault}
 use Rattle.hist_types.specs.Texts.{reads_text, has_bad_read, refusal_line}
@@ -10,14 +10,16 @@ use Rattle.hist_types.specs.declared.types.Fault.{Fault}
 use Rattle.hist_types.specs.declared.types.Refusal.{Refusal}
 use Rattle.hist_types.specs.declared.types.At.TheVariants.{Event}
 use Rattle.edn_ops.specs.Reader.{not_a_map}
-use Rattle.edn_ops.specs.SimpleLines.{BeginsWithLines, BeginsWithNoLine}
+use Rattle.edn_ops.specs.SimpleLines.{BeginsWithLines, BeginsWithNoLine, AreSimpleLines}
 use Rattle.jepcheck.specs.Pieces.{TookBeginning}
 use Rattle.jepcheck.specs.declared.run.Status.{Status}
 use Rattle.jepcheck.specs.declared.run.Status.TheVariants as statuses
 
--- the text reads as these operations, and as nothing else but skipped ones
-unfoldable pub GivesOperations : List ℕ → List Operation → Type 0
-GivesOperations text operations = (entries : List Entry) × Reads text entries None × (operations_of entries ≡ operations)
+-- While only simple lines are read: the text is simple lines of these operations, and by the definition of reading it gives
+-- them and nothing else.
+pub record GivesOperations (text : List ℕ) (operations : List Operation) : Type 0 where
+  pub lines : AreSimpleLines text operations
+  pub read : Reads text (map operation operations) None
 
 -- While only simple lines are read: the first other line is refused, at its first byte.
 pub record GivesFault (text : List ℕ) (fault : Fault) : Type 0 where

@@ -3,5 +3,4 @@ pub mod Pieces
 pub mod Reports
 pub mod Writers
 pub mod Statuses
-pub mod Going
 pub mod Lines

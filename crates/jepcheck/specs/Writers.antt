@@ -1,5 +1,6 @@
 -- The index of writers, by key and value, and the reads that are looked up in it.
 use Rattle.std.specs.Prelude.{ℕ, List, [], ◌∷◌, ◌++◌, Bool, false, not, ◌&&◌, ◌==◌, if◌then◌else◌, Option, Some, None, option_map, option_and_then, map, flat_map, filter, unwrap_or}
+use Rattle.std.specs.Bool.{then_some}
 use Rattle.std.specs.Option.{option_or}
 use Rattle.hist_types.specs.Operations.{Mop, read, write}
 use Rattle.hist_types.specs.Journal.{Write, write_eq, writes_of}
@@ -49,10 +50,6 @@ notes ts = flat_map notes_of ts
 abbrev pub nobody : Writers
 nobody = record { aborted = None; over = None; other = None }
 
--- a number where the test holds
-abbrev pub only_if : Bool → ℕ → Option ℕ
-only_if test n = if test then Some n else None
-
 -- whether there is a number, and it is another one
 abbrev pub is_another : Option ℕ → ℕ → Bool
 is_another None n = false
@@ -62,9 +59,9 @@ is_another (Some m) n = not (n == m)
 abbrev pub add : Writers → Note → Writers
 add w n =
     record {
-      aborted = option_or w.aborted (only_if n.failed n.writer);
-      over = option_or w.over (only_if n.over n.writer);
-      other = option_or w.other (only_if (n.over && is_another w.over n.writer) n.writer);
+      aborted = option_or w.aborted (then_some n.failed n.writer);
+      over = option_or w.over (then_some n.over n.writer);
+      other = option_or w.other (then_some (n.over && is_another w.over n.writer) n.writer);
     }
 
 -- what is known of a write after one more note, and after several

@@ -1,12 +1,15 @@
 //! The command line.
 
 ghost use Rattle.std.specs.Prelude.{◌≡◌, ℕ, List, [], ◌∷◌, map, codes, IfErr, IfOk, string_bytes};
+ghost use Rattle.std.specs.IoError.{error_kind};
+ghost use Rattle.std.specs.declared.io.ErrorKind.TheVariants.{OutOfMemory};
 ghost use Rattle.clap.specs.Words.{app_of, kind_of};
-ghost use Rattle.jepcheck.specs.Lines.{program_app};
+ghost use Rattle.jepcheck.specs.Lines.{program_app, AskForReads};
 
 use crate::run::Command;
 use clap::error::ErrorKind;
 use std::alloc::{AllocError, Global};
+use std::io;
 
 /// What a command line asks for.
 #[derive(Clone, Copy, Debug, PartialEq, Eq)]
@@ -48,12 +51,11 @@ fn program<'a>(alloc: Global) -> Result<clap::Command<'a>, AllocError>
     program.subcommand(reads)
 }
 
-/// The text for an error of the parse.
-fn usage(alloc: Global, error: &clap::Error) -> Result<String, AllocError> {
-    if matches!(error.kind(), ErrorKind::DisplayHelp) {
-        String::from_str(alloc, HELP)
-    } else {
-        format!(in alloc; "{error}\n{HELP}")
+/// The fault with this text.
+fn usage(text: Result<String, AllocError>) -> LineFault {
+    match text {
+        Ok(text) => LineFault::Usage(text),
+        Err(AllocError) => LineFault::Memory,
     }
 }
 
@@ -61,24 +63,38 @@ fn usage(alloc: Global, error: &clap::Error) -> Result<String, AllocError> {
 fn line_fault(alloc: Global, error: &clap::Error) -> LineFault
     ensures { kind_of error.now ≡ ErrorKind.OutOfMemory → result ≡ LineFault.Memory }
 {
-    if matches!(error.kind(), ErrorKind::OutOfMemory) {
-        return LineFault::Memory;
+    match error.kind() {
+        ErrorKind::OutOfMemory => LineFault::Memory,
+        ErrorKind::DisplayHelp => usage(String::from_str(alloc, HELP)),
+        _ => usage(format!(in alloc; "{error}\n{HELP}")),
     }
-    match usage(alloc, error) {
-        Ok(text) => LineFault::Usage(text),
-        Err(AllocError) => LineFault::Memory,
+}
+
+/// The fault of a line whose words can't be had: memory was refused, or one of them isn't UTF-8.
+pub fn unread_line(alloc: Global, error: &io::Error) -> LineFault
+    ensures { error_kind error.now ≡ OutOfMemory → result ≡ LineFault.Memory }
+{
+    match error.kind() {
+        io::ErrorKind::OutOfMemory => LineFault::Memory,
+        _ => usage(format!(in alloc; "error: a word of the command line is not UTF-8\n\n{HELP}")),
     }
 }
 
 /// What the words ask for, of which the first is the program's name.
 pub fn command_line<'a>(alloc: Global, words: &'a [String]) -> Result<Asked, LineFault>
-    ensures { (name : List ℕ) → map string_bytes words.entry.now ≡ name ∷ codes "reads" ∷ [] → IfErr result (λ fault. fault ≡ LineFault.Memory) }
+    ensures only { IfOk result (λ _. AskForReads (map string_bytes words.entry.now)) }
+    ensures asked { AskForReads (map string_bytes words.entry.now) → IfErr result (λ fault. fault ≡ LineFault.Memory) }
+    ensures reads { (name : List ℕ) → map string_bytes words.entry.now ≡ name ∷ codes "reads" ∷ [] → IfErr result (λ fault. fault ≡ LineFault.Memory) }
 {
     let Ok(program) = program(alloc) else {
         return Err(LineFault::Memory);
     };
-    match program.try_get_matches_from(words) {
-        Ok(_matches) => Ok(Asked::Run(Command::Reads)),
-        Err(error) => Err(line_fault(alloc, &error)),
+    let matches = match program.try_get_matches_from(words) {
+        Ok(matches) => matches,
+        Err(error) => return Err(line_fault(alloc, &error)),
+    };
+    match matches.subcommand_name() {
+        Some("reads") => Ok(Asked::Run(Command::Reads)),
+        _ => Err(usage(String::from_str(alloc, HELP))),
     }
 }

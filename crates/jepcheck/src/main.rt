@@ -21,8 +21,9 @@ use std::process::ExitCode;
 
 /// What the process's command line asks for.
 fn asked(rt: &HostRuntime) -> Result<Asked, LineFault> {
-    let Ok(words) = env::args(rt) else {
-        return Err(LineFault::Memory);
+    let words = match env::args(rt) {
+        Ok(words) => words,
+        Err(error) => return Err(command_line::unread_line(rt.alloc(), &error)),
     };
     let Ok(words) = words.collect::<Vec<String>>(rt.alloc()) else {
         return Err(LineFault::Memory);

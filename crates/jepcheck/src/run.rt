@@ -1,6 +1,6 @@
 //! A run of the program, from a source's bytes to a sink's.
 
-ghost use Rattle.std.specs.Prelude.{◌≡◌, ◌⊎◌, ℕ, List, IfOk, IfErr, IfSome, OnOk, OnErr, map, is_some, ◌||◌};
+ghost use Rattle.std.specs.Prelude.{◌≡◌, ◌⊎◌, ℕ, List, IfOk, IfErr, IfSome, map, is_some, ◌||◌};
 ghost use Rattle.hist_types.specs.Refusals.{memory_fault};
 ghost use Rattle.hist_types.specs.Texts.{reads_text, has_bad_read, refusal_line};
 ghost use Rattle.hist_types.specs.Transactions.{transactions_of};

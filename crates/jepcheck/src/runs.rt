@@ -9,17 +9,83 @@ use std::alloc::Global;
 use std::process::Abort;
 use std::test::Fail;
 
+const MEMORY_LINE: &[u8] = b"refused 10 Memory\n";
+
+// The histories of the folder examples, each with the output that stands beside it.
+
 const ABORTED_READ: &[u8] = b"{:type :invoke, :process 0, :value [[:w :x 1]]}
 {:type :fail, :process 0}
 {:type :invoke, :process 1, :value [[:r :x nil]]}
 {:type :ok, :process 1, :value [[:r :x 1]]}
 ";
 
-const ABORTED_READ_TEXT: &[u8] =
-    b"prefix 4\ntxns 2\nG1a yes\n  T2 read :x 1 of T0\nG1b none\nstray 0\n";
+const ABORTED_READ_OUT: &[u8] = b"prefix 4
+txns 2
+G1a yes
+  T2 read :x 1 of T0
+G1b none
+stray 0
+";
+
+const CLEAN: &[u8] = b"{:type :invoke, :process 0, :value [[:w :x 1]]}
+{:type :ok, :process 0, :value [[:w :x 1]]}
+{:type :invoke, :process 1, :value [[:r :x nil]]}
+{:type :ok, :process 1, :value [[:r :x 1]]}
+";
+
+const CLEAN_OUT: &[u8] = b"prefix 4
+txns 2
+G1a none
+G1b none
+stray 0
+";
 
 const INTERMEDIATE_READ: &[u8] = b"{:type :invoke, :process 0, :value [[:w :x 1] [:w :x 2]]}
+{:type :invoke, :process 1, :value [[:r :x nil]]}
+{:type :ok, :process 1, :value [[:r :x 1]]}
 {:type :ok, :process 0, :value [[:w :x 1] [:w :x 2]]}
+";
+
+const INTERMEDIATE_READ_OUT: &[u8] = b"prefix 4
+txns 2
+G1a none
+G1b yes
+  T1 read :x 1 of T0
+stray 0
+";
+
+const STRAY_READ: &[u8] = b"{:type :invoke, :process 0, :value [[:r :x nil]]}
+{:type :ok, :process 0, :value [[:r :x 7]]}
+";
+
+const STRAY_READ_OUT: &[u8] = b"prefix 2
+txns 1
+G1a none
+G1b none
+stray 1
+";
+
+// Others.
+
+const TWO_ABORTED_READS: &[u8] = b"{:type :invoke, :process 0, :value [[:w :x 1]]}
+{:type :fail, :process 0}
+{:type :invoke, :process 1, :value [[:r :x nil]]}
+{:type :ok, :process 1, :value [[:r :x 1]]}
+{:type :invoke, :process 1, :value [[:r :x nil]]}
+{:type :ok, :process 1, :value [[:r :x 1]]}
+";
+
+const READ_OF_WRITTEN_OVER: &[u8] = b"{:type :invoke, :process 0, :value [[:w :x 1] [:w :x 2]]}
+{:type :ok, :process 0, :value [[:w :x 1] [:w :x 2]]}
+{:type :invoke, :process 1, :value [[:r :x nil]]}
+{:type :ok, :process 1, :value [[:r :x 1]]}
+";
+
+const FINAL_AND_INTERMEDIATE_READ: &[u8] =
+    b"{:type :invoke, :process 0, :value [[:w :x 1] [:w :x 2]]}
+{:type :ok, :process 0, :value [[:w :x 1] [:w :x 2]]}
+{:type :invoke, :process 1, :value [[:r :x nil]]}
+{:type :ok, :process 1, :value [[:r :x 2]]}
 {:type :invoke, :process 1, :value [[:r :x nil]]}
 {:type :ok, :process 1, :value [[:r :x 1]]}
 ";
@@ -30,14 +96,8 @@ const READ_OF_INFO: &[u8] = b"{:type :invoke, :process 0, :value [[:w :x 1]]}
 {:type :ok, :process 1, :value [[:r :x 1]]}
 ";
 
-const CLEAN: &[u8] = b"{:type :invoke, :process 0, :value [[:w :x 1]]}
-{:type :ok, :process 0, :value [[:w :x 1]]}
-{:type :invoke, :process 1, :value [[:r :x nil]]}
-{:type :ok, :process 1, :value [[:r :x 1]]}
-";
-
-const STRAY_READ: &[u8] = b"{:type :invoke, :process 0, :value [[:r :x nil]]}
-{:type :ok, :process 0, :value [[:r :x 7]]}
+const READ_OF_NIL: &[u8] = b"{:type :invoke, :process 0, :value [[:r :x nil]]}
+{:type :ok, :process 0, :value [[:r :x nil]]}
 ";
 
 const BUSY: &[u8] = b"{:type :invoke, :process 0, :value []}
@@ -66,6 +126,11 @@ const NOT_SIMPLE: &[u8] = b"{:type :invoke, :process 0, :value [[:w :x 1]]}
 /// A fault of reading stands behind a rule of the journal that is broken.
 const READING_FIRST: &[u8] = b"{:type :ok, :process 0, :value []}
 5
+";
+
+/// An empty line is no simple line.
+const EMPTY_LINE: &[u8] = b"{:type :ok, :process 0, :value []}
+
 ";
 
 /// A source of a few bytes a call, which may fail at one of its calls.
@@ -142,7 +207,7 @@ fn answers<R: Abort + AllocGlobal>(rt: &R, history: &[u8], status: u8, text: &[u
     let mut source = MemorySource::new(history);
     let mut ended = run(rt.alloc(), Command::Reads, &mut source, &mut sink).code();
     if ended == 4 {
-        assert_eq!(rt; sink.taken.as_slice(), b"refused 10 Memory\n".as_slice());
+        assert_eq!(rt; sink.taken.as_slice(), MEMORY_LINE);
         let mut again = MemorySource::new(history);
         sink = Sipping::new(512, 512);
         ended = run(rt.alloc(), Command::Reads, &mut again, &mut sink).code();
@@ -152,8 +217,11 @@ fn answers<R: Abort + AllocGlobal>(rt: &R, history: &[u8], status: u8, text: &[u
 }
 
 #[test]
-fn an_aborted_read(rt: HostRuntime) -> Result<(), Fail> {
-    answers(&rt, ABORTED_READ, 1, ABORTED_READ_TEXT);
+fn examples(rt: HostRuntime) -> Result<(), Fail> {
+    answers(&rt, ABORTED_READ, 1, ABORTED_READ_OUT);
+    answers(&rt, CLEAN, 0, CLEAN_OUT);
+    answers(&rt, INTERMEDIATE_READ, 1, INTERMEDIATE_READ_OUT);
+    answers(&rt, STRAY_READ, 0, STRAY_READ_OUT);
     Ok(())
 }
 
@@ -161,9 +229,21 @@ fn an_aborted_read(rt: HostRuntime) -> Result<(), Fail> {
 fn reports(rt: HostRuntime) -> Result<(), Fail> {
     answers(
         &rt,
-        INTERMEDIATE_READ,
+        TWO_ABORTED_READS,
+        1,
+        b"prefix 6\ntxns 3\nG1a yes\n  T2 read :x 1 of T0\nG1b none\nstray 0\n",
+    );
+    answers(
+        &rt,
+        READ_OF_WRITTEN_OVER,
         1,
         b"prefix 4\ntxns 2\nG1a none\nG1b yes\n  T2 read :x 1 of T0\nstray 0\n",
+    );
+    answers(
+        &rt,
+        FINAL_AND_INTERMEDIATE_READ,
+        1,
+        b"prefix 6\ntxns 3\nG1a none\nG1b yes\n  T4 read :x 1 of T0\nstray 0\n",
     );
     answers(
         &rt,
@@ -173,15 +253,9 @@ fn reports(rt: HostRuntime) -> Result<(), Fail> {
     );
     answers(
         &rt,
-        CLEAN,
+        READ_OF_NIL,
         0,
-        b"prefix 4\ntxns 2\nG1a none\nG1b none\nstray 0\n",
-    );
-    answers(
-        &rt,
-        STRAY_READ,
-        0,
-        b"prefix 2\ntxns 1\nG1a none\nG1b none\nstray 1\n",
+        b"prefix 2\ntxns 1\nG1a none\nG1b none\nstray 0\n",
     );
     answers(
         &rt,
@@ -206,6 +280,7 @@ fn refusals(rt: HostRuntime) -> Result<(), Fail> {
     answers(&rt, MISMATCH, 2, b"refused 6 Mismatch event 1\n");
     answers(&rt, NOT_SIMPLE, 2, b"refused 27 NotAMap byte 74\n");
     answers(&rt, READING_FIRST, 2, b"refused 27 NotAMap byte 35\n");
+    answers(&rt, EMPTY_LINE, 2, b"refused 27 NotAMap byte 35\n");
     Ok(())
 }
 
@@ -220,14 +295,13 @@ fn a_source_of_one_byte_a_call(rt: HostRuntime) -> Result<(), Fail> {
         let mut sink = Sipping::new(512, 512);
         let status = run(rt.alloc(), Command::Reads, &mut source, &mut sink);
         if matches!(status, Status::Memory) {
-            continue;
-        }
-        if calls as usize <= ABORTED_READ.len() {
+            assert_eq!(rt; sink.taken.as_slice(), MEMORY_LINE);
+        } else if calls as usize <= ABORTED_READ.len() {
             assert!(rt; matches!(status, Status::DeviceFault), "at call {calls}");
             assert!(rt; sink.taken.is_empty());
         } else {
             assert!(rt; matches!(status, Status::SomePhenomenon), "at call {calls}");
-            assert_eq!(rt; sink.taken.as_slice(), ABORTED_READ_TEXT);
+            assert_eq!(rt; sink.taken.as_slice(), ABORTED_READ_OUT);
         }
     }
     Ok(())
@@ -239,16 +313,17 @@ fn a_sink_of_one_byte_a_call(rt: HostRuntime) -> Result<(), Fail> {
         let mut source = MemorySource::new(ABORTED_READ);
         let mut sink = Sipping::new(1, calls);
         let status = run(rt.alloc(), Command::Reads, &mut source, &mut sink);
+        let taken = sink.taken.as_slice();
         if matches!(status, Status::Memory) {
-            continue;
-        }
-        if (calls as usize) < ABORTED_READ_TEXT.len() {
-            assert!(rt; matches!(status, Status::DeviceFault), "at call {calls}");
-            assert_eq!(rt; sink.taken.len(), calls as usize);
-        } else {
+            assert_eq!(rt; taken, MEMORY_LINE);
+        } else if calls as usize >= ABORTED_READ_OUT.len() {
             assert!(rt; matches!(status, Status::SomePhenomenon), "at call {calls}");
+            assert_eq!(rt; taken, ABORTED_READ_OUT);
+        } else {
+            assert!(rt; matches!(status, Status::DeviceFault), "at call {calls}");
+            assert_eq!(rt; taken.len(), calls as usize);
+            assert!(rt; ABORTED_READ_OUT.starts_with(taken) || MEMORY_LINE.starts_with(taken));
         }
-        assert!(rt; ABORTED_READ_TEXT.starts_with(sink.taken.as_slice()));
     }
     Ok(())
 }
