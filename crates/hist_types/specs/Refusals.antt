@@ -1,6 +1,6 @@
 -- Refusals (this project's own): the table of their numbers and names, which never change.
 use Rattle.std.specs.Prelude.{ℕ, List, codes}
-use Rattle.hist_types.specs.declared.types.At.TheVariants.{Nowhere}
+use Rattle.hist_types.specs.declared.types.At.TheVariants.{Event, Nowhere}
 use Rattle.hist_types.specs.declared.types.Fault.{Fault}
 use Rattle.hist_types.specs.declared.types.Refusal.{Refusal}
 use Rattle.hist_types.specs.declared.types.Refusal.TheVariants.{Busy, Retired, Rewritten, Idle, Mismatch, Full, TooManyEvents, BadRange, Memory, NoThread, BadUtf8, UnclosedString, StrayCloser, TooDeep, Unclosed, OddMap, DanglingTag, NotAMap, MissingField, DuplicateField, BadType, BadProcess, NotTxn, BadAtom, NilWritten, TooLong, TooManyMicroOps, BlockFull, EmptyImport}
@@ -49,6 +49,10 @@ number_of refusal = (title_of refusal).number
 
 abbrev pub name_of : Refusal → List ℕ
 name_of refusal = (title_of refusal).name
+
+-- a broken rule of the journal, and the index that the operation would have had
+abbrev pub event_fault : Refusal × ℕ → Fault
+event_fault broken = record { refusal = broken.0; at = Event broken.1 }
 
 -- memory was refused, which stands at no place
 abbrev pub memory_fault : Fault

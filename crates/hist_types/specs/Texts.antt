@@ -114,15 +114,21 @@ bad_read_lines name None = line (name ++ codes " none")
 bad_read_lines name (Some r) = line (name ++ codes " yes") ++ indented (bad_read_text r)
 
 -- how many events there are, and how many transactions
-abbrev pub head_lines : List Operation → List ℕ
-head_lines events = number_line (codes "prefix") (length events) ++ number_line (codes "txns") (length (transactions_of events))
+abbrev pub head_lines : (events txns : ℕ) → List ℕ
+head_lines events txns = number_line (codes "prefix") events ++ number_line (codes "txns") txns
+
+-- from these numbers, what shows G1a and G1b, and how many reads are stray
+abbrev pub reads_lines : (events txns : ℕ) → (aborted intermediate : Option BadRead) → (unwritten : ℕ) → List ℕ
+reads_lines events txns aborted intermediate unwritten =
+    head_lines events txns
+    ++ bad_read_lines (codes "G1a") aborted
+    ++ bad_read_lines (codes "G1b") intermediate
+    ++ number_line (codes "stray") unwritten
 
 abbrev pub reads_text : List Operation → List ℕ
 reads_text events =
-    head_lines events
-    ++ bad_read_lines (codes "G1a") (g1a (transactions_of events))
-    ++ bad_read_lines (codes "G1b") (g1b (transactions_of events))
-    ++ number_line (codes "stray") (stray (transactions_of events))
+    let ts = transactions_of events in
+    reads_lines (length events) (length ts) (g1a ts) (g1b ts) (stray ts)
 
 -- whether that text names a phenomenon
 abbrev pub has_bad_read : List Operation → Bool
@@ -164,8 +170,9 @@ in_order es = fold put_edge [] es
 
 abbrev pub edges_text : List Operation → List ℕ
 edges_text events =
-    let es = in_order (dependency_edges (transactions_of events)) in
-    head_lines events ++ flat_map (λ (e : Edge). line (edge_text e)) es ++ number_line (codes "edges") (length es)
+    let ts = transactions_of events in
+    let es = in_order (dependency_edges ts) in
+    head_lines (length events) (length ts) ++ flat_map (λ (e : Edge). line (edge_text e)) es ++ number_line (codes "edges") (length es)
 
 -- ---- the text of a verdict
 
@@ -181,14 +188,15 @@ finding_lines name (Some found) = line (name ++ codes " " ++ level_text found.le
 -- the lines for the findings of G0, G1c, G-single and G2-item
 abbrev pub verdict_lines : List Operation → (g0 g1c single item : Option Finding) → List ℕ
 verdict_lines events g0 g1c single item =
-    head_lines events
+    let ts = transactions_of events in
+    head_lines (length events) (length ts)
     ++ finding_lines (codes "G0") g0
-    ++ bad_read_lines (codes "G1a") (g1a (transactions_of events))
-    ++ bad_read_lines (codes "G1b") (g1b (transactions_of events))
+    ++ bad_read_lines (codes "G1a") (g1a ts)
+    ++ bad_read_lines (codes "G1b") (g1b ts)
     ++ finding_lines (codes "G1c") g1c
     ++ finding_lines (codes "G-single") single
     ++ finding_lines (codes "G2-item") item
-    ++ number_line (codes "stray") (stray (transactions_of events))
+    ++ number_line (codes "stray") (stray ts)
 
 -- any witness of the right form fits
 pub record IsVerdictText (events : List Operation) (text : List ℕ) : Type 0 where

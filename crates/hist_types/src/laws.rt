@@ -13,7 +13,7 @@ ghost use Rattle.hist_types.specs.Phenomena.{height};
 ghost use Rattle.hist_types.specs.Reading.{Entry, Reads};
 ghost use Rattle.hist_types.specs.Refusals.{number_of, name_of};
 ghost use Rattle.hist_types.specs.Texts.{in_order};
-ghost use Rattle.hist_types.specs.Tokens.{Item, HasTokens, run_of, run_len};
+ghost use Rattle.hist_types.specs.Tokens.{run_of, run_len};
 ghost use Rattle.hist_types.specs.Transactions.{Transaction, Indexed, completion_in, transactions_of, Read, read_eq, external_reads, external_writes, nodes};
 ghost use Rattle.hist_types.specs.declared.types.Fault.{Fault};
 ghost use Rattle.hist_types.specs.declared.types.Level.{Level};
@@ -70,10 +70,9 @@ pub fn runs_longest()
     ensures len { (text : List ℕ) → run_len text ≡ length (run_of text) }
 {}
 
-/// A text has one row of tokens and one reading.
+/// A text has one reading.
 pub fn texts_read_one_way()
-    ensures tokens { (text : List ℕ) → (ts us : List Item) → (e d : Option Fault) → HasTokens text ts e → HasTokens text us d → (ts ≡ us) × (e ≡ d) }
-    ensures readings { (text : List ℕ) → (entries others : List Entry) → (fault other : Option Fault) → Reads text entries fault → Reads text others other → (entries ≡ others) × (fault ≡ other) }
+    ensures { (text : List ℕ) → (entries others : List Entry) → (fault other : Option Fault) → Reads text entries fault → Reads text others other → (entries ≡ others) × (fault ≡ other) }
 {}
 
 /// Order edges are those of all pairs of which the second end is a node; their first end is one by itself.

@@ -3,12 +3,10 @@ use Rattle.std.specs.Prelude.{◌≡◌, ◌≢◌, ◌⊎◌, ℕ, ◌-◌, Lis
 use Rattle.hist_types.specs.Operations.{Operation}
 use Rattle.hist_types.specs.Reading.{operation, Reads}
 use Rattle.hist_types.specs.Journal.{first_broken}
-use Rattle.hist_types.specs.Refusals.{memory_fault}
+use Rattle.hist_types.specs.Refusals.{event_fault, memory_fault}
 use Rattle.hist_types.specs.Texts.{reads_text, has_bad_read, refusal_line}
 use Rattle.hist_types.specs.Devices.{Took, CountsFailure}
 use Rattle.hist_types.specs.declared.types.Fault.{Fault}
-use Rattle.hist_types.specs.declared.types.Refusal.{Refusal}
-use Rattle.hist_types.specs.declared.types.At.TheVariants.{Event}
 use Rattle.edn_ops.specs.Reader.{not_a_map}
 use Rattle.edn_ops.specs.SimpleLines.{BeginsWithLines, BeginsWithNoLine, AreSimpleLines}
 use Rattle.jepcheck.specs.Pieces.{TookBeginning}
@@ -29,10 +27,6 @@ pub record GivesFault (text : List ℕ) (fault : Fault) : Type 0 where
   pub not_ended : rest ≢ []
   pub not_simple : BeginsWithNoLine rest
   pub fault_is : fault ≡ not_a_map (length text - length rest)
-
--- the refusal of an operation that would have the index
-abbrev pub event_fault : Refusal × ℕ → Fault
-event_fault broken = record { refusal = broken.0; at = Event broken.1 }
 
 -- the first rule that the operations break, one after the other
 abbrev pub journal_fault : List Operation → Option Fault

@@ -1,6 +1,5 @@
 pub mod Answers
 pub mod Pieces
-pub mod Reports
 pub mod Writers
 pub mod Statuses
 pub mod Lines

@@ -11,7 +11,7 @@ use std::test::Fail;
 
 const MEMORY_LINE: &[u8] = b"refused 10 Memory\n";
 
-// The histories of the folder examples, each with the output that stands beside it.
+// A history of each kind that a report tells apart, with its output.
 
 const ABORTED_READ: &[u8] = b"{:type :invoke, :process 0, :value [[:w :x 1]]}
 {:type :fail, :process 0}
@@ -65,7 +65,7 @@ G1b none
 stray 1
 ";
 
-// Others.
+// Other histories.
 
 const TWO_ABORTED_READS: &[u8] = b"{:type :invoke, :process 0, :value [[:w :x 1]]}
 {:type :fail, :process 0}
@@ -217,7 +217,7 @@ fn answers<R: Abort + AllocGlobal>(rt: &R, history: &[u8], status: u8, text: &[u
 }
 
 #[test]
-fn examples(rt: HostRuntime) -> Result<(), Fail> {
+fn each_kind_of_report(rt: HostRuntime) -> Result<(), Fail> {
     answers(&rt, ABORTED_READ, 1, ABORTED_READ_OUT);
     answers(&rt, CLEAN, 0, CLEAN_OUT);
     answers(&rt, INTERMEDIATE_READ, 1, INTERMEDIATE_READ_OUT);

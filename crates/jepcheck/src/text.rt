@@ -1,8 +1,7 @@
 //! What is printed.
 
 ghost use Rattle.std.specs.Prelude.{◌≡◌, ◌++◌, OnOk, option_map};
-ghost use Rattle.hist_types.specs.Texts.{number_line, bad_read_lines, bad_read_text, indented, refusal_line};
-ghost use Rattle.jepcheck.specs.Reports.{reads_lines};
+ghost use Rattle.hist_types.specs.Texts.{number_line, bad_read_lines, reads_lines, bad_read_text, indented, refusal_line};
 ghost use Rattle.jepcheck.specs.Writers.{bad_read_of};
 
 use crate::bad_reads::{BadRead, BadReads};

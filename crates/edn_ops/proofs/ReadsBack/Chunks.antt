@@ -1,6 +1,6 @@
 -- Texts made of chunks: blanks and tokens of which each is what begins at its place.
 use Rattle.std.proofs.Common.{◌≡◌, ℕ, suc, ◌+◌, ◌<◌, List, [], ◌∷◌, ◌++◌, length, true, false, Some, None, refl, sym, ap, subst, arith}
-use Rattle.std.specs.Prelude.{filter, nat_lt}
+use Rattle.std.specs.Prelude.{nat_lt}
 use Rattle.std.specs.Str.{IsUtf8, IsAscii}
 use Rattle.std.specs.List.{list_all}
 use Rattle.std.specs.Str.Lossy.{utf8_valid_len}
@@ -9,7 +9,7 @@ use Rattle.std.proofs.lemmas.Str.Ascii.{IsAscii-cons, IsAscii-nil}
 use Rattle.std.proofs.lemmas.Bool.{le-ltb, ltb-true, and_parts}
 use Rattle.std.proofs.lemmas.List.{take_at, drop_at}
 use Rattle.hist_types.specs.Bytes.{is_blank}
-use Rattle.hist_types.specs.Tokens.{Item, ItemKind, Blank, front, BeginsWith, IsCut, HasTokens, item_fault, nesting_refusal, open_after, is_token}
+use Rattle.hist_types.specs.Tokens.{Item, ItemKind, Blank, front, BeginsWith, IsCut, HasTokens, item_fault, nesting_refusal, open_after, is_token, tokens_of}
 
 -- a blank, or a token with its kind
 pub data Chunk : Type 0 where
@@ -102,7 +102,7 @@ cut_into at closers (token kind bytes ∷ more) h =
     )
 
 -- the tokens are what is left of the items without blanks
-tokens_among : (at : ℕ) (closers : List ℕ) (chunks : List Chunk) → WellCut chunks closers → tokens_at at chunks ≡ filter (λ (item : Item). is_token item.kind) (items_at at chunks)
+tokens_among : (at : ℕ) (closers : List ℕ) (chunks : List Chunk) → WellCut chunks closers → tokens_at at chunks ≡ tokens_of (items_at at chunks)
 tokens_among at closers [] h = refl
 tokens_among at closers (gap b ∷ more) h = tokens_among (at + 1) closers more h.2
 tokens_among at closers (token kind bytes ∷ more) h =
