@@ -7,4 +7,5 @@ pub mod Loop
 pub mod Atoms
 pub mod Mops
 pub mod Lines
+pub mod OneEnd
 pub mod Spelled

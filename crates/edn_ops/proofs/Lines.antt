@@ -319,7 +319,7 @@ line_again_at total bytes op rest next simple parts end =
     let short : length (operation_text op) ≤ MAX_OPERATION_BYTES = simple.can_be_read.bytes in
     (found.0, line_runs total bytes found.0 rest next (ap (operation_at total) parts ∙ found.1) end (omega arith))
 
-line_again : (total : ℕ) (bytes : List ℕ) (op : Operation) (next : List ℕ) → IsSimple op → BeginsWithLine bytes op next → (shape : ShapeParts) × (line_at total bytes ≡ Some (shape, next))
+pub line_again : (total : ℕ) (bytes : List ℕ) (op : Operation) (next : List ℕ) → IsSimple op → BeginsWithLine bytes op next → (shape : ShapeParts) × (line_at total bytes ≡ Some (shape, next))
 line_again total bytes op next simple (inl p) = line_again_at total bytes op [] next simple (p.0 ∙ sym (append-nil (operation_text op))) (ap (λ (x : List ℕ). Some x) (sym p.1))
 line_again total bytes op next simple (inr p) = line_again_at total bytes op (10 ∷ next) next simple p refl
 

@@ -8,7 +8,7 @@ ghost use Rattle.hist_types.specs.Texts.{operation_text};
 ghost use Rattle.hist_types.specs.declared.limits.TheConstants.{MAX_OPERATION_BYTES};
 ghost use Rattle.hist_types.specs.declared.types.Fault.{Fault};
 ghost use Rattle.edn_ops.specs.Canonical.{OperationCanBeRead, AreLines};
-ghost use Rattle.edn_ops.specs.SimpleLines.{AreSimpleLines};
+ghost use Rattle.edn_ops.specs.SimpleLines.{BeginsWithLines, BeginsWithNoLine, AreSimpleLines};
 
 /// The canonical text of an operation reads as that operation, and as nothing else.
 pub fn canonical_text_reads_back()
@@ -33,6 +33,13 @@ pub fn simple_lines_read()
         → AreSimpleLines text os → Reads text entries fault → (entries ≡ map operation os) × (fault ≡ None) }
 {}
 
+/// The simple lines that a text begins with end at one place: before the first other line, or with the text.
+pub fn simple_lines_end_at_one_place()
+    ensures place { (text : List ℕ) (os others : List Operation) (rest end : List ℕ) → BeginsWithLines text os rest → BeginsWithNoLine rest
+        → BeginsWithLines text others end → BeginsWithNoLine end → rest ≡ end }
+    ensures end { BeginsWithNoLine [] }
+{}
+
 /// Each operation that a text gives can be read back, where its canonical text has at most 65,536 bytes.
 pub fn what_is_read_can_be_read_back()
     ensures { (text : List ℕ) (entries : List Entry) (fault : Option Fault) → Reads text entries fault
@@ -42,8 +49,8 @@ pub fn what_is_read_can_be_read_back()
 #[cfg(test)]
 mod tests {
     use super::{
-        canonical_text_reads_back, lines_read_back, simple_lines_read,
-        what_is_read_can_be_read_back,
+        canonical_text_reads_back, lines_read_back, simple_lines_end_at_one_place,
+        simple_lines_read, what_is_read_can_be_read_back,
     };
 
     #[test]
@@ -51,6 +58,7 @@ mod tests {
         canonical_text_reads_back();
         lines_read_back();
         simple_lines_read();
+        simple_lines_end_at_one_place();
         what_is_read_can_be_read_back();
     }
 }

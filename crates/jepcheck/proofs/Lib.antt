@@ -4,5 +4,6 @@ pub mod Noting
 pub mod Sights
 pub mod Pieces
 pub mod OneByOne
+pub mod OneAnswer
 pub mod Outcomes
 pub mod Words

@@ -5,6 +5,7 @@ mod bad_reads;
 mod command_line;
 mod devices;
 mod inputs;
+mod laws;
 mod run;
 #[cfg(test)]
 mod runs;

@@ -1,4 +1,5 @@
 use crate::command_line::{Asked, LineFault, command_line, unread_line};
+use crate::laws;
 use crate::run::Command;
 use std::alloc::{AllocError, Global};
 use std::io;
@@ -29,6 +30,11 @@ fn unread(alloc: Global, kind: io::ErrorKind) -> LineFault {
         LineFault::Memory => unread_line(alloc, &error),
         fault => fault,
     }
+}
+
+#[test]
+fn laws_return() {
+    laws::one_answer_to_a_text();
 }
 
 #[test]

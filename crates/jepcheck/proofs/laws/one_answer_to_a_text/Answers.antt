@@ -1,0 +1,5 @@
+use Rattle.jepcheck.proofs.OneAnswer.{one_answer}
+use Rattle.jepcheck.proofs.laws.one_answer_to_a_text.Goals as goal
+
+pub returns : goal.returns
+returns c = one_answer c.simple_lines_end_at_one_place.ensures.place c.simple_lines_end_at_one_place.ensures.end
