@@ -77,17 +77,12 @@ impl<'a> OpReader<'a> {
         if self.place >= self.text.len() {
             return Ok(None);
         }
-        match line_from(self.alloc, self.text, self.place) {
-            Ok(Some((shape, next))) => {
-                self.place = next;
-                Ok(Some(shape))
-            }
-            Ok(None) => {
-                self.is_stuck = true;
-                Err(not_simple(self.place))
-            }
-            Err(_) => Err(Fault::memory()),
-        }
+        let Some((shape, next)) = line_from(self.alloc, self.text, self.place)? else {
+            self.is_stuck = true;
+            return Err(not_simple(self.place));
+        };
+        self.place = next;
+        Ok(Some(shape))
     }
 
     /// How many operations were left out: none, since no simple line is.

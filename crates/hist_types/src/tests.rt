@@ -2,7 +2,7 @@ use crate::device::{Failed, MemorySink, MemorySource, Sink, Source};
 use crate::laws;
 use crate::limits::MAX_PROCESS;
 use crate::types::{At, Fault, Level, Process, Refusal};
-use std::alloc::{AllocError, Global};
+use std::alloc::{AllocError, AllocFailed, Global};
 use std::cmp::Ordering;
 use std::fmt;
 use std::process::Abort;
@@ -51,9 +51,15 @@ fn refusals_bear_their_titles(rt: HostRuntime) {
 
 #[test]
 fn refused_memory_stands_nowhere(rt: HostRuntime) {
-    let fault = Fault::memory();
-    assert_eq!(rt; fault.refusal.number(), 10);
-    assert_eq!(rt; fault.at, At::Nowhere);
+    let failed = AllocFailed { value: 0u8 };
+    for fault in [
+        Fault::memory(),
+        Fault::from(AllocError),
+        Fault::from(failed),
+    ] {
+        assert_eq!(rt; fault.refusal.number(), 10);
+        assert_eq!(rt; fault.at, At::Nowhere);
+    }
 }
 
 /// What a value prints. Where memory was refused it is printed once more.

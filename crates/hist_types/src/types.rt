@@ -4,6 +4,7 @@ ghost use Rattle.std.specs.Prelude.{◌≡◌, ℕ, ◌≤◌, ◌↔◌, Some, 
 ghost use Rattle.hist_types.specs.Refusals.{number_of, name_of};
 
 use crate::limits::MAX_PROCESS;
+use std::alloc::{AllocError, AllocFailed};
 use std::fmt;
 use std::marker::Model;
 use thiserror::Error;
@@ -213,6 +214,28 @@ impl Fault {
             refusal: Refusal::Memory,
             at: At::Nowhere,
         }
+    }
+}
+
+impl From<AllocError> for Fault {
+    ghost use Rattle.std.specs.Prelude.{◌≡◌};
+    ghost use Rattle.hist_types.specs.Refusals.{memory_fault};
+
+    ghost from_gives = { λ _ fault. fault ≡ memory_fault };
+
+    fn from(_: AllocError) -> Fault {
+        Fault::memory()
+    }
+}
+
+impl<T: Drop> From<AllocFailed<T>> for Fault {
+    ghost use Rattle.std.specs.Prelude.{◌≡◌};
+    ghost use Rattle.hist_types.specs.Refusals.{memory_fault};
+
+    ghost from_gives = { λ _ fault. fault ≡ memory_fault };
+
+    fn from(_: AllocFailed<T>) -> Fault {
+        Fault::memory()
     }
 }
 

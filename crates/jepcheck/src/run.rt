@@ -111,7 +111,7 @@ fn judge(alloc: Global, text: &[u8]) -> Result<Answer, Fault>
     let operations = read_operations(alloc, text)?;
     let core = accept_all(alloc, operations)?;
     let txns = pair(alloc, &core)?;
-    report(alloc, &core, txns.as_slice()).map_err(|_| Fault::memory())
+    Ok(report(alloc, &core, txns.as_slice())?)
 }
 
 /// The answer to a text.

@@ -22,8 +22,6 @@ pub fn pair<'a>(alloc: Global, core: &'a Core) -> Result<Txns<'a>, Fault>
     ensures ok { IfOk result (λ txns. txns ≡ transactions_of core.now) }
     ensures err { IfErr result (λ fault. fault ≡ memory_fault) }
 {
-    match pairing::transactions(alloc, core.operations()) {
-        Ok(list) => Ok(Txns::new(list)),
-        Err(_) => Err(Fault::memory()),
-    }
+    let list = pairing::transactions(alloc, core.operations())?;
+    Ok(Txns::new(list))
 }
