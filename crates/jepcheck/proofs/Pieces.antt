@@ -1,11 +1,13 @@
 -- Bytes given and taken piece by piece.
-use Rattle.std.proofs.Common.{◌≡◌, ℕ, ◌+◌, List, [], ◌++◌, Option, Some, None, refl, sym, ◌∙◌, ap, option_map, append_assoc, subst, take, drop, length}
-use Rattle.std.specs.Prelude.{IfSome}
+use Rattle.std.proofs.Common.{◌≡◌, ℕ, ◌+◌, List, [], ◌++◌, Option, Some, None, Result, Ok, Err, refl, sym, ◌∙◌, ap, option_map, append_assoc, subst, take, drop, length}
+use Rattle.std.specs.Prelude.{IfSome, IfErr, IsErrAnd}
 use Rattle.std.proofs.Common.{◌≤◌, ◌-◌, arith}
 use Rattle.std.proofs.lemmas.Grind.{common_steps}
 use Rattle.std.proofs.lemmas.List.{take-append-drop, drop-take, length-drop, length-take, take_all, take-take}
 use Rattle.std.proofs.Math.Seq.{take-append_seam}
 use Rattle.hist_types.specs.Devices.{Gave, Took}
+use Rattle.jepcheck.specs.Pieces.{IsCounted}
+use Rattle.jepcheck.specs.declared.devices.ReadFault.{ReadFault}
 use Rattle.jepcheck.proofs.Lists.{append-nil-right}
 
 -- one piece more from the source
@@ -64,3 +66,9 @@ take_nothing n xs e = ap (λ k. take k xs) e ∙ grind (arith, common_steps)
 -- a room that was written into
 pub room_kept : (len : ℕ) (room rest : List ℕ) → length room ≡ len → take len (room ++ rest) ≡ room
 room_kept len room rest e = ap (λ n. take n (room ++ rest)) (sym e) ∙ take-append_seam room rest
+
+-- an answer that is one fault, and what is counted with that
+pub fault_counted : {A : Type 0} (result : Result A ReadFault) (told : ReadFault) (old new : ℕ) → IsErrAnd result (λ fault. fault ≡ told) → IsCounted told old new
+    → IfErr result (λ fault. IsCounted fault old new)
+fault_counted (Ok x) told old new named counted = tt
+fault_counted (Err fault) told old new named counted = let P : ReadFault → Type 0 = λ f. IsCounted f old new in subst P (sym named) counted

@@ -19,6 +19,28 @@ pub enum ReadFault {
     Memory,
 }
 
+impl From<Failed> for ReadFault {
+    ghost use Rattle.std.specs.Prelude.{◌≡◌};
+    ghost use Rattle.jepcheck.specs.declared.devices.ReadFault.TheVariants.{Device};
+
+    ghost from_gives = { λ _ fault. fault ≡ Device };
+
+    fn from(_: Failed) -> ReadFault {
+        ReadFault::Device
+    }
+}
+
+impl From<AllocError> for ReadFault {
+    ghost use Rattle.std.specs.Prelude.{◌≡◌};
+    ghost use Rattle.jepcheck.specs.declared.devices.ReadFault.TheVariants.{Memory};
+
+    ghost from_gives = { λ _ fault. fault ≡ Memory };
+
+    fn from(_: AllocError) -> ReadFault {
+        ReadFault::Memory
+    }
+}
+
 fn room_for_a_piece(alloc: Global) -> Result<Vec<u8>, AllocError>
     ensures { IfOk result (λ room. 0 < vec_len room) }
 {
@@ -32,19 +54,13 @@ pub fn read_all<S: Source>(alloc: Global, source: &mut S) -> Result<Vec<u8>, Rea
     ensures fault { IfErr result (λ fault. IsCounted fault (S.failures source.old) (S.failures source.new)) }
 {
     let mut taken = Vec::new(alloc);
-    let Ok(mut room) = room_for_a_piece(alloc) else {
-        return Err(ReadFault::Memory);
-    };
+    let mut room = room_for_a_piece(alloc)?;
     for _ in 0..u64::MAX {
-        let Ok(count) = source.read(&mut room) else {
-            return Err(ReadFault::Device);
-        };
+        let count = source.read(&mut room)?;
         if count == 0 {
             return Ok(taken);
         }
-        if taken.extend_from_slice(&room[..count]).is_err() {
-            return Err(ReadFault::Memory);
-        }
+        taken.extend_from_slice(&room[..count])?;
     }
     Err(ReadFault::Memory)
 }
