@@ -3,7 +3,7 @@ use Rattle.std.proofs.Common.{◌≡◌, ℕ, List, [], ◌∷◌, refl, sym, ap
 use Rattle.std.proofs.lemmas.Option.{same_Some}
 use Rattle.hist_types.specs.Operations.{Operation}
 use Rattle.edn_ops.specs.Scan.{ShapeParts, head_at, operation_at, line_at}
-use Rattle.edn_ops.specs.SimpleLines.{IsSimple, BeginsWithLine, BeginsWithLines, BeginsWithNoLine}
+use Rattle.edn_ops.specs.SimpleLines.{IsSimple, BeginsWithLine, BeginsWithLines, BeginsWithNoLine, EndAtOnePlace}
 use Rattle.edn_ops.proofs.Lines.{line_again, no_line}
 
 -- what comes behind the line
@@ -13,7 +13,7 @@ one_rest text op other rest end simple too line its =
     let second = line_again 0 text other end too its in
     ap (λ (found : ShapeParts × List ℕ). found.1) (same_Some (first.0, rest) (second.0, end) (sym first.1 ∙ second.1))
 
-pub one_end : (text : List ℕ) (os others : List Operation) (rest end : List ℕ) → BeginsWithLines text os rest → BeginsWithNoLine rest → BeginsWithLines text others end → BeginsWithNoLine end → rest ≡ end
+pub one_end : (text : List ℕ) → EndAtOnePlace text
 one_end text [] [] rest end lines stops its ends = sym lines ∙ its
 one_end text [] (o ∷ others) rest end lines stops its ends = absurd (stops o its.1.0 its.0 (subst (λ (t : List ℕ). BeginsWithLine t o its.1.0) lines its.1.1))
 one_end text (o ∷ os) [] rest end lines stops its ends = absurd (ends o lines.1.0 lines.0 (subst (λ (t : List ℕ). BeginsWithLine t o lines.1.0) its lines.1.1))

@@ -103,6 +103,12 @@ abbrev pub BeginsWithLines : List ℕ → List Operation → List ℕ → Type 0
 BeginsWithLines text [] rest = text ≡ rest
 BeginsWithLines text (op ∷ ops) rest = IsSimple op × ((next : List ℕ) × BeginsWithLine text op next × BeginsWithLines next ops rest)
 
+-- The simple lines that a text begins with end at one place, before a line that is not simple or with the text.
+abbrev pub EndAtOnePlace : List ℕ → Type 0
+EndAtOnePlace text =
+    (ops others : List Operation) (rest end : List ℕ) → BeginsWithLines text ops rest → BeginsWithNoLine rest
+    → BeginsWithLines text others end → BeginsWithNoLine end → rest ≡ end
+
 -- The text is simple lines of these operations, and nothing else.
 abbrev pub AreSimpleLines : List ℕ → List Operation → Type 0
 AreSimpleLines text ops = BeginsWithLines text ops []

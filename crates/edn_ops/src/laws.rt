@@ -8,7 +8,7 @@ ghost use Rattle.hist_types.specs.Texts.{operation_text};
 ghost use Rattle.hist_types.specs.declared.limits.TheConstants.{MAX_OPERATION_BYTES};
 ghost use Rattle.hist_types.specs.declared.types.Fault.{Fault};
 ghost use Rattle.edn_ops.specs.Canonical.{OperationCanBeRead, AreLines};
-ghost use Rattle.edn_ops.specs.SimpleLines.{BeginsWithLines, BeginsWithNoLine, AreSimpleLines};
+ghost use Rattle.edn_ops.specs.SimpleLines.{BeginsWithNoLine, EndAtOnePlace, AreSimpleLines};
 
 /// The canonical text of an operation reads as that operation, and as nothing else.
 pub fn canonical_text_reads_back()
@@ -35,8 +35,7 @@ pub fn simple_lines_read()
 
 /// The simple lines that a text begins with end at one place: before the first other line, or with the text.
 pub fn simple_lines_end_at_one_place()
-    ensures place { (text : List ℕ) (os others : List Operation) (rest end : List ℕ) → BeginsWithLines text os rest → BeginsWithNoLine rest
-        → BeginsWithLines text others end → BeginsWithNoLine end → rest ≡ end }
+    ensures place { (text : List ℕ) → EndAtOnePlace text }
     ensures end { BeginsWithNoLine [] }
 {}
 

@@ -117,7 +117,7 @@ bad_read_lines name (Some r) = line (name ++ codes " yes") ++ indented (bad_read
 abbrev pub head_lines : (events txns : ℕ) → List ℕ
 head_lines events txns = number_line (codes "prefix") events ++ number_line (codes "txns") txns
 
--- from these numbers, what shows G1a and G1b, and how many reads are stray
+-- the lines, from these numbers, what shows G1a and G1b, and how many reads are stray
 abbrev pub reads_lines : (events txns : ℕ) → (aborted intermediate : Option BadRead) → (unwritten : ℕ) → List ℕ
 reads_lines events txns aborted intermediate unwritten =
     head_lines events txns

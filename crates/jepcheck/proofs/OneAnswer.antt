@@ -8,17 +8,11 @@ use Rattle.hist_types.specs.Texts.{reads_text, has_bad_read, refusal_line}
 use Rattle.hist_types.specs.declared.types.Fault.{Fault}
 use Rattle.hist_types.proofs.OneCut.{one_reading}
 use Rattle.edn_ops.specs.Reader.{not_a_map}
-use Rattle.edn_ops.specs.SimpleLines.{BeginsWithLines, BeginsWithNoLine}
+use Rattle.edn_ops.specs.SimpleLines.{BeginsWithNoLine, EndAtOnePlace}
 use Rattle.jepcheck.specs.Answers.{GivesOperations, GivesFault, GivesEvents, journal_fault, IsRefused, IsAnswer}
 use Rattle.jepcheck.specs.Statuses.{status_by}
 use Rattle.jepcheck.specs.declared.run.Status.{Status}
 use Rattle.jepcheck.specs.declared.run.Status.TheVariants as statuses
-
--- the simple lines of a text end at one place
-abbrev EndAtOnePlace : Type 0
-EndAtOnePlace =
-    (text : List ℕ) (os others : List Operation) (rest end : List ℕ) → BeginsWithLines text os rest → BeginsWithNoLine rest
-    → BeginsWithLines text others end → BeginsWithNoLine end → rest ≡ end
 
 given_again : (ops : List Operation) → operations_of (map operation ops) ≡ ops
 given_again [] = refl
@@ -29,14 +23,14 @@ same_operations text ops others one two =
     let same = one_reading text (map operation ops) (map operation others) None None one.read two.read in
     sym (given_again ops) ∙ (ap operations_of same.0 ∙ given_again others)
 
-same_place : EndAtOnePlace → (text : List ℕ) (fault other : Fault) → GivesFault text fault → GivesFault text other → fault ≡ other
-same_place place text fault other one two =
-    let same = place text one.before two.before one.rest two.rest one.lines one.not_simple two.lines two.not_simple in
+same_place : (text : List ℕ) → EndAtOnePlace text → (fault other : Fault) → GivesFault text fault → GivesFault text other → fault ≡ other
+same_place text place fault other one two =
+    let same = place one.before two.before one.rest two.rest one.lines one.not_simple two.lines two.not_simple in
     one.fault_is ∙ (ap (λ (rest : List ℕ). not_a_map (length text - length rest)) same ∙ sym two.fault_is)
 
-not_both : EndAtOnePlace → BeginsWithNoLine [] → (text : List ℕ) (ops : List Operation) (fault : Fault) → GivesOperations text ops → GivesFault text fault → ⊥
-not_both place stops text ops fault given refused =
-    refused.not_ended (place text refused.before ops refused.rest [] refused.lines refused.not_simple given.lines stops)
+not_both : (text : List ℕ) → EndAtOnePlace text → BeginsWithNoLine [] → (ops : List Operation) (fault : Fault) → GivesOperations text ops → GivesFault text fault → ⊥
+not_both text place stops ops fault given refused =
+    refused.not_ended (place refused.before ops refused.rest [] refused.lines refused.not_simple given.lines stops)
 
 -- operations whose journal is refused are no events
 no_events : (text : List ℕ) (events ops : List Operation) (fault : Fault) → GivesEvents text events → GivesOperations text ops → journal_fault ops ≡ Some fault → ⊥
@@ -45,17 +39,17 @@ no_events text events ops fault kept given broken =
     let none : journal_fault ops ≡ None = subst (λ (os : List Operation). journal_fault os ≡ None) same (rw kept.kept refl) in
     none-some fault (sym none ∙ broken)
 
-same_refusal : EndAtOnePlace → BeginsWithNoLine [] → (text : List ℕ) (fault other : Fault) → IsRefused text fault → IsRefused text other → fault ≡ other
-same_refusal place stops text fault other (inl one) (inl two) = same_place place text fault other one two
-same_refusal place stops text fault other (inl one) (inr two) = absurd (not_both place stops text two.0 fault two.1 one)
-same_refusal place stops text fault other (inr one) (inl two) = absurd (not_both place stops text one.0 other one.1 two)
-same_refusal place stops text fault other (inr one) (inr two) =
+same_refusal : (text : List ℕ) → EndAtOnePlace text → BeginsWithNoLine [] → (fault other : Fault) → IsRefused text fault → IsRefused text other → fault ≡ other
+same_refusal text place stops fault other (inl one) (inl two) = same_place text place fault other one two
+same_refusal text place stops fault other (inl one) (inr two) = absurd (not_both text place stops two.0 fault two.1 one)
+same_refusal text place stops fault other (inr one) (inl two) = absurd (not_both text place stops one.0 other one.1 two)
+same_refusal text place stops fault other (inr one) (inr two) =
     let same = same_operations text one.0 two.0 one.1 two.1 in
     same_Some fault other (sym one.2 ∙ (ap journal_fault same ∙ two.2))
 
-not_refused : EndAtOnePlace → BeginsWithNoLine [] → (text : List ℕ) (events : List Operation) (fault : Fault) → GivesEvents text events → IsRefused text fault → ⊥
-not_refused place stops text events fault kept (inl reading) = not_both place stops text events fault kept.given reading
-not_refused place stops text events fault kept (inr journal) = no_events text events journal.0 fault kept journal.1 journal.2
+not_refused : (text : List ℕ) → EndAtOnePlace text → BeginsWithNoLine [] → (events : List Operation) (fault : Fault) → GivesEvents text events → IsRefused text fault → ⊥
+not_refused text place stops events fault kept (inl reading) = not_both text place stops events fault kept.given reading
+not_refused text place stops events fault kept (inr journal) = no_events text events journal.0 fault kept journal.1 journal.2
 
 -- an answer is a report or a refusal
 record Reports (text : List ℕ) (status : Status) (printed : List ℕ) : Type 0 where
@@ -77,7 +71,7 @@ judged text statuses.Refused printed given a = inr (record { fault = a.0; refuse
 judged text statuses.DeviceFault printed given a = absurd a
 judged text statuses.Memory printed given a = absurd (given refl)
 
-pub one_answer : EndAtOnePlace → BeginsWithNoLine [] → (text : List ℕ) (status other : Status) (printed others : List ℕ) → status ≢ statuses.Memory → other ≢ statuses.Memory
+pub one_answer : ((text : List ℕ) → EndAtOnePlace text) → BeginsWithNoLine [] → (text : List ℕ) (status other : Status) (printed others : List ℕ) → status ≢ statuses.Memory → other ≢ statuses.Memory
     → IsAnswer text status printed → IsAnswer text other others → (status ≡ other) × (printed ≡ others)
 one_answer place stops text status other printed others given too one two = by_kind (judged text status printed given one) (judged text other others too two)
   where
@@ -85,8 +79,8 @@ one_answer place stops text status other printed others given too one two = by_k
     by_kind (inl r) (inl s) =
         let same = same_operations text r.events s.events r.kept.given s.kept.given in
         (r.by ∙ (ap (λ (events : List Operation). status_by (has_bad_read events)) same ∙ sym s.by), r.lines ∙ (ap reads_text same ∙ sym s.lines))
-    by_kind (inl r) (inr s) = absurd (not_refused place stops text r.events s.fault r.kept s.refused)
-    by_kind (inr r) (inl s) = absurd (not_refused place stops text s.events r.fault s.kept r.refused)
+    by_kind (inl r) (inr s) = absurd (not_refused text (place text) stops r.events s.fault r.kept s.refused)
+    by_kind (inr r) (inl s) = absurd (not_refused text (place text) stops s.events r.fault s.kept r.refused)
     by_kind (inr r) (inr s) =
-        let same = same_refusal place stops text r.fault s.fault r.refused s.refused in
+        let same = same_refusal text (place text) stops r.fault s.fault r.refused s.refused in
         (r.by ∙ sym s.by, r.line ∙ (ap refusal_line same ∙ sym s.line))
