@@ -1,18 +1,16 @@
 -- Devices: where bytes come from and go to (this project's own).
 --
--- A source tells the bytes that it has still to give, and a sink those that it took, or neither tells anything, as a file or
--- a terminal. Both count their failures, up to the greatest number of 64 bits, and answer that they failed only where the
--- count rises or stands at its greatest value, where it stays.
-use Rattle.std.specs.Prelude.{◌≡◌, ◌⊎◌, ℕ, ◌-◌, ◌^◌, ◌<◌, List, ◌++◌, Option, option_map}
+-- A source has bytes left to give, and a sink has bytes that it took. A device may tell which, in part or never: a file or a
+-- terminal tells nothing, and a stream may tell its bytes from some point on. What a read takes from these bytes and a write
+-- adds to them is said by the standard library's relations for readers and writers. Both devices count their failures, and
+-- report a failure only where the count rises by one or is at the greatest number of 64 bits, where it stays.
+use Rattle.std.specs.Prelude.{◌≡◌, ℕ, ◌+◌, ◌-◌, ◌^◌, ◌≤◌, min}
 
--- the source had these bytes in front of those that it has now
-abbrev pub Gave : Option (List ℕ) → Option (List ℕ) → List ℕ → Type 0
-Gave old new bytes = old ≡ option_map (λ rest. bytes ++ rest) new
+-- the greatest number of failures that a device counts
+abbrev pub most_failures : ℕ
+most_failures = 2 ^ 64 - 1
 
--- the sink has these bytes behind those that it had
-abbrev pub Took : Option (List ℕ) → Option (List ℕ) → List ℕ → Type 0
-Took old new bytes = new ≡ option_map (λ before. before ++ bytes) old
-
--- one failure more, as far as can be counted
-abbrev pub CountsFailure : ℕ → ℕ → Type 0
-CountsFailure old new = (old < new) ⊎ ((old ≡ 2 ^ 64 - 1) × (new ≡ old))
+-- one failure more, as far as failures are counted
+pub record CountsFailure (old new : ℕ) : Type 0 where
+  pub countable : old ≤ most_failures
+  pub one_more : new ≡ min (old + 1) most_failures

@@ -1,9 +1,12 @@
-//! Where bytes come from and go to: sources, sinks, and one of each over memory.
+//! Where bytes come from and go to: sources and sinks, with one of each over memory and one of each over any stream.
 
-ghost use Rattle.std.specs.Prelude.{◌≡◌, ℕ, ◌<◌, ◌≤◌, List, [], length, take, Option, Some, IfOk, OnOk, OnErr, IfSome, option_map};
-ghost use Rattle.hist_types.specs.Devices.{Gave, Took, CountsFailure};
+ghost use Rattle.std.specs.Prelude.{◌≡◌, ℕ, ◌<◌, List, [], length, Option, Some, IfOk, OnOk, OnErr};
+ghost use Rattle.std.specs.Io.{ReadsAtMost, WritesAtMost};
+ghost use Rattle.std.specs.Io.KnownBytes.{ReadConsumes, WriteAppends};
+ghost use Rattle.hist_types.specs.Devices.{CountsFailure};
 
-use std::alloc::Global;
+use std::alloc::{AllocError, Global};
+use std::io::{Read, Write};
 use std::marker::Model;
 use thiserror::Error;
 
@@ -14,38 +17,43 @@ pub struct Failed;
 
 /// What bytes are read from.
 pub trait Source {
-    /// The bytes that it has still to give, where it tells them.
-    ghost tells: { Self → Option (List ℕ) };
+    /// The bytes that it has left to give, where it tells them.
+    ghost remaining: { Self → Option (List ℕ) };
 
     /// How often it has failed.
     ghost failures: { Self → ℕ };
 
-    /// Reads bytes into the front of the room, and answers how many. 0 for room that isn't empty is the end.
+    /// Reads bytes into the front of the room, and returns how many. 0 for room that isn't empty is the source's end.
     fn read(&mut self, room: &mut [u8]) -> Result<usize, Failed>
-        ensures within { IfOk result (λ count. count ≤ length room.old) }
-        ensures gave { IfOk result (λ count. Gave (tells self.old) (tells self.new) (take count room.new)) }
-        ensures end { IfOk result (λ count. count ≡ 0 → 0 < length room.old → IfSome (tells self.new) (λ rest. rest ≡ [])) }
+        ensures within { ReadsAtMost result room.new }
+        ensures bytes { ReadConsumes (remaining self.old) (remaining self.new) result room.new }
         ensures no_failure { OnOk result (failures self.new ≡ failures self.old) }
-        ensures failed { OnErr result (CountsFailure (failures self.old) (failures self.new)) }
-        ensures err { OnErr result (tells self.new ≡ tells self.old) };
+        ensures failed { OnErr result (CountsFailure (failures self.old) (failures self.new)) };
 }
 
 /// What bytes are written to.
 pub trait Sink {
     /// The bytes that it took, where it tells them.
-    ghost tells: { Self → Option (List ℕ) };
+    ghost contents: { Self → Option (List ℕ) };
 
     /// How often it has failed.
     ghost failures: { Self → ℕ };
 
-    /// Takes bytes from the front of the piece, and answers how many: at least one where the piece isn't empty.
+    /// Takes bytes from the front of the piece, and returns how many: at least one of a piece that isn't empty.
     fn write(&mut self, piece: &[u8]) -> Result<usize, Failed>
-        ensures within { IfOk result (λ count. count ≤ length piece.now) }
+        ensures within { WritesAtMost result piece.now }
         ensures progress { IfOk result (λ count. 0 < length piece.now → 0 < count) }
-        ensures took { IfOk result (λ count. Took (tells self.old) (tells self.new) (take count piece.now)) }
+        ensures bytes { WriteAppends (contents self.old) (contents self.new) result piece.now }
         ensures no_failure { OnOk result (failures self.new ≡ failures self.old) }
-        ensures failed { OnErr result (CountsFailure (failures self.old) (failures self.new)) }
-        ensures err { OnErr result (tells self.new ≡ tells self.old) };
+        ensures failed { OnErr result (CountsFailure (failures self.old) (failures self.new)) };
+}
+
+/// One failure more, as far as failures are counted.
+fn count_failure(failures: &mut u64) -> Failed
+    ensures { CountsFailure failures.old failures.new }
+{
+    *failures = failures.saturating_add(1);
+    Failed
 }
 
 /// A source over memory: it gives the bytes in as large pieces as there is room for, and never fails.
@@ -69,7 +77,7 @@ impl<'a> MemorySource<'a> {
 }
 
 impl Source for MemorySource<'_> {
-    ghost tells = { λ bytes. Some bytes };
+    ghost remaining = { λ bytes. Some bytes };
 
     ghost failures = { λ _. 0 };
 
@@ -82,14 +90,14 @@ impl Source for MemorySource<'_> {
     }
 }
 
-/// A sink over memory: it keeps the bytes, and fails only where memory is refused.
+/// A sink over memory: it keeps the bytes, and fails only where it is out of memory.
 #[derive(Drop)]
 pub struct MemorySink {
     taken: Vec<u8>,
     failures: u64,
 }
 
-/// What a sink over memory is seen as: the bytes that it took, and how often memory was refused.
+/// What a sink over memory is seen as: the bytes that it took, and how often it was out of memory.
 impl Model for MemorySink {
     ghost Value = { List ℕ × ℕ };
 
@@ -115,15 +123,91 @@ impl MemorySink {
 }
 
 impl Sink for MemorySink {
-    ghost tells = { λ sink. Some sink.0 };
+    ghost contents = { λ sink. Some sink.0 };
 
     ghost failures = { λ sink. sink.1 };
 
     fn write(&mut self, piece: &[u8]) -> Result<usize, Failed> {
-        if self.taken.extend_from_slice(piece).is_err() {
-            self.failures = self.failures.saturating_add(1);
-            return Err(Failed);
+        match self.taken.extend_from_slice(piece) {
+            Ok(()) => Ok(piece.len()),
+            Err(AllocError) => Err(count_failure(&mut self.failures)),
         }
-        Ok(piece.len())
+    }
+}
+
+/// A source over a stream: it tells what the stream tells, and fails where the stream returns an error of any kind.
+#[derive(Drop)]
+pub struct StreamSource<R> {
+    stream: R,
+    failures: u64,
+}
+
+/// What a source over a stream is seen as: the stream, and how often it failed.
+impl<R> Model for StreamSource<R> {
+    ghost Value = { R × ℕ };
+
+    ghost view = { λ source. (source.stream, source.failures) };
+}
+
+impl<R: Read> StreamSource<R> {
+    pub fn new(stream: R) -> Self
+        ensures { result ≡ (stream, 0) }
+    {
+        StreamSource {
+            stream,
+            failures: 0,
+        }
+    }
+}
+
+impl<R: Read> Source for StreamSource<R> {
+    ghost remaining = { λ source. R.remaining source.0 };
+
+    ghost failures = { λ source. source.1 };
+
+    fn read(&mut self, room: &mut [u8]) -> Result<usize, Failed> {
+        match self.stream.read(room) {
+            Ok(count) => Ok(count),
+            Err(_) => Err(count_failure(&mut self.failures)),
+        }
+    }
+}
+
+/// A sink over a stream: it tells what the stream tells, and fails where the stream returns an error of any kind, or takes
+/// nothing of a piece that isn't empty. It flushes nothing, so the stream should keep no buffer of its own.
+#[derive(Drop)]
+pub struct StreamSink<W> {
+    stream: W,
+    failures: u64,
+}
+
+/// What a sink over a stream is seen as: the stream, and how often it failed.
+impl<W> Model for StreamSink<W> {
+    ghost Value = { W × ℕ };
+
+    ghost view = { λ sink. (sink.stream, sink.failures) };
+}
+
+impl<W: Write> StreamSink<W> {
+    pub fn new(stream: W) -> Self
+        ensures { result ≡ (stream, 0) }
+    {
+        StreamSink {
+            stream,
+            failures: 0,
+        }
+    }
+}
+
+impl<W: Write> Sink for StreamSink<W> {
+    ghost contents = { λ sink. W.contents sink.0 };
+
+    ghost failures = { λ sink. sink.1 };
+
+    fn write(&mut self, piece: &[u8]) -> Result<usize, Failed> {
+        match self.stream.write(piece) {
+            Ok(count) if count > 0 || piece.is_empty() => Ok(count),
+            _ => Err(count_failure(&mut self.failures)),
+        }
     }
 }

@@ -15,6 +15,7 @@ ghost use Rattle.hist_types.specs.Refusals.{number_of, name_of};
 ghost use Rattle.hist_types.specs.Texts.{in_order};
 ghost use Rattle.hist_types.specs.Tokens.{run_of, run_len};
 ghost use Rattle.hist_types.specs.Transactions.{Transaction, Indexed, completion_in, transactions_of, Read, read_eq, external_reads, external_writes, nodes};
+ghost use Rattle.hist_types.specs.declared.limits.TheConstants.{MAX_PROCESS, MAX_MICRO_OPS, MAX_OPERATION_BYTES, MAX_OPEN_COLLECTIONS, MAX_BLOCK_OPERATIONS, MAX_BLOCK_BYTES, MAX_CELLS, MAX_EVENTS, MAX_LINE_BYTES, MAX_WORKERS};
 ghost use Rattle.hist_types.specs.declared.types.Fault.{Fault};
 ghost use Rattle.hist_types.specs.declared.types.Level.{Level};
 ghost use Rattle.hist_types.specs.declared.types.Level.TheVariants.{Process, Realtime};
@@ -22,6 +23,20 @@ ghost use Rattle.hist_types.specs.declared.types.Refusal.{Refusal};
 
 use crate::types::Level;
 use std::cmp::Ordering;
+
+/// The limits in numbers, as the users' pages give them.
+pub fn limits_in_numbers()
+    ensures process { MAX_PROCESS ≡ 2147483647 }
+    ensures micro_ops { MAX_MICRO_OPS ≡ 256 }
+    ensures operation_bytes { MAX_OPERATION_BYTES ≡ 65536 }
+    ensures open_collections { MAX_OPEN_COLLECTIONS ≡ 64 }
+    ensures block_operations { MAX_BLOCK_OPERATIONS ≡ 1024 }
+    ensures block_bytes { MAX_BLOCK_BYTES ≡ 1048576 }
+    ensures cells { MAX_CELLS ≡ 1048576 }
+    ensures events { MAX_EVENTS ≡ 1048576 }
+    ensures line_bytes { MAX_LINE_BYTES ≡ 1048576 }
+    ensures workers { MAX_WORKERS ≡ 64 }
+{}
 
 /// No two refusals share a number or a name.
 pub fn no_two_refusals_alike()

@@ -1,12 +1,15 @@
-use crate::device::{Failed, MemorySink, MemorySource, Sink, Source};
+ghost use Rattle.std.specs.Prelude.{◌≤◌, IfOk};
+
+use crate::device::{Failed, MemorySink, MemorySource, Sink, Source, StreamSink, StreamSource};
 use crate::laws;
 use crate::limits::MAX_PROCESS;
 use crate::types::{At, Fault, Level, Process, Refusal};
 use std::alloc::{AllocError, AllocFailed, Global};
 use std::cmp::Ordering;
-use std::fmt;
+use std::io::{Read, Write};
 use std::process::Abort;
 use std::test::Fail;
+use std::{fmt, io};
 
 /// The table of numbers and names, as the users' guide prints it.
 const TITLES: [(Refusal, u32, &str); 29] = [
@@ -126,6 +129,7 @@ fn levels_rise(rt: HostRuntime) {
 
 #[test]
 fn laws_return() {
+    laws::limits_in_numbers();
     laws::no_two_refusals_alike();
     laws::equality_decided();
     laws::blocks_one_after_another();
@@ -191,31 +195,6 @@ fn carry<S: Source, K: Sink>(source: &mut S, sink: &mut K) -> Result<usize, Fail
     }
 }
 
-/// A device that works twice and then fails.
-#[derive(Drop)]
-struct Faulty {
-    left: u64,
-    failures: u64,
-}
-
-impl Source for Faulty {
-    ghost use Rattle.std.specs.Prelude.{None};
-
-    ghost tells = { λ _. None };
-
-    ghost failures = { λ faulty. faulty.failures };
-
-    fn read(&mut self, room: &mut [u8]) -> Result<usize, Failed> {
-        if self.left == 0 {
-            self.failures = self.failures.saturating_add(1);
-            return Err(Failed);
-        }
-        self.left -= 1;
-        room.fill(b'x');
-        Ok(room.len())
-    }
-}
-
 #[test]
 fn any_source_feeds_any_sink(rt: HostRuntime) {
     let mut source = MemorySource::new(b"abcdefg");
@@ -224,14 +203,78 @@ fn any_source_feeds_any_sink(rt: HostRuntime) {
         assert_eq!(rt; carry(&mut source, &mut sink), Ok(taken));
     }
     assert_eq!(rt; sink.bytes(), b"abcdefg".as_slice());
-    let mut faulty = Faulty {
-        left: 2,
-        failures: 0,
-    };
-    let mut sink = MemorySink::new(rt.alloc());
-    for answer in [Ok(4), Ok(4), Err(Failed), Err(Failed)] {
-        assert_eq!(rt; carry(&mut faulty, &mut sink), answer);
+    let mut source = StreamSource::new(b"abcdefg".as_slice());
+    let mut written = Vec::new(rt.alloc());
+    let mut sink = StreamSink::new(&mut written);
+    for taken in [4, 3, 0] {
+        assert_eq!(rt; carry(&mut source, &mut sink), Ok(taken));
     }
-    assert_eq!(rt; faulty.failures, 2);
-    assert_eq!(rt; sink.bytes(), b"xxxxxxxx".as_slice());
+    drop(sink);
+    assert_eq!(rt; written.as_slice(), b"abcdefg".as_slice());
+}
+
+/// A stream that moves at most two bytes a call, and returns an error from some call on.
+#[derive(Drop)]
+struct Faulty {
+    calls_left: u64,
+}
+
+impl Faulty {
+    fn moved(&mut self, length: usize) -> io::Result<usize>
+        ensures { IfOk result (λ count. count ≤ length) }
+    {
+        if self.calls_left == 0 {
+            return Err(io::Error::from(io::ErrorKind::BrokenPipe));
+        }
+        self.calls_left -= 1;
+        Ok(length.min(2))
+    }
+}
+
+impl Read for Faulty {
+    fn read(&mut self, room: &mut [u8]) -> io::Result<usize> {
+        room.fill(b'x');
+        self.moved(room.len())
+    }
+}
+
+impl Write for Faulty {
+    fn write(&mut self, piece: &[u8]) -> io::Result<usize> {
+        self.moved(piece.len())
+    }
+
+    fn flush(&mut self) -> io::Result<()> {
+        Ok(())
+    }
+}
+
+/// A stream that takes nothing.
+#[derive(Drop)]
+struct Full;
+
+impl Write for Full {
+    fn write(&mut self, _piece: &[u8]) -> io::Result<usize> {
+        Ok(0)
+    }
+
+    fn flush(&mut self) -> io::Result<()> {
+        Ok(())
+    }
+}
+
+#[test]
+fn streams_fail(rt: HostRuntime) {
+    let mut source = StreamSource::new(Faulty { calls_left: 2 });
+    let mut room = [0; 4];
+    for answer in [Ok(2), Ok(2), Err(Failed), Err(Failed)] {
+        assert_eq!(rt; source.read(&mut room), answer);
+    }
+    let mut sink = StreamSink::new(Faulty { calls_left: 2 });
+    for answer in [Ok(2), Ok(2), Err(Failed), Err(Failed)] {
+        assert_eq!(rt; sink.write(b"abc"), answer);
+    }
+    let mut sink = StreamSink::new(Full);
+    for (piece, answer) in [(b"abc".as_slice(), Err(Failed)), (b"", Ok(0))] {
+        assert_eq!(rt; sink.write(piece), answer);
+    }
 }

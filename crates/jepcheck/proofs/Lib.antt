@@ -5,5 +5,5 @@ pub mod Sights
 pub mod Pieces
 pub mod OneByOne
 pub mod OneAnswer
-pub mod Outcomes
 pub mod Words
+pub mod Outcomes

@@ -9,10 +9,11 @@ use Rattle.hist_types.specs.declared.types.Fault.{Fault}
 use Rattle.hist_types.proofs.OneCut.{one_reading}
 use Rattle.edn_ops.specs.Reader.{not_a_map}
 use Rattle.edn_ops.specs.SimpleLines.{BeginsWithNoLine, EndAtOnePlace}
-use Rattle.jepcheck.specs.Answers.{GivesOperations, GivesFault, GivesEvents, journal_fault, IsRefused, IsAnswer}
+use Rattle.jepcheck.specs.Answers.{GivesOperations, GivesFault, GivesEvents, journal_fault, IsRefused, IsReport, IsAnswer}
 use Rattle.jepcheck.specs.Statuses.{status_by}
-use Rattle.jepcheck.specs.declared.run.Status.{Status}
-use Rattle.jepcheck.specs.declared.run.Status.TheVariants as statuses
+use Rattle.jepcheck.specs.declared.answer.Status.{Status}
+use Rattle.jepcheck.specs.declared.answer.Status.TheVariants as statuses
+use Rattle.jepcheck.specs.declared.run.Command.TheVariants.{Reads}
 
 given_again : (ops : List Operation) → operations_of (map operation ops) ≡ ops
 given_again [] = refl
@@ -52,35 +53,29 @@ not_refused text place stops events fault kept (inl reading) = not_both text pla
 not_refused text place stops events fault kept (inr journal) = no_events text events journal.0 fault kept journal.1 journal.2
 
 -- an answer is a report or a refusal
-record Reports (text : List ℕ) (status : Status) (printed : List ℕ) : Type 0 where
-  events : List Operation
-  kept : GivesEvents text events
-  by : status ≡ status_by (has_bad_read events)
-  lines : printed ≡ reads_text events
-
 record Refuses (text : List ℕ) (status : Status) (printed : List ℕ) : Type 0 where
   fault : Fault
   refused : IsRefused text fault
   by : status ≡ statuses.Refused
   line : printed ≡ refusal_line fault
 
-judged : (text : List ℕ) (status : Status) (printed : List ℕ) → status ≢ statuses.Memory → IsAnswer text status printed → Reports text status printed ⊎ Refuses text status printed
-judged text statuses.NoPhenomenon printed given a = inl (record { events = a.0; kept = a.1.events_given; by = sym (ap status_by a.2); lines = a.1.lines })
-judged text statuses.SomePhenomenon printed given a = inl (record { events = a.0; kept = a.1.events_given; by = sym (ap status_by a.2); lines = a.1.lines })
+judged : (text : List ℕ) (status : Status) (printed : List ℕ) → status ≢ statuses.Memory → IsAnswer Reads text status printed → IsReport Reads text status printed ⊎ Refuses text status printed
+judged text statuses.NoPhenomenon printed given a = inl a
+judged text statuses.SomePhenomenon printed given a = inl a
 judged text statuses.Refused printed given a = inr (record { fault = a.0; refused = a.1; by = refl; line = a.2 })
 judged text statuses.DeviceFault printed given a = absurd a
 judged text statuses.Memory printed given a = absurd (given refl)
 
 pub one_answer : ((text : List ℕ) → EndAtOnePlace text) → BeginsWithNoLine [] → (text : List ℕ) (status other : Status) (printed others : List ℕ) → status ≢ statuses.Memory → other ≢ statuses.Memory
-    → IsAnswer text status printed → IsAnswer text other others → (status ≡ other) × (printed ≡ others)
+    → IsAnswer Reads text status printed → IsAnswer Reads text other others → (status ≡ other) × (printed ≡ others)
 one_answer place stops text status other printed others given too one two = by_kind (judged text status printed given one) (judged text other others too two)
   where
-    by_kind : Reports text status printed ⊎ Refuses text status printed → Reports text other others ⊎ Refuses text other others → (status ≡ other) × (printed ≡ others)
+    by_kind : IsReport Reads text status printed ⊎ Refuses text status printed → IsReport Reads text other others ⊎ Refuses text other others → (status ≡ other) × (printed ≡ others)
     by_kind (inl r) (inl s) =
-        let same = same_operations text r.events s.events r.kept.given s.kept.given in
-        (r.by ∙ (ap (λ (events : List Operation). status_by (has_bad_read events)) same ∙ sym s.by), r.lines ∙ (ap reads_text same ∙ sym s.lines))
-    by_kind (inl r) (inr s) = absurd (not_refused text (place text) stops r.events s.fault r.kept s.refused)
-    by_kind (inr r) (inl s) = absurd (not_refused text (place text) stops s.events r.fault s.kept r.refused)
+        let same = same_operations text r.events s.events r.given.given s.given.given in
+        (r.reported.0 ∙ (ap (λ (events : List Operation). status_by (has_bad_read events)) same ∙ sym s.reported.0), r.reported.1 ∙ (ap reads_text same ∙ sym s.reported.1))
+    by_kind (inl r) (inr s) = absurd (not_refused text (place text) stops r.events s.fault r.given s.refused)
+    by_kind (inr r) (inl s) = absurd (not_refused text (place text) stops s.events r.fault s.given r.refused)
     by_kind (inr r) (inr s) =
         let same = same_refusal text (place text) stops r.fault s.fault r.refused s.refused in
         (r.by ∙ sym s.by, r.line ∙ (ap refusal_line same ∙ sym s.line))

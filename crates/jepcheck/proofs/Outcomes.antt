@@ -1,13 +1,18 @@
--- Answers, and what runs leave.
-use Rattle.std.proofs.Common.{◌≡◌, ℕ, List, Option, Some, None, refl, sym, subst, codes}
+-- What is printed, and what runs leave.
+use Rattle.std.proofs.Common.{◌≡◌, ◌∙◌, ℕ, List, Option, Some, None, refl, sym, subst, codes, inl, inr}
 use Rattle.std.specs.Prelude.{IfSome}
 use Rattle.std.specs.Fmt.{digits}
-use Rattle.hist_types.specs.Texts.{refusal_line}
-use Rattle.jepcheck.specs.declared.run.Status.{Status}
-use Rattle.jepcheck.specs.Answers.{CountedBy}
 use Rattle.hist_types.specs.Refusals.{memory_fault}
+use Rattle.hist_types.specs.Texts.{refusal_line}
+use Rattle.hist_types.specs.declared.device.Sink.{Ghosts}
+use Rattle.jepcheck.specs.Answers.{IsAnswer}
+use Rattle.jepcheck.specs.Pieces.{HasTaken, HasFailedBehind}
+use Rattle.jepcheck.specs.Runs.{HasPrinted, HasAnswered}
+use Rattle.jepcheck.specs.declared.answer.Status.{Status}
+use Rattle.jepcheck.specs.declared.answer.Status.TheVariants as statuses
+use Rattle.jepcheck.specs.declared.run.Command.{Command}
 
--- the line of refused memory
+-- the line of a program that is out of memory
 pub memory_line : codes "refused 10 Memory\n" ≡ refusal_line memory_fault
 unfolding digits
 memory_line = refl
@@ -22,6 +27,21 @@ pub of_same : (o : Option (List ℕ)) (xs : List ℕ) (P : List ℕ → Type 0) 
 of_same None xs P same here = tt
 of_same (Some x) xs P same here = subst P same here
 
--- a source that counted no failure
-pub counted_same : (status : Status) (old new sink sink' : ℕ) → new ≡ old → CountedBy status old old sink sink' → CountedBy status old new sink sink'
-counted_same status old new sink sink' e h = let P : ℕ → Type 0 = λ n. CountedBy status old n sink sink' in subst P (sym e) h
+module _ {T : Type 0} (device : Ghosts T) (command : Command) (text : List ℕ) (sink sink' : T) (printed : List ℕ) where
+  answered_whole : (wanted : Status) → IsAnswer command text wanted printed → HasTaken device sink sink' printed
+      → HasAnswered command text wanted (device.contents sink) (device.contents sink')
+  answered_whole statuses.NoPhenomenon answer taken = (printed, answer, taken.taken)
+  answered_whole statuses.SomePhenomenon answer taken = (printed, answer, taken.taken)
+  answered_whole statuses.Refused answer taken = (printed, answer, taken.taken)
+  answered_whole statuses.DeviceFault answer taken = absurd answer
+  answered_whole statuses.Memory answer taken = (printed, answer, taken.taken)
+
+  -- an answer that is printed is answered
+  pub printed_answer : (wanted status : Status) → IsAnswer command text wanted printed → HasPrinted device wanted status sink sink' printed
+      → HasAnswered command text status (device.contents sink) (device.contents sink')
+  printed_answer wanted status answer (inl (same, taken)) =
+      let P : Status → Type 0 = λ s. HasAnswered command text s (device.contents sink) (device.contents sink') in
+      subst P (sym same) (answered_whole wanted answer taken)
+  printed_answer wanted status answer (inr (fault, stopped)) =
+      let P : Status → Type 0 = λ s. HasAnswered command text s (device.contents sink) (device.contents sink') in
+      subst P (sym fault) (wanted, printed, answer, stopped.count, stopped.taken)

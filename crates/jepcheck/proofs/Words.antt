@@ -7,7 +7,10 @@ use Rattle.clap.specs.declared.error.kind.ErrorKind.TheVariants.{OutOfMemory}
 use Rattle.clap.specs.declared.parser.matches.ArgMatches.{ArgMatches}
 use Rattle.clap.specs.declared.parser.matches.ArgMatches.TheViews.{out-ArgMatches}
 use Rattle.clap.proofs.OnLiterals.{clap_on_literals}
-use Rattle.jepcheck.specs.Lines.{program_app, AskForReads}
+use Rattle.jepcheck.specs.Lines.{program_app, NameSubcommand, AskFor}
+use Rattle.jepcheck.specs.declared.command_line.Asked.{Asked}
+use Rattle.jepcheck.specs.declared.command_line.Asked.TheVariants.{Run}
+use Rattle.jepcheck.specs.declared.run.Command.TheVariants.{Reads}
 
 -- clap's definitions speak of the program's lines
 program_is_simple : is_simple program_app ≡ true
@@ -18,8 +21,12 @@ program_is_free : is_simple_and_free program_app ≡ true
 unfolding clap_on_literals
 program_is_free = refl
 
+-- what is asked for is `reads`
+pub asked_names_reads : (asked : Asked) (words : List (List ℕ)) → AskFor asked words → NameSubcommand (codes "reads") words
+asked_names_reads (Run Reads) words asks = asks
+
 -- a name and `reads` ask for `reads`
-pub reads_is_asked : (name : List ℕ) → AskForReads (name ∷ codes "reads" ∷ [])
+pub reads_is_asked : (name : List ℕ) → NameSubcommand (codes "reads") (name ∷ codes "reads" ∷ [])
 unfolding clap_on_literals
 reads_is_asked name = record { no_fault = refl; named = refl }
 
@@ -31,10 +38,10 @@ firsts f g (Some x) = refl
 name_of_rows : (m : ArgMatches) → option_map (λ subcommand. subcommand.0) (subcommand_rows_of m) ≡ subcommand_name_of m
 name_of_rows m = firsts _ _ (out-ArgMatches m).subcommand
 
--- matches with the subcommand `reads` come of words that ask for it
-pub asks_for_reads : (app : App) (words : List (List ℕ)) (m : ArgMatches) → app ≡ program_app → HasMatchesOf app words m
-    → (is_simple_and_free app ≡ true → fault_of app words ≡ []) → subcommand_name_of m ≡ Some (codes "reads") → AskForReads words
-asks_for_reads app words m e matches no_fault named =
+-- matches with a subcommand come of words that name it
+pub names_subcommand : (app : App) (words : List (List ℕ)) (m : ArgMatches) (name : List ℕ) → app ≡ program_app → HasMatchesOf app words m
+    → (is_simple_and_free app ≡ true → fault_of app words ≡ []) → subcommand_name_of m ≡ Some name → NameSubcommand name words
+names_subcommand app words m name e matches no_fault named =
     let has : HasMatchesOf program_app words m = subst (λ (a : App). HasMatchesOf a words m) e matches in
     let faultless : is_simple_and_free program_app ≡ true → fault_of program_app words ≡ [] =
     subst (λ (a : App). is_simple_and_free a ≡ true → fault_of a words ≡ []) e no_fault in
@@ -43,17 +50,17 @@ asks_for_reads app words m e matches no_fault named =
       named = ap (option_map (λ subcommand. subcommand.0)) (sym (has program_is_simple).1) ∙ (name_of_rows m ∙ named);
     }
 
--- matches of words that ask for `reads` have that subcommand
-pub meets_reads : (app : App) (words : List (List ℕ)) (m : ArgMatches) → app ≡ program_app → HasMatchesOf app words m → AskForReads words
-    → subcommand_name_of m ≡ Some (codes "reads")
-meets_reads app words m e matches asked =
+-- matches of words that name a subcommand have it
+pub meets_subcommand : (app : App) (words : List (List ℕ)) (m : ArgMatches) (name : List ℕ) → app ≡ program_app → HasMatchesOf app words m → NameSubcommand name words
+    → subcommand_name_of m ≡ Some name
+meets_subcommand app words m name e matches asked =
     let has : HasMatchesOf program_app words m = subst (λ (a : App). HasMatchesOf a words m) e matches in
     sym (name_of_rows m) ∙ (ap (option_map (λ subcommand. subcommand.0)) (has program_is_simple).1 ∙ asked.named)
 
--- words that ask for `reads` fail only for want of memory
-pub fails_for_memory : (app : App) (words : List (List ℕ)) (error : Error) → app ≡ program_app
-    → (is_simple_and_free app ≡ true → HasKind (fault_of app words) error) → AskForReads words → kind_of error ≡ OutOfMemory
-fails_for_memory app words error e fails asked =
+-- words that name a subcommand fail only for want of memory
+pub fails_for_memory : (app : App) (words : List (List ℕ)) (error : Error) (name : List ℕ) → app ≡ program_app
+    → (is_simple_and_free app ≡ true → HasKind (fault_of app words) error) → NameSubcommand name words → kind_of error ≡ OutOfMemory
+fails_for_memory app words error name e fails asked =
     let has : is_simple_and_free program_app ≡ true → HasKind (fault_of program_app words) error =
     subst (λ (a : App). is_simple_and_free a ≡ true → HasKind (fault_of a words) error) e fails in
     memory_alone _ asked.no_fault (has program_is_free)

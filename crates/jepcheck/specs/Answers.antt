@@ -1,17 +1,18 @@
 -- What the program answers to a text.
-use Rattle.std.specs.Prelude.{◌≡◌, ◌≢◌, ◌⊎◌, ℕ, ◌-◌, List, [], length, map, Option, Some, None, option_map, IsTrue, IsFalse}
+use Rattle.std.specs.Prelude.{◌≡◌, ◌≢◌, ◌⊎◌, ℕ, ◌-◌, List, [], length, map, Option, Some, None, option_map}
 use Rattle.hist_types.specs.Operations.{Operation}
 use Rattle.hist_types.specs.Reading.{operation, Reads}
 use Rattle.hist_types.specs.Journal.{first_broken}
 use Rattle.hist_types.specs.Refusals.{event_fault, memory_fault}
 use Rattle.hist_types.specs.Texts.{reads_text, has_bad_read, refusal_line}
-use Rattle.hist_types.specs.Devices.{Took, CountsFailure}
 use Rattle.hist_types.specs.declared.types.Fault.{Fault}
 use Rattle.edn_ops.specs.Reader.{not_a_map}
 use Rattle.edn_ops.specs.SimpleLines.{BeginsWithLines, BeginsWithNoLine, AreSimpleLines}
-use Rattle.jepcheck.specs.Pieces.{TookBeginning}
-use Rattle.jepcheck.specs.declared.run.Status.{Status}
-use Rattle.jepcheck.specs.declared.run.Status.TheVariants as statuses
+use Rattle.jepcheck.specs.Statuses.{status_by}
+use Rattle.jepcheck.specs.declared.answer.Status.{Status}
+use Rattle.jepcheck.specs.declared.answer.Status.TheVariants as statuses
+use Rattle.jepcheck.specs.declared.run.Command.{Command}
+use Rattle.jepcheck.specs.declared.run.Command.TheVariants as commands
 
 -- While only simple lines are read: the text is simple lines of these operations, and by the definition of reading it gives
 -- them and nothing else.
@@ -41,25 +42,20 @@ pub record GivesEvents (text : List ℕ) (events : List Operation) : Type 0 wher
 abbrev pub IsRefused : List ℕ → Fault → Type 0
 IsRefused text fault = GivesFault text fault ⊎ ((operations : List Operation) × GivesOperations text operations × (journal_fault operations ≡ Some fault))
 
-pub record IsReport (text : List ℕ) (printed : List ℕ) (events : List Operation) : Type 0 where
-  pub events_given : GivesEvents text events
-  pub lines : printed ≡ reads_text events
+-- what a command prints of the events, and the status with it
+abbrev pub Reports : Command → List Operation → Status → List ℕ → Type 0
+Reports commands.Reads events status printed = (status ≡ status_by (has_bad_read events)) × (printed ≡ reads_text events)
 
--- what is printed with each status
-abbrev pub IsAnswer : List ℕ → Status → List ℕ → Type 0
-IsAnswer text statuses.NoPhenomenon printed = (events : List Operation) × IsReport text printed events × IsFalse (has_bad_read events)
-IsAnswer text statuses.SomePhenomenon printed = (events : List Operation) × IsReport text printed events × IsTrue (has_bad_read events)
-IsAnswer text statuses.Refused printed = (fault : Fault) × IsRefused text fault × (printed ≡ refusal_line fault)
-IsAnswer text statuses.DeviceFault printed = ⊥
-IsAnswer text statuses.Memory printed = printed ≡ refusal_line memory_fault
+-- the report of a command on the events that the text gives
+pub record IsReport (command : Command) (text : List ℕ) (status : Status) (printed : List ℕ) : Type 0 where
+  pub events : List Operation
+  pub given : GivesEvents text events
+  pub reported : Reports command events status printed
 
--- a sink took the whole answer, or where a device failed a beginning of one
-abbrev pub HasAnswered : Status → List ℕ → Option (List ℕ) → Option (List ℕ) → Type 0
-HasAnswered statuses.DeviceFault text before after =
-    (status : Status) × (printed : List ℕ) × IsAnswer text status printed × TookBeginning before after printed
-HasAnswered status text before after = (printed : List ℕ) × IsAnswer text status printed × Took before after printed
-
--- a device fault is answered only where a device failed
-abbrev pub CountedBy : Status → (source source' sink sink' : ℕ) → Type 0
-CountedBy statuses.DeviceFault source source' sink sink' = CountsFailure source source' ⊎ CountsFailure sink sink'
-CountedBy status source source' sink sink' = (source' ≡ source) × (sink' ≡ sink)
+-- what a command prints with each status
+abbrev pub IsAnswer : Command → List ℕ → Status → List ℕ → Type 0
+IsAnswer command text statuses.NoPhenomenon printed = IsReport command text statuses.NoPhenomenon printed
+IsAnswer command text statuses.SomePhenomenon printed = IsReport command text statuses.SomePhenomenon printed
+IsAnswer command text statuses.Refused printed = (fault : Fault) × IsRefused text fault × (printed ≡ refusal_line fault)
+IsAnswer command text statuses.DeviceFault printed = ⊥
+IsAnswer command text statuses.Memory printed = printed ≡ refusal_line memory_fault

@@ -3,3 +3,4 @@ pub mod Pieces
 pub mod Writers
 pub mod Statuses
 pub mod Lines
+pub mod Runs

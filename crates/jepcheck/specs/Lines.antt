@@ -1,6 +1,9 @@
 -- The command lines that the program takes.
 use Rattle.std.specs.Prelude.{◌≡◌, ℕ, List, [], codes, true, Some, option_map}
 use Rattle.clap.specs.Words.{App, new_app, with_subcommand, subcommand_of, fault_of}
+use Rattle.jepcheck.specs.declared.command_line.Asked.{Asked}
+use Rattle.jepcheck.specs.declared.command_line.Asked.TheVariants.{Run}
+use Rattle.jepcheck.specs.declared.run.Command.TheVariants.{Reads}
 
 -- a command of which one of the subcommands has to be named
 abbrev pub with_required : App → App
@@ -10,7 +13,11 @@ with_required a = record a { top = record a.top { subcommand_required = true } }
 abbrev pub program_app : App
 program_app = with_subcommand (with_required (new_app (codes "jepcheck"))) (new_app (codes "reads")).top
 
--- The words ask for `reads`: by clap's definitions nothing is at fault in them, and the subcommand that they name is `reads`.
-pub record AskForReads (words : List (List ℕ)) : Type 0 where
+-- by the definitions of the library that parses the words nothing is at fault in them, and they name this subcommand
+pub record NameSubcommand (name : List ℕ) (words : List (List ℕ)) : Type 0 where
   pub no_fault : fault_of program_app words ≡ []
-  pub named : option_map (λ subcommand. subcommand.0) (subcommand_of program_app words) ≡ Some (codes "reads")
+  pub named : option_map (λ subcommand. subcommand.0) (subcommand_of program_app words) ≡ Some name
+
+-- what the words of a command line ask for
+abbrev pub AskFor : Asked → List (List ℕ) → Type 0
+AskFor (Run Reads) words = NameSubcommand (codes "reads") words

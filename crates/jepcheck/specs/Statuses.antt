@@ -1,7 +1,7 @@
 -- How a run ends.
 use Rattle.std.specs.Prelude.{ℕ, Bool, if◌then◌else◌}
-use Rattle.jepcheck.specs.declared.run.Status.{Status}
-use Rattle.jepcheck.specs.declared.run.Status.TheVariants.{NoPhenomenon, SomePhenomenon, Refused, DeviceFault, Memory}
+use Rattle.jepcheck.specs.declared.answer.Status.{Status}
+use Rattle.jepcheck.specs.declared.answer.Status.TheVariants.{NoPhenomenon, SomePhenomenon, Refused, DeviceFault, Memory}
 
 -- the number that the process ends with
 abbrev pub code_of : Status → ℕ

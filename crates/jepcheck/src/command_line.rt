@@ -4,7 +4,8 @@ ghost use Rattle.std.specs.Prelude.{◌≡◌, ℕ, List, [], ◌∷◌, map, co
 ghost use Rattle.std.specs.IoError.{error_kind};
 ghost use Rattle.std.specs.declared.io.ErrorKind.TheVariants.{OutOfMemory};
 ghost use Rattle.clap.specs.Words.{app_of, kind_of};
-ghost use Rattle.jepcheck.specs.Lines.{program_app, AskForReads};
+ghost use Rattle.jepcheck.specs.Lines.{program_app, AskFor};
+ghost use Rattle.jepcheck.specs.declared.command_line.Asked.{Asked};
 
 use crate::run::Command;
 use clap::error::ErrorKind;
@@ -20,9 +21,20 @@ pub enum Asked {
 /// Why a command line asks for nothing that can be done.
 #[derive(Debug, Drop)]
 pub enum LineFault {
-    /// It is none of the program's lines, or asks for help. The text says what they are.
+    /// It is none of the program's lines, or asks for help. The text says how the program is used.
     Usage(String),
     Memory,
+}
+
+impl From<AllocError> for LineFault {
+    ghost use Rattle.std.specs.Prelude.{◌≡◌};
+    ghost use Rattle.jepcheck.specs.declared.command_line.LineFault.TheVariants.{Memory};
+
+    ghost from_gives = { λ _ fault. fault ≡ Memory };
+
+    fn from(_: AllocError) -> LineFault {
+        LineFault::Memory
+    }
 }
 
 const HELP: &str = "\
@@ -36,7 +48,7 @@ Commands:
            that nobody wrote
 
 The history is read from standard input. The status is 0 where nothing was found, 1 where something was,
-2 where the history or the command line is refused, 3 where a device failed and 4 where memory is refused.
+2 where the history or the command line was refused, 3 where a device failed and 4 where memory ran out.
 
 Example:
   jepcheck reads < examples/aborted-read.edn
@@ -55,7 +67,7 @@ fn program<'a>(alloc: Global) -> Result<clap::Command<'a>, AllocError>
 fn usage(text: Result<String, AllocError>) -> LineFault {
     match text {
         Ok(text) => LineFault::Usage(text),
-        Err(AllocError) => LineFault::Memory,
+        Err(error) => LineFault::from(error),
     }
 }
 
@@ -82,14 +94,13 @@ pub fn unread_line(alloc: Global, error: &io::Error) -> LineFault
 
 /// What the words ask for, of which the first is the program's name.
 pub fn command_line<'a>(alloc: Global, words: &'a [String]) -> Result<Asked, LineFault>
-    ensures only { IfOk result (λ _. AskForReads (map string_bytes words.entry.now)) }
-    ensures asked { AskForReads (map string_bytes words.entry.now) → IfErr result (λ fault. fault ≡ LineFault.Memory) }
+    // An answer is what the words ask for, and where they ask for something only memory can be missing.
+    ensures only { IfOk result (λ asked. AskFor asked (map string_bytes words.entry.now)) }
+    ensures asked { (asked : Asked) → AskFor asked (map string_bytes words.entry.now) → IfErr result (λ fault. fault ≡ LineFault.Memory) }
+    // The word `reads` alone asks for something.
     ensures reads { (name : List ℕ) → map string_bytes words.entry.now ≡ name ∷ codes "reads" ∷ [] → IfErr result (λ fault. fault ≡ LineFault.Memory) }
 {
-    let Ok(program) = program(alloc) else {
-        return Err(LineFault::Memory);
-    };
-    let matches = match program.try_get_matches_from(words) {
+    let matches = match program(alloc)?.try_get_matches_from(words) {
         Ok(matches) => matches,
         Err(error) => return Err(line_fault(alloc, &error)),
     };

@@ -1,8 +1,8 @@
 //! Whole inputs and whole outputs.
 
 ghost use Rattle.std.specs.Prelude.{◌≡◌, OnOk, OnErr, IfOk, IfErr, IfSome, ◌<◌, vec_len};
-ghost use Rattle.hist_types.specs.Devices.{Took, CountsFailure};
-ghost use Rattle.jepcheck.specs.Pieces.{IsCounted, TookBeginning};
+ghost use Rattle.std.specs.Io.KnownBytes.{IsAtEnd};
+ghost use Rattle.jepcheck.specs.Pieces.{IsCounted, HasTaken, HasFailedBehind};
 
 use hist_types::device::{Failed, Sink, Source};
 use std::alloc::{AllocError, Global};
@@ -15,7 +15,7 @@ const PIECE: usize = 65_536;
 pub enum ReadFault {
     /// The source failed.
     Device,
-    /// Memory was refused, or the source gives more bytes than any memory holds.
+    /// Out of memory, or the source gives more bytes than any memory holds.
     Memory,
 }
 
@@ -47,9 +47,10 @@ fn room_for_a_piece(alloc: Global) -> Result<Vec<u8>, AllocError>
     vec![in alloc; 0; PIECE]
 }
 
-/// All that a source has still to give.
+/// All that a source has left to give.
 pub fn read_all<S: Source>(alloc: Global, source: &mut S) -> Result<Vec<u8>, ReadFault>
-    ensures all { IfOk result (λ bytes. IfSome (S.tells source.old) (λ rest. bytes.items ≡ rest)) }
+    ensures all { IfOk result (λ bytes. IfSome (S.remaining source.old) (λ rest. bytes.items ≡ rest)) }
+    ensures end { OnOk result (IsAtEnd (S.remaining source.new)) }
     ensures no_failure { OnOk result (S.failures source.new ≡ S.failures source.old) }
     ensures fault { IfErr result (λ fault. IsCounted fault (S.failures source.old) (S.failures source.new)) }
 {
@@ -67,10 +68,8 @@ pub fn read_all<S: Source>(alloc: Global, source: &mut S) -> Result<Vec<u8>, Rea
 
 /// Hands all the bytes to a sink, or a beginning of them where it fails.
 pub fn write_all<T: Sink>(sink: &mut T, bytes: &[u8]) -> Result<(), Failed>
-    ensures took { OnOk result (Took (T.tells sink.old) (T.tells sink.new) bytes.now) }
-    ensures no_failure { OnOk result (T.failures sink.new ≡ T.failures sink.old) }
-    ensures beginning { OnErr result (TookBeginning (T.tells sink.old) (T.tells sink.new) bytes.now) }
-    ensures failed { OnErr result (CountsFailure (T.failures sink.old) (T.failures sink.new)) }
+    ensures ok { OnOk result (HasTaken T.Sink sink.old sink.new bytes.now) }
+    ensures err { OnErr result (HasFailedBehind T.Sink sink.old sink.new bytes.now) }
 {
     let mut done = 0;
     while done < bytes.len() {

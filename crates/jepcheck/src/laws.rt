@@ -1,16 +1,17 @@
-//! A law of the program's answers.
+//! A law of the answers of `reads`.
 
 ghost use Rattle.std.specs.Prelude.{◌≡◌, ◌≢◌, ℕ, List};
 ghost use Rattle.jepcheck.specs.Answers.{IsAnswer};
-ghost use Rattle.jepcheck.specs.declared.run.Status.{Status};
-ghost use Rattle.jepcheck.specs.declared.run.Status.TheVariants.{Memory};
+ghost use Rattle.jepcheck.specs.declared.answer.Status.{Status};
+ghost use Rattle.jepcheck.specs.declared.answer.Status.TheVariants.{Memory};
+ghost use Rattle.jepcheck.specs.declared.run.Command.TheVariants.{Reads};
 
 use edn_ops::laws::simple_lines_end_at_one_place;
 
-/// A text has one answer at most, where memory is not refused: one status, and one output with it.
+/// A text has one answer of `reads` at most, beside the one that is out of memory: one status, and one output with it.
 pub fn one_answer_to_a_text()
     ensures { (text : List ℕ) (status other : Status) (printed others : List ℕ) → status ≢ Memory → other ≢ Memory
-        → IsAnswer text status printed → IsAnswer text other others → (status ≡ other) × (printed ≡ others) }
+        → IsAnswer Reads text status printed → IsAnswer Reads text other others → (status ≡ other) × (printed ≡ others) }
 {
     simple_lines_end_at_one_place();
 }

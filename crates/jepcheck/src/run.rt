@@ -1,137 +1,53 @@
-//! A run of the program, from a source's bytes to a sink's.
+//! The run of a command, from a source's bytes to a sink's.
 
-ghost use Rattle.std.specs.Prelude.{◌≡◌, ◌⊎◌, ℕ, List, IfOk, IfErr, IfSome, map, is_some, ◌||◌};
+ghost use Rattle.std.specs.Prelude.{◌≡◌, ◌⊎◌, ◌≤◌, IfOk, IfErr, IfSome};
+ghost use Rattle.std.specs.Io.KnownBytes.{IsAtEnd};
 ghost use Rattle.hist_types.specs.Refusals.{memory_fault};
-ghost use Rattle.hist_types.specs.Texts.{reads_text, has_bad_read, refusal_line};
-ghost use Rattle.hist_types.specs.Transactions.{transactions_of};
-ghost use Rattle.txn_pairs.specs.Txns.{transaction_of_txn};
-ghost use Rattle.jepcheck.specs.Answers.{IsAnswer, IsRefused, HasAnswered, CountedBy};
-ghost use Rattle.jepcheck.specs.Statuses.{code_of, status_by};
+ghost use Rattle.hist_types.specs.Texts.{refusal_line};
+ghost use Rattle.jepcheck.specs.Answers.{IsAnswer, IsRefused};
+ghost use Rattle.jepcheck.specs.Runs.{HasPrinted, HasAnswered, FailedBy};
+ghost use Rattle.jepcheck.specs.Statuses.{code_of};
 
-use crate::bad_reads::{BadReads, bad_reads};
+use crate::answer::{Answer, Status, refuse};
 use crate::devices::{ReadFault, read_all, write_all};
-use crate::inputs::{accept_all, read_operations};
-use crate::text::{write_reads, write_refusal};
+use crate::inputs::read_journal;
+use crate::reads;
 use hist_types::device::{Failed, Sink, Source};
 use hist_types::types::{Fault, Refusal};
-use journal_core::types::Core;
 use std::alloc::{AllocError, Global};
-use txn_pairs::pair;
-use txn_pairs::types::Txn;
 
-/// What the program is asked to do.
+/// What is done with a history.
 #[derive(Clone, Copy, Debug, PartialEq, Eq)]
 pub enum Command {
     /// Print the aborted and the intermediate reads, and how many reads return what nobody wrote.
     Reads,
 }
 
-/// How a run ended.
-#[derive(Clone, Copy, Debug, PartialEq, Eq)]
-pub enum Status {
-    NoPhenomenon,
-    SomePhenomenon,
-    /// The input was refused, or the command line.
-    Refused,
-    DeviceFault,
-    Memory,
-}
-
-impl Status {
-    /// The number that the process ends with.
-    pub fn code(self) -> u8
-        ensures { result ≡ code_of self }
-    {
-        match self {
-            Status::NoPhenomenon => 0,
-            Status::SomePhenomenon => 1,
-            Status::Refused => 2,
-            Status::DeviceFault => 3,
-            Status::Memory => 4,
-        }
-    }
-}
-
-/// A status, and what is printed with it.
-#[derive(Drop)]
-pub struct Answer {
-    status: Status,
-    printed: Vec<u8>,
-}
-
-fn status_of(found: &BadReads<'_>) -> Status
-    ensures { result ≡ status_by (is_some found.now.aborted || is_some found.now.intermediate) }
-{
-    if found.aborted.is_some() || found.intermediate.is_some() {
-        Status::SomePhenomenon
-    } else {
-        Status::NoPhenomenon
-    }
-}
-
-/// The answer to a refused input.
-fn refuse(alloc: Global, fault: Fault) -> Result<Answer, AllocError>
-    ensures status { IfOk result (λ answer. answer.status ≡ Status.Refused) }
-    ensures printed { IfOk result (λ answer. answer.printed.items ≡ refusal_line fault) }
-{
-    let mut printed = Vec::new(alloc);
-    write_refusal(alloc, &mut printed, fault)?;
-    Ok(Answer {
-        status: Status::Refused,
-        printed,
-    })
-}
-
-/// The answer of `reads` to a journal and its transactions.
-fn report(alloc: Global, core: &Core, txns: &[Txn<'_>]) -> Result<Answer, AllocError>
-    requires { map transaction_of_txn txns.now ≡ transactions_of core.now }
-    ensures status { IfOk result (λ answer. answer.status ≡ status_by (has_bad_read core.now)) }
-    ensures printed { IfOk result (λ answer. answer.printed.items ≡ reads_text core.now) }
-{
-    let found = bad_reads(alloc, txns)?;
-    let mut printed = Vec::new(alloc);
-    write_reads(
-        alloc,
-        &mut printed,
-        core.events(),
-        txns.len() as u64,
-        &found,
-    )?;
-    Ok(Answer {
-        status: status_of(&found),
-        printed,
-    })
-}
-
-/// The answer of `reads` to a text, unless that is refused.
-fn judge(alloc: Global, text: &[u8]) -> Result<Answer, Fault>
-    ensures ok { IfOk result (λ answer. IsAnswer text.now answer.status answer.printed.items) }
+/// The report of a command on a text, unless that is refused.
+fn judge(alloc: Global, command: Command, text: &[u8]) -> Result<Answer, Fault>
+    ensures ok { IfOk result (λ answer. IsAnswer command text.now answer.status answer.printed.items) }
     ensures err { IfErr result (λ fault. (fault ≡ memory_fault) ⊎ IsRefused text.now fault) }
 {
-    let operations = read_operations(alloc, text)?;
-    let core = accept_all(alloc, operations)?;
-    let txns = pair(alloc, &core)?;
-    Ok(report(alloc, &core, txns.as_slice())?)
+    let core = read_journal(alloc, text)?;
+    match command {
+        Command::Reads => reads::report(alloc, &core),
+    }
 }
 
-/// The answer to a text.
+/// The answer of a command to a text.
 fn answer_to(alloc: Global, command: Command, text: &[u8]) -> Result<Answer, AllocError>
-    ensures { IfOk result (λ answer. IsAnswer text.now answer.status answer.printed.items) }
+    ensures { IfOk result (λ answer. IsAnswer command text.now answer.status answer.printed.items) }
 {
-    let judged = match command {
-        Command::Reads => judge(alloc, text),
-    };
-    match judged {
+    match judge(alloc, command, text) {
         Ok(answer) => Ok(answer),
         Err(fault) if matches!(fault.refusal, Refusal::Memory) => Err(AllocError),
         Err(fault) => refuse(alloc, fault),
     }
 }
 
-/// Prints the answer, and says how the run ended.
+/// Prints the bytes, and returns how the run ended: by the status, unless the sink fails.
 fn print<T: Sink>(sink: &mut T, status: Status, printed: &[u8]) -> Status
-    ensures answered { (text : List ℕ) → IsAnswer text status printed.now → HasAnswered result text (T.tells sink.old) (T.tells sink.new) }
-    ensures counted { (text : List ℕ) → IsAnswer text status printed.now → (failures : ℕ) → CountedBy result failures failures (T.failures sink.old) (T.failures sink.new) }
+    ensures { HasPrinted T.Sink status result sink.old sink.new printed.now }
 {
     match write_all(sink, printed) {
         Ok(()) => status,
@@ -139,10 +55,9 @@ fn print<T: Sink>(sink: &mut T, status: Status, printed: &[u8]) -> Status
     }
 }
 
-/// Prints that memory was refused, and takes none for it.
+/// Prints that the program is out of memory, which takes none.
 pub fn print_memory<T: Sink>(sink: &mut T) -> Status
-    ensures answered { (text : List ℕ) → HasAnswered result text (T.tells sink.old) (T.tells sink.new) }
-    ensures counted { (failures : ℕ) → CountedBy result failures failures (T.failures sink.old) (T.failures sink.new) }
+    ensures { HasPrinted T.Sink Status.Memory result sink.old sink.new (refusal_line memory_fault) }
 {
     print(sink, Status::Memory, b"refused 10 Memory\n")
 }
@@ -154,8 +69,13 @@ pub fn run<S: Source, T: Sink>(
     source: &mut S,
     sink: &mut T,
 ) -> Status
-    ensures answered { IfSome (S.tells source.old) (λ text. HasAnswered result text (T.tells sink.old) (T.tells sink.new)) }
-    ensures counted { CountedBy result (S.failures source.old) (S.failures source.new) (T.failures sink.old) (T.failures sink.new) }
+    // What is printed is the answer to the source's bytes, where it tells them.
+    ensures answered { IfSome (S.remaining source.old)
+        (λ text. HasAnswered command text result (T.contents sink.old) (T.contents sink.new)) }
+    // With the statuses 0 to 2 the source was read to its end.
+    ensures whole { code_of result ≤ 2 → IsAtEnd (S.remaining source.new) }
+    // The source failed and nothing is printed, or the sink failed, or no device did.
+    ensures failed { FailedBy S.Source T.Sink result source.old source.new sink.old sink.new }
 {
     let text = match read_all(alloc, source) {
         Ok(text) => text,

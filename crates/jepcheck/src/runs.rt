@@ -2,10 +2,12 @@
 
 ghost use Rattle.std.specs.Prelude.{None};
 
-use crate::run::{Command, Status, run};
+use crate::answer::Status;
+use crate::command_line::{Asked, LineFault};
+use crate::dispatch::dispatch;
+use crate::run::{Command, run};
 use arrayvec::ArrayVec;
 use hist_types::device::{Failed, MemorySource, Sink, Source};
-use std::alloc::Global;
 use std::process::Abort;
 use std::test::Fail;
 
@@ -141,8 +143,18 @@ struct Dripping<'a> {
     failures: u64,
 }
 
+impl<'a> Dripping<'a> {
+    fn new(rest: &'a [u8], calls_before_failure: u64) -> Dripping<'a> {
+        Dripping {
+            rest,
+            calls_before_failure,
+            failures: 0,
+        }
+    }
+}
+
 impl Source for Dripping<'_> {
-    ghost tells = { λ _. None };
+    ghost remaining = { λ _. None };
 
     ghost failures = { λ source. source.failures };
 
@@ -185,7 +197,7 @@ impl Sipping {
 }
 
 impl Sink for Sipping {
-    ghost tells = { λ _. None };
+    ghost contents = { λ _. None };
 
     ghost failures = { λ sink. sink.failures };
 
@@ -201,7 +213,7 @@ impl Sink for Sipping {
     }
 }
 
-/// Runs over memory. Where memory was refused that is told, and a run again has the answer.
+/// Runs over memory. A run that is out of memory says so, and a second one has the answer.
 fn answers<R: Abort + AllocGlobal>(rt: &R, history: &[u8], status: u8, text: &[u8]) {
     let mut sink = Sipping::new(512, 512);
     let mut source = MemorySource::new(history);
@@ -287,11 +299,7 @@ fn refusals(rt: HostRuntime) -> Result<(), Fail> {
 #[test]
 fn a_source_of_one_byte_a_call(rt: HostRuntime) -> Result<(), Fail> {
     for calls in 0..180u64 {
-        let mut source = Dripping {
-            rest: ABORTED_READ,
-            calls_before_failure: calls,
-            failures: 0,
-        };
+        let mut source = Dripping::new(ABORTED_READ, calls);
         let mut sink = Sipping::new(512, 512);
         let status = run(rt.alloc(), Command::Reads, &mut source, &mut sink);
         if matches!(status, Status::Memory) {
@@ -325,5 +333,42 @@ fn a_sink_of_one_byte_a_call(rt: HostRuntime) -> Result<(), Fail> {
             assert!(rt; ABORTED_READ_OUT.starts_with(taken) || MEMORY_LINE.starts_with(taken));
         }
     }
+    Ok(())
+}
+
+/// What was asked is done over a clean history: the status, what was printed and what was said on the sink for errors. Where
+/// a run is out of memory it says so, and a second one has the answer.
+fn does<R: Abort + AllocGlobal>(
+    rt: &R,
+    asked: Result<Asked, LineFault>,
+    reads_before_failure: u64,
+    (status, printed, said): (u8, &[u8], &[u8]),
+) {
+    let mut source = Dripping::new(CLEAN, reads_before_failure);
+    let mut sink = Sipping::new(512, 512);
+    let mut errors = Sipping::new(1, 512);
+    let mut ended = dispatch(rt.alloc(), asked, &mut source, &mut sink, &mut errors).code();
+    if ended == 4 && status != 4 {
+        assert_eq!(rt; sink.taken.as_slice(), MEMORY_LINE);
+        let again = Ok(Asked::Run(Command::Reads));
+        source = Dripping::new(CLEAN, reads_before_failure);
+        sink = Sipping::new(512, 512);
+        ended = dispatch(rt.alloc(), again, &mut source, &mut sink, &mut errors).code();
+    }
+    assert_eq!(rt; ended, status);
+    assert_eq!(rt; sink.taken.as_slice(), printed);
+    assert_eq!(rt; errors.taken.as_slice(), said);
+}
+
+#[test]
+fn what_was_asked_is_done(rt: HostRuntime) -> Result<(), Fail> {
+    let help = || String::from_str(rt.alloc(), "Usage: jepcheck\n");
+    let text = help().or_else(|_| help())?;
+    let usage = Err(LineFault::Usage(text));
+    does(&rt, usage, 0, (2, b"", b"Usage: jepcheck\n"));
+    does(&rt, Err(LineFault::Memory), 0, (4, MEMORY_LINE, b""));
+    let reads = Asked::Run(Command::Reads);
+    does(&rt, Ok(reads), 9, (3, b"", b"device fault\n"));
+    does(&rt, Ok(reads), 512, (0, CLEAN_OUT, b""));
     Ok(())
 }

@@ -1,11 +1,11 @@
 use Rattle.std.proofs.Common.{◌≡◌, ◌<◌, vec_len}
-use Rattle.hist_types.specs.Devices.{Gave}
+use Rattle.std.specs.Io.KnownBytes.{Consumes}
 use Rattle.jepcheck.proofs.devices.read_all.Given as goal
 
 abbrev pub invariant-loop : goal.invariant-loop
 invariant-loop g l =
     record {
-      gave : Gave (g.S.Source.tells l.fn.source) (g.S.Source.tells l.source) l.taken.items;
+      given : Consumes (g.S.Source.remaining l.fn.source) (g.S.Source.remaining l.source) l.taken.items;
       counted : g.S.Source.failures l.source ≡ g.S.Source.failures l.fn.source;
       room : 0 < vec_len l.room;
     }

@@ -1,12 +1,12 @@
 use Rattle.std.proofs.Common.{◌≡◌, ◌≤◌, ◌-◌, length, take}
-use Rattle.hist_types.specs.Devices.{Took}
+use Rattle.std.specs.Io.KnownBytes.{Appends}
 use Rattle.jepcheck.proofs.devices.write_all.Given as goal
 
 abbrev pub invariant-loop-done : goal.invariant-loop-done
 invariant-loop-done g l =
     record {
       within : l.done ≤ length l.bytes;
-      took : Took (g.T.Sink.tells l.fn.sink) (g.T.Sink.tells l.sink) (take l.done l.bytes);
+      taken : Appends (g.T.Sink.contents l.fn.sink) (g.T.Sink.contents l.sink) (take l.done l.bytes);
       counted : g.T.Sink.failures l.sink ≡ g.T.Sink.failures l.fn.sink;
     }
 

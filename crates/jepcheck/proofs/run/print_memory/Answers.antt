@@ -1,9 +1,10 @@
-use Rattle.std.proofs.Common.{[]}
+use Rattle.std.proofs.Common.{List, ℕ, subst}
+use Rattle.jepcheck.specs.Runs.{HasPrinted}
+use Rattle.jepcheck.specs.declared.answer.Status.TheVariants.{Memory}
 use Rattle.jepcheck.proofs.Outcomes.{memory_line}
 use Rattle.jepcheck.proofs.run.print_memory.Goals as goal
 
-pub returns-clause-answered : goal.returns-clause-answered
-returns-clause-answered g c = λ text. c.print.ensures.answered text memory_line
-
-pub returns-clause-counted : goal.returns-clause-counted
-returns-clause-counted g c = λ failures. c.print.ensures.counted [] memory_line failures
+pub returns : goal.returns
+returns g c =
+    let P : List ℕ → Type 0 = HasPrinted g.T.Sink Memory c.print.result c.args.sink.now c.print.new.sink in
+    subst P memory_line c.print.ensures

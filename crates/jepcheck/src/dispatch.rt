@@ -1,0 +1,48 @@
+//! From what the command line asks for to what is done.
+
+ghost use Rattle.std.specs.Prelude.{◌≡◌, IfOk, IfErr, OnErr};
+ghost use Rattle.jepcheck.specs.Pieces.{HasTakenUnlessFailed};
+ghost use Rattle.jepcheck.specs.Runs.{HasDone, HasRefusedLine, complaint};
+
+use crate::answer::Status;
+use crate::command_line::{Asked, LineFault};
+use crate::devices::write_all;
+use crate::run::{print_memory, run};
+use hist_types::device::{Sink, Source};
+use std::alloc::Global;
+
+/// What is said on standard error: how the program is used, or that a device failed.
+fn complaint(asked: &Result<Asked, LineFault>, status: Status) -> &[u8]
+    ensures { result.now ≡ complaint asked.now status }
+{
+    match (asked, status) {
+        (Err(LineFault::Usage(text)), _) => text.as_bytes(),
+        (_, Status::DeviceFault) => b"device fault\n",
+        _ => b"",
+    }
+}
+
+/// Does what the command line asks for, and returns how that ended. A sink for errors that fails changes nothing.
+pub fn dispatch<S: Source, T: Sink, E: Sink>(
+    alloc: Global,
+    asked: Result<Asked, LineFault>,
+    source: &mut S,
+    sink: &mut T,
+    errors: &mut E,
+) -> Status
+    // What was asked is done; today that is a run.
+    ensures done { IfOk asked (λ what. HasDone S.Source T.Sink what result source.old source.new sink.old sink.new) }
+    // A fault of the command line is refused, and the source is left alone.
+    ensures refused { IfErr asked (λ fault. HasRefusedLine T.Sink fault result sink.old sink.new) }
+    ensures unread { OnErr asked (source.new ≡ source.old) }
+    // The sink for errors is told how the program is used, or that a device failed.
+    ensures errors { HasTakenUnlessFailed E.Sink errors.old errors.new (complaint asked result) }
+{
+    let status = match &asked {
+        Ok(Asked::Run(command)) => run(alloc, *command, source, sink),
+        Err(LineFault::Usage(_)) => Status::Refused,
+        Err(LineFault::Memory) => print_memory(sink),
+    };
+    let _ = write_all(errors, complaint(&asked, status));
+    status
+}
