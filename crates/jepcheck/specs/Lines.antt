@@ -1,8 +1,11 @@
--- The command lines that the program takes.
-use Rattle.std.specs.Prelude.{◌≡◌, ℕ, List, [], codes, true, Some, option_map}
+-- The command lines that the program takes, and what every other one gets.
+use Rattle.std.specs.Prelude.{◌≡◌, ℕ, List, [], ◌++◌, codes, true, Some, option_map, string_bytes}
 use Rattle.clap.specs.Words.{App, new_app, with_subcommand, subcommand_of, fault_of}
 use Rattle.jepcheck.specs.declared.command_line.Asked.{Asked}
 use Rattle.jepcheck.specs.declared.command_line.Asked.TheVariants.{Run}
+use Rattle.jepcheck.specs.declared.command_line.LineFault.{LineFault}
+use Rattle.jepcheck.specs.declared.command_line.LineFault.TheVariants.{Usage, Memory}
+use Rattle.jepcheck.specs.declared.command_line.TheConstants.{HELP}
 use Rattle.jepcheck.specs.declared.run.Command.TheVariants.{Reads}
 
 -- a command of which one of the subcommands has to be named
@@ -21,3 +24,8 @@ pub record NameSubcommand (name : List ℕ) (words : List (List ℕ)) : Type 0 w
 -- what the words of a command line ask for
 abbrev pub AskFor : Asked → List (List ℕ) → Type 0
 AskFor (Run Reads) words = NameSubcommand (codes "reads") words
+
+-- the text of a fault ends with the help
+abbrev pub Helps : LineFault → Type 0
+Helps (Usage text) = (message : List ℕ) × (string_bytes text ≡ message ++ HELP.now)
+Helps Memory = Unit {0}

@@ -1,5 +1,5 @@
 -- How the program leaves its devices: the source that it reads, the sink that it prints to, and the sink for errors.
-use Rattle.std.specs.Prelude.{◌≡◌, ◌⊎◌, ℕ, ◌≤◌, List, [], take, Option, Result, Ok, Err, IfSome, codes, string_bytes}
+use Rattle.std.specs.Prelude.{◌≡◌, ◌⊎◌, ℕ, ◌≤◌, List, [], take, Option, Result, Err, IfSome, codes, string_bytes}
 use Rattle.std.specs.Io.KnownBytes.{Appends, IsAtEnd}
 use Rattle.hist_types.specs.Devices.{CountsFailure}
 use Rattle.hist_types.specs.Refusals.{memory_fault}

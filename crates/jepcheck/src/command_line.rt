@@ -1,10 +1,10 @@
 //! The command line.
 
-ghost use Rattle.std.specs.Prelude.{◌≡◌, ℕ, List, [], ◌∷◌, map, codes, IfErr, IfOk, string_bytes};
+ghost use Rattle.std.specs.Prelude.{◌≡◌, map, IfErr, IfOk, string_bytes};
 ghost use Rattle.std.specs.IoError.{error_kind};
 ghost use Rattle.std.specs.declared.io.ErrorKind.TheVariants.{OutOfMemory};
 ghost use Rattle.clap.specs.Words.{app_of, kind_of};
-ghost use Rattle.jepcheck.specs.Lines.{program_app, AskFor};
+ghost use Rattle.jepcheck.specs.Lines.{program_app, AskFor, Helps};
 ghost use Rattle.jepcheck.specs.declared.command_line.Asked.{Asked};
 
 use crate::run::Command;
@@ -63,9 +63,20 @@ fn program<'a>(alloc: Global) -> Result<clap::Command<'a>, AllocError>
     program.subcommand(reads)
 }
 
-/// The fault with this text.
-fn usage(text: Result<String, AllocError>) -> LineFault {
-    match text {
+/// A message, which may be empty, and the help behind it.
+fn with_help(message: Result<String, AllocError>) -> Result<String, AllocError>
+    ensures { IfOk result (λ text. Helps (LineFault.Usage text)) }
+{
+    let mut text = message?;
+    text.push_str(HELP)?;
+    Ok(text)
+}
+
+/// The fault of a line with this message.
+fn usage(message: Result<String, AllocError>) -> LineFault
+    ensures { Helps result }
+{
+    match with_help(message) {
         Ok(text) => LineFault::Usage(text),
         Err(error) => LineFault::from(error),
     }
@@ -73,32 +84,34 @@ fn usage(text: Result<String, AllocError>) -> LineFault {
 
 /// The fault of a line that the parse refuses, a request for help among them.
 fn line_fault(alloc: Global, error: &clap::Error) -> LineFault
-    ensures { kind_of error.now ≡ ErrorKind.OutOfMemory → result ≡ LineFault.Memory }
+    ensures memory { kind_of error.now ≡ ErrorKind.OutOfMemory → result ≡ LineFault.Memory }
+    ensures helps { Helps result }
 {
     match error.kind() {
         ErrorKind::OutOfMemory => LineFault::Memory,
-        ErrorKind::DisplayHelp => usage(String::from_str(alloc, HELP)),
-        _ => usage(format!(in alloc; "{error}\n{HELP}")),
+        ErrorKind::DisplayHelp => usage(Ok(String::new(alloc))),
+        _ => usage(format!(in alloc; "{error}\n")),
     }
 }
 
-/// The fault of a line whose words can't be had: memory was refused, or one of them isn't UTF-8.
+/// The fault of a line whose words can't be had: out of memory, or one of them isn't UTF-8.
 pub fn unread_line(alloc: Global, error: &io::Error) -> LineFault
-    ensures { error_kind error.now ≡ OutOfMemory → result ≡ LineFault.Memory }
+    ensures memory { error_kind error.now ≡ OutOfMemory → result ≡ LineFault.Memory }
+    ensures helps { Helps result }
 {
     match error.kind() {
         io::ErrorKind::OutOfMemory => LineFault::Memory,
-        _ => usage(format!(in alloc; "error: a word of the command line is not UTF-8\n\n{HELP}")),
+        _ => usage(String::from_str(alloc, "error: a word of the command line is not UTF-8\n\n")),
     }
 }
 
 /// What the words ask for, of which the first is the program's name.
 pub fn command_line<'a>(alloc: Global, words: &'a [String]) -> Result<Asked, LineFault>
-    // An answer is what the words ask for, and where they ask for something only memory can be missing.
+    // The answer is what the words ask for, and where they ask for something only memory can be missing.
     ensures only { IfOk result (λ asked. AskFor asked (map string_bytes words.entry.now)) }
     ensures asked { (asked : Asked) → AskFor asked (map string_bytes words.entry.now) → IfErr result (λ fault. fault ≡ LineFault.Memory) }
-    // The word `reads` alone asks for something.
-    ensures reads { (name : List ℕ) → map string_bytes words.entry.now ≡ name ∷ codes "reads" ∷ [] → IfErr result (λ fault. fault ≡ LineFault.Memory) }
+    // Every other line gets help.
+    ensures helps { IfErr result Helps }
 {
     let matches = match program(alloc)?.try_get_matches_from(words) {
         Ok(matches) => matches,
@@ -106,6 +119,6 @@ pub fn command_line<'a>(alloc: Global, words: &'a [String]) -> Result<Asked, Lin
     };
     match matches.subcommand_name() {
         Some("reads") => Ok(Asked::Run(Command::Reads)),
-        _ => Err(usage(String::from_str(alloc, HELP))),
+        _ => Err(usage(Ok(String::new(alloc)))),
     }
 }

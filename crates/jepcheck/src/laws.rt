@@ -1,9 +1,11 @@
-//! A law of the answers of `reads`.
+//! Laws of the command `reads`.
 
-ghost use Rattle.std.specs.Prelude.{◌≡◌, ◌≢◌, ℕ, List};
+ghost use Rattle.std.specs.Prelude.{◌≡◌, ◌≢◌, ℕ, List, [], ◌∷◌, codes};
 ghost use Rattle.jepcheck.specs.Answers.{IsAnswer};
+ghost use Rattle.jepcheck.specs.Lines.{AskFor};
 ghost use Rattle.jepcheck.specs.declared.answer.Status.{Status};
 ghost use Rattle.jepcheck.specs.declared.answer.Status.TheVariants.{Memory};
+ghost use Rattle.jepcheck.specs.declared.command_line.Asked.TheVariants.{Run};
 ghost use Rattle.jepcheck.specs.declared.run.Command.TheVariants.{Reads};
 
 use edn_ops::laws::simple_lines_end_at_one_place;
@@ -15,3 +17,8 @@ pub fn one_answer_to_a_text()
 {
     simple_lines_end_at_one_place();
 }
+
+/// The program's name, whatever it is, and the word `reads` ask for `reads`.
+pub fn reads_is_a_command()
+    ensures { (name : List ℕ) → AskFor (Run Reads) (name ∷ codes "reads" ∷ []) }
+{}

@@ -1,16 +1,11 @@
 use Rattle.std.proofs.Common.{◌≡◌, ◌∙◌, Some, None, sym, ap, codes}
-use Rattle.jepcheck.specs.declared.command_line.Asked.TheVariants.{Run}
-use Rattle.jepcheck.specs.declared.run.Command.TheVariants.{Reads}
-use Rattle.jepcheck.proofs.Words.{asked_names_reads, reads_is_asked, names_subcommand, meets_subcommand, fails_for_memory}
+use Rattle.jepcheck.proofs.Words.{asked_names_reads, names_subcommand, meets_subcommand, fails_for_memory}
 use Rattle.jepcheck.proofs.command_line.command_line.Goals as goal
 use Rattle.jepcheck.proofs.command_line.command_line.Goals.{in_default-via-in-Some+in_default, in_default-via-in_default}
 
 pub returns-in-Err-clause-asked : goal.returns-in-Err-clause-asked
 returns-in-Err-clause-asked c = λ asked asks.
-    c.line_fault.ensures (fails_for_memory _ _ c.in-Err.error _ c.in_ok-program.ensures c.in-Err.ensures.kinds (asked_names_reads asked _ asks))
-
-pub returns-in-Err-clause-reads : goal.returns-in-Err-clause-reads
-returns-in-Err-clause-reads c = λ name e. returns-in-Err-clause-asked c (Run Reads) (rw e (reads_is_asked name))
+    c.line_fault.ensures.memory (fails_for_memory _ _ c.in-Err.error _ c.in_ok-program.ensures c.in-Err.ensures.kinds (asked_names_reads asked _ asks))
 
 pub returns-in-Some-reads-clause-only : goal.returns-in-Some-reads-clause-only
 returns-in-Some-reads-clause-only c =
@@ -27,6 +22,3 @@ returns-clause-asked c = λ asked asks. let met = meets_subcommand _ _ _ _ c.in_
           let none : None ≡ Some (codes "reads") = rw w.in_default.is at (c.subcommand_name.ensures ∙ met) in
           absurd cc
     ]
-
-pub returns-clause-reads : goal.returns-clause-reads
-returns-clause-reads c = λ name e. returns-clause-asked c (Run Reads) (rw e (reads_is_asked name))
