@@ -1,5 +1,6 @@
 -- What is printed, and what runs leave.
-use Rattle.std.proofs.Common.{◌≡◌, ℕ, List, Option, Some, None, refl, sym, subst, codes, inl, inr}
+use Rattle.std.proofs.Common.{◌≡◌, ℕ, List, [], Option, Some, None, refl, sym, subst, codes, inl, inr}
+use Rattle.std.proofs.KnownBytes.{Appends-nil}
 use Rattle.std.specs.Prelude.{IfSome}
 use Rattle.std.specs.Fmt.{digits}
 use Rattle.hist_types.specs.Refusals.{memory_fault}
@@ -17,15 +18,10 @@ pub memory_line : codes "refused 10 Memory\n" ≡ refusal_line memory_fault
 unfolding digits
 memory_line = refl
 
--- what holds of all values holds of one that may be there
-pub of_any : (o : Option (List ℕ)) (P : List ℕ → Type 0) → ((x : List ℕ) → P x) → IfSome o P
-of_any None P all = tt
-of_any (Some x) P all = all x
-
--- what holds of one list holds of the same list that may be there
-pub of_same : (o : Option (List ℕ)) (xs : List ℕ) (P : List ℕ → Type 0) → IfSome o (λ x. xs ≡ x) → P xs → IfSome o P
-of_same None xs P same here = tt
-of_same (Some x) xs P same here = subst P same here
+-- what is known of all texts is known of one that a source may tell
+pub of_any : (known : Option (List ℕ)) (P : List ℕ → Type 0) → ((text : List ℕ) → P text) → (text : List ℕ) × IfSome known (λ rest. text ≡ rest) × P text
+of_any None P all = ([], tt, all [])
+of_any (Some rest) P all = (rest, refl, all rest)
 
 module _ {T : Type 0} (device : Ghosts T) (command : Command) (text : List ℕ) (sink sink' : T) (printed : List ℕ) where
   answered_whole : (wanted : Status) → IsAnswer command text wanted printed → HasTaken device sink sink' printed
@@ -45,3 +41,7 @@ module _ {T : Type 0} (device : Ghosts T) (command : Command) (text : List ℕ) 
   printed_answer wanted status answer (inr (fault, stopped)) =
       let P : Status → Type 0 = λ s. HasAnswered command text s (device.contents sink) (device.contents sink') in
       subst P (sym fault) (wanted, printed, answer, stopped.count, stopped.taken)
+
+-- nothing is a beginning of an answer
+pub nothing_printed : (command : Command) (text : List ℕ) (told : Option (List ℕ)) → HasAnswered command text statuses.DeviceFault told told
+nothing_printed command text told = (statuses.Memory, refusal_line memory_fault, refl, 0, Appends-nil told)

@@ -52,9 +52,11 @@ FailedBy reads prints statuses.DeviceFault source source' sink sink' =
     SourceFailed reads source source' sink sink' ⊎ SinkFailed reads prints source source' sink sink'
 FailedBy reads prints status source source' sink sink' = NeitherFailed reads prints source source' sink sink'
 
--- how the run of a command leaves its devices
+-- how the run of a command leaves its devices: it answers a text, which is the source's bytes where it tells them
 pub record HasRun {S T : Type 0} (reads : Source S) (prints : Sink T) (command : Command) (status : Status) (source source' : S) (sink sink' : T) : Type 0 where
-  pub answered : IfSome (reads.remaining source) (λ text. HasAnswered command text status (prints.contents sink) (prints.contents sink'))
+  pub text : List ℕ
+  pub text_is : IfSome (reads.remaining source) (λ rest. text ≡ rest)
+  pub answered : HasAnswered command text status (prints.contents sink) (prints.contents sink')
   pub whole : code_of status ≤ 2 → IsAtEnd (reads.remaining source')
   pub failed : FailedBy reads prints status source source' sink sink'
 

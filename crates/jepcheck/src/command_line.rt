@@ -109,7 +109,8 @@ pub fn unread_line(alloc: Global, error: &io::Error) -> LineFault
 pub fn command_line<'a>(alloc: Global, words: &'a [String]) -> Result<Asked, LineFault>
     // The answer is what the words ask for, and where they ask for something only memory can be missing.
     ensures only { IfOk result (λ asked. AskFor asked (map string_bytes words.entry.now)) }
-    ensures asked { (asked : Asked) → AskFor asked (map string_bytes words.entry.now) → IfErr result (λ fault. fault ≡ LineFault.Memory) }
+    ensures asked { (asked : Asked) → AskFor asked (map string_bytes words.entry.now)
+        → IfErr result (λ fault. fault ≡ LineFault.Memory) }
     // Every other line gets help.
     ensures helps { IfErr result Helps }
 {

@@ -49,10 +49,12 @@ fn room_for_a_piece(alloc: Global) -> Result<Vec<u8>, AllocError>
 
 /// All that a source has left to give.
 pub fn read_all<S: Source>(alloc: Global, source: &mut S) -> Result<Vec<u8>, ReadFault>
-    ensures all { IfOk result (λ bytes. IfSome (S.remaining source.old) (λ rest. bytes.items ≡ rest)) }
+    ensures all { IfOk result
+        (λ bytes. IfSome (S.remaining source.old) (λ rest. bytes.items ≡ rest)) }
     ensures end { OnOk result (IsAtEnd (S.remaining source.new)) }
     ensures no_failure { OnOk result (S.failures source.new ≡ S.failures source.old) }
-    ensures fault { IfErr result (λ fault. IsCounted fault (S.failures source.old) (S.failures source.new)) }
+    ensures fault { IfErr result
+        (λ fault. IsCounted fault (S.failures source.old) (S.failures source.new)) }
 {
     let mut taken = Vec::new(alloc);
     let mut room = room_for_a_piece(alloc)?;

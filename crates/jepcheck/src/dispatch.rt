@@ -31,7 +31,8 @@ pub fn dispatch<S: Source, T: Sink, E: Sink>(
     errors: &mut E,
 ) -> Status
     // What was asked is done; today that is a run.
-    ensures done { IfOk asked (λ what. HasDone S.Source T.Sink what result source.old source.new sink.old sink.new) }
+    ensures done { IfOk asked
+        (λ what. HasDone S.Source T.Sink what result source.old source.new sink.old sink.new) }
     // A fault of the command line is refused, and the source is left alone.
     ensures refused { IfErr asked (λ fault. HasRefusedLine T.Sink fault result sink.old sink.new) }
     ensures unread { OnErr asked (source.new ≡ source.old) }

@@ -1,6 +1,6 @@
 //! The run of a command, from a source's bytes to a sink's.
 
-ghost use Rattle.std.specs.Prelude.{◌≡◌, ◌⊎◌, ◌≤◌, IfOk, IfErr, IfSome};
+ghost use Rattle.std.specs.Prelude.{◌≡◌, ◌⊎◌, ℕ, ◌≤◌, List, IfOk, IfErr, IfSome};
 ghost use Rattle.std.specs.Io.KnownBytes.{IsAtEnd};
 ghost use Rattle.hist_types.specs.Refusals.{memory_fault};
 ghost use Rattle.hist_types.specs.Texts.{refusal_line};
@@ -69,9 +69,9 @@ pub fn run<S: Source, T: Sink>(
     source: &mut S,
     sink: &mut T,
 ) -> Status
-    // What is printed is the answer to the source's bytes, where it tells them.
-    ensures answered { IfSome (S.remaining source.old)
-        (λ text. HasAnswered command text result (T.contents sink.old) (T.contents sink.new)) }
+    // What is printed is the answer to a text, which is the source's bytes where it tells them.
+    ensures answered { (text : List ℕ) × IfSome (S.remaining source.old) (λ rest. text ≡ rest)
+        × HasAnswered command text result (T.contents sink.old) (T.contents sink.new) }
     // With the statuses 0 to 2 the source was read to its end.
     ensures whole { code_of result ≤ 2 → IsAtEnd (S.remaining source.new) }
     // The source failed and nothing is printed, or the sink failed, or no device did.
