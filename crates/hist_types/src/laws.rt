@@ -24,7 +24,7 @@ ghost use Rattle.hist_types.specs.declared.types.Refusal.{Refusal};
 use crate::types::Level;
 use std::cmp::Ordering;
 
-/// The limits in numbers, as the users' pages give them.
+/// The limits in numbers.
 pub fn limits_in_numbers()
     ensures process { MAX_PROCESS ≡ 2147483647 }
     ensures micro_ops { MAX_MICRO_OPS ≡ 256 }
@@ -85,7 +85,7 @@ pub fn runs_longest()
     ensures len { (text : List ℕ) → run_len text ≡ length (run_of text) }
 {}
 
-/// A text has one reading.
+/// A text has at most one reading.
 pub fn texts_read_one_way()
     ensures { (text : List ℕ) → (entries others : List Entry) → (fault other : Option Fault) → Reads text entries fault → Reads text others other → (entries ≡ others) × (fault ≡ other) }
 {}
