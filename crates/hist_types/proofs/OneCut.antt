@@ -2,7 +2,7 @@
 use Rattle.std.proofs.Common.{◌≡◌, inl, inr, ℕ, ◌+◌, List, [], ◌∷◌, length, take, drop, Option, Some, None, refl, sym, ◌∙◌, ap, subst, arith}
 use Rattle.std.proofs.lemmas.Option.{none-some, same_Some}
 use Rattle.hist_types.specs.Tokens.{Item, ItemKind, front, item_fault, open_after, BeginsWith, BeginsWithFault, tokens_of, IsCut, HasTokens}
-use Rattle.hist_types.specs.Reading.{Entry, Reading, reading_of, Reads}
+use Rattle.hist_types.specs.LineReading.{Entry, Reading, reading_of, Reads}
 use Rattle.hist_types.specs.declared.types.Fault.{Fault}
 
 abbrev the_item : ItemKind → ℕ → List ℕ → Item

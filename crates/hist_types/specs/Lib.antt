@@ -1,8 +1,13 @@
 pub mod Bytes
 pub mod Atoms
 pub mod Tokens
+pub mod AtomTokens
 pub mod Operations
+pub mod Forms
+pub mod Entries
 pub mod Reading
+pub mod Placed
+pub mod LineReading
 pub mod Journal
 pub mod Transactions
 pub mod Versions

@@ -10,7 +10,7 @@ ghost use Rattle.hist_types.specs.Journal.{Write, write_eq, is_invoke, last_even
 ghost use Rattle.hist_types.specs.Laws.{RunEndsAt, IsNextOf, IsLastOf, ReadsFirst, WritesLast, LeavesOne, LeadsToOne, HasRealtimeTwin, Rise, HasOneAtItsPlace};
 ghost use Rattle.hist_types.specs.Operations.{Operation};
 ghost use Rattle.hist_types.specs.Phenomena.{height};
-ghost use Rattle.hist_types.specs.Reading.{Entry, Reads};
+ghost use Rattle.hist_types.specs.LineReading.{Entry, Reads};
 ghost use Rattle.hist_types.specs.Refusals.{number_of, name_of};
 ghost use Rattle.hist_types.specs.Texts.{in_order};
 ghost use Rattle.hist_types.specs.Tokens.{run_of, run_len};

@@ -8,12 +8,12 @@ use Rattle.std.proofs.lemmas.Bool.{false≢true}
 use Rattle.hist_types.specs.Atoms.{Atom, integer, keyword, string, symbol, atom_eq}
 use Rattle.hist_types.specs.Journal.{Write, write_eq, writes_of}
 use Rattle.hist_types.specs.Transactions.{has_key}
-use Rattle.edn_ops.specs.Owned.{atom_of_owned, mop_of_owned}
-use Rattle.edn_ops.specs.declared.types.OwnedAtom.{OwnedAtom}
-use Rattle.edn_ops.specs.declared.types.OwnedAtom.TheVariants.{Int, Keyword}
-use Rattle.edn_ops.specs.declared.types.OwnedMop.{OwnedMop}
-use Rattle.edn_ops.specs.declared.types.OwnedMop.TheVariants as owned
-use Rattle.edn_ops.specs.contracts.types.OwnedAtomPartialEq.TheImpl as atom_impl
+use Rattle.simple_ops.specs.Owned.{atom_of_owned, mop_of_owned}
+use Rattle.simple_ops.specs.declared.types.OwnedAtom.{OwnedAtom}
+use Rattle.simple_ops.specs.declared.types.OwnedAtom.TheVariants.{Int, Keyword}
+use Rattle.simple_ops.specs.declared.types.OwnedMop.{OwnedMop}
+use Rattle.simple_ops.specs.declared.types.OwnedMop.TheVariants as owned
+use Rattle.simple_ops.specs.contracts.types.OwnedAtomPartialEq.TheImpl as atom_impl
 use Rattle.jepcheck.specs.declared.bad_reads.Written.{Written}
 use Rattle.jepcheck.specs.declared.bad_reads.Writers.{Writers}
 use Rattle.jepcheck.specs.Writers.{write_of, written_eq, Note, add, nobody, after_note}

@@ -3,12 +3,12 @@ use Rattle.std.proofs.Common.{◌≡◌, ℕ, ◌-◌, List, [], ◌∷◌, leng
 use Rattle.std.specs.Prelude.{◌≢◌, ◌⊎◌}
 use Rattle.std.proofs.lemmas.Option.{none-some, same_Some}
 use Rattle.hist_types.specs.Operations.{Operation}
-use Rattle.hist_types.specs.Reading.{operation, operations_of}
+use Rattle.hist_types.specs.LineReading.{operation, operations_of}
 use Rattle.hist_types.specs.Texts.{reads_text, has_bad_read, refusal_line}
 use Rattle.hist_types.specs.declared.types.Fault.{Fault}
 use Rattle.hist_types.proofs.OneCut.{one_reading}
-use Rattle.edn_ops.specs.Reader.{not_a_map}
-use Rattle.edn_ops.specs.SimpleLines.{BeginsWithNoLine, EndAtOnePlace}
+use Rattle.simple_ops.specs.Reader.{not_a_map}
+use Rattle.simple_ops.specs.SimpleLines.{BeginsWithNoLine, EndAtOnePlace}
 use Rattle.jepcheck.specs.Answers.{GivesOperations, GivesFault, GivesEvents, journal_fault, IsRefused, IsReport, IsAnswer}
 use Rattle.jepcheck.specs.Statuses.{status_by}
 use Rattle.jepcheck.specs.declared.answer.Status.{Status}

@@ -1,13 +1,13 @@
 -- What the program answers to a text.
 use Rattle.std.specs.Prelude.{◌≡◌, ◌≢◌, ◌⊎◌, ℕ, ◌-◌, List, [], length, map, Option, Some, None, option_map}
 use Rattle.hist_types.specs.Operations.{Operation}
-use Rattle.hist_types.specs.Reading.{operation, Reads}
+use Rattle.hist_types.specs.LineReading.{operation, Reads}
 use Rattle.hist_types.specs.Journal.{first_broken}
 use Rattle.hist_types.specs.Refusals.{event_fault, memory_fault}
 use Rattle.hist_types.specs.Texts.{reads_text, has_bad_read, refusal_line}
 use Rattle.hist_types.specs.declared.types.Fault.{Fault}
-use Rattle.edn_ops.specs.Reader.{not_a_map}
-use Rattle.edn_ops.specs.SimpleLines.{BeginsWithLines, BeginsWithNoLine, AreSimpleLines}
+use Rattle.simple_ops.specs.Reader.{not_a_map}
+use Rattle.simple_ops.specs.SimpleLines.{BeginsWithLines, BeginsWithNoLine, AreSimpleLines}
 use Rattle.jepcheck.specs.Statuses.{status_by}
 use Rattle.jepcheck.specs.declared.answer.Status.{Status}
 use Rattle.jepcheck.specs.declared.answer.Status.TheVariants as statuses

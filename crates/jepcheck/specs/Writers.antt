@@ -7,7 +7,7 @@ use Rattle.hist_types.specs.Journal.{Write, write_eq, writes_of}
 use Rattle.hist_types.specs.Transactions.{Transaction, has_key, is_ok, is_failed}
 use Rattle.hist_types.specs.Phenomena.{seen_value, seen_write}
 use Rattle.hist_types.specs.Phenomena as phenomena
-use Rattle.edn_ops.specs.Owned.{atom_of_owned}
+use Rattle.simple_ops.specs.Owned.{atom_of_owned}
 use Rattle.jepcheck.specs.declared.bad_reads.Written.{Written}
 use Rattle.jepcheck.specs.declared.bad_reads.Writers.{Writers}
 use Rattle.jepcheck.specs.declared.bad_reads.Noted.{Noted}

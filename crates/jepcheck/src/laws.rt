@@ -8,7 +8,7 @@ ghost use Rattle.jepcheck.specs.declared.answer.Status.TheVariants.{Memory};
 ghost use Rattle.jepcheck.specs.declared.command_line.Asked.TheVariants.{Run};
 ghost use Rattle.jepcheck.specs.declared.run.Command.TheVariants.{Reads};
 
-use edn_ops::laws::simple_lines_end_at_one_place;
+use simple_ops::laws::simple_lines_end_at_one_place;
 
 /// A text has one answer of `reads` at most, beside the one that is out of memory: one status, and one output with it.
 pub fn one_answer_to_a_text()

@@ -2,7 +2,7 @@
 use Rattle.std.specs.Prelude.{map}
 use Rattle.hist_types.specs.Transactions.{Transaction}
 use Rattle.hist_types.specs.Transactions as statuses
-use Rattle.edn_ops.specs.Owned.{mop_of_owned}
+use Rattle.simple_ops.specs.Owned.{mop_of_owned}
 use Rattle.txn_pairs.specs.declared.types.Status.{Status}
 use Rattle.txn_pairs.specs.declared.types.Status.TheVariants.{Ok, Fail, Info, Open}
 use Rattle.txn_pairs.specs.declared.types.Txn.{Txn}

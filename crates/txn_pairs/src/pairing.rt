@@ -5,12 +5,12 @@ ghost use Rattle.std.specs.Option.{ForSome};
 ghost use Rattle.std.specs.HashMap.{get, IsEmpty};
 ghost use Rattle.hist_types.specs.Journal.{is_invoke};
 ghost use Rattle.hist_types.specs.Transactions.{status_by, transaction_by, transactions_of};
-ghost use Rattle.edn_ops.specs.Owned.{operation_of_owned};
+ghost use Rattle.simple_ops.specs.Owned.{operation_of_owned};
 ghost use Rattle.txn_pairs.specs.Places.{completed, with_completed};
 ghost use Rattle.txn_pairs.specs.Txns.{status_of, transaction_of_txn};
 
 use crate::types::{Status, Txn};
-use edn_ops::types::OwnedOp;
+use simple_ops::types::OwnedOp;
 use hist_types::types::OpKind;
 use std::alloc::{AllocError, Global};
 use std::collections::HashMap;

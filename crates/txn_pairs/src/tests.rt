@@ -2,7 +2,7 @@
 
 use crate::pair;
 use crate::types::{Status, Txns};
-use edn_ops::types::{OwnedAtom, OwnedMop, OwnedOp};
+use simple_ops::types::{OwnedAtom, OwnedMop, OwnedOp};
 use hist_types::types::{At, Fault, OpKind, Process, Refusal};
 use journal_core::types::Core;
 use std::alloc::{AllocError, Global};

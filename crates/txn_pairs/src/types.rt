@@ -3,7 +3,7 @@
 ghost use Rattle.std.specs.Prelude.{◌≡◌, List, map};
 ghost use Rattle.txn_pairs.specs.Txns.{transaction_of_txn};
 
-use edn_ops::types::OwnedMop;
+use simple_ops::types::OwnedMop;
 use std::marker::Model;
 
 /// How a transaction ended, as far as the journal says.

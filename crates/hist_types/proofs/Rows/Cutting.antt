@@ -6,7 +6,7 @@ use Rattle.std.specs.Str.Lossy.{utf8_valid_len}
 use lib.Utf8.{encode}
 use Rattle.std.proofs.lemmas.Bool.{eqb-true, false≢true}
 use Rattle.hist_types.specs.Tokens.{Item, ItemKind, Str, front, item_fault, open_after, byte_fault, tokens_of, IsCut, BeginsWith, HasTokens}
-use Rattle.hist_types.specs.Reading.{Entry, Reading, reading_of, Reads}
+use Rattle.hist_types.specs.LineReading.{Entry, Reading, reading_of, Reads}
 use Rattle.hist_types.specs.declared.types.Fault.{Fault}
 use Rattle.hist_types.specs.declared.types.Refusal.{Refusal}
 use Rattle.hist_types.specs.declared.types.Refusal.TheVariants.{UnclosedString}

@@ -3,7 +3,7 @@ use Rattle.std.proofs.Common.{◌≡◌, ℕ, List, [], ◌∷◌, ◌++◌, Som
 use Rattle.hist_types.specs.Atoms.{integer, string, symbol}
 use Rattle.hist_types.specs.Operations.{read, write}
 use Rattle.hist_types.specs.Tokens.{Item, ItemKind, Opener, Closer, Str, Drop, Tag, Int, Keyword, Other, HasTokens, byte_fault, nesting_refusal}
-use Rattle.hist_types.specs.Reading.{operation, skipped, Reads}
+use Rattle.hist_types.specs.LineReading.{operation, skipped, Reads}
 use Rattle.hist_types.specs.declared.types.Refusal.TheVariants.{BadUtf8, UnclosedString, StrayCloser, TooDeep, Unclosed, OddMap, DanglingTag, NotAMap, MissingField, DuplicateField, BadType, BadProcess, NotTxn, BadAtom, NilWritten}
 use Rattle.hist_types.proofs.Rows.History.{x, number, sets, gets, invoke, ok, fail, info}
 use Rattle.hist_types.proofs.Rows.Cutting.{has_tokens, reads, refused, RefusedAt, cutting_texts}

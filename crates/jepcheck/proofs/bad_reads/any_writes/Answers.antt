@@ -3,7 +3,7 @@ use Rattle.std.proofs.lemmas.Iterator.{YieldsList-from_slice}
 use Rattle.std.proofs.lemmas.Iterator.Search.{any_from_yields_List}
 use Rattle.hist_types.specs.Transactions.{has_key}
 use Rattle.hist_types.specs.Journal.{writes_of}
-use Rattle.edn_ops.specs.Owned.{atom_of_owned, mop_of_owned}
+use Rattle.simple_ops.specs.Owned.{atom_of_owned, mop_of_owned}
 use Rattle.jepcheck.proofs.Lookups.{has_key-map}
 use Rattle.jepcheck.proofs.bad_reads.any_writes.Goals as goal
 

@@ -3,7 +3,7 @@ use Rattle.std.specs.HashMap.{get}
 use Rattle.std.specs.Map.{lookup}
 use Rattle.std.proofs.lemmas.List.{take_all, take_more, map-append, length-map, length-take}
 use Rattle.hist_types.specs.Transactions.{transactions_of}
-use Rattle.edn_ops.specs.Owned.{operation_of_owned}
+use Rattle.simple_ops.specs.Owned.{operation_of_owned}
 use Rattle.hist_types.specs.Operations.{Operation}
 use Rattle.txn_pairs.specs.declared.pairing.Pairing.{Pairing}
 use Rattle.txn_pairs.specs.Txns.{transaction_of_txn}

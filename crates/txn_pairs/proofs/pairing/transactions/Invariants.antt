@@ -1,7 +1,7 @@
 -- The transactions and places so far are those of the events so far.
 use Rattle.std.proofs.Common.{map, nat_eq, take}
 use Rattle.std.specs.HashMap.{get}
-use Rattle.edn_ops.specs.Owned.{operation_of_owned}
+use Rattle.simple_ops.specs.Owned.{operation_of_owned}
 use Rattle.txn_pairs.specs.Txns.{transaction_of_txn}
 use Rattle.txn_pairs.proofs.Growth.{IsPaired}
 use Rattle.txn_pairs.proofs.pairing.transactions.Given as goal

@@ -1,6 +1,6 @@
 use Rattle.std.proofs.Common.{◌≡◌, ◌<◌, ◌∙◌, ap, sym, Some, map, nat_eq, length, arith}
 use Rattle.std.specs.HashMap.{get}
-use Rattle.edn_ops.specs.Owned.{operation_of_owned}
+use Rattle.simple_ops.specs.Owned.{operation_of_owned}
 use Rattle.txn_pairs.specs.Places.{completed, with_completed}
 use Rattle.txn_pairs.specs.Txns.{transaction_of_txn}
 use Rattle.txn_pairs.proofs.Growth.{completed_at-set}
