@@ -1,0 +1,4 @@
+//! Operations of a text (EDN as Jepsen prints it): reading them, and their canonical text.
+#![tactic(auto)]
+
+pub mod types;

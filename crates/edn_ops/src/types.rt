@@ -1,0 +1,30 @@
+//! Where an operation and its parts are in a text.
+
+use hist_types::types::{OpKind, Process};
+use smallvec::SmallVec;
+
+/// Where a part of a text begins and ends, in bytes from the text's start.
+#[derive(Clone, Copy, Debug, Default, PartialEq, Eq)]
+pub struct Span {
+    pub start: usize,
+    pub end: usize,
+}
+
+/// Where a micro-operation's key and value are. A read of nil has the span of its `nil`.
+#[derive(Clone, Copy, Debug, Default, PartialEq, Eq)]
+pub struct MopShape {
+    pub is_write: bool,
+    pub key: Span,
+    pub value: Span,
+}
+
+/// What an operation of a text says, and where its parts are. It borrows nothing, and up to four micro-operations are kept
+/// in it without an allocation. A fail and an info have no micro-operations.
+#[derive(Debug, Drop)]
+pub struct OpShape {
+    /// From the map's `{` to behind its `}`.
+    pub span: Span,
+    pub kind: OpKind,
+    pub process: Process,
+    pub mops: SmallVec<MopShape, 4>,
+}
