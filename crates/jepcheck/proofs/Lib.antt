@@ -5,5 +5,6 @@ pub mod Sights
 pub mod Pieces
 pub mod OneByOne
 pub mod OneAnswer
+pub mod SomeAnswer
 pub mod Words
 pub mod Outcomes

@@ -59,3 +59,7 @@ IsAnswer command text statuses.SomePhenomenon printed = IsReport command text st
 IsAnswer command text statuses.Refused printed = (fault : Fault) × IsRefused text fault × (printed ≡ refusal_line fault)
 IsAnswer command text statuses.DeviceFault printed = ⊥
 IsAnswer command text statuses.Memory printed = printed ≡ refusal_line memory_fault
+
+-- the command has an answer to the text other than the one that is out of memory
+abbrev pub HasAnswer : Command → List ℕ → Type 0
+HasAnswer command text = (status : Status) × (printed : List ℕ) × (status ≢ statuses.Memory) × IsAnswer command text status printed

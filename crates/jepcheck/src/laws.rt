@@ -1,14 +1,14 @@
 //! Laws of the command `reads`.
 
 ghost use Rattle.std.specs.Prelude.{◌≡◌, ◌≢◌, ℕ, List, [], ◌∷◌, codes};
-ghost use Rattle.jepcheck.specs.Answers.{IsAnswer};
+ghost use Rattle.jepcheck.specs.Answers.{IsAnswer, HasAnswer};
 ghost use Rattle.jepcheck.specs.Lines.{AskFor};
 ghost use Rattle.jepcheck.specs.declared.answer.Status.{Status};
 ghost use Rattle.jepcheck.specs.declared.answer.Status.TheVariants.{Memory};
 ghost use Rattle.jepcheck.specs.declared.command_line.Asked.TheVariants.{Run};
 ghost use Rattle.jepcheck.specs.declared.run.Command.TheVariants.{Reads};
 
-use simple_ops::laws::simple_lines_end_at_one_place;
+use simple_ops::laws::{simple_lines_end_at_one_place, simple_lines_read};
 
 /// A text has one answer of `reads` at most, beside the one that is out of memory: one status, and one output with it.
 pub fn one_answer_to_a_text()
@@ -16,6 +16,14 @@ pub fn one_answer_to_a_text()
         → IsAnswer Reads text status printed → IsAnswer Reads text other others → (status ≡ other) × (printed ≡ others) }
 {
     simple_lines_end_at_one_place();
+}
+
+/// Each text has an answer of `reads` other than the one that is out of memory.
+pub fn an_answer_to_each_text()
+    ensures { (text : List ℕ) → HasAnswer Reads text }
+{
+    simple_lines_end_at_one_place();
+    simple_lines_read();
 }
 
 /// The program's name, whatever it is, and the word `reads` ask for `reads`.

@@ -35,6 +35,7 @@ fn unread(alloc: Global, kind: io::ErrorKind) -> LineFault {
 #[test]
 fn laws_return() {
     laws::one_answer_to_a_text();
+    laws::an_answer_to_each_text();
     laws::reads_is_a_command();
 }
 

@@ -299,7 +299,7 @@ ended text bytes shape rest next ends t short end =
       }
     ]
 
-line_takes : (text bytes : List ℕ) (shape : ShapeParts) (next : List ℕ) → EndsWith text bytes → line_at (length text) bytes ≡ Some (shape, next) → TakesLine text bytes shape next
+pub line_takes : (text bytes : List ℕ) (shape : ShapeParts) (next : List ℕ) → EndsWith text bytes → line_at (length text) bytes ≡ Some (shape, next) → TakesLine text bytes shape next
 unfolding line_at
 line_takes text bytes shape next ends e =
     let found = then_takes (operation_at (length text) bytes) (λ found. next_line found.1 >>= λ next. then_some (nat_le (length bytes - length found.1) MAX_OPERATION_BYTES) (found.0, next)) (shape, next) e in
@@ -355,7 +355,7 @@ no_line_at text place bytes here none = no_line (length text) (drop place text) 
 
 -- ---- a reader that is refused
 
-not_empty : (place : ℕ) (text : List ℕ) → place < length text → drop place text ≢ []
+pub not_empty : (place : ℕ) (text : List ℕ) → place < length text → drop place text ≢ []
 not_empty place text lt e = let none : length (drop place text) ≡ 0 = ap length e in omega (arith, length-drop place text)
 
 pub refused : (r : Reader) (fault : Fault) → r.place < length r.text → BeginsWithNoLine (left r) → fault ≡ not_a_map r.place → HasRefused r fault (record r { is_stuck = true })

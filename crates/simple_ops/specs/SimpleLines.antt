@@ -103,6 +103,10 @@ abbrev pub BeginsWithLines : List ℕ → List Operation → List ℕ → Type 0
 BeginsWithLines text [] rest = text ≡ rest
 BeginsWithLines text (op ∷ ops) rest = IsSimple op × ((next : List ℕ) × BeginsWithLine text op next × BeginsWithLines next ops rest)
 
+-- The text begins with simple lines, perhaps with none, and behind them it ends or goes on with another line.
+abbrev pub HasSimpleLines : List ℕ → Type 0
+HasSimpleLines text = (ops : List Operation) × (rest : List ℕ) × BeginsWithLines text ops rest × BeginsWithNoLine rest
+
 -- The simple lines that a text begins with end at one place, before a line that is not simple or with the text.
 abbrev pub EndAtOnePlace : List ℕ → Type 0
 EndAtOnePlace text =

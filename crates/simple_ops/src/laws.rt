@@ -8,7 +8,7 @@ ghost use Rattle.hist_types.specs.Texts.{operation_text};
 ghost use Rattle.hist_types.specs.declared.limits.TheConstants.{MAX_OPERATION_BYTES};
 ghost use Rattle.hist_types.specs.declared.types.Fault.{Fault};
 ghost use Rattle.simple_ops.specs.Canonical.{OperationCanBeRead, AreLines};
-ghost use Rattle.simple_ops.specs.SimpleLines.{BeginsWithNoLine, EndAtOnePlace, AreSimpleLines};
+ghost use Rattle.simple_ops.specs.SimpleLines.{HasSimpleLines, BeginsWithNoLine, EndAtOnePlace, AreSimpleLines};
 
 /// The canonical text of an operation reads as that operation, and as nothing else.
 pub fn canonical_text_reads_back()
@@ -35,6 +35,7 @@ pub fn simple_lines_read()
 
 /// The simple lines that a text begins with end at one place: before the first other line, or with the text.
 pub fn simple_lines_end_at_one_place()
+    ensures lines { (text : List ℕ) → HasSimpleLines text }
     ensures place { (text : List ℕ) → EndAtOnePlace text }
     ensures end { BeginsWithNoLine [] }
 {}

@@ -1,8 +1,8 @@
 //! The operations of a text, one after the other.
 
-ghost use Rattle.std.specs.Prelude.{◌≡◌, ◌≤◌, ◌⊎◌, true, false, length, drop, IfOk, IfErr, IsErrAnd, IfSome, IfNone};
+ghost use Rattle.std.specs.Prelude.{◌≡◌, ◌≤◌, ◌⊎◌, [], Ok, None, true, false, length, drop, IfOk, IfErr, IsErrAnd, IfSome, IfNone};
 ghost use Rattle.simple_ops.specs.SimpleLines.{HasLine, BeginsWithNoLine};
-ghost use Rattle.simple_ops.specs.Reader.{Reader, not_a_map, HasRead, HasEnded, HasRefused, HadNoMemory};
+ghost use Rattle.simple_ops.specs.Reader.{Reader, left, not_a_map, HasRead, HasEnded, HasRefused, HadNoMemory};
 
 use crate::scan::line;
 use crate::types::OpShape;
@@ -64,10 +64,12 @@ impl<'a> OpReader<'a> {
     }
 
     /// The next operation, or nothing behind the last one. The first line that is not simple is refused as `NotAMap` at its
-    /// first byte, and each later call answers that fault again. Where memory is refused the call can be made again.
+    /// first byte, and each later call answers that fault again. At the text's end no memory is asked for. Where memory is refused
+    /// the call can be made again.
     pub fn next_op(&mut self) -> Result<Option<OpShape>, Fault>
         ensures op { IfOk result (λ o. IfSome o (λ shape. HasRead self.old shape self.new)) }
         ensures end { IfOk result (λ o. IfNone o (HasEnded self.old self.new)) }
+        ensures finished { left self.old ≡ [] → self.old.is_stuck ≡ false → result ≡ Ok None }
         ensures again { self.old.is_stuck ≡ true → IsErrAnd result (λ fault. (fault ≡ not_a_map self.old.place) × (self.new ≡ self.old)) }
         ensures refused { self.old.is_stuck ≡ false → IfErr result (λ fault. HasRefused self.old fault self.new ⊎ HadNoMemory self.old fault self.new) }
     {

@@ -10,8 +10,8 @@ ghost use Rattle.txn_pairs.specs.Places.{completed, with_completed};
 ghost use Rattle.txn_pairs.specs.Txns.{status_of, transaction_of_txn};
 
 use crate::types::{Status, Txn};
-use simple_ops::types::OwnedOp;
 use hist_types::types::OpKind;
+use simple_ops::types::OwnedOp;
 use std::alloc::{AllocError, Global};
 use std::collections::HashMap;
 

@@ -2,9 +2,9 @@
 
 use crate::pair;
 use crate::types::{Status, Txns};
-use simple_ops::types::{OwnedAtom, OwnedMop, OwnedOp};
 use hist_types::types::{At, Fault, OpKind, Process, Refusal};
 use journal_core::types::Core;
+use simple_ops::types::{OwnedAtom, OwnedMop, OwnedOp};
 use std::alloc::{AllocError, Global};
 use std::process::Abort;
 use std::test::Fail;
