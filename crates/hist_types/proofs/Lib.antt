@@ -10,4 +10,6 @@ pub mod OrderEdges
 pub mod EdgeOrder
 pub mod PrintedEdges
 pub mod OneCut
+pub mod EachCut
+pub mod OneReading
 pub mod Keywords
