@@ -10,7 +10,7 @@ use Rattle.hist_types.specs.declared.types.Refusal.TheVariants.{UnclosedString}
 use Rattle.hist_types.proofs.OneCut.{the_item}
 
 -- An item within a text of n bytes, or a string that nothing closes.
-abbrev IsShape : ℕ → ItemKind × Option ℕ → Type 0
+abbrev pub IsShape : ℕ → ItemKind × Option ℕ → Type 0
 IsShape n p = (p ≡ (Str, None)) ⊎ ((kind : ItemKind) × (len : ℕ) × (p ≡ (kind, Some len)) × (0 < len) × (len ≤ n))
 
 -- each of two choices has the shape
@@ -67,7 +67,7 @@ hash_shape (b ∷ rest) =
     (either _ (b == hash) _ _ (run_shape (b ∷ rest) (run_kind (hash ∷ run_of (b ∷ rest)))) (run_shape (b ∷ rest) Tag)))
 
 -- what any byte begins lies within the text
-shape : (b : ℕ) (rest : List ℕ) → IsShape (suc (length rest)) (front b rest)
+pub shape : (b : ℕ) (rest : List ℕ) → IsShape (suc (length rest)) (front b rest)
 shape b rest =
     let comment = prefix_len-le-length (λ c. not (c == line_feed)) rest in
     let character = character_len-le rest in

@@ -12,4 +12,6 @@ pub mod PrintedEdges
 pub mod OneCut
 pub mod EachCut
 pub mod OneReading
+pub mod PartCuts
+pub mod MovedForms
 pub mod Keywords
