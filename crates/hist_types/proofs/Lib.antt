@@ -14,4 +14,6 @@ pub mod EachCut
 pub mod OneReading
 pub mod PartCuts
 pub mod MovedForms
+pub mod MovedReading
+pub mod MapAlone
 pub mod Keywords

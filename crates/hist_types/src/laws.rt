@@ -9,7 +9,9 @@ ghost use Rattle.hist_types.specs.Frontier.{all_thinned_edges, thinned_edges};
 ghost use Rattle.hist_types.specs.Journal.{Write, write_eq, is_invoke, last_event, first_broken, events_after, events_of};
 ghost use Rattle.hist_types.specs.Laws.{HasOne, RunEndsAt, IsNextOf, IsLastOf, ReadsFirst, WritesLast, LeavesOne, LeadsToOne, HasRealtimeTwin, Rise, HasOneAtItsPlace};
 ghost use Rattle.hist_types.specs.Operations.{Operation};
+ghost use Rattle.hist_types.specs.Entries.{PlacedOperation, Entry, operation};
 ghost use Rattle.hist_types.specs.Phenomena.{height};
+ghost use Rattle.hist_types.specs.Placed.{IsIn};
 ghost use Rattle.hist_types.specs.Reading.{Reads};
 ghost use Rattle.hist_types.specs.Refusals.{number_of, name_of};
 ghost use Rattle.hist_types.specs.Texts.{in_order};
@@ -90,6 +92,11 @@ pub fn texts_have_one_reading()
     ensures cut { (text : List ℕ) → (offset : ℕ) → (closers : List ℕ) → HasOne (IsCut text offset closers) }
     ensures tokens { (text : List ℕ) → HasOne (HasTokens text) }
     ensures reading { (text : List ℕ) → HasOne (Reads text) }
+{}
+
+/// The bytes of an operation's map, read alone, give the same operation, with its places counted from the map's start.
+pub fn operations_read_alone()
+    ensures { (text : List ℕ) → (entries : List Entry) → (fault : Option Fault) → (o : PlacedOperation) → Reads text entries fault → Contains entries (operation o) → IsIn text o }
 {}
 
 /// Order edges are those of all pairs of which the second end is a node; their first end is one by itself.

@@ -137,6 +137,7 @@ fn laws_return() {
     laws::external_reads_and_writes();
     laws::runs_longest();
     laws::texts_have_one_reading();
+    laws::operations_read_alone();
     laws::order_edges_between_nodes();
     laws::process_order_in_realtime();
     laws::thinned_among_order_edges();
