@@ -13,7 +13,9 @@ pub mod OneCut
 pub mod EachCut
 pub mod OneReading
 pub mod PartCuts
+pub mod Checks
 pub mod MovedForms
 pub mod MovedReading
 pub mod MapAlone
+pub mod SpelledParts
 pub mod Keywords

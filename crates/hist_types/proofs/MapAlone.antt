@@ -16,6 +16,7 @@ use Rattle.hist_types.specs.declared.types.Fault.{Fault}
 use Rattle.hist_types.specs.declared.types.OpKind.{OpKind}
 use Rattle.hist_types.specs.declared.types.Refusal.{Refusal}
 use Rattle.hist_types.specs.declared.types.Refusal.TheVariants.{TooDeep, OddMap, BadProcess, BadType, TooLong}
+use Rattle.hist_types.proofs.Checks.{ok_then, ok_is}
 use Rattle.hist_types.proofs.Members.{In, in_append, in_from_Contains}
 use Rattle.hist_types.proofs.MovedForms.{entry_at, entry_of-from}
 use Rattle.hist_types.proofs.MovedReading.{collection_from, opened, inside, Runs, Runs-reading, Histories, tokens_of-gap, tokens_of-token, tokens_of-token_last, Histories-gap, Histories-step, closed, closes_as, went_on_if, went_on_unless, same_step, no_step}
@@ -294,34 +295,22 @@ abbrev IsAt : (start end : ℕ) → Entry → Type 0
 IsAt start end (operation o) = (o.start ≡ start) × (o.end ≡ end)
 IsAt start end skipped = Unit {0}
 
-ok_then :
-    {A B : Type 0} (P : B → Type 0) (r : Result A Fault) (next : A → Result B Fault)
-    → ((x : A) → (y : B) → next x ≡ Ok y → P y)
-    → (y : B)
-    → (r >>= next) ≡ Ok y
-    → P y
-ok_then P (Ok x) next h y e = h x y e
-ok_then P (Err f) next h y e = absurd (let none : Err f ≡ Ok y = e in cc)
-
-ok_is : {B : Type 0} (P : B → Type 0) (x y : B) → P x → (let r : Result B Fault = Ok x in r ≡ Ok y) → P y
-ok_is P x y h e = let same : x ≡ y = cc in subst P same h
-
 entry_by-at : (number : Option ℤ) (place start end : ℕ) (ps : List (Form × Form)) (entry : Entry) → entry_by number place start end ps ≡ Ok entry → IsAt start end entry
 entry_by-at None place start end ps entry e = ok_is (IsAt start end) skipped entry tt e
 entry_by-at (Some number) place start end ps entry e =
     let P = IsAt start end in
-    ok_then P (or_refuse (process_of number) BadProcess place) _ (λ process.
-    ok_then P (refuse_if (nat_lt MAX_OPERATION_BYTES (end - start)) TooLong start) _ (λ u.
-    ok_then P (field (codes ":type") start ps) _ (λ type.
-    ok_then P (or_refuse (kind_of type) BadType (place_of type)) _ (λ kind.
-    ok_then P (mops_of kind start ps) _ (λ mops y.
+    ok_then P (or_refuse (process_of number) BadProcess place) _ (λ process _.
+    ok_then P (refuse_if (nat_lt MAX_OPERATION_BYTES (end - start)) TooLong start) _ (λ u _.
+    ok_then P (field (codes ":type") start ps) _ (λ type _.
+    ok_then P (or_refuse (kind_of type) BadType (place_of type)) _ (λ kind _.
+    ok_then P (mops_of kind start ps) _ (λ mops _ y.
     ok_is P (operation (record { kind = kind; process = process; mops = mops; start = start; end = end })) y (refl, refl)))))) entry e
 
 entry_of-at : (opener closer : Item) (fs : List Form) (entry : Entry) → entry_of opener closer fs ≡ Ok entry → IsAt opener.start (end_of closer) entry
 entry_of-at opener closer fs entry e =
     let P = IsAt opener.start (end_of closer) in
-    ok_then P (refuse_if (length fs % 2 == 1) OddMap opener.start) _ (λ u.
-    ok_then P (field (codes ":process") opener.start (pairs_of fs)) _ (λ process.
+    ok_then P (refuse_if (length fs % 2 == 1) OddMap opener.start) _ (λ u _.
+    ok_then P (field (codes ":process") opener.start (pairs_of fs)) _ (λ process _.
     entry_by-at (int_of process) (place_of process) opener.start (end_of closer) (pairs_of fs))) entry e
 
 -- ---- the map alone
@@ -441,15 +430,22 @@ found_alone text items ending o cut f =
       ),
     )
 
+-- each operation of a text's reading has its map among the text's items
+pub found_in_text :
+    (text : List ℕ) (entries : List Entry) (fault : Option Fault) (o : PlacedOperation)
+    → (reads : Reads text entries fault)
+    → In (operation o) entries
+    → Found reads.2.0 o
+found_in_text text entries fault o reads i =
+    let same : (reading_of reads.0 reads.1).entries ≡ entries = ap (λ (r : Reading). r.entries) reads.3 in
+    let among = subst (In (operation o)) (sym same) i in
+    let of_items = subst (λ ts. In (operation o) (reading_of ts reads.1).entries) reads.2.2 among in
+    found_in reads.2.0 [] nothing_open reads.1 o nothing_yet of_items
+
 pub read_alone :
     (text : List ℕ) (entries : List Entry) (fault : Option Fault) (o : PlacedOperation)
     → Reads text entries fault
     → Contains entries (operation o)
     → IsIn text o
 read_alone text entries fault o reads contains =
-    let items = reads.2.0 in
-    let same : (reading_of reads.0 reads.1).entries ≡ entries = ap (λ (r : Reading). r.entries) reads.3 in
-    let i = in_from_Contains (operation o) entries contains in
-    let among = subst (In (operation o)) (sym same) i in
-    let of_items = subst (λ ts. In (operation o) (reading_of ts reads.1).entries) reads.2.2 among in
-    found_alone text items reads.1 o reads.2.1 (found_in items [] nothing_open reads.1 o nothing_yet of_items)
+    found_alone text reads.2.0 reads.1 o reads.2.1 (found_in_text text entries fault o reads (in_from_Contains (operation o) entries contains))

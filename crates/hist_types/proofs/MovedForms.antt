@@ -14,6 +14,7 @@ use Rattle.hist_types.specs.declared.types.OpKind.{OpKind}
 use Rattle.hist_types.specs.declared.types.OpKind.TheVariants as kinds
 use Rattle.hist_types.specs.declared.types.Refusal.{Refusal}
 use Rattle.hist_types.specs.declared.types.Refusal.TheVariants.{OddMap, BadType, BadProcess, NotTxn, BadAtom, NilWritten, TooLong, TooManyMicroOps}
+use Rattle.hist_types.proofs.Checks.{no_ok, same_ok}
 
 -- ---- forms
 
@@ -40,12 +41,6 @@ forms_of-from k (f ∷ fs) = ap (form (form_from k f)) (forms_of-from k fs)
 -- where r is a value, s is what g makes of it
 abbrev Follows : {A B : Type 0} → (A → B) → Result A Fault → Result B Fault → Type 0
 Follows {A} g r s = (x : A) → r ≡ Ok x → s ≡ Ok (g x)
-
-no_ok : {A : Type 0} (f : Fault) (x : A) → (let r : Result A Fault = Err f in r ≡ Ok x) → ⊥
-no_ok f x e = cc
-
-same_ok : {A : Type 0} (x y : A) → (let r : Result A Fault = Ok x in r ≡ Ok y) → x ≡ y
-same_ok x y e = cc
 
 follows_ok : {A B : Type 0} (g : A → B) (x : A) → Follows g (Ok x) (Ok (g x))
 follows_ok g x y e = ap (λ z. Ok (g z)) (same_ok x y e)

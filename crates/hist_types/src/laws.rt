@@ -11,7 +11,7 @@ ghost use Rattle.hist_types.specs.Laws.{HasOne, RunEndsAt, IsNextOf, IsLastOf, R
 ghost use Rattle.hist_types.specs.Operations.{Operation};
 ghost use Rattle.hist_types.specs.Entries.{PlacedOperation, Entry, operation};
 ghost use Rattle.hist_types.specs.Phenomena.{height};
-ghost use Rattle.hist_types.specs.Placed.{IsIn};
+ghost use Rattle.hist_types.specs.Placed.{IsMopIn, KeepsLimits, IsTextOf, IsIn};
 ghost use Rattle.hist_types.specs.Reading.{Reads};
 ghost use Rattle.hist_types.specs.Refusals.{number_of, name_of};
 ghost use Rattle.hist_types.specs.Texts.{in_order};
@@ -97,6 +97,12 @@ pub fn texts_have_one_reading()
 /// The bytes of an operation's map, read alone, give the same operation, with its places counted from the map's start.
 pub fn operations_read_alone()
     ensures { (text : List ℕ) → (entries : List Entry) → (fault : Option Fault) → (o : PlacedOperation) → Reads text entries fault → Contains entries (operation o) → IsIn text o }
+{}
+
+/// An operation's keys and values are spelled by tokens of its text, and the operation keeps the limits.
+pub fn operations_spell_their_parts()
+    ensures mops { (text : List ℕ) → (o : PlacedOperation) → IsTextOf text o → All (IsMopIn text) o.mops }
+    ensures limits { (text : List ℕ) → (o : PlacedOperation) → IsTextOf text o → KeepsLimits text o }
 {}
 
 /// Order edges are those of all pairs of which the second end is a node; their first end is one by itself.
