@@ -10,4 +10,12 @@ pub mod OrderEdges
 pub mod EdgeOrder
 pub mod PrintedEdges
 pub mod OneCut
+pub mod EachCut
+pub mod OneReading
+pub mod PartCuts
+pub mod Checks
+pub mod MovedForms
+pub mod MovedReading
+pub mod MapAlone
+pub mod SpelledParts
 pub mod Keywords

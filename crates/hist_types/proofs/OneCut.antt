@@ -5,7 +5,7 @@ use Rattle.hist_types.specs.Tokens.{Item, ItemKind, front, item_fault, open_afte
 use Rattle.hist_types.specs.LineReading.{Entry, Reading, reading_of, Reads}
 use Rattle.hist_types.specs.declared.types.Fault.{Fault}
 
-abbrev the_item : ItemKind → ℕ → List ℕ → Item
+abbrev pub the_item : ItemKind → ℕ → List ℕ → Item
 the_item kind start bytes = record { kind = kind; start = start; bytes = bytes }
 
 same_front :

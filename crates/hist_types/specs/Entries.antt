@@ -22,7 +22,7 @@ use Rattle.std.specs.Prelude.{ℕ, ℤ, suc, ◌+◌, ◌-◌, ◌%◌, List, []
 use Rattle.std.specs.Option.{option_map_or}
 use Rattle.hist_types.specs.Atoms.{Atom, Value}
 use Rattle.hist_types.specs.AtomTokens.{atom_of_token, is_nil_kind, keyword_of_token, int_of_token, process_of}
-use Rattle.hist_types.specs.Forms.{Form, plain, collection, tagged, list_of, place_of, is_vector_or_list}
+use Rattle.hist_types.specs.Forms.{Form, plain, collection, list_of, place_of, is_vector_or_list}
 use Rattle.hist_types.specs.Operations.{Mop, read, write, Operation}
 use Rattle.hist_types.specs.Tokens.{Item, byte_fault}
 use Rattle.hist_types.specs.declared.limits.TheConstants.{MAX_MICRO_OPS, MAX_OPERATION_BYTES}

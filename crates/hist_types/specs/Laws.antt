@@ -1,5 +1,5 @@
 -- What the laws of these definitions say, where they need a word of their own.
-use Rattle.std.specs.Prelude.{◌≡◌, ℕ, ◌+◌, List, [], ◌∷◌, ◌++◌, length, IsFalse, IfSome, slice_get, All, Contains, ⊤}
+use Rattle.std.specs.Prelude.{◌≡◌, ℕ, ◌+◌, List, [], ◌∷◌, ◌++◌, length, IsFalse, IfSome, slice_get, All, Contains, ⊤, Option}
 use Rattle.std.specs.declared.cmp.Ordering.TheVariants.{Less, Equal}
 use Rattle.hist_types.specs.Bytes.{is_run_byte}
 use Rattle.hist_types.specs.Atoms.{Atom}
@@ -8,6 +8,15 @@ use Rattle.hist_types.specs.Operations.{Mop, read, write, Operation}
 use Rattle.hist_types.specs.Transactions.{Transaction, Read, Indexed}
 use Rattle.hist_types.specs.Edges.{realtime, Edge}
 use Rattle.hist_types.specs.Texts.{edge_cmp}
+use Rattle.hist_types.specs.declared.types.Fault.{Fault}
+
+-- ---- readings of a text
+
+-- one list, and one ending (a fault or none), stand in this relation, and no others
+abbrev pub HasOne : {A : Type 0} → (List A → Option Fault → Type 0) → Type 0
+HasOne {A} Is =
+    ((list : List A) × (ending : Option Fault) × Is list ending)
+    × ((list other : List A) → (ending end : Option Fault) → Is list ending → Is other end → (list ≡ other) × (ending ≡ end))
 
 -- ---- runs
 

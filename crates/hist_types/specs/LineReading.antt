@@ -26,20 +26,18 @@
 --     34 NilWritten       a `:w` of nil                                                 at the value
 --     33 BadAtom          the value is no atom, and no nil of a `:r`                    at the value
 -- The place of a tagged form is that of its tag. The fault that is told is the one that comes first as the text is read.
-use Rattle.std.specs.Prelude.{◌≡◌, ℕ, ℤ, pos, negsuc, suc, ◌+◌, ◌-◌, ◌%◌, List, [], ◌∷◌, length, take, drop, Bool, true, false, not, ◌&&◌, ◌||◌, ◌==◌, nat_lt, nat_le, if◌then◌else◌, bytes_eq, codes, Option, Some, None, Result, Ok, Err, option_map, option_and_then, ok_or, filter, ◌^◌}
+use Rattle.std.specs.Prelude.{◌≡◌, ℕ, ℤ, suc, ◌+◌, ◌-◌, ◌%◌, List, [], ◌∷◌, length, Bool, true, false, ◌||◌, ◌==◌, nat_lt, nat_le, if◌then◌else◌, bytes_eq, codes, Option, Some, None, Result, Ok, Err, filter}
 use Rattle.std.specs.Option.{option_map_or}
-use Rattle.std.specs.Str.Parse.{signed_digits_value}
-use Rattle.hist_types.specs.Bytes.{quote, backslash, open_round, open_square, open_brace}
-use Rattle.hist_types.specs.Atoms.{Atom, integer, keyword, string, symbol}
+use Rattle.hist_types.specs.Bytes.{open_round, open_square, open_brace}
+use Rattle.hist_types.specs.Atoms.{Atom}
 use Rattle.hist_types.specs.AtomTokens.{atom_of_token, is_nil_kind, keyword_of_token, int_of_token, process_of}
 use Rattle.hist_types.specs.Entries.{◌>>=◌, refuse_if, or_refuse}
 use Rattle.hist_types.specs.Operations.{Mop, read, write, Operation}
-use Rattle.hist_types.specs.Tokens.{Item, ItemKind, Opener, Closer, Str, Drop, Tag, Nil, Int, Keyword, Symbol, HasTokens, byte_fault, without_n}
-use Rattle.hist_types.specs.declared.limits.TheConstants.{MAX_PROCESS, MAX_MICRO_OPS, MAX_OPERATION_BYTES}
+use Rattle.hist_types.specs.Tokens.{Item, ItemKind, Opener, Closer, Drop, Tag, HasTokens, byte_fault}
+use Rattle.hist_types.specs.declared.limits.TheConstants.{MAX_MICRO_OPS, MAX_OPERATION_BYTES}
 use Rattle.hist_types.specs.declared.types.Fault.{Fault}
 use Rattle.hist_types.specs.declared.types.OpKind.{OpKind}
 use Rattle.hist_types.specs.declared.types.OpKind.TheVariants as kinds
-use Rattle.hist_types.specs.declared.types.Refusal.{Refusal}
 use Rattle.hist_types.specs.declared.types.Refusal.TheVariants.{Unclosed, OddMap, DanglingTag, NotAMap, MissingField, DuplicateField, BadType, BadProcess, NotTxn, BadAtom, NilWritten, TooLong, TooManyMicroOps}
 
 -- ---- what is read

@@ -12,7 +12,7 @@
 --
 -- Where the tokens end with a fault of their own, that is the fault of reading too, unless one came before it.
 use Rattle.std.specs.Prelude.{◌≡◌, ℕ, List, [], ◌∷◌, ◌++◌, Bool, true, false, not, ◌&&◌, ◌||◌, if◌then◌else◌, Option, Some, None, Result, Ok, Err}
-use Rattle.hist_types.specs.Forms.{Form, plain, OpenCollection, Open, is_map, is_vector_or_list, leave_out, with_form, with_mark, with_opener, form_of, waiting}
+use Rattle.hist_types.specs.Forms.{plain, OpenCollection, Open, is_map, is_vector_or_list, leave_out, with_form, with_mark, with_opener, form_of, waiting}
 use Rattle.hist_types.specs.Entries.{Entry, entry_of, ◌>>=◌, refuse_if}
 use Rattle.hist_types.specs.Tokens.{Item, ItemKind, Opener, Closer, Drop, Tag, HasTokens, byte_fault}
 use Rattle.hist_types.specs.declared.types.Fault.{Fault}

@@ -7,13 +7,15 @@ ghost use Rattle.hist_types.specs.Atoms.{Atom, Value, atom_eq, value_eq};
 ghost use Rattle.hist_types.specs.Edges.{Label, Edge, edge, dependency_edges, order_labels, all_order_edges, order_edges};
 ghost use Rattle.hist_types.specs.Frontier.{all_thinned_edges, thinned_edges};
 ghost use Rattle.hist_types.specs.Journal.{Write, write_eq, is_invoke, last_event, first_broken, events_after, events_of};
-ghost use Rattle.hist_types.specs.Laws.{RunEndsAt, IsNextOf, IsLastOf, ReadsFirst, WritesLast, LeavesOne, LeadsToOne, HasRealtimeTwin, Rise, HasOneAtItsPlace};
+ghost use Rattle.hist_types.specs.Laws.{HasOne, RunEndsAt, IsNextOf, IsLastOf, ReadsFirst, WritesLast, LeavesOne, LeadsToOne, HasRealtimeTwin, Rise, HasOneAtItsPlace};
 ghost use Rattle.hist_types.specs.Operations.{Operation};
+ghost use Rattle.hist_types.specs.Entries.{PlacedOperation, Entry, operation};
 ghost use Rattle.hist_types.specs.Phenomena.{height};
-ghost use Rattle.hist_types.specs.LineReading.{Entry, Reads};
+ghost use Rattle.hist_types.specs.Placed.{IsMopIn, KeepsLimits, IsTextOf, IsIn};
+ghost use Rattle.hist_types.specs.Reading.{Reads};
 ghost use Rattle.hist_types.specs.Refusals.{number_of, name_of};
 ghost use Rattle.hist_types.specs.Texts.{in_order};
-ghost use Rattle.hist_types.specs.Tokens.{run_of, run_len};
+ghost use Rattle.hist_types.specs.Tokens.{IsCut, HasTokens, run_of, run_len};
 ghost use Rattle.hist_types.specs.Transactions.{Transaction, Indexed, completion_in, transactions_of, Read, read_eq, external_reads, external_writes, nodes};
 ghost use Rattle.hist_types.specs.declared.limits.TheConstants.{MAX_PROCESS, MAX_MICRO_OPS, MAX_OPERATION_BYTES, MAX_OPEN_COLLECTIONS, MAX_BLOCK_OPERATIONS, MAX_BLOCK_BYTES, MAX_CELLS, MAX_EVENTS, MAX_LINE_BYTES, MAX_WORKERS};
 ghost use Rattle.hist_types.specs.declared.types.Fault.{Fault};
@@ -85,9 +87,22 @@ pub fn runs_longest()
     ensures len { (text : List ℕ) → run_len text ≡ length (run_of text) }
 {}
 
-/// A text has at most one reading.
-pub fn texts_read_one_way()
-    ensures { (text : List ℕ) → (entries others : List Entry) → (fault other : Option Fault) → Reads text entries fault → Reads text others other → (entries ≡ others) × (fault ≡ other) }
+/// Each text has one reading, as it has one row of tokens, and one cut into items from any offset and inside any collections.
+pub fn texts_have_one_reading()
+    ensures cut { (text : List ℕ) → (offset : ℕ) → (closers : List ℕ) → HasOne (IsCut text offset closers) }
+    ensures tokens { (text : List ℕ) → HasOne (HasTokens text) }
+    ensures reading { (text : List ℕ) → HasOne (Reads text) }
+{}
+
+/// The bytes of an operation's map, read alone, give the same operation, with its places counted from the map's start.
+pub fn operations_read_alone()
+    ensures { (text : List ℕ) → (entries : List Entry) → (fault : Option Fault) → (o : PlacedOperation) → Reads text entries fault → Contains entries (operation o) → IsIn text o }
+{}
+
+/// An operation's keys and values are spelled by tokens of its text, and the operation keeps the limits.
+pub fn operations_spell_their_parts()
+    ensures mops { (text : List ℕ) → (o : PlacedOperation) → IsTextOf text o → All (IsMopIn text) o.mops }
+    ensures limits { (text : List ℕ) → (o : PlacedOperation) → IsTextOf text o → KeepsLimits text o }
 {}
 
 /// Order edges are those of all pairs of which the second end is a node; their first end is one by itself.

@@ -136,7 +136,9 @@ fn laws_return() {
     laws::events_of_a_process();
     laws::external_reads_and_writes();
     laws::runs_longest();
-    laws::texts_read_one_way();
+    laws::texts_have_one_reading();
+    laws::operations_read_alone();
+    laws::operations_spell_their_parts();
     laws::order_edges_between_nodes();
     laws::process_order_in_realtime();
     laws::thinned_among_order_edges();

@@ -1,0 +1,8 @@
+use Rattle.hist_types.proofs.SpelledParts.{parts_spelled, limits_kept}
+use Rattle.hist_types.proofs.laws.operations_spell_their_parts.Goals as goal
+
+pub returns-clause-mops : goal.returns-clause-mops
+returns-clause-mops c = parts_spelled
+
+pub returns-clause-limits : goal.returns-clause-limits
+returns-clause-limits c = limits_kept

@@ -1,0 +1,11 @@
+use Rattle.hist_types.proofs.OneReading.{HasOne-cut, HasOne-tokens, HasOne-reading}
+use Rattle.hist_types.proofs.laws.texts_have_one_reading.Goals as goal
+
+pub returns-clause-cut : goal.returns-clause-cut
+returns-clause-cut c = HasOne-cut
+
+pub returns-clause-tokens : goal.returns-clause-tokens
+returns-clause-tokens c = HasOne-tokens
+
+pub returns-clause-reading : goal.returns-clause-reading
+returns-clause-reading c = HasOne-reading
