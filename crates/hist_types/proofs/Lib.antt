@@ -11,3 +11,5 @@ pub mod EdgeOrder
 pub mod PrintedEdges
 pub mod OneCut
 pub mod Keywords
+pub mod ThinningTimes
+pub mod ThinningPaths

@@ -13,6 +13,7 @@ ghost use Rattle.hist_types.specs.Phenomena.{height};
 ghost use Rattle.hist_types.specs.Reading.{Entry, Reads};
 ghost use Rattle.hist_types.specs.Refusals.{number_of, name_of};
 ghost use Rattle.hist_types.specs.Texts.{in_order};
+ghost use Rattle.hist_types.specs.Thinning.{IncludesOk, order_edges_between, thinned_edges_between, HasEdge, HasPath};
 ghost use Rattle.hist_types.specs.Tokens.{run_of, run_len};
 ghost use Rattle.hist_types.specs.Transactions.{Transaction, Indexed, completion_in, transactions_of, Read, read_eq, external_reads, external_writes, nodes};
 ghost use Rattle.hist_types.specs.declared.limits.TheConstants.{MAX_PROCESS, MAX_MICRO_OPS, MAX_OPERATION_BYTES, MAX_OPEN_COLLECTIONS, MAX_BLOCK_OPERATIONS, MAX_BLOCK_BYTES, MAX_CELLS, MAX_EVENTS, MAX_LINE_BYTES, MAX_WORKERS};
@@ -107,6 +108,14 @@ pub fn process_order_in_realtime()
 pub fn thinned_among_order_edges()
     ensures nodes { (level : Level) → (ts : List Transaction) → (e : Edge) → Contains (thinned_edges level ts) e → Contains (order_edges level ts) e }
     ensures all { (level : Level) → (ts : List Transaction) → (e : Edge) → Contains (all_thinned_edges level ts) e → Contains (all_order_edges level ts) e }
+{}
+
+/// Whatever the nodes, if all ok transactions are among them, two are joined by an order edge exactly where a path of thinned
+/// edges leads from the one to the other. The nodes of a history are such, and so are all its transactions.
+pub fn order_edges_are_thinned_paths()
+    ensures paths { (level : Level) → (events : List Operation) → (ns : List Transaction) → IncludesOk (transactions_of events) ns → (from to : ℕ) → HasEdge (order_edges_between level ns) from to ↔ HasPath (thinned_edges_between level (transactions_of events) ns) from to }
+    ensures nodes { (ts : List Transaction) → IncludesOk ts (nodes ts) }
+    ensures all { (ts : List Transaction) → IncludesOk ts ts }
 {}
 
 /// Edges in order are those that were given, one for each place, and they rise. All dependency edges of a history are there.

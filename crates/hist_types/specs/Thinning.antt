@@ -1,0 +1,39 @@
+-- Thinned order and the whole order (this project's own): words for the laws that join them.
+--
+-- Where a set of nodes has all ok transactions in it, each order edge between two of them is a path of thinned edges, and each
+-- such path is an order edge between its ends. So a closed walk over the one is a closed walk over the other, with as many edges
+-- of each kind that counts.
+use Rattle.std.specs.Prelude.{◌≡◌, ℕ, List, [], Contains, All, IsTrue}
+use Rattle.hist_types.specs.Transactions.{Transaction, is_ok}
+use Rattle.hist_types.specs.Edges.{Edge, between_each, order_labels}
+use Rattle.hist_types.specs.Frontier.{thinned_labels}
+use Rattle.hist_types.specs.Phenomena.{Leads}
+use Rattle.hist_types.specs.declared.types.Level.{Level}
+
+-- the nodes are some of the transactions, all ok ones among them
+pub record IncludesOk (ts ns : List Transaction) : Type 0 where
+  pub among : All (Contains ts) ns
+  pub ok : (t : Transaction) → Contains ts t → IsTrue (is_ok t) → Contains ns t
+
+-- the order edges from node to node
+abbrev pub order_edges_between : Level → List Transaction → List Edge
+order_edges_between level ns = between_each ns (order_labels level)
+
+-- those that are left when the transactions thin them
+abbrev pub thinned_edges_between : Level → List Transaction → List Transaction → List Edge
+thinned_edges_between level ts ns = between_each ns (thinned_labels level ts)
+
+-- ---- paths
+
+-- one of the edges leads from one transaction to the other
+abbrev pub HasEdge : List Edge → ℕ → ℕ → Type 0
+HasEdge es from to = (e : Edge) × Contains es e × (e.from ≡ from) × (e.to ≡ to)
+
+-- a way along the edges, one of them at least
+pub record IsPath (es : List Edge) (from to : ℕ) (path : List Edge) : Type 0 where
+  pub some : ¬ (path ≡ [])
+  pub leads : Leads from path to
+  pub within : All (Contains es) path
+
+abbrev pub HasPath : List Edge → ℕ → ℕ → Type 0
+HasPath es from to = (path : List Edge) × IsPath es from to path
