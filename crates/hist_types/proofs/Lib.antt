@@ -13,3 +13,4 @@ pub mod OneCut
 pub mod Keywords
 pub mod ThinningTimes
 pub mod ThinningPaths
+pub mod ThinningWalks

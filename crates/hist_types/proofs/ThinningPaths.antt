@@ -165,18 +165,18 @@ pub all_of_both : {X : Type 0} (P : X → Type 0) (xs ys : List X) → AllByRecu
 all_of_both P [] ys all further = further
 all_of_both P (x ∷ xs) ys all further = (all.0, all_of_both P xs ys all.1 further)
 
-not_empty : (path further : List Edge) → ¬ (path ≡ []) → ¬ (path ++ further ≡ [])
+pub not_empty : (path further : List Edge) → ¬ (path ≡ []) → ¬ (path ++ further ≡ [])
 not_empty [] further some e = some refl
 not_empty (f ∷ path) further some e = cc
 
-way_on : (es : List Edge) (from mid to : ℕ) (path further : List Edge) → Way es from mid path → Way es mid to further → Way es from to (path ++ further)
+pub way_on : (es : List Edge) (from mid to : ℕ) (path further : List Edge) → Way es from mid path → Way es mid to further → Way es from to (path ++ further)
 way_on es from mid to path further w v = record {
   some = not_empty path further w.some;
   leads = leads_on from mid to path further w.leads v.leads;
   within = all_of_both (λ e. In e es) path further w.within v.within;
 }
 
-one_edge : (es : List Edge) (e : Edge) → In e es → Way es e.from e.to (e ∷ [])
+pub one_edge : (es : List Edge) (e : Edge) → In e es → Way es e.from e.to (e ∷ [])
 one_edge es e i = record { some = λ empty. cc; leads = (refl, refl); within = (i, tt) }
 
 pub path_from_way : (es : List Edge) (from to : ℕ) (path : List Edge) → Way es from to path → IsPath es from to path

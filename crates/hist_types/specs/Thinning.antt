@@ -3,12 +3,13 @@
 -- Where a set of nodes has all ok transactions in it, each order edge between two of them is a path of thinned edges, and each
 -- such path is an order edge between its ends. So a closed walk over the one is a closed walk over the other, with as many edges
 -- of each kind that counts.
-use Rattle.std.specs.Prelude.{◌≡◌, ℕ, List, [], Contains, All, IsTrue}
+use Rattle.std.specs.Prelude.{◌≡◌, ℕ, List, [], Contains, All, IsTrue, count_by}
 use Rattle.hist_types.specs.Transactions.{Transaction, is_ok}
 use Rattle.hist_types.specs.Edges.{Edge, between_each, order_labels}
 use Rattle.hist_types.specs.Frontier.{thinned_labels}
-use Rattle.hist_types.specs.Phenomena.{Leads}
+use Rattle.hist_types.specs.Phenomena.{Leads, IsClosedWalk, is_ww, is_wr, is_rw, makes}
 use Rattle.hist_types.specs.declared.types.Level.{Level}
+use Rattle.hist_types.specs.declared.types.Phenomenon.{Phenomenon}
 
 -- the nodes are some of the transactions, all ok ones among them
 pub record IncludesOk (ts ns : List Transaction) : Type 0 where
@@ -37,3 +38,33 @@ pub record IsPath (es : List Edge) (from to : ℕ) (path : List Edge) : Type 0 w
 
 abbrev pub HasPath : List Edge → ℕ → ℕ → Type 0
 HasPath es from to = (path : List Edge) × IsPath es from to path
+
+-- ---- closed walks
+
+-- the walk goes along these edges and shows the phenomenon
+pub record ShowsOver (phenomenon : Phenomenon) (es walk : List Edge) : Type 0 where
+  pub closed : IsClosedWalk walk
+  pub within : All (Contains es) walk
+  pub kinds : IsTrue (makes phenomenon walk)
+
+abbrev pub HasOver : Phenomenon → List Edge → Type 0
+HasOver phenomenon es = (walk : List Edge) × ShowsOver phenomenon es walk
+
+-- as many edges of each kind that counts
+pub record CountAlike (walk other : List Edge) : Type 0 where
+  pub ww : count_by is_ww walk ≡ count_by is_ww other
+  pub wr : count_by is_wr walk ≡ count_by is_wr other
+  pub rw : count_by is_rw walk ≡ count_by is_rw other
+
+-- Where a walk leads along the edges, one leads along the others, closed where that is closed, that counts alike.
+pub record CarryOver (es others : List Edge) : Type 0 where
+  pub walks :
+      (from to : ℕ) (walk : List Edge)
+      → Leads from walk to
+      → All (Contains es) walk
+      → (other : List Edge) × Leads from other to × All (Contains others) other × CountAlike walk other
+  pub closed :
+      (walk : List Edge)
+      → IsClosedWalk walk
+      → All (Contains es) walk
+      → (other : List Edge) × IsClosedWalk other × All (Contains others) other × CountAlike walk other

@@ -9,17 +9,18 @@ ghost use Rattle.hist_types.specs.Frontier.{all_thinned_edges, thinned_edges};
 ghost use Rattle.hist_types.specs.Journal.{Write, write_eq, is_invoke, last_event, first_broken, events_after, events_of};
 ghost use Rattle.hist_types.specs.Laws.{RunEndsAt, IsNextOf, IsLastOf, ReadsFirst, WritesLast, LeavesOne, LeadsToOne, HasRealtimeTwin, Rise, HasOneAtItsPlace};
 ghost use Rattle.hist_types.specs.Operations.{Operation};
-ghost use Rattle.hist_types.specs.Phenomena.{height};
+ghost use Rattle.hist_types.specs.Phenomena.{makes, Has, height};
 ghost use Rattle.hist_types.specs.Reading.{Entry, Reads};
 ghost use Rattle.hist_types.specs.Refusals.{number_of, name_of};
 ghost use Rattle.hist_types.specs.Texts.{in_order};
-ghost use Rattle.hist_types.specs.Thinning.{IncludesOk, order_edges_between, thinned_edges_between, HasEdge, HasPath};
+ghost use Rattle.hist_types.specs.Thinning.{IncludesOk, order_edges_between, thinned_edges_between, HasEdge, HasPath, HasOver, CountAlike, CarryOver};
 ghost use Rattle.hist_types.specs.Tokens.{run_of, run_len};
 ghost use Rattle.hist_types.specs.Transactions.{Transaction, Indexed, completion_in, transactions_of, Read, read_eq, external_reads, external_writes, nodes};
 ghost use Rattle.hist_types.specs.declared.limits.TheConstants.{MAX_PROCESS, MAX_MICRO_OPS, MAX_OPERATION_BYTES, MAX_OPEN_COLLECTIONS, MAX_BLOCK_OPERATIONS, MAX_BLOCK_BYTES, MAX_CELLS, MAX_EVENTS, MAX_LINE_BYTES, MAX_WORKERS};
 ghost use Rattle.hist_types.specs.declared.types.Fault.{Fault};
 ghost use Rattle.hist_types.specs.declared.types.Level.{Level};
 ghost use Rattle.hist_types.specs.declared.types.Level.TheVariants.{Process, Realtime};
+ghost use Rattle.hist_types.specs.declared.types.Phenomenon.{Phenomenon};
 ghost use Rattle.hist_types.specs.declared.types.Refusal.{Refusal};
 
 use crate::types::Level;
@@ -116,6 +117,16 @@ pub fn order_edges_are_thinned_paths()
     ensures paths { (level : Level) → (events : List Operation) → (ns : List Transaction) → IncludesOk (transactions_of events) ns → (from to : ℕ) → HasEdge (order_edges_between level ns) from to ↔ HasPath (thinned_edges_between level (transactions_of events) ns) from to }
     ensures nodes { (ts : List Transaction) → IncludesOk ts (nodes ts) }
     ensures all { (ts : List Transaction) → IncludesOk ts ts }
+{}
+
+/// Each walk along other edges and order edges has one along those and thinned edges that counts as many edges of each kind, and
+/// the other way round, so the thinned edges show what the order edges show. What a history shows is shown by its thinned edges.
+pub fn thinning_keeps_phenomena()
+    ensures thinned { (level : Level) → (events : List Operation) → (ns : List Transaction) → (others : List Edge) → IncludesOk (transactions_of events) ns → CarryOver (others ++ order_edges_between level ns) (others ++ thinned_edges_between level (transactions_of events) ns) }
+    ensures order { (level : Level) → (ts ns : List Transaction) → (others : List Edge) → CarryOver (others ++ thinned_edges_between level ts ns) (others ++ order_edges_between level ns) }
+    ensures counts { (phenomenon : Phenomenon) → (walk other : List Edge) → CountAlike walk other → IsTrue (makes phenomenon walk) → IsTrue (makes phenomenon other) }
+    ensures nodes { (phenomenon : Phenomenon) → (level : Level) → (events : List Operation) → (ns : List Transaction) → (others : List Edge) → IncludesOk (transactions_of events) ns → HasOver phenomenon (others ++ order_edges_between level ns) ↔ HasOver phenomenon (others ++ thinned_edges_between level (transactions_of events) ns) }
+    ensures history { (phenomenon : Phenomenon) → (level : Level) → (events : List Operation) → Has phenomenon level (transactions_of events) ↔ HasOver phenomenon (dependency_edges (transactions_of events) ++ thinned_edges level (transactions_of events)) }
 {}
 
 /// Edges in order are those that were given, one for each place, and they rise. All dependency edges of a history are there.
