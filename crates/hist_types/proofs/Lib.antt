@@ -14,3 +14,4 @@ pub mod Keywords
 pub mod ThinningTimes
 pub mod ThinningPaths
 pub mod ThinningWalks
+pub mod ThinningBound

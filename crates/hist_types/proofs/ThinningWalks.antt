@@ -28,10 +28,10 @@ count-cons p x xs = sum_by-cons (λ y. one_if (p y)) x xs
 pub count-append : {X : Type 0} (p : X → Bool) (xs ys : List X) → count_by p (xs ++ ys) ≡ count_by p xs + count_by p ys
 count-append p xs ys = sum_by-append (λ y. one_if (p y)) xs ys
 
-count_yes : {X : Type 0} (p : X → Bool) (x : X) (xs : List X) → p x ≡ true → count_by p (x ∷ xs) ≡ 1 + count_by p xs
+pub count_yes : {X : Type 0} (p : X → Bool) (x : X) (xs : List X) → p x ≡ true → count_by p (x ∷ xs) ≡ 1 + count_by p xs
 count_yes p x xs e = let one : one_if (p x) ≡ 1 = ap one_if e in omega (arith, count-cons p x xs)
 
-count_no : {X : Type 0} (p : X → Bool) (x : X) (xs : List X) → p x ≡ false → count_by p (x ∷ xs) ≡ count_by p xs
+pub count_no : {X : Type 0} (p : X → Bool) (x : X) (xs : List X) → p x ≡ false → count_by p (x ∷ xs) ≡ count_by p xs
 count_no p x xs e = let none : one_if (p x) ≡ 0 = ap one_if e in omega (arith, count-cons p x xs)
 
 pub count_none : {X : Type 0} (p : X → Bool) (xs : List X) → AllByRecursion (λ x. p x ≡ false) xs → count_by p xs ≡ 0

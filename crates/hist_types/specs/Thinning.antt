@@ -2,8 +2,9 @@
 --
 -- Where a set of nodes has all ok transactions in it, each order edge between two of them is a path of thinned edges, and each
 -- such path is an order edge between its ends. So a closed walk over the one is a closed walk over the other, with as many edges
--- of each kind that counts.
-use Rattle.std.specs.Prelude.{◌≡◌, ℕ, List, [], Contains, All, IsTrue, count_by}
+-- of each kind that counts. And few edges are left: no more lead to a transaction than transactions were ever open at once.
+use Rattle.std.specs.Prelude.{◌≡◌, ℕ, max, List, [], ◌∷◌, Bool, true, ◌&&◌, ◌==◌, nat_le, nat_lt, Contains, All, IsTrue, count_by, map, filter}
+use Rattle.std.specs.Option.{option_map_or}
 use Rattle.hist_types.specs.Transactions.{Transaction, is_ok}
 use Rattle.hist_types.specs.Edges.{Edge, between_each, order_labels}
 use Rattle.hist_types.specs.Frontier.{thinned_labels}
@@ -68,3 +69,24 @@ pub record CarryOver (es others : List Edge) : Type 0 where
       → IsClosedWalk walk
       → All (Contains es) walk
       → (other : List Edge) × IsClosedWalk other × All (Contains others) other × CountAlike walk other
+
+-- ---- open transactions
+
+-- behind the event with the index the transaction has been invoked and has not completed
+abbrev pub is_open_at : ℕ → Transaction → Bool
+is_open_at index t = nat_le t.invocation index && option_map_or (λ completion. nat_lt index completion) t.completion true
+
+abbrev pub open_at : ℕ → List Transaction → ℕ
+open_at index ts = count_by (is_open_at index) ts
+
+abbrev pub greatest : List ℕ → ℕ
+greatest [] = 0
+greatest (n ∷ ns) = max n (greatest ns)
+
+-- the most that were ever open at once: more are open only where one is invoked
+abbrev pub most_open : List Transaction → ℕ
+most_open ts = greatest (map (λ (t : Transaction). open_at t.invocation ts) ts)
+
+-- where the edges come from that lead to a transaction
+abbrev pub predecessors : ℕ → List Edge → List ℕ
+predecessors to es = map (λ (e : Edge). e.from) (filter (λ (e : Edge). e.to == to) es)

@@ -1,6 +1,6 @@
 //! Laws of this crate's definitions: the contracts of functions that do nothing, and of one that compares levels.
 
-ghost use Rattle.std.specs.Prelude.{◌≡◌, ◌↔◌, ℕ, List, [], ◌∷◌, ◌++◌, length, drop, Bool, false, ◌==◌, IsTrue, IsFalse, Option, Some, None, All, Contains};
+ghost use Rattle.std.specs.Prelude.{◌≡◌, ◌↔◌, ◌≤◌, ℕ, List, [], ◌∷◌, ◌++◌, length, drop, Bool, false, ◌==◌, IsTrue, IsFalse, Option, Some, None, All, Contains};
 ghost use Rattle.std.specs.Ordering.{nat_cmp};
 ghost use Rattle.hist_types.specs.Bytes.{is_run_byte};
 ghost use Rattle.hist_types.specs.Atoms.{Atom, Value, atom_eq, value_eq};
@@ -13,7 +13,7 @@ ghost use Rattle.hist_types.specs.Phenomena.{makes, Has, height};
 ghost use Rattle.hist_types.specs.Reading.{Entry, Reads};
 ghost use Rattle.hist_types.specs.Refusals.{number_of, name_of};
 ghost use Rattle.hist_types.specs.Texts.{in_order};
-ghost use Rattle.hist_types.specs.Thinning.{IncludesOk, order_edges_between, thinned_edges_between, HasEdge, HasPath, HasOver, CountAlike, CarryOver};
+ghost use Rattle.hist_types.specs.Thinning.{IncludesOk, order_edges_between, thinned_edges_between, HasEdge, HasPath, HasOver, CountAlike, CarryOver, open_at, most_open, predecessors};
 ghost use Rattle.hist_types.specs.Tokens.{run_of, run_len};
 ghost use Rattle.hist_types.specs.Transactions.{Transaction, Indexed, completion_in, transactions_of, Read, read_eq, external_reads, external_writes, nodes};
 ghost use Rattle.hist_types.specs.declared.limits.TheConstants.{MAX_PROCESS, MAX_MICRO_OPS, MAX_OPERATION_BYTES, MAX_OPEN_COLLECTIONS, MAX_BLOCK_OPERATIONS, MAX_BLOCK_BYTES, MAX_CELLS, MAX_EVENTS, MAX_LINE_BYTES, MAX_WORKERS};
@@ -127,6 +127,15 @@ pub fn thinning_keeps_phenomena()
     ensures counts { (phenomenon : Phenomenon) → (walk other : List Edge) → CountAlike walk other → IsTrue (makes phenomenon walk) → IsTrue (makes phenomenon other) }
     ensures nodes { (phenomenon : Phenomenon) → (level : Level) → (events : List Operation) → (ns : List Transaction) → (others : List Edge) → IncludesOk (transactions_of events) ns → HasOver phenomenon (others ++ order_edges_between level ns) ↔ HasOver phenomenon (others ++ thinned_edges_between level (transactions_of events) ns) }
     ensures history { (phenomenon : Phenomenon) → (level : Level) → (events : List Operation) → Has phenomenon level (transactions_of events) ↔ HasOver phenomenon (dependency_edges (transactions_of events) ++ thinned_edges level (transactions_of events)) }
+{}
+
+/// Of the thinned edges no more lead to a transaction than transactions were ever open at once, and within a process at most one.
+pub fn thinning_leaves_few()
+    ensures most { (ts : List Transaction) → (index : ℕ) → open_at index ts ≤ most_open ts }
+    ensures realtime { (events : List Operation) → (to : ℕ) → length (predecessors to (thinned_edges Realtime (transactions_of events))) ≤ most_open (transactions_of events) }
+    ensures process { (events : List Operation) → (to : ℕ) → length (predecessors to (thinned_edges Process (transactions_of events))) ≤ 1 }
+    ensures all_realtime { (events : List Operation) → (to : ℕ) → length (predecessors to (all_thinned_edges Realtime (transactions_of events))) ≤ most_open (transactions_of events) }
+    ensures all_process { (events : List Operation) → (to : ℕ) → length (predecessors to (all_thinned_edges Process (transactions_of events))) ≤ 1 }
 {}
 
 /// Edges in order are those that were given, one for each place, and they rise. All dependency edges of a history are there.
