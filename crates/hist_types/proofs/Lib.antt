@@ -15,3 +15,4 @@ pub mod ThinningTimes
 pub mod ThinningPaths
 pub mod ThinningWalks
 pub mod ThinningBound
+pub mod ThinningCycles

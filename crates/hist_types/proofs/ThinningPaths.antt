@@ -105,7 +105,7 @@ label_from_ordered Realtime t u e =
     )
 
 -- a transaction's edge to another stands among those between each two
-edge_between :
+pub edge_between :
     (ns : List Transaction) (f : Labels) (t u : Transaction) (label : Label)
     → In t ns
     → In u ns

@@ -53,7 +53,7 @@ counted_any p (x ∷ xs) e = elim (or_cases (p x) (list_any p xs) e) [
 ]
 
 -- where all pass one test, none passes another
-none_counted : {X : Type 0} (g p : X → Bool) → ((x : X) → g x ≡ true → p x ≡ false) → (xs : List X) → list_all g xs ≡ true → count_by p xs ≡ 0
+pub none_counted : {X : Type 0} (g p : X → Bool) → ((x : X) → g x ≡ true → p x ≡ false) → (xs : List X) → list_all g xs ≡ true → count_by p xs ≡ 0
 none_counted g p apart [] e = refl
 none_counted g p apart (x ∷ xs) e =
     let both = and_parts (g x) (list_all g xs) e in
@@ -65,7 +65,7 @@ uncounted p x xs e = elim (cases_Bool (p x)) [
   | inr not_here ↦ (not_here, sym (count_no p x xs not_here) ∙ e)
 ]
 
-all_uncounted : {X : Type 0} (g p q : X → Bool) → ((x : X) → p x ≡ false → q x ≡ false → g x ≡ true) → (xs : List X) → count_by p xs ≡ 0 → count_by q xs ≡ 0 → list_all g xs ≡ true
+pub all_uncounted : {X : Type 0} (g p q : X → Bool) → ((x : X) → p x ≡ false → q x ≡ false → g x ≡ true) → (xs : List X) → count_by p xs ≡ 0 → count_by q xs ≡ 0 → list_all g xs ≡ true
 all_uncounted g p q neither [] e f = refl
 all_uncounted g p q neither (x ∷ xs) e f =
     let no_p = uncounted p x xs e in

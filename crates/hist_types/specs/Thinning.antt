@@ -3,14 +3,16 @@
 -- Where a set of nodes has all ok transactions in it, each order edge between two of them is a path of thinned edges, and each
 -- such path is an order edge between its ends. So a closed walk over the one is a closed walk over the other, with as many edges
 -- of each kind that counts. And few edges are left: no more lead to a transaction than transactions were ever open at once.
-use Rattle.std.specs.Prelude.{◌≡◌, ℕ, max, List, [], ◌∷◌, Bool, true, ◌&&◌, ◌==◌, nat_le, nat_lt, Contains, All, IsTrue, count_by, map, filter}
+use Rattle.std.specs.Prelude.{◌≡◌, ℕ, max, List, [], ◌∷◌, Bool, true, not, ◌&&◌, ◌||◌, ◌==◌, nat_le, nat_lt, Contains, All, IsTrue, count_by, map, filter}
+use Rattle.std.specs.List.{list_all}
 use Rattle.std.specs.Option.{option_map_or}
 use Rattle.hist_types.specs.Transactions.{Transaction, is_ok}
 use Rattle.hist_types.specs.Edges.{Edge, between_each, order_labels}
 use Rattle.hist_types.specs.Frontier.{thinned_labels}
-use Rattle.hist_types.specs.Phenomena.{Leads, IsClosedWalk, is_ww, is_wr, is_rw, makes}
+use Rattle.hist_types.specs.Phenomena.{Leads, IsClosedWalk, is_ww, is_wr, is_rw, is_order, makes}
 use Rattle.hist_types.specs.declared.types.Level.{Level}
 use Rattle.hist_types.specs.declared.types.Phenomenon.{Phenomenon}
+use Rattle.hist_types.specs.declared.types.Phenomenon.TheVariants.{G0, G1c, GSingle, G2Item}
 
 -- the nodes are some of the transactions, all ok ones among them
 pub record IncludesOk (ts ns : List Transaction) : Type 0 where
@@ -69,6 +71,32 @@ pub record CarryOver (es others : List Edge) : Type 0 where
       → IsClosedWalk walk
       → All (Contains es) walk
       → (other : List Edge) × IsClosedWalk other × All (Contains others) other × CountAlike walk other
+
+-- ---- a closed walk by one of its edges
+
+-- the kind of edge that the phenomenon is about
+abbrev pub is_needed : Phenomenon → Edge → Bool
+is_needed G0 e = is_ww e
+is_needed G1c e = is_wr e
+is_needed GSingle e = is_rw e
+is_needed G2Item e = is_rw e
+
+-- the kinds that may lead back from such an edge
+abbrev pub may_lead_back : Phenomenon → Edge → Bool
+may_lead_back G0 e = is_ww e || is_order e
+may_lead_back G1c e = is_ww e || is_wr e || is_order e
+may_lead_back GSingle e = not (is_rw e)
+may_lead_back G2Item e = true
+
+-- the walk leads from the edge's second end back to its first
+pub record LeadsBack (phenomenon : Phenomenon) (es : List Edge) (e : Edge) (walk : List Edge) : Type 0 where
+  pub leads : Leads e.to walk e.from
+  pub within : All (Contains es) walk
+  pub kinds : IsTrue (list_all (may_lead_back phenomenon) walk)
+
+abbrev pub ReturnsToOne : Phenomenon → List Edge → Type 0
+ReturnsToOne phenomenon es =
+    (e : Edge) × Contains es e × IsTrue (is_needed phenomenon e) × (walk : List Edge) × LeadsBack phenomenon es e walk
 
 -- ---- open transactions
 

@@ -4,7 +4,7 @@ ghost use Rattle.std.specs.Prelude.{◌≡◌, ◌↔◌, ◌≤◌, ℕ, List, 
 ghost use Rattle.std.specs.Ordering.{nat_cmp};
 ghost use Rattle.hist_types.specs.Bytes.{is_run_byte};
 ghost use Rattle.hist_types.specs.Atoms.{Atom, Value, atom_eq, value_eq};
-ghost use Rattle.hist_types.specs.Edges.{Label, Edge, edge, dependency_edges, order_labels, all_order_edges, order_edges};
+ghost use Rattle.hist_types.specs.Edges.{Label, Edge, edge, dependency_edges, edges_at, order_labels, all_order_edges, order_edges};
 ghost use Rattle.hist_types.specs.Frontier.{all_thinned_edges, thinned_edges};
 ghost use Rattle.hist_types.specs.Journal.{Write, write_eq, is_invoke, last_event, first_broken, events_after, events_of};
 ghost use Rattle.hist_types.specs.Laws.{RunEndsAt, IsNextOf, IsLastOf, ReadsFirst, WritesLast, LeavesOne, LeadsToOne, HasRealtimeTwin, Rise, HasOneAtItsPlace};
@@ -13,7 +13,7 @@ ghost use Rattle.hist_types.specs.Phenomena.{makes, Has, height};
 ghost use Rattle.hist_types.specs.Reading.{Entry, Reads};
 ghost use Rattle.hist_types.specs.Refusals.{number_of, name_of};
 ghost use Rattle.hist_types.specs.Texts.{in_order};
-ghost use Rattle.hist_types.specs.Thinning.{IncludesOk, order_edges_between, thinned_edges_between, HasEdge, HasPath, HasOver, CountAlike, CarryOver, open_at, most_open, predecessors};
+ghost use Rattle.hist_types.specs.Thinning.{IncludesOk, order_edges_between, thinned_edges_between, HasEdge, HasPath, HasOver, CountAlike, CarryOver, ReturnsToOne, open_at, most_open, predecessors};
 ghost use Rattle.hist_types.specs.Tokens.{run_of, run_len};
 ghost use Rattle.hist_types.specs.Transactions.{Transaction, Indexed, completion_in, transactions_of, Read, read_eq, external_reads, external_writes, nodes};
 ghost use Rattle.hist_types.specs.declared.limits.TheConstants.{MAX_PROCESS, MAX_MICRO_OPS, MAX_OPERATION_BYTES, MAX_OPEN_COLLECTIONS, MAX_BLOCK_OPERATIONS, MAX_BLOCK_BYTES, MAX_CELLS, MAX_EVENTS, MAX_LINE_BYTES, MAX_WORKERS};
@@ -136,6 +136,20 @@ pub fn thinning_leaves_few()
     ensures process { (events : List Operation) → (to : ℕ) → length (predecessors to (thinned_edges Process (transactions_of events))) ≤ 1 }
     ensures all_realtime { (events : List Operation) → (to : ℕ) → length (predecessors to (all_thinned_edges Realtime (transactions_of events))) ≤ most_open (transactions_of events) }
     ensures all_process { (events : List Operation) → (to : ℕ) → length (predecessors to (all_thinned_edges Process (transactions_of events))) ≤ 1 }
+{}
+
+/// What a history shows at a level it shows at the levels above, since each order edge has a twin there.
+pub fn levels_rise()
+    ensures walks { (lower higher : Level) → height lower ≤ height higher → (ns : List Transaction) → (others : List Edge) → CarryOver (others ++ order_edges_between lower ns) (others ++ order_edges_between higher ns) }
+    ensures phenomena { (phenomenon : Phenomenon) → (lower higher : Level) → height lower ≤ height higher → (ts : List Transaction) → Has phenomenon lower ts → Has phenomenon higher ts }
+{}
+
+/// A closed walk shows a phenomenon exactly where an edge of its kind has a walk back, along the kinds that it allows, from the
+/// edge's second end to its first.
+pub fn cycles_by_one_edge()
+    ensures edges { (phenomenon : Phenomenon) → (es : List Edge) → HasOver phenomenon es ↔ ReturnsToOne phenomenon es }
+    ensures history { (phenomenon : Phenomenon) → (level : Level) → (ts : List Transaction) → Has phenomenon level ts ↔ ReturnsToOne phenomenon (edges_at level ts) }
+    ensures thinned { (phenomenon : Phenomenon) → (level : Level) → (events : List Operation) → Has phenomenon level (transactions_of events) ↔ ReturnsToOne phenomenon (dependency_edges (transactions_of events) ++ thinned_edges level (transactions_of events)) }
 {}
 
 /// Edges in order are those that were given, one for each place, and they rise. All dependency edges of a history are there.
