@@ -8,7 +8,7 @@ use Rattle.hist_types.specs.Edges.{Edge, edge, is_before, same_process, order_la
 use Rattle.hist_types.specs.Frontier.{thinned_edges}
 use Rattle.hist_types.specs.Operations.{Operation}
 use Rattle.hist_types.specs.Phenomena.{Leads, IsClosedWalk, is_ww, is_wr, is_rw, is_order, makes, Has, height}
-use Rattle.hist_types.specs.Thinning.{order_edges_between, HasOver, CarryOver, is_needed, may_lead_back, ReturnsToOne}
+use Rattle.hist_types.specs.Thinning.{order_edges_between, HasOver, WalksCarryOver, is_needed, may_lead_back, HasReturn}
 use Rattle.hist_types.specs.declared.types.Level.{Level}
 use Rattle.hist_types.specs.declared.types.Level.TheVariants.{Plain, Process, Realtime}
 use Rattle.hist_types.specs.declared.types.Phenomenon.{Phenomenon}
@@ -64,7 +64,7 @@ has_twins lower higher ns ds up e i = elim (in_append e ds (order_edges_between 
 pub carried_up :
     (lower higher : Level) (ns : List Transaction) (ds : List Edge)
     → height lower ≤ height higher
-    → CarryOver (ds ++ order_edges_between lower ns) (ds ++ order_edges_between higher ns)
+    → WalksCarryOver (ds ++ order_edges_between lower ns) (ds ++ order_edges_between higher ns)
 carried_up lower higher ns ds up =
     carry_over (ds ++ order_edges_between lower ns) (ds ++ order_edges_between higher ns) (has_twins lower higher ns ds up)
 
@@ -154,7 +154,7 @@ closed_is_led : (walk : List Edge) → IsClosedWalk walk → (from : ℕ) × Lea
 closed_is_led [] none = elim none [ ]
 closed_is_led (e ∷ walk) closed = (e.from, closed_leads e walk closed)
 
-returns_to_one : (phenomenon : Phenomenon) (es : List Edge) → HasOver phenomenon es → ReturnsToOne phenomenon es
+returns_to_one : (phenomenon : Phenomenon) (es : List Edge) → HasOver phenomenon es → HasReturn phenomenon es
 returns_to_one phenomenon es h =
     let walk : List Edge = h.0 in
     let (front, e, back, about) = about_one (is_needed phenomenon) walk (some_needed phenomenon walk h.1.kinds) in
@@ -191,7 +191,7 @@ closing_makes GSingle e walk is back =
     eq-eqb (count_by is_rw (e ∷ walk)) 1 (omega (arith, none, count_yes is_rw e walk is))
 closing_makes G2Item e walk is back = or_left (is_rw e) (list_any is_rw walk) is
 
-one_closes : (phenomenon : Phenomenon) (es : List Edge) → ReturnsToOne phenomenon es → HasOver phenomenon es
+one_closes : (phenomenon : Phenomenon) (es : List Edge) → HasReturn phenomenon es → HasOver phenomenon es
 one_closes phenomenon es r =
     let e : Edge = r.0 in (
       e ∷ r.3,
@@ -202,10 +202,10 @@ one_closes phenomenon es r =
       },
     )
 
-pub closed_by_one : (phenomenon : Phenomenon) (es : List Edge) → HasOver phenomenon es ↔ ReturnsToOne phenomenon es
+pub closed_by_one : (phenomenon : Phenomenon) (es : List Edge) → HasOver phenomenon es ↔ HasReturn phenomenon es
 closed_by_one phenomenon es = (returns_to_one phenomenon es, one_closes phenomenon es)
 
-pub at_level : (phenomenon : Phenomenon) (level : Level) (ts : List Transaction) → Has phenomenon level ts ↔ ReturnsToOne phenomenon (edges_at level ts)
+pub at_level : (phenomenon : Phenomenon) (level : Level) (ts : List Transaction) → Has phenomenon level ts ↔ HasReturn phenomenon (edges_at level ts)
 at_level phenomenon level ts =
     let over = has_over phenomenon level ts in
     let one = closed_by_one phenomenon (edges_at level ts) in
@@ -213,7 +213,7 @@ at_level phenomenon level ts =
 
 pub when_thinned :
     (phenomenon : Phenomenon) (level : Level) (events : List Operation)
-    → Has phenomenon level (transactions_of events) ↔ ReturnsToOne phenomenon (dependency_edges (transactions_of events) ++ thinned_edges level (transactions_of events))
+    → Has phenomenon level (transactions_of events) ↔ HasReturn phenomenon (dependency_edges (transactions_of events) ++ thinned_edges level (transactions_of events))
 when_thinned phenomenon level events =
     let thinned = has_thinned phenomenon level events in
     let one = closed_by_one phenomenon (dependency_edges (transactions_of events) ++ thinned_edges level (transactions_of events)) in

@@ -10,7 +10,7 @@ use Rattle.hist_types.specs.Transactions.{Transaction, is_ok, is_failed, was_rea
 use Rattle.hist_types.specs.Edges.{Label, process, realtime, Edge, edge, between_each, is_before, same_process, realtime_label, order_labels}
 use Rattle.hist_types.specs.Frontier.{is_ordered, has_between, thinned_labels}
 use Rattle.hist_types.specs.Phenomena.{Leads}
-use Rattle.hist_types.specs.Thinning.{IncludesOk, order_edges_between, thinned_edges_between, HasEdge, IsPath, HasPath}
+use Rattle.hist_types.specs.Thinning.{IncludesAllOk, order_edges_between, thinned_edges_between, HasEdge, IsPath, HasPath}
 use Rattle.hist_types.specs.declared.types.Level.{Level}
 use Rattle.hist_types.specs.declared.types.Level.TheVariants.{Plain, Process, Realtime}
 use Rattle.hist_types.proofs.Members.{In, in_from_Contains, Contains_from_in, in_each, in_mapped, in_map, in_filter, in_filtered}
@@ -322,7 +322,7 @@ order_edge_of level ts ns from to (e ∷ path) nodes w =
 
 -- ---- the law
 
-pub are_nodes : (events : List Operation) (ns : List Transaction) → IncludesOk (transactions_of events) ns → AreNodes (transactions_of events) ns
+pub are_nodes : (events : List Operation) (ns : List Transaction) → IncludesAllOk (transactions_of events) ns → AreNodes (transactions_of events) ns
 are_nodes events ns included =
     let ts : List Transaction = transactions_of events in record {
       timed = transactions_timed events;
@@ -334,7 +334,7 @@ all_by_members : {X : Type 0} (P : X → Type 0) (xs : List X) → ((x : X) → 
 all_by_members P [] each = tt
 all_by_members P (x ∷ xs) each = (each x (inl refl), all_by_members P xs (λ y i. each y (inr i)))
 
-pub nodes_included : (ts : List Transaction) → IncludesOk ts (nodes ts)
+pub nodes_included : (ts : List Transaction) → IncludesAllOk ts (nodes ts)
 nodes_included ts = record {
   among =
       All-from_recursion (Contains ts) (nodes ts)
@@ -344,7 +344,7 @@ nodes_included ts = record {
       (in_filtered (is_node ts) t ts (in_from_Contains t ts c) (or_left (is_ok t) (not (is_failed t) && was_read ts t) e));
 }
 
-pub all_included : (ts : List Transaction) → IncludesOk ts ts
+pub all_included : (ts : List Transaction) → IncludesAllOk ts ts
 all_included ts = record {
   among = All-from_recursion (Contains ts) ts (all_by_members (Contains ts) ts (λ t i. Contains_from_in t ts i));
   ok = λ t c e. c;
@@ -352,7 +352,7 @@ all_included ts = record {
 
 pub paths_of_thinned_edges :
     (level : Level) (events : List Operation) (ns : List Transaction)
-    → IncludesOk (transactions_of events) ns
+    → IncludesAllOk (transactions_of events) ns
     → (from to : ℕ)
     → HasEdge (order_edges_between level ns) from to ↔ HasPath (thinned_edges_between level (transactions_of events) ns) from to
 paths_of_thinned_edges level events ns included from to =

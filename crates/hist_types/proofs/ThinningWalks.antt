@@ -9,7 +9,7 @@ use Rattle.hist_types.specs.Transactions.{Transaction, nodes, transactions_of}
 use Rattle.hist_types.specs.Edges.{Label, process, Edge, is_before, same_process, realtime_label, order_labels, dependency_edges, edges_at}
 use Rattle.hist_types.specs.Frontier.{thinned_edges}
 use Rattle.hist_types.specs.Phenomena.{Leads, IsClosedWalk, is_ww_label, is_wr_label, is_rw_label, is_ww, is_wr, is_rw, is_order, makes, Has}
-use Rattle.hist_types.specs.Thinning.{IncludesOk, order_edges_between, thinned_edges_between, HasOver, CountAlike, CarryOver}
+use Rattle.hist_types.specs.Thinning.{IncludesAllOk, order_edges_between, thinned_edges_between, HasOver, SameCounts, WalksCarryOver}
 use Rattle.hist_types.specs.declared.types.Level.{Level}
 use Rattle.hist_types.specs.declared.types.Level.TheVariants.{Plain, Process, Realtime}
 use Rattle.hist_types.specs.declared.types.Phenomenon.{Phenomenon}
@@ -74,16 +74,16 @@ all_uncounted g p q neither (x ∷ xs) e f =
 
 -- ---- walks that count alike
 
-pub alike : (walk : List Edge) → CountAlike walk walk
+pub alike : (walk : List Edge) → SameCounts walk walk
 alike walk = record { ww = refl; wr = refl; rw = refl }
 
-alike_back : (walk other : List Edge) → CountAlike walk other → CountAlike other walk
+alike_back : (walk other : List Edge) → SameCounts walk other → SameCounts other walk
 alike_back walk other a = record { ww = sym a.ww; wr = sym a.wr; rw = sym a.rw }
 
 alike_by : (p : Edge → Bool) (a b c d : List Edge) → count_by p a ≡ count_by p b → count_by p c ≡ count_by p d → count_by p (a ++ c) ≡ count_by p (b ++ d)
 alike_by p a b c d e f = omega (arith, count-append p a c, count-append p b d, e, f)
 
-alike_both : (a b c d : List Edge) → CountAlike a b → CountAlike c d → CountAlike (a ++ c) (b ++ d)
+alike_both : (a b c d : List Edge) → SameCounts a b → SameCounts c d → SameCounts (a ++ c) (b ++ d)
 alike_both a b c d first second = record {
   ww = alike_by is_ww a b c d first.ww second.ww;
   wr = alike_by is_wr a b c d first.wr second.wr;
@@ -131,7 +131,7 @@ any_alike : (p : Edge → Bool) (walk other : List Edge) → count_by p walk ≡
 any_alike p walk other same e = any_counted p other (omega (arith, same, counted_any p walk e))
 
 -- Walks that count alike make the same phenomena.
-pub makes_alike : (phenomenon : Phenomenon) (walk other : List Edge) → CountAlike walk other → makes phenomenon walk ≡ true → makes phenomenon other ≡ true
+pub makes_alike : (phenomenon : Phenomenon) (walk other : List Edge) → SameCounts walk other → makes phenomenon walk ≡ true → makes phenomenon other ≡ true
 makes_alike G0 walk other a e =
     let both = and_parts (list_all (λ e. is_ww e || is_order e) walk) (list_any is_ww walk) e in
     let no_wr = none_counted (λ e. is_ww e || is_order e) is_wr (λ e. only_ww-wr e.label) walk both.0 in
@@ -150,7 +150,7 @@ makes_alike G2Item walk other a e = any_alike is_rw walk other a.rw e
 
 pub record Replaces (others : List Edge) (e : Edge) (path : List Edge) : Type 0 where
   pub way : Way others e.from e.to path
-  pub counts : CountAlike (e ∷ []) path
+  pub counts : SameCounts (e ∷ []) path
 
 abbrev pub AreReplaced : List Edge → List Edge → Type 0
 AreReplaced es others = (e : Edge) → In e es → (path : List Edge) × Replaces others e path
@@ -158,7 +158,7 @@ AreReplaced es others = (e : Edge) → In e es → (path : List Edge) × Replace
 record Replaced (others : List Edge) (from to : ℕ) (walk other : List Edge) : Type 0 where
   leads : Leads from other to
   within : AllByRecursion (λ e. In e others) other
-  counts : CountAlike walk other
+  counts : SameCounts walk other
 
 replaced :
     (es others : List Edge)
@@ -202,14 +202,14 @@ pub closed_from : (from : ℕ) (walk : List Edge) → ¬ (walk ≡ []) → Leads
 closed_from from [] some leads = elim (some refl) [ ]
 closed_from from (e ∷ walk) some leads = subst (λ n. Leads e.to walk n) (sym leads.0) leads.1
 
-pub carry_over : (es others : List Edge) → AreReplaced es others → CarryOver es others
+pub carry_over : (es others : List Edge) → AreReplaced es others → WalksCarryOver es others
 carry_over es others each = record { walks = walks; closed = closed }
   where
     walks :
         (from to : ℕ) (walk : List Edge)
         → Leads from walk to
         → All (Contains es) walk
-        → (other : List Edge) × Leads from other to × All (Contains others) other × CountAlike walk other
+        → (other : List Edge) × Leads from other to × All (Contains others) other × SameCounts walk other
     walks from to walk leads all =
         let (other, r, some) = replaced es others each from to walk leads (within_in es walk all) in
         (other, r.leads, within_contains others other r.within, r.counts)
@@ -218,14 +218,14 @@ carry_over es others each = record { walks = walks; closed = closed }
         (walk : List Edge)
         → IsClosedWalk walk
         → All (Contains es) walk
-        → (other : List Edge) × IsClosedWalk other × All (Contains others) other × CountAlike walk other
+        → (other : List Edge) × IsClosedWalk other × All (Contains others) other × SameCounts walk other
     closed [] none all = elim none [ ]
     closed (e ∷ walk) round all =
         let (other, r, some) = replaced es others each e.from e.from (e ∷ walk) (closed_leads e walk round) (within_in es (e ∷ walk) all) in
         let kept : ¬ (other ≡ []) = some (λ empty. cc) in
         (other, closed_from e.from other kept r.leads, within_contains others other r.within, r.counts)
 
-pub has_carried : (phenomenon : Phenomenon) (es others : List Edge) → CarryOver es others → HasOver phenomenon es → HasOver phenomenon others
+pub has_carried : (phenomenon : Phenomenon) (es others : List Edge) → WalksCarryOver es others → HasOver phenomenon es → HasOver phenomenon others
 has_carried phenomenon es others over has =
     let (other, closed, within, counts) = over.closed has.0 has.1.closed has.1.within in
     (other, record { closed = closed; within = within; kinds = makes_alike phenomenon has.0 other counts has.1.kinds })
@@ -260,7 +260,7 @@ uncounted_edge level ns e i =
     subst (λ (d : Edge). Uncounted d.label) (sym ends.is) (order_uncounted level t u label ends.labelled)
 
 -- no edge of the walk counts
-pub nothing_counts : (walk : List Edge) → AllByRecursion (λ e. Uncounted e.label) walk → CountAlike [] walk
+pub nothing_counts : (walk : List Edge) → AllByRecursion (λ e. Uncounted e.label) walk → SameCounts [] walk
 nothing_counts walk all = record {
   ww = sym (count_none is_ww walk (each walk all (λ e u. u.no_ww)));
   wr = sym (count_none is_wr walk (each walk all (λ e u. u.no_wr)));
@@ -308,21 +308,21 @@ is_thinned_edge level ts ns ds e i =
 
 pub carried_to_thinned :
     (level : Level) (events : List Operation) (ns : List Transaction) (ds : List Edge)
-    → IncludesOk (transactions_of events) ns
-    → CarryOver (ds ++ order_edges_between level ns) (ds ++ thinned_edges_between level (transactions_of events) ns)
+    → IncludesAllOk (transactions_of events) ns
+    → WalksCarryOver (ds ++ order_edges_between level ns) (ds ++ thinned_edges_between level (transactions_of events) ns)
 carried_to_thinned level events ns ds included =
     carry_over (ds ++ order_edges_between level ns) (ds ++ thinned_edges_between level (transactions_of events) ns)
     (is_order_edge level (transactions_of events) ns ds (are_nodes events ns included))
 
 pub carried_to_order :
     (level : Level) (ts ns : List Transaction) (ds : List Edge)
-    → CarryOver (ds ++ thinned_edges_between level ts ns) (ds ++ order_edges_between level ns)
+    → WalksCarryOver (ds ++ thinned_edges_between level ts ns) (ds ++ order_edges_between level ns)
 carried_to_order level ts ns ds =
     carry_over (ds ++ thinned_edges_between level ts ns) (ds ++ order_edges_between level ns) (is_thinned_edge level ts ns ds)
 
 pub has_kept :
     (phenomenon : Phenomenon) (level : Level) (events : List Operation) (ns : List Transaction) (ds : List Edge)
-    → IncludesOk (transactions_of events) ns
+    → IncludesAllOk (transactions_of events) ns
     → HasOver phenomenon (ds ++ order_edges_between level ns) ↔ HasOver phenomenon (ds ++ thinned_edges_between level (transactions_of events) ns)
 has_kept phenomenon level events ns ds included =
     let order : List Edge = ds ++ order_edges_between level ns in

@@ -13,7 +13,7 @@ ghost use Rattle.hist_types.specs.Phenomena.{makes, Has, height};
 ghost use Rattle.hist_types.specs.Reading.{Entry, Reads};
 ghost use Rattle.hist_types.specs.Refusals.{number_of, name_of};
 ghost use Rattle.hist_types.specs.Texts.{in_order};
-ghost use Rattle.hist_types.specs.Thinning.{IncludesOk, order_edges_between, thinned_edges_between, HasEdge, HasPath, HasOver, CountAlike, CarryOver, ReturnsToOne, open_at, most_open, predecessors};
+ghost use Rattle.hist_types.specs.Thinning.{IncludesAllOk, order_edges_between, thinned_edges_between, HasEdge, HasPath, HasOver, SameCounts, WalksCarryOver, HasReturn, open_at, most_open, predecessors};
 ghost use Rattle.hist_types.specs.Tokens.{run_of, run_len};
 ghost use Rattle.hist_types.specs.Transactions.{Transaction, Indexed, completion_in, transactions_of, Read, read_eq, external_reads, external_writes, nodes};
 ghost use Rattle.hist_types.specs.declared.limits.TheConstants.{MAX_PROCESS, MAX_MICRO_OPS, MAX_OPERATION_BYTES, MAX_OPEN_COLLECTIONS, MAX_BLOCK_OPERATIONS, MAX_BLOCK_BYTES, MAX_CELLS, MAX_EVENTS, MAX_LINE_BYTES, MAX_WORKERS};
@@ -111,25 +111,26 @@ pub fn thinned_among_order_edges()
     ensures all { (level : Level) → (ts : List Transaction) → (e : Edge) → Contains (all_thinned_edges level ts) e → Contains (all_order_edges level ts) e }
 {}
 
-/// Whatever the nodes, if all ok transactions are among them, two are joined by an order edge exactly where a path of thinned
-/// edges leads from the one to the other. The nodes of a history are such, and so are all its transactions.
+/// In any set of nodes with all ok transactions in it, an order edge joins two nodes exactly where a path of thinned edges leads
+/// from one to the other. The nodes of a history are such a set, and so are all its transactions.
 pub fn order_edges_are_thinned_paths()
-    ensures paths { (level : Level) → (events : List Operation) → (ns : List Transaction) → IncludesOk (transactions_of events) ns → (from to : ℕ) → HasEdge (order_edges_between level ns) from to ↔ HasPath (thinned_edges_between level (transactions_of events) ns) from to }
-    ensures nodes { (ts : List Transaction) → IncludesOk ts (nodes ts) }
-    ensures all { (ts : List Transaction) → IncludesOk ts ts }
+    ensures paths { (level : Level) → (events : List Operation) → (ns : List Transaction) → IncludesAllOk (transactions_of events) ns → (from to : ℕ) → HasEdge (order_edges_between level ns) from to ↔ HasPath (thinned_edges_between level (transactions_of events) ns) from to }
+    ensures nodes { (ts : List Transaction) → IncludesAllOk ts (nodes ts) }
+    ensures all { (ts : List Transaction) → IncludesAllOk ts ts }
 {}
 
-/// Each walk along other edges and order edges has one along those and thinned edges that counts as many edges of each kind, and
-/// the other way round, so the thinned edges show what the order edges show. What a history shows is shown by its thinned edges.
+/// A walk over order edges and any other edges can be replaced by one with thinned edges instead, and back, with the same counts of
+/// ww, wr and rw edges. So dependency edges with thinned edges show exactly the phenomena that they show with all order edges.
 pub fn thinning_keeps_phenomena()
-    ensures thinned { (level : Level) → (events : List Operation) → (ns : List Transaction) → (others : List Edge) → IncludesOk (transactions_of events) ns → CarryOver (others ++ order_edges_between level ns) (others ++ thinned_edges_between level (transactions_of events) ns) }
-    ensures order { (level : Level) → (ts ns : List Transaction) → (others : List Edge) → CarryOver (others ++ thinned_edges_between level ts ns) (others ++ order_edges_between level ns) }
-    ensures counts { (phenomenon : Phenomenon) → (walk other : List Edge) → CountAlike walk other → IsTrue (makes phenomenon walk) → IsTrue (makes phenomenon other) }
-    ensures nodes { (phenomenon : Phenomenon) → (level : Level) → (events : List Operation) → (ns : List Transaction) → (others : List Edge) → IncludesOk (transactions_of events) ns → HasOver phenomenon (others ++ order_edges_between level ns) ↔ HasOver phenomenon (others ++ thinned_edges_between level (transactions_of events) ns) }
+    ensures thinned { (level : Level) → (events : List Operation) → (ns : List Transaction) → (others : List Edge) → IncludesAllOk (transactions_of events) ns → WalksCarryOver (others ++ order_edges_between level ns) (others ++ thinned_edges_between level (transactions_of events) ns) }
+    ensures order { (level : Level) → (ts ns : List Transaction) → (others : List Edge) → WalksCarryOver (others ++ thinned_edges_between level ts ns) (others ++ order_edges_between level ns) }
+    ensures counts { (phenomenon : Phenomenon) → (walk other : List Edge) → SameCounts walk other → IsTrue (makes phenomenon walk) → IsTrue (makes phenomenon other) }
+    ensures nodes { (phenomenon : Phenomenon) → (level : Level) → (events : List Operation) → (ns : List Transaction) → (others : List Edge) → IncludesAllOk (transactions_of events) ns → HasOver phenomenon (others ++ order_edges_between level ns) ↔ HasOver phenomenon (others ++ thinned_edges_between level (transactions_of events) ns) }
     ensures history { (phenomenon : Phenomenon) → (level : Level) → (events : List Operation) → Has phenomenon level (transactions_of events) ↔ HasOver phenomenon (dependency_edges (transactions_of events) ++ thinned_edges level (transactions_of events)) }
 {}
 
-/// Of the thinned edges no more lead to a transaction than transactions were ever open at once, and within a process at most one.
+/// No transaction has more thinned predecessors in real time than transactions were ever open at once, or more than one within its
+/// process.
 pub fn thinning_leaves_few()
     ensures most { (ts : List Transaction) → (index : ℕ) → open_at index ts ≤ most_open ts }
     ensures realtime { (events : List Operation) → (to : ℕ) → length (predecessors to (thinned_edges Realtime (transactions_of events))) ≤ most_open (transactions_of events) }
@@ -138,18 +139,18 @@ pub fn thinning_leaves_few()
     ensures all_process { (events : List Operation) → (to : ℕ) → length (predecessors to (all_thinned_edges Process (transactions_of events))) ≤ 1 }
 {}
 
-/// What a history shows at a level it shows at the levels above, since each order edge has a twin there.
+/// A phenomenon that is there at a level is there at each higher level.
 pub fn levels_rise()
-    ensures walks { (lower higher : Level) → height lower ≤ height higher → (ns : List Transaction) → (others : List Edge) → CarryOver (others ++ order_edges_between lower ns) (others ++ order_edges_between higher ns) }
+    ensures walks { (lower higher : Level) → height lower ≤ height higher → (ns : List Transaction) → (others : List Edge) → WalksCarryOver (others ++ order_edges_between lower ns) (others ++ order_edges_between higher ns) }
     ensures phenomena { (phenomenon : Phenomenon) → (lower higher : Level) → height lower ≤ height higher → (ts : List Transaction) → Has phenomenon lower ts → Has phenomenon higher ts }
 {}
 
-/// A closed walk shows a phenomenon exactly where an edge of its kind has a walk back, along the kinds that it allows, from the
-/// edge's second end to its first.
+/// A phenomenon is there exactly where some edge of its kind has a way back from its second end to its first, along the kinds of
+/// edges that the phenomenon allows.
 pub fn cycles_by_one_edge()
-    ensures edges { (phenomenon : Phenomenon) → (es : List Edge) → HasOver phenomenon es ↔ ReturnsToOne phenomenon es }
-    ensures history { (phenomenon : Phenomenon) → (level : Level) → (ts : List Transaction) → Has phenomenon level ts ↔ ReturnsToOne phenomenon (edges_at level ts) }
-    ensures thinned { (phenomenon : Phenomenon) → (level : Level) → (events : List Operation) → Has phenomenon level (transactions_of events) ↔ ReturnsToOne phenomenon (dependency_edges (transactions_of events) ++ thinned_edges level (transactions_of events)) }
+    ensures edges { (phenomenon : Phenomenon) → (es : List Edge) → HasOver phenomenon es ↔ HasReturn phenomenon es }
+    ensures history { (phenomenon : Phenomenon) → (level : Level) → (ts : List Transaction) → Has phenomenon level ts ↔ HasReturn phenomenon (edges_at level ts) }
+    ensures thinned { (phenomenon : Phenomenon) → (level : Level) → (events : List Operation) → Has phenomenon level (transactions_of events) ↔ HasReturn phenomenon (dependency_edges (transactions_of events) ++ thinned_edges level (transactions_of events)) }
 {}
 
 /// Edges in order are those that were given, one for each place, and they rise. All dependency edges of a history are there.
