@@ -1,12 +1,14 @@
 -- When transactions begin and end: each completes behind its invocation, no two share an event, and those of a process run one by
 -- one.
-use Rattle.std.proofs.Common.{◌≡◌, inl, inr, ℕ, ◌+◌, ◌<◌, ◌≤◌, List, [], ◌∷◌, length, Bool, true, false, ◌==◌, if◌then◌else◌, Option, Some, None, refl, sym, ◌∙◌, ap, subst, arith}
+use Rattle.std.proofs.Common.{◌≡◌, inl, inr, ℕ, ◌+◌, ◌<◌, ◌≤◌, List, [], ◌∷◌, length, Bool, true, false, ◌==◌, if◌then◌else◌, Option, Some, None, IfSome, All, Contains, get_or, refl, sym, ◌∙◌, ap, subst, arith}
 use Rattle.std.proofs.lemmas.Bool.{eqb-false}
+use Rattle.std.proofs.lemmas.List.Elements.{Contains-get_or}
 use Rattle.std.proofs.lemmas.Option.{none-some, same_Some}
 use Rattle.hist_types.specs.Journal.{is_invoke}
 use Rattle.hist_types.specs.Operations.{Operation}
 use Rattle.hist_types.specs.Transactions.{Transaction, Indexed, completion_in, transaction_by, transactions_from, transactions_of}
-use Rattle.hist_types.proofs.Members.{In}
+use Rattle.hist_types.specs.Thinning.{AreInvokedInOrder, CompletesLater, CompletesBefore}
+use Rattle.hist_types.proofs.Members.{In, in_from_Contains}
 use Rattle.hist_types.proofs.Processes.{completion_in-next}
 
 pub record AreTimed (ts : List Transaction) : Type 0 where
@@ -193,3 +195,56 @@ sequential_from index (event ∷ events) = sequential_more (is_invoke event.kind
 
 pub transactions_sequential : (events : List Operation) → AreSequential (transactions_of events)
 transactions_sequential events = sequential_from 0 events
+
+-- ---- the law
+
+invoked_more :
+    (invokes : Bool) (index : ℕ) (event : Operation) (events : List Operation)
+    → AreInvokedInOrder (transactions_from (index + 1) events)
+    → AreInvokedInOrder (if invokes then transaction_by index event (completion_in event.process (index + 1) events) ∷ transactions_from (index + 1) events else transactions_from (index + 1) events)
+invoked_more false index event events rest = rest
+invoked_more true index event events rest =
+    let first : Transaction = transaction_by index event (completion_in event.process (index + 1) events) in
+    let at : first.invocation ≡ index = invocation_by index event (completion_in event.process (index + 1) events) in
+    let ts : List Transaction = transactions_from (index + 1) events in (
+      λ k d below.
+          let c : In (get_or ts k d) ts = in_from_Contains (get_or ts k d) ts (Contains-get_or ts k d below) in
+          let from : index + 1 ≤ (get_or ts k d).invocation = (timed_from (index + 1) events).from (get_or ts k d) c in
+          omega (arith, at),
+      rest,
+    )
+
+invoked_from : (index : ℕ) (events : List Operation) → AreInvokedInOrder (transactions_from index events)
+invoked_from index [] = tt
+invoked_from index (event ∷ events) = invoked_more (is_invoke event.kind) index event events (invoked_from (index + 1) events)
+
+pub invoked_in_order : (events : List Operation) → AreInvokedInOrder (transactions_of events)
+invoked_in_order events = invoked_from 0 events
+
+if_some : (o : Option ℕ) (P : ℕ → Type 0) → ((c : ℕ) → o ≡ Some c → P c) → IfSome o P
+if_some None P each = tt
+if_some (Some c) P each = each c refl
+
+pub completed_later : (events : List Operation) → All CompletesLater (transactions_of events)
+completed_later events k d below =
+    let ts : List Transaction = transactions_of events in
+    let t : Transaction = get_or ts k d in
+    if_some t.completion (λ c. t.invocation < c)
+    (λ c e. (transactions_timed events).later t c (in_from_Contains t ts (Contains-get_or ts k d below)) e)
+
+pub completed_elsewhere : (events : List Operation) (t u : Transaction) → Contains (transactions_of events) t → Contains (transactions_of events) u → ¬ (t.completion ≡ Some u.invocation)
+completed_elsewhere events t u i j e =
+    let ts : List Transaction = transactions_of events in
+    (transactions_sequential events).other t u u.invocation (in_from_Contains t ts i) (in_from_Contains u ts j) e refl
+
+pub completed_before :
+    (events : List Operation) (t u : Transaction)
+    → Contains (transactions_of events) t
+    → Contains (transactions_of events) u
+    → t.process ≡ u.process
+    → t.invocation < u.invocation
+    → CompletesBefore t u
+completed_before events t u i j own before =
+    let ts : List Transaction = transactions_of events in
+    if_some t.completion (λ c. c < u.invocation)
+    (λ c e. (transactions_sequential events).in_turn t u c (in_from_Contains t ts i) (in_from_Contains u ts j) own before e)

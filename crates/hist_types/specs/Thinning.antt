@@ -4,7 +4,7 @@
 -- such path is an order edge between its ends. So a closed walk over one kind of edges becomes a closed walk over the other, with
 -- as many ww, wr and rw edges. And thinning leaves few edges: no transaction has more thinned predecessors than transactions were
 -- ever open at once.
-use Rattle.std.specs.Prelude.{◌≡◌, ℕ, max, List, [], ◌∷◌, Bool, true, not, ◌&&◌, ◌||◌, ◌==◌, nat_le, nat_lt, Contains, All, IsTrue, count_by, map, filter}
+use Rattle.std.specs.Prelude.{◌≡◌, ℕ, ◌<◌, max, List, [], ◌∷◌, Bool, true, not, ◌&&◌, ◌||◌, ◌==◌, nat_le, nat_lt, Contains, All, IsTrue, count_by, map, filter, IfSome, ⊤}
 use Rattle.std.specs.List.{list_all}
 use Rattle.std.specs.Option.{option_map_or}
 use Rattle.hist_types.specs.Transactions.{Transaction, is_ok}
@@ -14,6 +14,23 @@ use Rattle.hist_types.specs.Phenomena.{Leads, IsClosedWalk, is_ww, is_wr, is_rw,
 use Rattle.hist_types.specs.declared.types.Level.{Level}
 use Rattle.hist_types.specs.declared.types.Phenomenon.{Phenomenon}
 use Rattle.hist_types.specs.declared.types.Phenomenon.TheVariants.{G0, G1c, GSingle, G2Item}
+
+-- ---- transactions in time
+
+-- each was invoked before those after it in the list
+abbrev pub AreInvokedInOrder : List Transaction → Type 0
+AreInvokedInOrder [] = ⊤
+AreInvokedInOrder (t ∷ ts) = All (λ (later : Transaction). t.invocation < later.invocation) ts × AreInvokedInOrder ts
+
+-- it completed, if at all, after its invocation
+abbrev pub CompletesLater : Transaction → Type 0
+CompletesLater t = IfSome t.completion (λ completion. t.invocation < completion)
+
+-- it completed, if at all, before the other's invocation
+abbrev pub CompletesBefore : Transaction → Transaction → Type 0
+CompletesBefore t u = IfSome t.completion (λ completion. completion < u.invocation)
+
+-- ---- nodes
 
 -- the nodes are transactions of the list, with all its ok ones among them
 pub record IncludesAllOk (ts ns : List Transaction) : Type 0 where
