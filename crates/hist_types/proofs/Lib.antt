@@ -16,3 +16,4 @@ pub mod ThinningPaths
 pub mod ThinningWalks
 pub mod ThinningBound
 pub mod ThinningCycles
+pub mod ThinningWitnesses

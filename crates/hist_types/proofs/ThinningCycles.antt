@@ -94,7 +94,7 @@ leads_apart from to (d ∷ front) e back l =
     let rest = leads_apart d.to to front e back l.1 in
     ((l.0, rest.0), rest.1)
 
-all_apart : {X : Type 0} (P : X → Type 0) (xs ys : List X) → AllByRecursion P (xs ++ ys) → AllByRecursion P xs × AllByRecursion P ys
+pub all_apart : {X : Type 0} (P : X → Type 0) (xs ys : List X) → AllByRecursion P (xs ++ ys) → AllByRecursion P xs × AllByRecursion P ys
 all_apart P [] ys all = (tt, all)
 all_apart P (x ∷ xs) ys all = let rest = all_apart P xs ys all.1 in ((all.0, rest.0), rest.1)
 
@@ -150,7 +150,7 @@ some_needed G1c walk made = (and_parts (list_all (λ e. is_ww e || is_wr e || is
 some_needed GSingle walk made = any_counted is_rw walk (let one = eqb-true (count_by is_rw walk) 1 made in omega (arith, one))
 some_needed G2Item walk made = made
 
-closed_is_led : (walk : List Edge) → IsClosedWalk walk → (from : ℕ) × Leads from walk from
+pub closed_is_led : (walk : List Edge) → IsClosedWalk walk → (from : ℕ) × Leads from walk from
 closed_is_led [] none = elim none [ ]
 closed_is_led (e ∷ walk) closed = (e.from, closed_leads e walk closed)
 
@@ -178,7 +178,7 @@ second_holds true b c is = refl
 second_holds false true c is = refl
 second_holds false false c is = elim (false≢true is) [ ]
 
-closing_makes : (phenomenon : Phenomenon) (e : Edge) (walk : List Edge) → is_needed phenomenon e ≡ true → list_all (may_lead_back phenomenon) walk ≡ true → makes phenomenon (e ∷ walk) ≡ true
+pub closing_makes : (phenomenon : Phenomenon) (e : Edge) (walk : List Edge) → is_needed phenomenon e ≡ true → list_all (may_lead_back phenomenon) walk ≡ true → makes phenomenon (e ∷ walk) ≡ true
 closing_makes G0 e walk is back =
     and_from (list_all (λ e. is_ww e || is_order e) (e ∷ walk)) (list_any is_ww (e ∷ walk))
     (and_from (is_ww e || is_order e) (list_all (λ e. is_ww e || is_order e) walk) (or_left (is_ww e) (is_order e) is) back) (or_left (is_ww e) (list_any is_ww walk) is)

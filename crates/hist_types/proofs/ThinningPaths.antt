@@ -270,7 +270,7 @@ thinned_way_of level ts ns nodes e i =
 abbrev pub HasOne : List Edge → ℕ → ℕ → Type 0
 HasOne es from to = (e : Edge) × In e es × (e.from ≡ from) × (e.to ≡ to)
 
-two_in_one :
+pub two_in_one :
     (level : Level) (ts ns : List Transaction) (e f : Edge)
     → AreNodes ts ns
     → In e (order_edges_between level ns)

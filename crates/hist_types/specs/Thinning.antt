@@ -11,6 +11,7 @@ use Rattle.hist_types.specs.Transactions.{Transaction, is_ok}
 use Rattle.hist_types.specs.Edges.{Edge, between_each, order_labels}
 use Rattle.hist_types.specs.Frontier.{thinned_labels}
 use Rattle.hist_types.specs.Phenomena.{Leads, IsClosedWalk, is_ww, is_wr, is_rw, is_order, makes}
+use Rattle.hist_types.specs.Witness.{IsWitness}
 use Rattle.hist_types.specs.declared.types.Level.{Level}
 use Rattle.hist_types.specs.declared.types.Phenomenon.{Phenomenon}
 use Rattle.hist_types.specs.declared.types.Phenomenon.TheVariants.{G0, G1c, GSingle, G2Item}
@@ -116,6 +117,11 @@ pub record LeadsBack (phenomenon : Phenomenon) (es : List Edge) (e : Edge) (walk
 abbrev pub HasReturn : Phenomenon → List Edge → Type 0
 HasReturn phenomenon es =
     (e : Edge) × Contains es e × IsTrue (is_needed phenomenon e) × (walk : List Edge) × LeadsBack phenomenon es e walk
+
+-- ---- witnesses
+
+abbrev pub HasWitness : Phenomenon → Level → List Transaction → Type 0
+HasWitness phenomenon level ts = (walk : List Edge) × IsWitness phenomenon level ts walk
 
 -- ---- open transactions
 

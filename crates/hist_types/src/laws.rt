@@ -13,7 +13,7 @@ ghost use Rattle.hist_types.specs.Phenomena.{makes, Has, height};
 ghost use Rattle.hist_types.specs.Reading.{Entry, Reads};
 ghost use Rattle.hist_types.specs.Refusals.{number_of, name_of};
 ghost use Rattle.hist_types.specs.Texts.{in_order};
-ghost use Rattle.hist_types.specs.Thinning.{AreInvokedInOrder, CompletesLater, CompletesBefore, IncludesAllOk, order_edges_between, thinned_edges_between, HasEdge, HasPath, HasOver, SameCounts, WalksCarryOver, HasReturn, open_at, most_open, predecessors};
+ghost use Rattle.hist_types.specs.Thinning.{AreInvokedInOrder, CompletesLater, CompletesBefore, IncludesAllOk, order_edges_between, thinned_edges_between, HasEdge, HasPath, HasOver, SameCounts, WalksCarryOver, HasReturn, HasWitness, open_at, most_open, predecessors};
 ghost use Rattle.hist_types.specs.Tokens.{run_of, run_len};
 ghost use Rattle.hist_types.specs.Transactions.{Transaction, Indexed, completion_in, transactions_of, Read, read_eq, external_reads, external_writes, nodes};
 ghost use Rattle.hist_types.specs.declared.limits.TheConstants.{MAX_PROCESS, MAX_MICRO_OPS, MAX_OPERATION_BYTES, MAX_OPEN_COLLECTIONS, MAX_BLOCK_OPERATIONS, MAX_BLOCK_BYTES, MAX_CELLS, MAX_EVENTS, MAX_LINE_BYTES, MAX_WORKERS};
@@ -160,6 +160,11 @@ pub fn cycles_by_one_edge()
     ensures edges { (phenomenon : Phenomenon) → (es : List Edge) → HasOver phenomenon es ↔ HasReturn phenomenon es }
     ensures history { (phenomenon : Phenomenon) → (level : Level) → (ts : List Transaction) → Has phenomenon level ts ↔ HasReturn phenomenon (edges_at level ts) }
     ensures thinned { (phenomenon : Phenomenon) → (level : Level) → (events : List Operation) → Has phenomenon level (transactions_of events) ↔ HasReturn phenomenon (dependency_edges (transactions_of events) ++ thinned_edges level (transactions_of events)) }
+{}
+
+/// A phenomenon that is there at a level has a witness there, and a phenomenon with a witness is there.
+pub fn phenomena_have_witnesses()
+    ensures { (phenomenon : Phenomenon) → (level : Level) → (events : List Operation) → Has phenomenon level (transactions_of events) ↔ HasWitness phenomenon level (transactions_of events) }
 {}
 
 /// Edges in order are those that were given, one for each place, and they rise. All dependency edges of a history are there.
