@@ -19,3 +19,9 @@ pub mod MovedReading
 pub mod MapAlone
 pub mod SpelledParts
 pub mod Keywords
+pub mod ThinningTimes
+pub mod ThinningPaths
+pub mod ThinningWalks
+pub mod ThinningBound
+pub mod ThinningCycles
+pub mod ThinningWitnesses

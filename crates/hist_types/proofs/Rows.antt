@@ -4,6 +4,7 @@ pub mod History
 pub mod Cycles
 pub mod Orders
 pub mod Realtime
+pub mod Thinning
 pub mod Nodes
 pub mod Reads
 pub mod Refused

@@ -20,4 +20,5 @@ pub mod Refusals
 pub mod Texts
 pub mod Devices
 pub mod Stored
+pub mod Thinning
 pub mod Laws

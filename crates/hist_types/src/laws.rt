@@ -1,26 +1,28 @@
 //! Laws of this crate's definitions: the contracts of functions that do nothing, and of one that compares levels.
 
-ghost use Rattle.std.specs.Prelude.{◌≡◌, ◌↔◌, ℕ, List, [], ◌∷◌, ◌++◌, length, drop, Bool, false, ◌==◌, IsTrue, IsFalse, Option, Some, None, All, Contains};
+ghost use Rattle.std.specs.Prelude.{◌≡◌, ◌↔◌, ◌<◌, ◌≤◌, ℕ, List, [], ◌∷◌, ◌++◌, length, drop, Bool, false, ◌==◌, IsTrue, IsFalse, Option, Some, None, All, Contains};
 ghost use Rattle.std.specs.Ordering.{nat_cmp};
 ghost use Rattle.hist_types.specs.Bytes.{is_run_byte};
 ghost use Rattle.hist_types.specs.Atoms.{Atom, Value, atom_eq, value_eq};
-ghost use Rattle.hist_types.specs.Edges.{Label, Edge, edge, dependency_edges, order_labels, all_order_edges, order_edges};
+ghost use Rattle.hist_types.specs.Edges.{Label, Edge, edge, dependency_edges, edges_at, order_labels, all_order_edges, order_edges};
 ghost use Rattle.hist_types.specs.Frontier.{all_thinned_edges, thinned_edges};
 ghost use Rattle.hist_types.specs.Journal.{Write, write_eq, is_invoke, last_event, first_broken, events_after, events_of};
 ghost use Rattle.hist_types.specs.Laws.{HasOne, RunEndsAt, IsNextOf, IsLastOf, ReadsFirst, WritesLast, LeavesOne, LeadsToOne, HasRealtimeTwin, Rise, HasOneAtItsPlace};
 ghost use Rattle.hist_types.specs.Operations.{Operation};
 ghost use Rattle.hist_types.specs.Entries.{PlacedOperation, Entry, operation};
-ghost use Rattle.hist_types.specs.Phenomena.{height};
+ghost use Rattle.hist_types.specs.Phenomena.{height, makes, Has};
 ghost use Rattle.hist_types.specs.Placed.{IsMopIn, KeepsLimits, IsTextOf, IsIn};
-ghost use Rattle.hist_types.specs.Reading.{Reads};
+ghost use Rattle.hist_types.specs.Reading.{Reads, Entry};
 ghost use Rattle.hist_types.specs.Refusals.{number_of, name_of};
 ghost use Rattle.hist_types.specs.Texts.{in_order};
 ghost use Rattle.hist_types.specs.Tokens.{IsCut, HasTokens, run_of, run_len};
+ghost use Rattle.hist_types.specs.Thinning.{AreInvokedInOrder, CompletesLater, CompletesBefore, IncludesAllOk, order_edges_between, thinned_edges_between, HasEdge, HasPath, HasOver, SameCounts, WalksCarryOver, HasReturn, HasWitness, open_at, most_open, predecessors};
 ghost use Rattle.hist_types.specs.Transactions.{Transaction, Indexed, completion_in, transactions_of, Read, read_eq, external_reads, external_writes, nodes};
 ghost use Rattle.hist_types.specs.declared.limits.TheConstants.{MAX_PROCESS, MAX_MICRO_OPS, MAX_OPERATION_BYTES, MAX_OPEN_COLLECTIONS, MAX_BLOCK_OPERATIONS, MAX_BLOCK_BYTES, MAX_CELLS, MAX_EVENTS, MAX_LINE_BYTES, MAX_WORKERS};
 ghost use Rattle.hist_types.specs.declared.types.Fault.{Fault};
 ghost use Rattle.hist_types.specs.declared.types.Level.{Level};
 ghost use Rattle.hist_types.specs.declared.types.Level.TheVariants.{Process, Realtime};
+ghost use Rattle.hist_types.specs.declared.types.Phenomenon.{Phenomenon};
 ghost use Rattle.hist_types.specs.declared.types.Refusal.{Refusal};
 
 use crate::types::Level;
@@ -122,6 +124,62 @@ pub fn process_order_in_realtime()
 pub fn thinned_among_order_edges()
     ensures nodes { (level : Level) → (ts : List Transaction) → (e : Edge) → Contains (thinned_edges level ts) e → Contains (order_edges level ts) e }
     ensures all { (level : Level) → (ts : List Transaction) → (e : Edge) → Contains (all_thinned_edges level ts) e → Contains (all_order_edges level ts) e }
+{}
+
+/// Transactions are listed in the order of their invocations. Each completes, if at all, after its invocation, by an event that
+/// invokes none, and before its process invokes the next one.
+pub fn transactions_in_time()
+    ensures order { (events : List Operation) → AreInvokedInOrder (transactions_of events) }
+    ensures later { (events : List Operation) → All CompletesLater (transactions_of events) }
+    ensures apart { (events : List Operation) → (t u : Transaction) → Contains (transactions_of events) t → Contains (transactions_of events) u → ¬ (t.completion ≡ Some u.invocation) }
+    ensures process { (events : List Operation) → (t u : Transaction) → Contains (transactions_of events) t → Contains (transactions_of events) u → t.process ≡ u.process → t.invocation < u.invocation → CompletesBefore t u }
+{}
+
+/// In any set of nodes with all ok transactions in it, an order edge joins two nodes exactly where a path of thinned edges leads
+/// from one to the other. The nodes of a history are such a set, and so are all its transactions.
+pub fn order_edges_are_thinned_paths()
+    ensures paths { (level : Level) → (events : List Operation) → (ns : List Transaction) → IncludesAllOk (transactions_of events) ns → (from to : ℕ) → HasEdge (order_edges_between level ns) from to ↔ HasPath (thinned_edges_between level (transactions_of events) ns) from to }
+    ensures nodes { (ts : List Transaction) → IncludesAllOk ts (nodes ts) }
+    ensures all { (ts : List Transaction) → IncludesAllOk ts ts }
+{}
+
+/// A walk over order edges and any other edges can be replaced by one with thinned edges instead, and back, with the same counts of
+/// ww, wr and rw edges. So dependency edges with thinned edges show exactly the phenomena that they show with all order edges.
+pub fn thinning_keeps_phenomena()
+    ensures thinned { (level : Level) → (events : List Operation) → (ns : List Transaction) → (others : List Edge) → IncludesAllOk (transactions_of events) ns → WalksCarryOver (others ++ order_edges_between level ns) (others ++ thinned_edges_between level (transactions_of events) ns) }
+    ensures order { (level : Level) → (ts ns : List Transaction) → (others : List Edge) → WalksCarryOver (others ++ thinned_edges_between level ts ns) (others ++ order_edges_between level ns) }
+    ensures counts { (phenomenon : Phenomenon) → (walk other : List Edge) → SameCounts walk other → IsTrue (makes phenomenon walk) → IsTrue (makes phenomenon other) }
+    ensures nodes { (phenomenon : Phenomenon) → (level : Level) → (events : List Operation) → (ns : List Transaction) → (others : List Edge) → IncludesAllOk (transactions_of events) ns → HasOver phenomenon (others ++ order_edges_between level ns) ↔ HasOver phenomenon (others ++ thinned_edges_between level (transactions_of events) ns) }
+    ensures history { (phenomenon : Phenomenon) → (level : Level) → (events : List Operation) → Has phenomenon level (transactions_of events) ↔ HasOver phenomenon (dependency_edges (transactions_of events) ++ thinned_edges level (transactions_of events)) }
+{}
+
+/// No transaction has more thinned predecessors in real time than transactions were ever open at once, or more than one within its
+/// process.
+pub fn thinning_leaves_few()
+    ensures most { (ts : List Transaction) → (index : ℕ) → open_at index ts ≤ most_open ts }
+    ensures realtime { (events : List Operation) → (to : ℕ) → length (predecessors to (thinned_edges Realtime (transactions_of events))) ≤ most_open (transactions_of events) }
+    ensures process { (events : List Operation) → (to : ℕ) → length (predecessors to (thinned_edges Process (transactions_of events))) ≤ 1 }
+    ensures all_realtime { (events : List Operation) → (to : ℕ) → length (predecessors to (all_thinned_edges Realtime (transactions_of events))) ≤ most_open (transactions_of events) }
+    ensures all_process { (events : List Operation) → (to : ℕ) → length (predecessors to (all_thinned_edges Process (transactions_of events))) ≤ 1 }
+{}
+
+/// A phenomenon that is there at a level is there at each higher level.
+pub fn levels_rise()
+    ensures walks { (lower higher : Level) → height lower ≤ height higher → (ns : List Transaction) → (others : List Edge) → WalksCarryOver (others ++ order_edges_between lower ns) (others ++ order_edges_between higher ns) }
+    ensures phenomena { (phenomenon : Phenomenon) → (lower higher : Level) → height lower ≤ height higher → (ts : List Transaction) → Has phenomenon lower ts → Has phenomenon higher ts }
+{}
+
+/// A phenomenon is there exactly where some edge of its kind has a way back from its second end to its first, along the kinds of
+/// edges that the phenomenon allows.
+pub fn cycles_by_one_edge()
+    ensures edges { (phenomenon : Phenomenon) → (es : List Edge) → HasOver phenomenon es ↔ HasReturn phenomenon es }
+    ensures history { (phenomenon : Phenomenon) → (level : Level) → (ts : List Transaction) → Has phenomenon level ts ↔ HasReturn phenomenon (edges_at level ts) }
+    ensures thinned { (phenomenon : Phenomenon) → (level : Level) → (events : List Operation) → Has phenomenon level (transactions_of events) ↔ HasReturn phenomenon (dependency_edges (transactions_of events) ++ thinned_edges level (transactions_of events)) }
+{}
+
+/// A phenomenon that is there at a level has a witness there, and a phenomenon with a witness is there.
+pub fn phenomena_have_witnesses()
+    ensures { (phenomenon : Phenomenon) → (level : Level) → (events : List Operation) → Has phenomenon level (transactions_of events) ↔ HasWitness phenomenon level (transactions_of events) }
 {}
 
 /// Edges in order are those that were given, one for each place, and they rise. All dependency edges of a history are there.

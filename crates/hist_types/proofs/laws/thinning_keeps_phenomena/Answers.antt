@@ -1,0 +1,17 @@
+use Rattle.hist_types.proofs.ThinningWalks.{carried_to_thinned, carried_to_order, makes_alike, has_kept, has_thinned}
+use Rattle.hist_types.proofs.laws.thinning_keeps_phenomena.Goals as goal
+
+pub returns-clause-thinned : goal.returns-clause-thinned
+returns-clause-thinned c = carried_to_thinned
+
+pub returns-clause-order : goal.returns-clause-order
+returns-clause-order c = carried_to_order
+
+pub returns-clause-counts : goal.returns-clause-counts
+returns-clause-counts c = makes_alike
+
+pub returns-clause-nodes : goal.returns-clause-nodes
+returns-clause-nodes c = has_kept
+
+pub returns-clause-history : goal.returns-clause-history
+returns-clause-history c = has_thinned
