@@ -12,7 +12,7 @@ ghost use Rattle.hist_types.specs.Operations.{Operation};
 ghost use Rattle.hist_types.specs.Entries.{PlacedOperation, Entry, operation};
 ghost use Rattle.hist_types.specs.Phenomena.{height, makes, Has};
 ghost use Rattle.hist_types.specs.Placed.{IsMopIn, KeepsLimits, IsTextOf, IsIn};
-ghost use Rattle.hist_types.specs.Reading.{Reads, Entry};
+ghost use Rattle.hist_types.specs.Reading.{Reads};
 ghost use Rattle.hist_types.specs.Refusals.{number_of, name_of};
 ghost use Rattle.hist_types.specs.Texts.{in_order};
 ghost use Rattle.hist_types.specs.Tokens.{IsCut, HasTokens, run_of, run_len};
