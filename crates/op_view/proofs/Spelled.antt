@@ -1,0 +1,33 @@
+-- The spelling of a text that is an atom.
+use Rattle.std.proofs.Common.{◌≡◌, ℕ, List, Option, Some, None, refl, sym, ◌∙◌, subst}
+use Rattle.std.specs.Option.{MatchOption, IsSome}
+use Rattle.hist_types.specs.Atoms.{Atom}
+use Rattle.hist_types.specs.Reading.{atom_of_token}
+use Rattle.hist_types.specs.Tokens.{ItemKind}
+use Rattle.op_view.specs.declared.spelling.Spelling.{Spelling}
+use Rattle.op_view.specs.AtomTexts.{IsToken, IsTokenOf, IsTextOf}
+use Rattle.op_view.specs.Spellings.{IsSpelled, kind_spelled, atom_spelled}
+use Rattle.op_view.proofs.Tokens.{one_kind}
+
+no_atom : (atom : Atom) → None ≡ Some atom → ⊥
+no_atom atom e = cc
+
+same_atom : (a b : Atom) → Some a ≡ Some b → a ≡ b
+same_atom a b e = cc
+
+-- a token that is an atom is spelled in some way
+pub has_spelling :
+    (kind : ItemKind) (text : List ℕ) (atom : Atom) (found : Option Spelling)
+    → atom_of_token kind text ≡ Some atom → MatchOption found (atom_of_token kind text ≡ None) (IsSpelled kind text) → IsSome found
+has_spelling kind text atom None is none = absurd (no_atom atom (sym none ∙ is))
+has_spelling kind text atom (Some spelling) is spelled = refl
+
+-- what is spelled so is the atom that is known
+pub spelled_token : (kind : ItemKind) (text : List ℕ) (spelling : Spelling) → IsToken kind text → IsSpelled kind text spelling → IsTokenOf (kind_spelled spelling) text (atom_spelled spelling text)
+spelled_token kind text spelling token spelled =
+    subst (λ (k : ItemKind). IsTokenOf k text (atom_spelled spelling text)) (sym spelled.of_kind) (token, spelled.atom)
+
+pub spelled_atom : (kind : ItemKind) (text : List ℕ) (spelling : Spelling) (atom : Atom) → IsToken kind text → IsSpelled kind text spelling → IsTextOf text atom → atom_spelled spelling text ≡ atom
+spelled_atom kind text spelling atom token spelled h =
+    let same = one_kind text h.0 kind h.1.0 token in
+    same_atom (atom_spelled spelling text) atom (sym spelled.atom ∙ subst (λ (k : ItemKind). atom_of_token k text ≡ Some atom) same h.1.1)

@@ -1,0 +1,6 @@
+pub mod AtomTexts
+pub mod Decoding
+pub mod Fronts
+pub mod Spellings
+pub mod Hashing
+pub mod AtomLaws

@@ -1,0 +1,28 @@
+-- How atoms are spelled.
+use Rattle.std.specs.Prelude.{◌≡◌, ℕ, List, Some}
+use Rattle.hist_types.specs.Atoms.{Atom, integer, keyword, string, symbol}
+use Rattle.hist_types.specs.Reading.{atom_of_token, between_quotes}
+use Rattle.hist_types.specs.Tokens.{ItemKind, Int, Keyword, Symbol, Str}
+use Rattle.op_view.specs.Decoding.{content_of}
+use Rattle.op_view.specs.declared.spelling.Spelling.{Spelling}
+use Rattle.op_view.specs.declared.spelling.Spelling.TheVariants as spellings
+
+abbrev pub kind_spelled : Spelling → ItemKind
+kind_spelled (spellings.Integer number) = Int
+kind_spelled spellings.Keyword = Keyword
+kind_spelled spellings.PlainString = Str
+kind_spelled spellings.EscapedString = Str
+kind_spelled spellings.Symbol = Symbol
+
+-- the atom that a text spells
+abbrev pub atom_spelled : Spelling → List ℕ → Atom
+atom_spelled (spellings.Integer number) text = integer number
+atom_spelled spellings.Keyword text = keyword text
+atom_spelled spellings.PlainString text = string (between_quotes text)
+atom_spelled spellings.EscapedString text = string (content_of (between_quotes text))
+atom_spelled spellings.Symbol text = symbol text
+
+-- A token of this kind with these bytes is the atom that is spelled so.
+pub record IsSpelled (kind : ItemKind) (text : List ℕ) (spelling : Spelling) : Type 0 where
+  pub of_kind : kind_spelled spelling ≡ kind
+  pub atom : atom_of_token kind text ≡ Some (atom_spelled spelling text)

@@ -1,0 +1,99 @@
+//! The content of a string, decoded byte by byte, so that it is never written into a buffer.
+
+ghost use Rattle.std.specs.Prelude.{◌≡◌, true, List, MatchOption, fold};
+ghost use Rattle.std.specs.Cmp.Lexicographic.{slice_cmp};
+ghost use Rattle.std.specs.Ordering.{nat_cmp};
+ghost use Rattle.hist_types.specs.Reading.{escape_value as value_of_escape, between_quotes as bytes_between_quotes};
+ghost use Rattle.op_view.specs.Decoding.{has_content, content_of, BeginsWithByte, HasNoByte};
+ghost use Rattle.op_view.specs.Hashing.{content_writes};
+
+use std::cmp::Ordering;
+use std::hash::Hasher;
+
+/// What stands between the quotes of a string.
+pub(crate) fn between_quotes(text: &[u8]) -> &[u8]
+    ensures { result.now ≡ bytes_between_quotes text.now }
+{
+    match text {
+        [_, between @ .., _] => between,
+        _ => &[],
+    }
+}
+
+/// The byte that an escape stands for, by the byte behind its backslash.
+fn escape_value(escape: u8) -> Option<u8>
+    ensures { result ≡ value_of_escape escape }
+{
+    match escape {
+        b't' => Some(b'\t'),
+        b'r' => Some(b'\r'),
+        b'n' => Some(b'\n'),
+        b'\\' => Some(b'\\'),
+        b'"' => Some(b'"'),
+        b'b' => Some(8),
+        b'f' => Some(12),
+        _ => None,
+    }
+}
+
+/// The first byte of the content, and what stands behind its spelling. None at the end, and where the escape is unknown.
+fn split_first(between: &[u8]) -> Option<(u8, &[u8])>
+    ensures { MatchOption result (HasNoByte between.now) (λ x. BeginsWithByte between.now x.0 x.1.now) }
+{
+    match between {
+        [b'\\', escape, behind @ ..] => {
+            let byte = escape_value(*escape)?;
+            Some((byte, behind))
+        }
+        [b'\\'] | [] => None,
+        [byte, behind @ ..] => Some((*byte, behind)),
+    }
+}
+
+/// Whether all escapes are known.
+pub(crate) fn is_content(between: &[u8]) -> bool
+    ensures { result ≡ has_content between.now }
+{
+    let mut left = between;
+    while let Some((_, behind)) = split_first(left) {
+        left = behind;
+    }
+    left.is_empty()
+}
+
+/// Compares two contents by their decoded bytes.
+pub(crate) fn compare(a: &[u8], b: &[u8]) -> Ordering
+    requires first { has_content a.now ≡ true }
+    requires second { has_content b.now ≡ true }
+    ensures { result ≡ slice_cmp nat_cmp (content_of a.now) (content_of b.now) }
+{
+    let mut left = a;
+    let mut right = b;
+    loop {
+        match (split_first(left), split_first(right)) {
+            (None, None) => return Ordering::Equal,
+            (None, Some(_)) => return Ordering::Less,
+            (Some(_), None) => return Ordering::Greater,
+            (Some((x, behind_x)), Some((y, behind_y))) => {
+                if x != y {
+                    return x.cmp(&y);
+                }
+                left = behind_x;
+                right = behind_y;
+            }
+        }
+    }
+}
+
+/// Feeds the decoded bytes of a content to a hasher.
+pub(crate) fn feed<H: Hasher>(between: &[u8], state: &mut H)
+    requires { has_content between.now ≡ true }
+    ensures { state.new ≡ fold H.write state.old (content_writes (content_of between.now)) }
+{
+    let mut left = between;
+    while let Some((byte, behind)) = split_first(left) {
+        state.write_u8(byte);
+        left = behind;
+    }
+    state.write_u8(0xff);
+}

@@ -1,0 +1,110 @@
+//! How an atom's text spells it.
+
+ghost use Rattle.std.specs.Prelude.{◌≡◌, true, None, cond, Some, Option, MatchOption, false, ℕ, List};
+ghost use Rattle.hist_types.specs.Atoms.{rank as rank_of_atom};
+ghost use Rattle.hist_types.specs.Reading.{int_value, is_64_bit, atom_of_token, between_quotes as bytes_between_quotes};
+ghost use Rattle.hist_types.specs.Tokens.{without_n as before_n, is_int, Str};
+ghost use Rattle.edn_lex.specs.Kinds.{kind_of};
+ghost use Rattle.op_view.specs.AtomTexts.{IsToken};
+ghost use Rattle.op_view.specs.Decoding.{has_content};
+ghost use Rattle.op_view.specs.Fronts.{begins_with_number, kind_by_front};
+ghost use Rattle.op_view.specs.Spellings.{IsSpelled, atom_spelled};
+
+use crate::content::{between_quotes, is_content};
+use edn_lex::types::TokenKind;
+use memchr::memchr;
+use std::str;
+
+/// An atom but for its text.
+#[derive(Clone, Copy)]
+pub(crate) enum Spelling {
+    /// The number is parsed once, when the atom is made.
+    Integer(i64),
+    Keyword,
+    /// What stands between the quotes is the content.
+    PlainString,
+    /// Some bytes of the content are escaped.
+    EscapedString,
+    Symbol,
+}
+
+impl Spelling {
+    /// Where the kind of atom comes in the order of kinds.
+    pub(crate) fn rank(self) -> u8
+        ensures { (text : List ℕ) → result ≡ rank_of_atom (atom_spelled self text) }
+    {
+        match self {
+            Spelling::Integer(_) => 0,
+            Spelling::Keyword => 1,
+            Spelling::PlainString | Spelling::EscapedString => 2,
+            Spelling::Symbol => 3,
+        }
+    }
+}
+
+/// An integer may end with an `N`.
+fn without_n(text: &[u8]) -> &[u8]
+    ensures { result.now ≡ before_n text.now }
+{
+    text.strip_suffix(b"N").unwrap_or(text)
+}
+
+/// The number of an integer's text, if it has 64 bits.
+fn number_of(text: &[u8]) -> Option<i64>
+    requires { is_int text.now ≡ true }
+    ensures { result ≡ cond (is_64_bit (int_value text.now)) (Some (int_value text.now)) None }
+{
+    let Ok(number) = str::from_utf8(without_n(text)) else {
+        return None;
+    };
+    number.parse::<i64>().ok()
+}
+
+/// A string whose escapes are all known.
+fn string_spelling(text: &[u8]) -> Option<Spelling>
+    ensures { MatchOption result (has_content (bytes_between_quotes text.now) ≡ false) (IsSpelled Str text.now) }
+{
+    let between = between_quotes(text);
+    match memchr(b'\\', between) {
+        None => Some(Spelling::PlainString),
+        Some(_) if is_content(between) => Some(Spelling::EscapedString),
+        Some(_) => None,
+    }
+}
+
+/// How a text that is one token of this kind spells an atom, if it does.
+pub(crate) fn spelling_of(kind: TokenKind, text: &[u8]) -> Option<Spelling>
+    requires { IsToken (kind_of kind) text.now }
+    ensures { MatchOption result (atom_of_token (kind_of kind) text.now ≡ None) (IsSpelled (kind_of kind) text.now) }
+{
+    match kind {
+        TokenKind::Int => Some(Spelling::Integer(number_of(text)?)),
+        TokenKind::Keyword => Some(Spelling::Keyword),
+        TokenKind::Symbol => Some(Spelling::Symbol),
+        TokenKind::Str => string_spelling(text),
+        _ => None,
+    }
+}
+
+/// A digit, or a sign and a digit.
+fn begins_as_int(text: &[u8]) -> bool
+    ensures { result ≡ begins_with_number text.now }
+{
+    match text {
+        [b'+' | b'-', second, ..] => second.is_ascii_digit(),
+        [first, ..] => first.is_ascii_digit(),
+        [] => false,
+    }
+}
+
+/// The kind of token that an atom's text is, by its first bytes.
+pub(crate) fn token_kind(text: &[u8]) -> TokenKind
+    ensures { kind_of result ≡ kind_by_front text.now }
+{
+    match text.first() {
+        Some(b'"') => TokenKind::Str,
+        Some(b':') => TokenKind::Keyword,
+        _ if begins_as_int(text) => TokenKind::Int,
+        _ => TokenKind::Symbol,
+    }
+}

@@ -1,0 +1,101 @@
+use crate::atom::Atom;
+use std::cmp::Ordering;
+use std::hash::{FoldHasher, Hash, Hasher};
+use std::process::Abort;
+
+fn hash_of<T: Hash>(atom: &T) -> u64 {
+    let mut hasher = FoldHasher::default();
+    atom.hash(&mut hasher);
+    hasher.finish()
+}
+
+fn same(rt: &impl Abort, a: &[u8], b: &[u8]) {
+    let a = Atom::read(a).expect(rt, "an atom");
+    let b = Atom::read(b).expect(rt, "an atom");
+    assert!(rt; a == b);
+    assert!(rt; a.cmp(&b) == Ordering::Equal);
+    assert_eq!(rt; hash_of(&a), hash_of(&b));
+}
+
+fn before(rt: &impl Abort, a: &[u8], b: &[u8]) {
+    let a = Atom::read(a).expect(rt, "an atom");
+    let b = Atom::read(b).expect(rt, "an atom");
+    assert!(rt; a < b);
+    assert!(rt; b > a);
+    assert!(rt; a != b);
+}
+
+fn no_atom(rt: &impl Abort, text: &[u8]) {
+    assert!(rt; Atom::read(text).is_none());
+}
+
+#[test]
+fn meanings_are_compared(rt: HostRuntime) {
+    same(&rt, b"\"a\\tb\"", b"\"a\tb\"");
+    same(
+        &rt,
+        b"\"\\\"\\\\\\b\\f\\r\\n\"",
+        b"\"\\\"\\\\\x08\x0c\x0d\x0a\"",
+    );
+    same(&rt, b"+7N", b"7");
+    same(&rt, b"-0", b"0");
+    same(&rt, b":x", b":x");
+    same(&rt, b"x/y", b"x/y");
+}
+
+#[test]
+fn kinds_come_in_order(rt: HostRuntime) {
+    before(&rt, b"-1", b"9");
+    before(&rt, b"9", b"10");
+    before(&rt, b"9223372036854775807", b":a");
+    before(&rt, b":x", b"\"\"");
+    before(&rt, b"\"\\b\"", b"\"a\"");
+    before(&rt, b"\"a\"", b"\"ab\"");
+    before(&rt, b"\"\\\\b\"", b"\"\\\\c\"");
+    before(&rt, b"\"z\"", b"-");
+    before(&rt, b"x", b"x1");
+}
+
+#[test]
+fn other_texts_are_no_atoms(rt: HostRuntime) {
+    no_atom(&rt, b"");
+    no_atom(&rt, b"nil");
+    no_atom(&rt, b"true");
+    no_atom(&rt, b" 1");
+    no_atom(&rt, b"1 ");
+    no_atom(&rt, b"1 2");
+    no_atom(&rt, b"1.5");
+    no_atom(&rt, b"\\a");
+    no_atom(&rt, b"#t 1");
+    no_atom(&rt, b"[");
+    no_atom(&rt, b"\"a");
+    no_atom(&rt, b"\"\\q\"");
+    no_atom(&rt, b":");
+    no_atom(&rt, b":\xff");
+    no_atom(&rt, b"9223372036854775808");
+    no_atom(&rt, b"-9223372036854775809");
+}
+
+/// The atom of the text is made again with no lexing, and copied.
+fn again(rt: &impl Abort, text: &[u8]) -> Option<i64> {
+    let read = Atom::read(text).expect(rt, "an atom");
+    let known = Atom::of(text);
+    assert!(rt; known == read);
+    let copy = known.copy();
+    assert!(rt; copy == read);
+    assert_eq!(rt; copy.text(), text);
+    copy.as_integer()
+}
+
+#[test]
+fn known_texts_are_not_cut_again(rt: HostRuntime) {
+    assert_eq!(rt; again(&rt, b"-5N"), Some(-5));
+    assert_eq!(rt; again(&rt, b"+0"), Some(0));
+    assert_eq!(rt; again(&rt, b"-9223372036854775808"), Some(i64::MIN));
+    assert_eq!(rt; again(&rt, b":5"), None);
+    assert_eq!(rt; again(&rt, b"\"5\""), None);
+    assert_eq!(rt; again(&rt, b"\"\\n\""), None);
+    assert_eq!(rt; again(&rt, b"-"), None);
+    assert_eq!(rt; again(&rt, b"+x"), None);
+    assert_eq!(rt; again(&rt, b"."), None);
+}
