@@ -3,7 +3,7 @@ use Rattle.std.proofs.Common.{◌≡◌, inl, inr, ℕ, suc, List, [], ◌∷◌
 use Rattle.std.specs.Prelude.{◌==◌}
 use Rattle.std.specs.Option.{option_map, unwrap_or, is_some}
 use Rattle.std.proofs.lemmas.Bool.{true≢false, false_from_ne_true}
-use Rattle.hist_types.specs.Reading.{decoded}
+use Rattle.hist_types.specs.AtomTokens.{decoded}
 use Rattle.memchr.specs.Find.{Passes, Nowhere, is_byte}
 use Rattle.op_view.specs.Decoding.{has_content, content_of, BeginsWithByte, HasNoByte}
 

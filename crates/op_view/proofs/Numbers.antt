@@ -17,7 +17,7 @@ use Rattle.std.proofs.lemmas.Str.Parse.{IsNumeralModel, numerals_by_value, tells
 use Rattle.std.specs.Str.Parse.{digits_value}
 use Rattle.hist_types.specs.Bytes.{letter_n, plus, minus}
 use Rattle.hist_types.specs.Tokens.{is_int, is_whole, is_sign, without_n}
-use Rattle.hist_types.specs.Reading.{int_value, is_64_bit}
+use Rattle.hist_types.specs.AtomTokens.{int_value, is_64_bit}
 
 or_parts : (a b : Bool) → (a || b) ≡ false → (a ≡ false) × (b ≡ false)
 or_parts true b h = absurd (true≢false h)

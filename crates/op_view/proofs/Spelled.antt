@@ -2,7 +2,7 @@
 use Rattle.std.proofs.Common.{◌≡◌, ℕ, List, Option, Some, None, refl, sym, ◌∙◌, subst}
 use Rattle.std.specs.Option.{MatchOption, IsSome}
 use Rattle.hist_types.specs.Atoms.{Atom}
-use Rattle.hist_types.specs.Reading.{atom_of_token}
+use Rattle.hist_types.specs.AtomTokens.{atom_of_token}
 use Rattle.hist_types.specs.Tokens.{ItemKind}
 use Rattle.op_view.specs.declared.spelling.Spelling.{Spelling}
 use Rattle.op_view.specs.AtomTexts.{IsToken, IsTokenOf, IsTextOf}

@@ -1,7 +1,7 @@
 -- Texts that are one atom.
 use Rattle.std.specs.Prelude.{◌≡◌, ℕ, ℤ, List, [], ◌∷◌, Option, Some, None}
 use Rattle.hist_types.specs.Atoms.{Atom, integer}
-use Rattle.hist_types.specs.Reading.{atom_of_token}
+use Rattle.hist_types.specs.AtomTokens.{atom_of_token}
 use Rattle.hist_types.specs.Tokens.{Item, ItemKind, HasTokens}
 
 -- the token that takes up a whole text

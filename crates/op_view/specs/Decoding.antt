@@ -1,7 +1,7 @@
 -- The content of a string, byte by byte.
 use Rattle.std.specs.Prelude.{◌≡◌, ◌⊎◌, ℕ, List, [], ◌∷◌, ◌<◌, length, Bool, false, None, option_map, is_some}
 use Rattle.std.specs.Option.{unwrap_or}
-use Rattle.hist_types.specs.Reading.{decoded}
+use Rattle.hist_types.specs.AtomTokens.{decoded}
 
 -- what stands between quotes has a content
 abbrev pub has_content : List ℕ → Bool

@@ -1,7 +1,7 @@
 -- How atoms are spelled.
 use Rattle.std.specs.Prelude.{◌≡◌, ℕ, List, Some}
 use Rattle.hist_types.specs.Atoms.{Atom, integer, keyword, string, symbol}
-use Rattle.hist_types.specs.Reading.{atom_of_token, between_quotes}
+use Rattle.hist_types.specs.AtomTokens.{atom_of_token, between_quotes}
 use Rattle.hist_types.specs.Tokens.{ItemKind, Int, Keyword, Symbol, Str}
 use Rattle.op_view.specs.Decoding.{content_of}
 use Rattle.op_view.specs.declared.spelling.Spelling.{Spelling}

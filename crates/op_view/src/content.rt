@@ -3,7 +3,7 @@
 ghost use Rattle.std.specs.Prelude.{◌≡◌, true, List, MatchOption, fold};
 ghost use Rattle.std.specs.Cmp.Lexicographic.{slice_cmp};
 ghost use Rattle.std.specs.Ordering.{nat_cmp};
-ghost use Rattle.hist_types.specs.Reading.{escape_value as value_of_escape, between_quotes as bytes_between_quotes};
+ghost use Rattle.hist_types.specs.AtomTokens.{escape_value as value_of_escape, between_quotes as bytes_between_quotes};
 ghost use Rattle.op_view.specs.Decoding.{has_content, content_of, BeginsWithByte, HasNoByte};
 ghost use Rattle.op_view.specs.Hashing.{content_writes};
 

@@ -2,7 +2,7 @@
 
 ghost use Rattle.std.specs.Prelude.{◌≡◌, true, None, cond, Some, Option, MatchOption, false, ℕ, List};
 ghost use Rattle.hist_types.specs.Atoms.{rank as rank_of_atom};
-ghost use Rattle.hist_types.specs.Reading.{int_value, is_64_bit, atom_of_token, between_quotes as bytes_between_quotes};
+ghost use Rattle.hist_types.specs.AtomTokens.{int_value, is_64_bit, atom_of_token, between_quotes as bytes_between_quotes};
 ghost use Rattle.hist_types.specs.Tokens.{without_n as before_n, is_int, Str};
 ghost use Rattle.edn_lex.specs.Kinds.{kind_of};
 ghost use Rattle.op_view.specs.AtomTexts.{IsToken};

@@ -1,7 +1,7 @@
 use Rattle.std.proofs.Common.{◌≡◌, List, ℕ, Some, false, refl, ap, subst}
 use Rattle.std.specs.Option.{option_map}
 use Rattle.hist_types.specs.Atoms.{string}
-use Rattle.hist_types.specs.Reading.{decoded}
+use Rattle.hist_types.specs.AtomTokens.{decoded}
 use Rattle.op_view.proofs.Contents.{plain_content}
 use Rattle.op_view.proofs.spelling.string_spelling.Goals as goal
 

@@ -1,5 +1,5 @@
 use Rattle.std.proofs.Common.{◌≡◌, ◌∙◌, Some, sym, subst}
-use Rattle.hist_types.specs.Reading.{atom_of_token}
+use Rattle.hist_types.specs.AtomTokens.{atom_of_token}
 use Rattle.hist_types.specs.Tokens.{ItemKind}
 use Rattle.edn_lex.specs.Kinds.{kind_of}
 use Rattle.op_view.specs.AtomTexts.{IsToken}

@@ -1,6 +1,6 @@
 use Rattle.std.proofs.Common.{◌≡◌, Some, None, sym, subst, ◌∙◌, Option}
 use Rattle.hist_types.specs.Atoms.{Atom}
-use Rattle.hist_types.specs.Reading.{atom_of_token}
+use Rattle.hist_types.specs.AtomTokens.{atom_of_token}
 use Rattle.hist_types.specs.Tokens.{ItemKind}
 use Rattle.edn_lex.specs.Kinds.{kind_of}
 use Rattle.op_view.proofs.Tokens.{one_kind}
