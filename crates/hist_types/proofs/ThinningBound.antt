@@ -2,7 +2,7 @@
 use Rattle.std.proofs.Common.{◌≡◌, ◌⊎◌, inl, inr, ℕ, ◌+◌, ◌<◌, ◌≤◌, List, [], ◌∷◌, length, Bool, true, false, ◌&&◌, ◌==◌, nat_le, nat_lt, cond, if◌then◌else◌, Option, Some, None, map, flat_map, filter, count_by, refl, sym, ◌∙◌, ap, subst, arith}
 use Rattle.std.specs.List.{AllByRecursion, list_any}
 use Rattle.std.specs.Option.{option_map_or}
-use Rattle.std.proofs.lemmas.Bool.{false≢true, and_parts, and_from, cases_Bool, cases_lt, cases_order, eqb-true, eqb-false, eq-eqb, le-leb, leb-true, lt-ltb, ltb-true}
+use Rattle.std.proofs.lemmas.Bool.{false_from_ne_true, false≢true, and_parts, and_from, cases_Bool, cases_lt, cases_order, eqb-true, eqb-false, eq-eqb, le-leb, leb-true, lt-ltb, ltb-true}
 use Rattle.std.proofs.lemmas.List.{length-map}
 use Rattle.std.proofs.lemmas.List.Sums.{length-filter}
 use Rattle.hist_types.specs.Journal.{is_invoke}
@@ -16,18 +16,18 @@ use Rattle.hist_types.specs.declared.types.Level.TheVariants.{Plain, Process, Re
 use Rattle.hist_types.proofs.Members.{In, in_mapped, in_map, in_some, in_filter}
 use Rattle.hist_types.proofs.ThinningTimes.{AreTimed, AreSequential, timed_from, invocation_by, transactions_timed, transactions_sequential}
 use Rattle.hist_types.proofs.ThinningPaths.{any_passes, some_passes, Ordered, ended_before, before_from_ended, ordered_from_label}
-use Rattle.hist_types.proofs.ThinningWalks.{count-cons, count-append, count_yes, count_no, count_none}
+use Rattle.hist_types.proofs.ThinningWalks.{one_if, count-cons, count-append, count_yes, count_no, count_none}
 
 -- ---- counts
-
-abbrev pub one_if : Bool → ℕ
-one_if b = cond b 1 0
 
 one_at_most : (b : Bool) → one_if b ≤ 1
 one_at_most true = omega arith
 one_at_most false = omega arith
 
-pub count_fewer : {X : Type 0} (p q : X → Bool) (xs : List X) → ((x : X) → In x xs → p x ≡ true → q x ≡ true) → count_by p xs ≤ count_by q xs
+pub count_fewer :
+    {X : Type 0} (p q : X → Bool) (xs : List X)
+    → ((x : X) → In x xs → p x ≡ true → q x ≡ true)
+    → count_by p xs ≤ count_by q xs
 count_fewer p q [] fewer = omega arith
 count_fewer p q (x ∷ xs) fewer =
     let rest = count_fewer p q xs (λ y i. fewer y (inr i)) in
@@ -40,25 +40,30 @@ pub count_filtered : {X : Type 0} (p q : X → Bool) (xs : List X) → count_by 
 count_filtered p q [] = omega arith
 count_filtered p q (x ∷ xs) = by (q x) (count_filtered p q xs)
   where
-    by : (kept : Bool) → count_by p (filter q xs) ≤ count_by p xs → count_by p (cond kept (x ∷ filter q xs) (filter q xs)) ≤ count_by p (x ∷ xs)
+    by :
+        (kept : Bool)
+        → count_by p (filter q xs) ≤ count_by p xs
+        → count_by p (cond kept (x ∷ filter q xs) (filter q xs)) ≤ count_by p (x ∷ xs)
     by true rest = omega (arith, rest, count-cons p x xs, count-cons p x (filter q xs))
     by false rest = omega (arith, rest, count-cons p x xs)
 
 -- what is given for each passes no more often than that passes
-count_given : {X Y : Type 0} (p : Y → Bool) (f : X → List Y) (q : X → Bool) (xs : List X) → ((x : X) → In x xs → count_by p (f x) ≤ one_if (q x)) → count_by p (flat_map f xs) ≤ count_by q xs
+count_given :
+    {X Y : Type 0} (p : Y → Bool) (f : X → List Y) (q : X → Bool) (xs : List X)
+    → ((x : X) → In x xs → count_by p (f x) ≤ one_if (q x))
+    → count_by p (flat_map f xs) ≤ count_by q xs
 count_given p f q [] each = omega arith
 count_given p f q (x ∷ xs) each =
     let here = each x (inl refl) in
     let rest = count_given p f q xs (λ y i. each y (inr i)) in
     omega (arith, here, rest, count-append p (f x) (flat_map f xs), count-cons q x xs)
 
-none_by_members : {X : Type 0} (p : X → Bool) (xs : List X) → ((x : X) → In x xs → ¬ (p x ≡ true)) → AllByRecursion (λ x. p x ≡ false) xs
+none_by_members :
+    {X : Type 0} (p : X → Bool) (xs : List X)
+    → ((x : X) → In x xs → ¬ (p x ≡ true))
+    → AllByRecursion (λ x. p x ≡ false) xs
 none_by_members p [] none = tt
-none_by_members p (x ∷ xs) none = (told (p x) (none x (inl refl)), none_by_members p xs (λ y i. none y (inr i)))
-  where
-    told : (b : Bool) → ¬ (b ≡ true) → b ≡ false
-    told true never = elim (never refl) [ ]
-    told false never = refl
+none_by_members p (x ∷ xs) none = (false_from_ne_true (p x) (none x (inl refl)), none_by_members p xs (λ y i. none y (inr i)))
 
 -- ---- the last to begin
 
@@ -68,7 +73,9 @@ record IsLast (p : Transaction → Bool) (ts : List Transaction) (v : Transactio
   passes : p v ≡ true
   last : (t : Transaction) → In t ts → p t ≡ true → t.invocation ≤ v.invocation
 
-last_of : (p : Transaction → Bool) (ts : List Transaction) → ((t : Transaction) → In t ts → ¬ (p t ≡ true)) ⊎ ((v : Transaction) × IsLast p ts v)
+last_of :
+    (p : Transaction → Bool) (ts : List Transaction)
+    → ((t : Transaction) → In t ts → ¬ (p t ≡ true)) ⊎ ((v : Transaction) × IsLast p ts v)
 last_of p [] = inl (λ t i e. elim i [ ])
 last_of p (t ∷ ts) = elim (cases_Bool (p t)) [
   | inr fails ↦ without fails (last_of p ts)
@@ -78,7 +85,10 @@ last_of p (t ∷ ts) = elim (cases_Bool (p t)) [
     not_both : {A : Type 0} → p t ≡ false → (u : Transaction) → t ≡ u → p u ≡ true → A
     not_both fails u same e = absurd (false≢true (sym fails ∙ (ap p same ∙ e)))
 
-    without : p t ≡ false → ((u : Transaction) → In u ts → ¬ (p u ≡ true)) ⊎ ((v : Transaction) × IsLast p ts v) → ((u : Transaction) → In u (t ∷ ts) → ¬ (p u ≡ true)) ⊎ ((v : Transaction) × IsLast p (t ∷ ts) v)
+    without :
+        p t ≡ false
+        → ((u : Transaction) → In u ts → ¬ (p u ≡ true)) ⊎ ((v : Transaction) × IsLast p ts v)
+        → ((u : Transaction) → In u (t ∷ ts) → ¬ (p u ≡ true)) ⊎ ((v : Transaction) × IsLast p (t ∷ ts) v)
     without fails (inl none) = inl (λ u i e. elim i [ inl same ↦ not_both fails u same e | inr j ↦ none u j e ])
     without fails (inr found) =
         inr (
@@ -90,7 +100,10 @@ last_of p (t ∷ ts) = elim (cases_Bool (p t)) [
           },
         )
 
-    with_it : p t ≡ true → ((u : Transaction) → In u ts → ¬ (p u ≡ true)) ⊎ ((v : Transaction) × IsLast p ts v) → ((u : Transaction) → In u (t ∷ ts) → ¬ (p u ≡ true)) ⊎ ((v : Transaction) × IsLast p (t ∷ ts) v)
+    with_it :
+        p t ≡ true
+        → ((u : Transaction) → In u ts → ¬ (p u ≡ true)) ⊎ ((v : Transaction) × IsLast p ts v)
+        → ((u : Transaction) → In u (t ∷ ts) → ¬ (p u ≡ true)) ⊎ ((v : Transaction) × IsLast p (t ∷ ts) v)
     with_it passes (inl none) =
         inr (
           t,
@@ -138,19 +151,29 @@ at_most_greatest n (m ∷ ns) (inl same) = omega arith
 at_most_greatest n (m ∷ ns) (inr i) = let rest = at_most_greatest n ns i in omega arith
 
 -- begun by then, and open at a later index
-open_earlier : (t : Transaction) (n index : ℕ) → t.invocation ≤ n → n ≤ index → is_open_at index t ≡ true → is_open_at n t ≡ true
+open_earlier :
+    (t : Transaction) (n index : ℕ)
+    → t.invocation ≤ n
+    → n ≤ index
+    → is_open_at index t ≡ true
+    → is_open_at n t ≡ true
 open_earlier t n index begun earlier e =
     and_from (nat_le t.invocation n) (option_map_or (λ c. nat_lt n c) t.completion true) (le-leb t.invocation n begun)
     (by t.completion (and_parts (nat_le t.invocation index) (option_map_or (λ c. nat_lt index c) t.completion true) e).1)
   where
-    by : (completion : Option ℕ) → option_map_or (λ c. nat_lt index c) completion true ≡ true → option_map_or (λ c. nat_lt n c) completion true ≡ true
+    by :
+        (completion : Option ℕ)
+        → option_map_or (λ c. nat_lt index c) completion true ≡ true
+        → option_map_or (λ c. nat_lt n c) completion true ≡ true
     by None e = refl
     by (Some c) e = let later = ltb-true index c e in lt-ltb n c (omega (arith, later))
 
 pub open_at_most : (ts : List Transaction) (index : ℕ) → open_at index ts ≤ most_open ts
 open_at_most ts index = by (last_of (is_open_at index) ts)
   where
-    by : ((t : Transaction) → In t ts → ¬ (is_open_at index t ≡ true)) ⊎ ((v : Transaction) × IsLast (is_open_at index) ts v) → open_at index ts ≤ most_open ts
+    by :
+        ((t : Transaction) → In t ts → ¬ (is_open_at index t ≡ true)) ⊎ ((v : Transaction) × IsLast (is_open_at index) ts v)
+        → open_at index ts ≤ most_open ts
     by (inl none) = let n = count_none (is_open_at index) ts (none_by_members (is_open_at index) ts none) in omega (arith, n)
     by (inr found) =
         let v : Transaction = found.0 in
@@ -180,7 +203,10 @@ unless_same : (same : Bool) (es : List Edge) (e : Edge) → In e (if same then [
 unless_same true es e i = elim i [ ]
 unless_same false es e i = i
 
-ends_of_edge : (f : Transaction → Transaction → List Label) (t u : Transaction) (e : Edge) → In e (edges_from_to f t u) → (label : Label) × In label (f t u) × (edge t u label ≡ e)
+ends_of_edge :
+    (f : Transaction → Transaction → List Label) (t u : Transaction) (e : Edge)
+    → In e (edges_from_to f t u)
+    → (label : Label) × In label (f t u) × (edge t u label ≡ e)
 ends_of_edge f t u e i = in_map (edge t u) e (f t u) (unless_same (t.invocation == u.invocation) (map (edge t u) (f t u)) e i)
 
 -- an edge of t that leads there has a node at its end
@@ -189,14 +215,17 @@ record LeadsThere (f : Transaction → Transaction → List Label) (ns : List Tr
   there : u.invocation ≡ to
   labelled : In label (f t u)
 
-end_of : (f : Transaction → Transaction → List Label) (ns : List Transaction) (to : ℕ) (t : Transaction) → list_any (leads_to to) (edges_from f ns t) ≡ true → (u : Transaction) × (label : Label) × LeadsThere f ns to t u label
+end_of :
+    (f : Transaction → Transaction → List Label) (ns : List Transaction) (to : ℕ) (t : Transaction)
+    → list_any (leads_to to) (edges_from f ns t) ≡ true
+    → (u : Transaction) × (label : Label) × LeadsThere f ns to t u label
 end_of f ns to t e =
     let (d, i, leads) = some_passes (leads_to to) (edges_from f ns t) e in
     let (u, member, j) = in_some (edges_from_to f t) d ns i in
     let (label, labelled, is) = ends_of_edge f t u d j in
     (u, label, record { member = member; there = ap (λ (e : Edge). e.to) is ∙ eqb-true d.to to leads; labelled = labelled })
 
--- where each pair has a label at most, a transaction has an edge at most to one that stands once
+-- where each pair has at most one label, a transaction has at most one edge to another
 abbrev HasOneLabel : (Transaction → Transaction → List Label) → Type 0
 HasOneLabel f = (t u : Transaction) → length (f t u) ≤ 1
 
@@ -217,7 +246,12 @@ one_edge_to f ns to t one single =
     short true u = omega arith
     short false u = let n = length-map (f t u) (edge t u) in omega (arith, n, one t u)
 
-    no_other : (u : Transaction) → (u.invocation == to) ≡ false → (e : Edge) → In e (edges_from_to f t u) → ¬ (leads_to to e ≡ true)
+    no_other :
+        (u : Transaction)
+        → (u.invocation == to) ≡ false
+        → (e : Edge)
+        → In e (edges_from_to f t u)
+        → ¬ (leads_to to e ≡ true)
     no_other u elsewhere e i leads =
         let (label, labelled, is) = ends_of_edge f t u e i in
         eqb-false u.invocation to elsewhere (ap (λ (e : Edge). e.to) is ∙ eqb-true e.to to leads)
@@ -251,9 +285,11 @@ edges_at_most f ns to q one single pass = count_given (leads_to to) (edges_from 
           omega (arith, n)
     ]
 
--- ---- each invocation stands once
+-- ---- no two transactions share an invocation
 
-single_from : (index : ℕ) (events : List Operation) (n : ℕ) → count_by (λ (t : Transaction). t.invocation == n) (transactions_from index events) ≤ 1
+single_from :
+    (index : ℕ) (events : List Operation) (n : ℕ)
+    → count_by (λ (t : Transaction). t.invocation == n) (transactions_from index events) ≤ 1
 single_from index [] n = omega arith
 single_from index (event ∷ events) n = by (is_invoke event.kind) (single_from (index + 1) events n)
   where
@@ -270,7 +306,10 @@ single_from index (event ∷ events) n = by (is_invoke event.kind) (single_from 
         let here : first.invocation ≡ index = invocation_by index event (completion_in event.process (index + 1) events) in
         omega arith
 
-    by : (invokes : Bool) → count_by (λ (t : Transaction). t.invocation == n) ts ≤ 1 → count_by (λ (t : Transaction). t.invocation == n) (if invokes then first ∷ ts else ts) ≤ 1
+    by :
+        (invokes : Bool)
+        → count_by (λ (t : Transaction). t.invocation == n) ts ≤ 1
+        → count_by (λ (t : Transaction). t.invocation == n) (if invokes then first ∷ ts else ts) ≤ 1
     by false rest = rest
     by true rest = elim (cases_Bool (first.invocation == n)) [
       | inl here ↦
@@ -282,7 +321,10 @@ single_from index (event ∷ events) n = by (is_invoke event.kind) (single_from 
 
 -- ---- what is thinned
 
-unless : {X : Type 0} (between : Bool) (xs : List X) (x : X) → In x (if between then [] else xs) → (between ≡ false) × In x xs
+unless :
+    {X : Type 0} (between : Bool) (xs : List X) (x : X)
+    → In x (if between then [] else xs)
+    → (between ≡ false) × In x xs
 unless true xs x i = elim i [ ]
 unless false xs x i = (refl, i)
 
@@ -302,7 +344,10 @@ one_thinned_label level ts t u = left (has_between level ts t u) (one level)
     one Process = one_of (is_before t u && same_process t u) (process t.process ∷ []) (omega arith)
     one Realtime = one_of (is_before t u) (realtime_label t.completion u.invocation) (one_realtime t.completion)
 
-    left : (between : Bool) → length (order_labels level t u) ≤ 1 → length (if between then [] else order_labels level t u) ≤ 1
+    left :
+        (between : Bool)
+        → length (order_labels level t u) ≤ 1
+        → length (if between then [] else order_labels level t u) ≤ 1
     left true n = omega arith
     left false n = n
 
@@ -311,7 +356,10 @@ record IsThinned (level : Level) (ts : List Transaction) (t u : Transaction) : T
   ordered : Ordered level t u
   alone : (v : Transaction) → In v ts → Ordered level t v → ¬ (Ordered level v u)
 
-thinned_from_label : (level : Level) (ts : List Transaction) (t u : Transaction) (label : Label) → In label (thinned_labels level ts t u) → IsThinned level ts t u
+thinned_from_label :
+    (level : Level) (ts : List Transaction) (t u : Transaction) (label : Label)
+    → In label (thinned_labels level ts t u)
+    → IsThinned level ts t u
 thinned_from_label level ts t u label i =
     let kept = unless (has_between level ts t u) (order_labels level t u) label i in
     record {
@@ -332,7 +380,11 @@ record AreSome (ts ns : List Transaction) : Type 0 where
 abbrev has_thinned_to : Level → List Transaction → List Transaction → ℕ → Transaction → Bool
 has_thinned_to level ts ns to t = list_any (leads_to to) (edges_from (thinned_labels level ts) ns t)
 
-same_end : (level : Level) (v u w : Transaction) → w.invocation ≡ u.invocation → is_before v w ≡ true → is_before v u ≡ true
+same_end :
+    (level : Level) (v u w : Transaction)
+    → w.invocation ≡ u.invocation
+    → is_before v w ≡ true
+    → is_before v u ≡ true
 same_end level v u w same e =
     let (d, before) = ended_before v w e in
     before_from_ended v u d (record { ok = before.ok; ended = before.ended; before = subst (λ n. d < n) same before.before })
@@ -402,7 +454,9 @@ few_edges level ts ns to most q some bound pass =
     let m = length-filter (leads_to to) es in
     omega (arith, n, m, by (last_of (has_thinned_to level ts ns to) ns))
   where
-    by : ((t : Transaction) → In t ns → ¬ (has_thinned_to level ts ns to t ≡ true)) ⊎ ((v : Transaction) × IsLast (has_thinned_to level ts ns to) ns v) → count_by (leads_to to) (thinned_edges_between level ts ns) ≤ most
+    by :
+        ((t : Transaction) → In t ns → ¬ (has_thinned_to level ts ns to t ≡ true)) ⊎ ((v : Transaction) × IsLast (has_thinned_to level ts ns to) ns v)
+        → count_by (leads_to to) (thinned_edges_between level ts ns) ≤ most
     by (inl none) =
         let given = edges_at_most (thinned_labels level ts) ns to (λ t. false) (one_thinned_label level ts) some.single (λ t i e. absurd (none t i e)) in
         let nothing = count_none (λ (t : Transaction). false) ns (none_by_members (λ (t : Transaction). false) ns (λ t i e. false≢true e)) in
@@ -412,12 +466,19 @@ few_edges level ts ns to most q some bound pass =
         let given = edges_at_most (thinned_labels level ts) ns to (q v) (one_thinned_label level ts) some.single (λ t i e. pass t v i found.1.member (found.1.last t i e) e found.1.passes) in
         omega (arith, given, bound v found.1.member)
 
-few_realtime : (ts ns : List Transaction) (to : ℕ) → AreSome ts ns → ((p : Transaction → Bool) → count_by p ns ≤ count_by p ts) → length (predecessors to (thinned_edges_between Realtime ts ns)) ≤ most_open ts
+few_realtime :
+    (ts ns : List Transaction) (to : ℕ)
+    → AreSome ts ns
+    → ((p : Transaction → Bool) → count_by p ns ≤ count_by p ts)
+    → length (predecessors to (thinned_edges_between Realtime ts ns)) ≤ most_open ts
 few_realtime ts ns to some fewer =
     few_edges Realtime ts ns to (most_open ts) (λ v t. is_open_at v.invocation t) some
     (λ v i. omega (arith, fewer (is_open_at v.invocation), open_at_most ts v.invocation)) (λ t v. still_open ts ns to t v some)
 
-one_process : (ts ns : List Transaction) (to : ℕ) → AreSome ts ns → length (predecessors to (thinned_edges_between Process ts ns)) ≤ 1
+one_process :
+    (ts ns : List Transaction) (to : ℕ)
+    → AreSome ts ns
+    → length (predecessors to (thinned_edges_between Process ts ns)) ≤ 1
 one_process ts ns to some =
     few_edges Process ts ns to 1 (λ v t. t.invocation == v.invocation) some (λ v i. some.single v.invocation) (λ t v. same_one ts ns to t v some)
 
@@ -438,16 +499,24 @@ nodes_some events =
       single = λ n. omega (arith, single_from 0 events n, count_filtered (λ (t : Transaction). t.invocation == n) (is_node ts) ts);
     }
 
-pub few_all : (events : List Operation) (to : ℕ) → length (predecessors to (all_thinned_edges Realtime (transactions_of events))) ≤ most_open (transactions_of events)
+pub few_all :
+    (events : List Operation) (to : ℕ)
+    → length (predecessors to (all_thinned_edges Realtime (transactions_of events))) ≤ most_open (transactions_of events)
 few_all events to = few_realtime (transactions_of events) (transactions_of events) to (all_some events) (λ p. omega arith)
 
-pub few_nodes : (events : List Operation) (to : ℕ) → length (predecessors to (thinned_edges Realtime (transactions_of events))) ≤ most_open (transactions_of events)
+pub few_nodes :
+    (events : List Operation) (to : ℕ)
+    → length (predecessors to (thinned_edges Realtime (transactions_of events))) ≤ most_open (transactions_of events)
 few_nodes events to =
     let ts : List Transaction = transactions_of events in
     few_realtime ts (nodes ts) to (nodes_some events) (λ p. count_filtered p (is_node ts) ts)
 
-pub one_all : (events : List Operation) (to : ℕ) → length (predecessors to (all_thinned_edges Process (transactions_of events))) ≤ 1
+pub one_all :
+    (events : List Operation) (to : ℕ)
+    → length (predecessors to (all_thinned_edges Process (transactions_of events))) ≤ 1
 one_all events to = one_process (transactions_of events) (transactions_of events) to (all_some events)
 
-pub one_nodes : (events : List Operation) (to : ℕ) → length (predecessors to (thinned_edges Process (transactions_of events))) ≤ 1
+pub one_nodes :
+    (events : List Operation) (to : ℕ)
+    → length (predecessors to (thinned_edges Process (transactions_of events))) ≤ 1
 one_nodes events to = one_process (transactions_of events) (nodes (transactions_of events)) to (nodes_some events)

@@ -19,7 +19,11 @@ use Rattle.hist_types.proofs.ThinningWalks.{AreReplaced, alike, carry_over, has_
 
 -- ---- levels
 
-rises : (lower higher : Level) (t u : Transaction) → height lower ≤ height higher → Ordered lower t u → Ordered higher t u
+rises :
+    (lower higher : Level) (t u : Transaction)
+    → height lower ≤ height higher
+    → Ordered lower t u
+    → Ordered higher t u
 rises Plain higher t u up e = elim (false≢true e) [ ]
 rises Process Plain t u up e = absurd (omega (arith, up))
 rises Process Process t u up e = e
@@ -68,7 +72,11 @@ pub carried_up :
 carried_up lower higher ns ds up =
     carry_over (ds ++ order_edges_between lower ns) (ds ++ order_edges_between higher ns) (has_twins lower higher ns ds up)
 
-pub has_above : (phenomenon : Phenomenon) (lower higher : Level) (ts : List Transaction) → height lower ≤ height higher → Has phenomenon lower ts → Has phenomenon higher ts
+pub has_above :
+    (phenomenon : Phenomenon) (lower higher : Level) (ts : List Transaction)
+    → height lower ≤ height higher
+    → Has phenomenon lower ts
+    → Has phenomenon higher ts
 has_above phenomenon lower higher ts up h =
     (has_over phenomenon higher ts).1
     (has_carried phenomenon (edges_at lower ts) (edges_at higher ts) (carried_up lower higher (nodes ts) (dependency_edges ts) up) ((has_over phenomenon lower ts).0 h))
@@ -79,7 +87,10 @@ record IsAbout (p : Edge → Bool) (walk front : List Edge) (e : Edge) (back : L
   is : walk ≡ front ++ e ∷ back
   passes : p e ≡ true
 
-about_one : (p : Edge → Bool) (walk : List Edge) → list_any p walk ≡ true → (front : List Edge) × (e : Edge) × (back : List Edge) × IsAbout p walk front e back
+about_one :
+    (p : Edge → Bool) (walk : List Edge)
+    → list_any p walk ≡ true
+    → (front : List Edge) × (e : Edge) × (back : List Edge) × IsAbout p walk front e back
 about_one p [] e = elim (false≢true e) [ ]
 about_one p (d ∷ walk) e = elim (or_cases (p d) (list_any p walk) e) [
   | inl here ↦ ([], d, walk, record { is = refl; passes = here })
@@ -88,31 +99,47 @@ about_one p (d ∷ walk) e = elim (or_cases (p d) (list_any p walk) e) [
       (d ∷ front, f, back, record { is = ap (λ es. d ∷ es) about.is; passes = about.passes })
 ]
 
-leads_apart : (from to : ℕ) (front : List Edge) (e : Edge) (back : List Edge) → Leads from (front ++ e ∷ back) to → Leads from front e.from × Leads e.to back to
+leads_apart :
+    (from to : ℕ) (front : List Edge) (e : Edge) (back : List Edge)
+    → Leads from (front ++ e ∷ back) to
+    → Leads from front e.from × Leads e.to back to
 leads_apart from to [] e back l = (sym l.0, l.1)
 leads_apart from to (d ∷ front) e back l =
     let rest = leads_apart d.to to front e back l.1 in
     ((l.0, rest.0), rest.1)
 
-pub all_apart : {X : Type 0} (P : X → Type 0) (xs ys : List X) → AllByRecursion P (xs ++ ys) → AllByRecursion P xs × AllByRecursion P ys
+pub all_apart :
+    {X : Type 0} (P : X → Type 0) (xs ys : List X)
+    → AllByRecursion P (xs ++ ys)
+    → AllByRecursion P xs × AllByRecursion P ys
 all_apart P [] ys all = (tt, all)
 all_apart P (x ∷ xs) ys all = let rest = all_apart P xs ys all.1 in ((all.0, rest.0), rest.1)
 
-passes_apart : (p : Edge → Bool) (xs ys : List Edge) → list_all p (xs ++ ys) ≡ true → (list_all p xs ≡ true) × (list_all p ys ≡ true)
+passes_apart :
+    (p : Edge → Bool) (xs ys : List Edge)
+    → list_all p (xs ++ ys) ≡ true
+    → (list_all p xs ≡ true) × (list_all p ys ≡ true)
 passes_apart p [] ys e = (refl, e)
 passes_apart p (x ∷ xs) ys e =
     let both = and_parts (p x) (list_all p (xs ++ ys)) e in
     let rest = passes_apart p xs ys both.1 in
     (and_from (p x) (list_all p xs) both.0 rest.0, rest.1)
 
-passes_both : (p : Edge → Bool) (xs ys : List Edge) → list_all p xs ≡ true → list_all p ys ≡ true → list_all p (xs ++ ys) ≡ true
+passes_both :
+    (p : Edge → Bool) (xs ys : List Edge)
+    → list_all p xs ≡ true
+    → list_all p ys ≡ true
+    → list_all p (xs ++ ys) ≡ true
 passes_both p [] ys e f = f
 passes_both p (x ∷ xs) ys e f =
     let both = and_parts (p x) (list_all p xs) e in
     and_from (p x) (list_all p (xs ++ ys)) both.0 (passes_both p xs ys both.1 f)
 
--- the rest of the walk passes, told from the edge on
-turned : (p : Edge → Bool) (front : List Edge) (e : Edge) (back : List Edge) → list_all p (front ++ e ∷ back) ≡ true → list_all p (back ++ front) ≡ true
+-- the rest of the walk passes, from the edge on and round to it
+turned :
+    (p : Edge → Bool) (front : List Edge) (e : Edge) (back : List Edge)
+    → list_all p (front ++ e ∷ back) ≡ true
+    → list_all p (back ++ front) ≡ true
 turned p front e back all =
     let apart = passes_apart p front (e ∷ back) all in
     passes_both p back front (and_parts (p e) (list_all p back) apart.1).1 apart.0
@@ -121,8 +148,12 @@ all_pass : (xs : List Edge) → list_all (λ e. true) xs ≡ true
 all_pass [] = refl
 all_pass (x ∷ xs) = all_pass xs
 
--- where one edge of the kind stands in the walk, and e is one, none stands in the rest
-only_one : (front : List Edge) (e : Edge) (back : List Edge) → count_by is_rw (front ++ e ∷ back) ≡ 1 → is_rw e ≡ true → list_all (λ e. not (is_rw e)) (back ++ front) ≡ true
+-- where the walk has one rw edge, and e is it, the rest has none
+only_one :
+    (front : List Edge) (e : Edge) (back : List Edge)
+    → count_by is_rw (front ++ e ∷ back) ≡ 1
+    → is_rw e ≡ true
+    → list_all (λ e. not (is_rw e)) (back ++ front) ≡ true
 only_one front e back one is =
     let n = count-append is_rw front (e ∷ back) in
     let m = count_yes is_rw e back is in
@@ -144,7 +175,10 @@ rest_leads_back G1c front e back made is =
 rest_leads_back GSingle front e back made is = only_one front e back (eqb-true (count_by is_rw (front ++ e ∷ back)) 1 made) is
 rest_leads_back G2Item front e back made is = all_pass (back ++ front)
 
-some_needed : (phenomenon : Phenomenon) (walk : List Edge) → makes phenomenon walk ≡ true → list_any (is_needed phenomenon) walk ≡ true
+some_needed :
+    (phenomenon : Phenomenon) (walk : List Edge)
+    → makes phenomenon walk ≡ true
+    → list_any (is_needed phenomenon) walk ≡ true
 some_needed G0 walk made = (and_parts (list_all (λ e. is_ww e || is_order e) walk) (list_any is_ww walk) made).1
 some_needed G1c walk made = (and_parts (list_all (λ e. is_ww e || is_wr e || is_order e) walk) (list_any is_wr walk) made).1
 some_needed GSingle walk made = any_counted is_rw walk (let one = eqb-true (count_by is_rw walk) 1 made in omega (arith, one))
@@ -178,7 +212,11 @@ second_holds true b c is = refl
 second_holds false true c is = refl
 second_holds false false c is = elim (false≢true is) [ ]
 
-pub closing_makes : (phenomenon : Phenomenon) (e : Edge) (walk : List Edge) → is_needed phenomenon e ≡ true → list_all (may_lead_back phenomenon) walk ≡ true → makes phenomenon (e ∷ walk) ≡ true
+pub closing_makes :
+    (phenomenon : Phenomenon) (e : Edge) (walk : List Edge)
+    → is_needed phenomenon e ≡ true
+    → list_all (may_lead_back phenomenon) walk ≡ true
+    → makes phenomenon (e ∷ walk) ≡ true
 closing_makes G0 e walk is back =
     and_from (list_all (λ e. is_ww e || is_order e) (e ∷ walk)) (list_any is_ww (e ∷ walk))
     (and_from (is_ww e || is_order e) (list_all (λ e. is_ww e || is_order e) walk) (or_left (is_ww e) (is_order e) is) back) (or_left (is_ww e) (list_any is_ww walk) is)
@@ -205,7 +243,9 @@ one_closes phenomenon es r =
 pub closed_by_one : (phenomenon : Phenomenon) (es : List Edge) → HasOver phenomenon es ↔ HasReturn phenomenon es
 closed_by_one phenomenon es = (returns_to_one phenomenon es, one_closes phenomenon es)
 
-pub at_level : (phenomenon : Phenomenon) (level : Level) (ts : List Transaction) → Has phenomenon level ts ↔ HasReturn phenomenon (edges_at level ts)
+pub at_level :
+    (phenomenon : Phenomenon) (level : Level) (ts : List Transaction)
+    → Has phenomenon level ts ↔ HasReturn phenomenon (edges_at level ts)
 at_level phenomenon level ts =
     let over = has_over phenomenon level ts in
     let one = closed_by_one phenomenon (edges_at level ts) in

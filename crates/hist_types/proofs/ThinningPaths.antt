@@ -65,7 +65,13 @@ before_from_ended t u c h =
     (ap (λ o. option_map_or (λ c. nat_lt c u.invocation) o false) h.ended ∙ lt-ltb c u.invocation h.before)
 
 -- What t completed before is ordered behind it, also by way of a transaction that takes time.
-before_through : (t v w u : Transaction) → ((c : ℕ) → w.completion ≡ Some c → w.invocation < c) → v.invocation ≡ w.invocation → is_before t v ≡ true → is_before w u ≡ true → is_before t u ≡ true
+before_through :
+    (t v w u : Transaction)
+    → ((c : ℕ) → w.completion ≡ Some c → w.invocation < c)
+    → v.invocation ≡ w.invocation
+    → is_before t v ≡ true
+    → is_before w u ≡ true
+    → is_before t u ≡ true
 before_through t v w u later same first second =
     let (c, begun) = ended_before t v first in
     let (d, done) = ended_before w u second in
@@ -74,7 +80,12 @@ before_through t v w u later same first second =
     let m : d < u.invocation = done.before in
     before_from_ended t u c (record { ok = begun.ok; ended = begun.ended; before = omega (arith, same) })
 
-pub ordered_through : (level : Level) (t v u : Transaction) → ((c : ℕ) → v.completion ≡ Some c → v.invocation < c) → Ordered level t v → Ordered level v u → Ordered level t u
+pub ordered_through :
+    (level : Level) (t v u : Transaction)
+    → ((c : ℕ) → v.completion ≡ Some c → v.invocation < c)
+    → Ordered level t v
+    → Ordered level v u
+    → Ordered level t u
 ordered_through Plain t v u later first second = elim (false≢true first) [ ]
 ordered_through Realtime t v u later first second = before_through t v v u later refl first second
 ordered_through Process t v u later first second =
@@ -89,12 +100,18 @@ holds_if : (holds : Bool) (ls : List Label) (label : Label) → In label (if hol
 holds_if true ls label i = refl
 holds_if false ls label i = elim i [ ]
 
-pub ordered_from_label : (level : Level) (t u : Transaction) (label : Label) → In label (order_labels level t u) → Ordered level t u
+pub ordered_from_label :
+    (level : Level) (t u : Transaction) (label : Label)
+    → In label (order_labels level t u)
+    → Ordered level t u
 ordered_from_label Plain t u label i = elim i [ ]
 ordered_from_label Process t u label i = holds_if (is_before t u && same_process t u) (process t.process ∷ []) label i
 ordered_from_label Realtime t u label i = holds_if (is_before t u) (realtime_label t.completion u.invocation) label i
 
-pub label_from_ordered : (level : Level) (t u : Transaction) → Ordered level t u → (label : Label) × In label (order_labels level t u)
+pub label_from_ordered :
+    (level : Level) (t u : Transaction)
+    → Ordered level t u
+    → (label : Label) × In label (order_labels level t u)
 label_from_ordered Plain t u e = elim (false≢true e) [ ]
 label_from_ordered Process t u e = (process t.process, subst (λ b. In (process t.process) (if b then process t.process ∷ [] else [])) (sym e) (inl refl))
 label_from_ordered Realtime t u e =
@@ -104,7 +121,7 @@ label_from_ordered Realtime t u e =
           (subst (λ o. In (realtime c u.invocation) (realtime_label o u.invocation)) (sym h.ended) (inl refl)),
     )
 
--- a transaction's edge to another stands among those between each two
+-- the edge of a label between two different nodes is among those between each two
 pub edge_between :
     (ns : List Transaction) (f : Labels) (t u : Transaction) (label : Label)
     → In t ns
@@ -125,13 +142,19 @@ pub record Ends (ns : List Transaction) (f : Labels) (e : Edge) (t u : Transacti
   pub is : e ≡ edge t u label
   pub labelled : In label (f t u)
 
-pub ends_of : (ns : List Transaction) (f : Labels) (e : Edge) → In e (between_each ns f) → (t u : Transaction) × (label : Label) × Ends ns f e t u label
+pub ends_of :
+    (ns : List Transaction) (f : Labels) (e : Edge)
+    → In e (between_each ns f)
+    → (t u : Transaction) × (label : Label) × Ends ns f e t u label
 ends_of ns f e i =
     let c : Comes ns f e = comes_from ns f e i in
     let found = in_map (edge c.0 c.1) e (f c.0 c.1) c.5 in
     (c.0, c.1, found.0, record { first = c.2; second = c.3; other = eqb-false c.0.invocation c.1.invocation c.4; is = sym found.2; labelled = found.1 })
 
-pub edge_from_ends : (ns : List Transaction) (f : Labels) (e : Edge) (t u : Transaction) (label : Label) → Ends ns f e t u label → In e (between_each ns f)
+pub edge_from_ends :
+    (ns : List Transaction) (f : Labels) (e : Edge) (t u : Transaction) (label : Label)
+    → Ends ns f e t u label
+    → In e (between_each ns f)
 edge_from_ends ns f e t u label ends =
     subst (λ d. In d (between_each ns f)) (sym ends.is) (edge_between ns f t u label ends.first ends.second ends.other ends.labelled)
 
@@ -139,7 +162,10 @@ kept_label : (between : Bool) (ls : List Label) (label : Label) → In label (if
 kept_label true ls label i = elim i [ ]
 kept_label false ls label i = i
 
-pub thinned_in_order : (level : Level) (ts ns : List Transaction) (e : Edge) → In e (thinned_edges_between level ts ns) → In e (order_edges_between level ns)
+pub thinned_in_order :
+    (level : Level) (ts ns : List Transaction) (e : Edge)
+    → In e (thinned_edges_between level ts ns)
+    → In e (order_edges_between level ns)
 thinned_in_order level ts ns e i =
     let (t, u, label, ends) = ends_of ns (thinned_labels level ts) e i in
     edge_from_ends ns (order_labels level) e t u label (record {
@@ -157,11 +183,19 @@ pub record Way (es : List Edge) (from to : ℕ) (path : List Edge) : Type 0 wher
   pub leads : Leads from path to
   pub within : AllByRecursion (λ e. In e es) path
 
-pub leads_on : (from mid to : ℕ) (path further : List Edge) → Leads from path mid → Leads mid further to → Leads from (path ++ further) to
+pub leads_on :
+    (from mid to : ℕ) (path further : List Edge)
+    → Leads from path mid
+    → Leads mid further to
+    → Leads from (path ++ further) to
 leads_on from mid to [] further l m = subst (λ n. Leads n further to) (sym l) m
 leads_on from mid to (e ∷ path) further l m = (l.0, leads_on e.to mid to path further l.1 m)
 
-pub all_of_both : {X : Type 0} (P : X → Type 0) (xs ys : List X) → AllByRecursion P xs → AllByRecursion P ys → AllByRecursion P (xs ++ ys)
+pub all_of_both :
+    {X : Type 0} (P : X → Type 0) (xs ys : List X)
+    → AllByRecursion P xs
+    → AllByRecursion P ys
+    → AllByRecursion P (xs ++ ys)
 all_of_both P [] ys all further = further
 all_of_both P (x ∷ xs) ys all further = (all.0, all_of_both P xs ys all.1 further)
 
@@ -169,7 +203,11 @@ pub not_empty : (path further : List Edge) → ¬ (path ≡ []) → ¬ (path ++ 
 not_empty [] further some e = some refl
 not_empty (f ∷ path) further some e = cc
 
-pub way_on : (es : List Edge) (from mid to : ℕ) (path further : List Edge) → Way es from mid path → Way es mid to further → Way es from to (path ++ further)
+pub way_on :
+    (es : List Edge) (from mid to : ℕ) (path further : List Edge)
+    → Way es from mid path
+    → Way es mid to further
+    → Way es from to (path ++ further)
 way_on es from mid to path further w v = record {
   some = not_empty path further w.some;
   leads = leads_on from mid to path further w.leads v.leads;
@@ -205,7 +243,11 @@ pub record AreNodes (ts ns : List Transaction) : Type 0 where
   pub among : (t : Transaction) → In t ns → In t ts
   pub ok : (t : Transaction) → In t ts → is_ok t ≡ true → In t ns
 
-thinned_unless : (between : Bool) (ls : List Label) (label : Label) → between ≡ false → In label ls → In label (if between then [] else ls)
+thinned_unless :
+    (between : Bool) (ls : List Label) (label : Label)
+    → between ≡ false
+    → In label ls
+    → In label (if between then [] else ls)
 thinned_unless true ls label e i = elim (false≢true (sym e)) [ ]
 thinned_unless false ls label e i = i
 
@@ -322,7 +364,10 @@ order_edge_of level ts ns from to (e ∷ path) nodes w =
 
 -- ---- the law
 
-pub are_nodes : (events : List Operation) (ns : List Transaction) → IncludesAllOk (transactions_of events) ns → AreNodes (transactions_of events) ns
+pub are_nodes :
+    (events : List Operation) (ns : List Transaction)
+    → IncludesAllOk (transactions_of events) ns
+    → AreNodes (transactions_of events) ns
 are_nodes events ns included =
     let ts : List Transaction = transactions_of events in record {
       timed = transactions_timed events;

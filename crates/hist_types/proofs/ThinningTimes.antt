@@ -15,7 +15,9 @@ pub record AreTimed (ts : List Transaction) : Type 0 where
   pub later : (t : Transaction) (c : ℕ) → In t ts → t.completion ≡ Some c → t.invocation < c
   pub apart : (t u : Transaction) → In t ts → In u ts → t.invocation ≡ u.invocation → t ≡ u
 
-pub invocation_by : (index : ℕ) (event : Operation) (found : Option Indexed) → (transaction_by index event found).invocation ≡ index
+pub invocation_by :
+    (index : ℕ) (event : Operation) (found : Option Indexed)
+    → (transaction_by index event found).invocation ≡ index
 invocation_by index event None = refl
 invocation_by index event (Some found) = refl
 
@@ -91,9 +93,18 @@ transactions_timed events = (timed_from 0 events).times
 
 pub record AreSequential (ts : List Transaction) : Type 0 where
   pub other : (t u : Transaction) (c : ℕ) → In t ts → In u ts → t.completion ≡ Some c → ¬ (c ≡ u.invocation)
-  pub in_turn : (t u : Transaction) (c : ℕ) → In t ts → In u ts → t.process ≡ u.process → t.invocation < u.invocation → t.completion ≡ Some c → c < u.invocation
+  pub in_turn :
+      (t u : Transaction) (c : ℕ)
+      → In t ts
+      → In u ts
+      → t.process ≡ u.process
+      → t.invocation < u.invocation
+      → t.completion ≡ Some c
+      → c < u.invocation
 
-process_by : (index : ℕ) (event : Operation) (found : Option Indexed) → (transaction_by index event found).process ≡ event.process
+process_by :
+    (index : ℕ) (event : Operation) (found : Option Indexed)
+    → (transaction_by index event found).process ≡ event.process
 process_by index event None = refl
 process_by index event (Some found) = refl
 
@@ -151,7 +162,11 @@ sequential_more true index event events rest = record { other = other; in_turn =
     ts : List Transaction
     ts = transactions_from (index + 1) events
 
-    elsewhere : (u : Transaction) (c : ℕ) → In u ts → first.completion ≡ Some c → ¬ (c ≡ u.invocation) × (event.process ≡ u.process → c < u.invocation)
+    elsewhere :
+        (u : Transaction) (c : ℕ)
+        → In u ts
+        → first.completion ≡ Some c
+        → ¬ (c ≡ u.invocation) × (event.process ≡ u.process → c < u.invocation)
     elsewhere u c i completion =
         let (by, is, same) = completion_by index event found c completion in
         let e : BeginsElsewhere event.process by u = begins_elsewhere event.process (index + 1) events by u is i in
@@ -160,7 +175,12 @@ sequential_more true index event events rest = record { other = other; in_turn =
     times : AreTimed (first ∷ ts)
     times = (timed_more true index event events ts (timed_from (index + 1) events)).times
 
-    other : (t u : Transaction) (c : ℕ) → In t (first ∷ ts) → In u (first ∷ ts) → t.completion ≡ Some c → ¬ (c ≡ u.invocation)
+    other :
+        (t u : Transaction) (c : ℕ)
+        → In t (first ∷ ts)
+        → In u (first ∷ ts)
+        → t.completion ≡ Some c
+        → ¬ (c ≡ u.invocation)
     other t u c (inl e) (inl f) completion met =
         let later : t.invocation < c = times.later t c (inl e) completion in
         let same : t.invocation ≡ u.invocation = ap (λ (w : Transaction). w.invocation) (sym e ∙ f) in
@@ -176,7 +196,14 @@ sequential_more true index event events rest = record { other = other; in_turn =
         elim none [ ]
     other t u c (inr i) (inr j) completion met = rest.other t u c i j completion met
 
-    in_turn : (t u : Transaction) (c : ℕ) → In t (first ∷ ts) → In u (first ∷ ts) → t.process ≡ u.process → t.invocation < u.invocation → t.completion ≡ Some c → c < u.invocation
+    in_turn :
+        (t u : Transaction) (c : ℕ)
+        → In t (first ∷ ts)
+        → In u (first ∷ ts)
+        → t.process ≡ u.process
+        → t.invocation < u.invocation
+        → t.completion ≡ Some c
+        → c < u.invocation
     in_turn t u c (inl e) (inl f) own before completion =
         let same : t.invocation ≡ u.invocation = ap (λ (w : Transaction). w.invocation) (sym e ∙ f) in
         omega arith
@@ -232,7 +259,11 @@ completed_later events k d below =
     if_some t.completion (λ c. t.invocation < c)
     (λ c e. (transactions_timed events).later t c (in_from_Contains t ts (Contains-get_or ts k d below)) e)
 
-pub completed_elsewhere : (events : List Operation) (t u : Transaction) → Contains (transactions_of events) t → Contains (transactions_of events) u → ¬ (t.completion ≡ Some u.invocation)
+pub completed_elsewhere :
+    (events : List Operation) (t u : Transaction)
+    → Contains (transactions_of events) t
+    → Contains (transactions_of events) u
+    → ¬ (t.completion ≡ Some u.invocation)
 completed_elsewhere events t u i j e =
     let ts : List Transaction = transactions_of events in
     (transactions_sequential events).other t u u.invocation (in_from_Contains t ts i) (in_from_Contains u ts j) e refl

@@ -19,16 +19,23 @@ use Rattle.hist_types.proofs.ThinningPaths.{Way, one_edge, thinned_in_order, Are
 
 -- ---- counts
 
-abbrev one_if : Bool → ℕ
+abbrev pub one_if : Bool → ℕ
 one_if b = cond b 1 0
 
-pub count-cons : {X : Type 0} (p : X → Bool) (x : X) (xs : List X) → count_by p (x ∷ xs) ≡ one_if (p x) + count_by p xs
+pub count-cons :
+    {X : Type 0} (p : X → Bool) (x : X) (xs : List X)
+    → count_by p (x ∷ xs) ≡ one_if (p x) + count_by p xs
 count-cons p x xs = sum_by-cons (λ y. one_if (p y)) x xs
 
-pub count-append : {X : Type 0} (p : X → Bool) (xs ys : List X) → count_by p (xs ++ ys) ≡ count_by p xs + count_by p ys
+pub count-append :
+    {X : Type 0} (p : X → Bool) (xs ys : List X)
+    → count_by p (xs ++ ys) ≡ count_by p xs + count_by p ys
 count-append p xs ys = sum_by-append (λ y. one_if (p y)) xs ys
 
-pub count_yes : {X : Type 0} (p : X → Bool) (x : X) (xs : List X) → p x ≡ true → count_by p (x ∷ xs) ≡ 1 + count_by p xs
+pub count_yes :
+    {X : Type 0} (p : X → Bool) (x : X) (xs : List X)
+    → p x ≡ true
+    → count_by p (x ∷ xs) ≡ 1 + count_by p xs
 count_yes p x xs e = let one : one_if (p x) ≡ 1 = ap one_if e in omega (arith, count-cons p x xs)
 
 pub count_no : {X : Type 0} (p : X → Bool) (x : X) (xs : List X) → p x ≡ false → count_by p (x ∷ xs) ≡ count_by p xs
@@ -53,19 +60,33 @@ counted_any p (x ∷ xs) e = elim (or_cases (p x) (list_any p xs) e) [
 ]
 
 -- where all pass one test, none passes another
-pub none_counted : {X : Type 0} (g p : X → Bool) → ((x : X) → g x ≡ true → p x ≡ false) → (xs : List X) → list_all g xs ≡ true → count_by p xs ≡ 0
+pub none_counted :
+    {X : Type 0} (g p : X → Bool)
+    → ((x : X) → g x ≡ true → p x ≡ false)
+    → (xs : List X)
+    → list_all g xs ≡ true
+    → count_by p xs ≡ 0
 none_counted g p apart [] e = refl
 none_counted g p apart (x ∷ xs) e =
     let both = and_parts (g x) (list_all g xs) e in
     count_no p x xs (apart x both.0) ∙ none_counted g p apart xs both.1
 
-uncounted : {X : Type 0} (p : X → Bool) (x : X) (xs : List X) → count_by p (x ∷ xs) ≡ 0 → (p x ≡ false) × (count_by p xs ≡ 0)
+uncounted :
+    {X : Type 0} (p : X → Bool) (x : X) (xs : List X)
+    → count_by p (x ∷ xs) ≡ 0
+    → (p x ≡ false) × (count_by p xs ≡ 0)
 uncounted p x xs e = elim (cases_Bool (p x)) [
   | inl here ↦ let none : ⊥ = omega (arith, count_yes p x xs here, e) in elim none [ ]
   | inr not_here ↦ (not_here, sym (count_no p x xs not_here) ∙ e)
 ]
 
-pub all_uncounted : {X : Type 0} (g p q : X → Bool) → ((x : X) → p x ≡ false → q x ≡ false → g x ≡ true) → (xs : List X) → count_by p xs ≡ 0 → count_by q xs ≡ 0 → list_all g xs ≡ true
+pub all_uncounted :
+    {X : Type 0} (g p q : X → Bool)
+    → ((x : X) → p x ≡ false → q x ≡ false → g x ≡ true)
+    → (xs : List X)
+    → count_by p xs ≡ 0
+    → count_by q xs ≡ 0
+    → list_all g xs ≡ true
 all_uncounted g p q neither [] e f = refl
 all_uncounted g p q neither (x ∷ xs) e f =
     let no_p = uncounted p x xs e in
@@ -80,7 +101,11 @@ alike walk = record { ww = refl; wr = refl; rw = refl }
 alike_back : (walk other : List Edge) → SameCounts walk other → SameCounts other walk
 alike_back walk other a = record { ww = sym a.ww; wr = sym a.wr; rw = sym a.rw }
 
-alike_by : (p : Edge → Bool) (a b c d : List Edge) → count_by p a ≡ count_by p b → count_by p c ≡ count_by p d → count_by p (a ++ c) ≡ count_by p (b ++ d)
+alike_by :
+    (p : Edge → Bool) (a b c d : List Edge)
+    → count_by p a ≡ count_by p b
+    → count_by p c ≡ count_by p d
+    → count_by p (a ++ c) ≡ count_by p (b ++ d)
 alike_by p a b c d e f = omega (arith, count-append p a c, count-append p b d, e, f)
 
 alike_both : (a b c d : List Edge) → SameCounts a b → SameCounts c d → SameCounts (a ++ c) (b ++ d)
@@ -92,46 +117,70 @@ alike_both a b c d first second = record {
 
 -- ---- kinds of edges
 
-only_ww-wr : (l : Label) → (is_ww_label l || not (is_ww_label l || is_wr_label l || is_rw_label l)) ≡ true → is_wr_label l ≡ false
+only_ww-wr :
+    (l : Label)
+    → (is_ww_label l || not (is_ww_label l || is_wr_label l || is_rw_label l)) ≡ true
+    → is_wr_label l ≡ false
 only_ww-wr (Label.ww k v w) e = refl
 only_ww-wr (Label.wr k v) e = elim (false≢true e) [ ]
 only_ww-wr (Label.rw k v w) e = refl
 only_ww-wr (Label.process p) e = refl
 only_ww-wr (Label.realtime c i) e = refl
 
-only_ww-rw : (l : Label) → (is_ww_label l || not (is_ww_label l || is_wr_label l || is_rw_label l)) ≡ true → is_rw_label l ≡ false
+only_ww-rw :
+    (l : Label)
+    → (is_ww_label l || not (is_ww_label l || is_wr_label l || is_rw_label l)) ≡ true
+    → is_rw_label l ≡ false
 only_ww-rw (Label.ww k v w) e = refl
 only_ww-rw (Label.wr k v) e = refl
 only_ww-rw (Label.rw k v w) e = elim (false≢true e) [ ]
 only_ww-rw (Label.process p) e = refl
 only_ww-rw (Label.realtime c i) e = refl
 
-ww_only : (l : Label) → is_wr_label l ≡ false → is_rw_label l ≡ false → (is_ww_label l || not (is_ww_label l || is_wr_label l || is_rw_label l)) ≡ true
+ww_only :
+    (l : Label)
+    → is_wr_label l ≡ false
+    → is_rw_label l ≡ false
+    → (is_ww_label l || not (is_ww_label l || is_wr_label l || is_rw_label l)) ≡ true
 ww_only (Label.ww k v w) e f = refl
 ww_only (Label.wr k v) e f = elim (false≢true (sym e)) [ ]
 ww_only (Label.rw k v w) e f = elim (false≢true (sym f)) [ ]
 ww_only (Label.process p) e f = refl
 ww_only (Label.realtime c i) e f = refl
 
-no_rw-rw : (l : Label) → (is_ww_label l || is_wr_label l || not (is_ww_label l || is_wr_label l || is_rw_label l)) ≡ true → is_rw_label l ≡ false
+no_rw-rw :
+    (l : Label)
+    → (is_ww_label l || is_wr_label l || not (is_ww_label l || is_wr_label l || is_rw_label l)) ≡ true
+    → is_rw_label l ≡ false
 no_rw-rw (Label.ww k v w) e = refl
 no_rw-rw (Label.wr k v) e = refl
 no_rw-rw (Label.rw k v w) e = elim (false≢true e) [ ]
 no_rw-rw (Label.process p) e = refl
 no_rw-rw (Label.realtime c i) e = refl
 
-rw_no : (l : Label) → is_rw_label l ≡ false → (is_ww_label l || is_wr_label l || not (is_ww_label l || is_wr_label l || is_rw_label l)) ≡ true
+rw_no :
+    (l : Label)
+    → is_rw_label l ≡ false
+    → (is_ww_label l || is_wr_label l || not (is_ww_label l || is_wr_label l || is_rw_label l)) ≡ true
 rw_no (Label.ww k v w) f = refl
 rw_no (Label.wr k v) f = refl
 rw_no (Label.rw k v w) f = elim (false≢true (sym f)) [ ]
 rw_no (Label.process p) f = refl
 rw_no (Label.realtime c i) f = refl
 
-any_alike : (p : Edge → Bool) (walk other : List Edge) → count_by p walk ≡ count_by p other → list_any p walk ≡ true → list_any p other ≡ true
+any_alike :
+    (p : Edge → Bool) (walk other : List Edge)
+    → count_by p walk ≡ count_by p other
+    → list_any p walk ≡ true
+    → list_any p other ≡ true
 any_alike p walk other same e = any_counted p other (omega (arith, same, counted_any p walk e))
 
 -- Walks that count alike make the same phenomena.
-pub makes_alike : (phenomenon : Phenomenon) (walk other : List Edge) → SameCounts walk other → makes phenomenon walk ≡ true → makes phenomenon other ≡ true
+pub makes_alike :
+    (phenomenon : Phenomenon) (walk other : List Edge)
+    → SameCounts walk other
+    → makes phenomenon walk ≡ true
+    → makes phenomenon other ≡ true
 makes_alike G0 walk other a e =
     let both = and_parts (list_all (λ e. is_ww e || is_order e) walk) (list_any is_ww walk) e in
     let no_wr = none_counted (λ e. is_ww e || is_order e) is_wr (λ e. only_ww-wr e.label) walk both.0 in
@@ -225,7 +274,11 @@ carry_over es others each = record { walks = walks; closed = closed }
         let kept : ¬ (other ≡ []) = some (λ empty. cc) in
         (other, closed_from e.from other kept r.leads, within_contains others other r.within, r.counts)
 
-pub has_carried : (phenomenon : Phenomenon) (es others : List Edge) → WalksCarryOver es others → HasOver phenomenon es → HasOver phenomenon others
+pub has_carried :
+    (phenomenon : Phenomenon) (es others : List Edge)
+    → WalksCarryOver es others
+    → HasOver phenomenon es
+    → HasOver phenomenon others
 has_carried phenomenon es others over has =
     let (other, closed, within, counts) = over.closed has.0 has.1.closed has.1.within in
     (other, record { closed = closed; within = within; kinds = makes_alike phenomenon has.0 other counts has.1.kinds })
@@ -242,19 +295,28 @@ label_of_one true l label (inl e) = e
 label_of_one true l label (inr i) = elim i [ ]
 label_of_one false l label i = elim i [ ]
 
-realtime_uncounted : (holds : Bool) (completion : Option ℕ) (n : ℕ) (label : Label) → In label (if holds then realtime_label completion n else []) → Uncounted label
+realtime_uncounted :
+    (holds : Bool) (completion : Option ℕ) (n : ℕ) (label : Label)
+    → In label (if holds then realtime_label completion n else [])
+    → Uncounted label
 realtime_uncounted false completion n label i = elim i [ ]
 realtime_uncounted true None n label i = elim i [ ]
 realtime_uncounted true (Some c) n label (inl e) = subst Uncounted e (record { no_ww = refl; no_wr = refl; no_rw = refl })
 realtime_uncounted true (Some c) n label (inr i) = elim i [ ]
 
-order_uncounted : (level : Level) (t u : Transaction) (label : Label) → In label (order_labels level t u) → Uncounted label
+order_uncounted :
+    (level : Level) (t u : Transaction) (label : Label)
+    → In label (order_labels level t u)
+    → Uncounted label
 order_uncounted Plain t u label i = elim i [ ]
 order_uncounted Process t u label i =
     subst Uncounted (label_of_one (is_before t u && same_process t u) (process t.process) label i) (record { no_ww = refl; no_wr = refl; no_rw = refl })
 order_uncounted Realtime t u label i = realtime_uncounted (is_before t u) t.completion u.invocation label i
 
-pub uncounted_edge : (level : Level) (ns : List Transaction) (e : Edge) → In e (order_edges_between level ns) → Uncounted e.label
+pub uncounted_edge :
+    (level : Level) (ns : List Transaction) (e : Edge)
+    → In e (order_edges_between level ns)
+    → Uncounted e.label
 uncounted_edge level ns e i =
     let (t, u, label, ends) = ends_of ns (order_labels level) e i in
     subst (λ (d : Edge). Uncounted d.label) (sym ends.is) (order_uncounted level t u label ends.labelled)
@@ -267,13 +329,20 @@ nothing_counts walk all = record {
   rw = sym (count_none is_rw walk (each walk all (λ e u. u.no_rw)));
 }
   where
-    each : {P : Edge → Type 0} (walk : List Edge) → AllByRecursion (λ e. Uncounted e.label) walk → ((e : Edge) → Uncounted e.label → P e) → AllByRecursion P walk
+    each :
+        {P : Edge → Type 0} (walk : List Edge)
+        → AllByRecursion (λ e. Uncounted e.label) walk
+        → ((e : Edge) → Uncounted e.label → P e)
+        → AllByRecursion P walk
     each [] all f = tt
     each (e ∷ walk) all f = (f e all.0, each walk all.1 f)
 
 -- ---- the whole order and the thinned one
 
-is_order_edge : (level : Level) (ts ns : List Transaction) (ds : List Edge) → AreNodes ts ns → AreReplaced (ds ++ order_edges_between level ns) (ds ++ thinned_edges_between level ts ns)
+is_order_edge :
+    (level : Level) (ts ns : List Transaction) (ds : List Edge)
+    → AreNodes ts ns
+    → AreReplaced (ds ++ order_edges_between level ns) (ds ++ thinned_edges_between level ts ns)
 is_order_edge level ts ns ds nodes e i = elim (in_append e ds (order_edges_between level ns) i) [
   | inl there ↦ (e ∷ [], record { way = one_edge (ds ++ thinned_edges_between level ts ns) e (in_front e ds (thinned_edges_between level ts ns) there); counts = alike (e ∷ []) })
   | inr ordered ↦
@@ -288,15 +357,23 @@ is_order_edge level ts ns ds nodes e i = elim (in_append e ds (order_edges_betwe
       )
 ]
   where
-    each : (path : List Edge) → AllByRecursion (λ e. In e (thinned_edges_between level ts ns)) path → AllByRecursion (λ e. Uncounted e.label) path
+    each :
+        (path : List Edge)
+        → AllByRecursion (λ e. In e (thinned_edges_between level ts ns)) path
+        → AllByRecursion (λ e. Uncounted e.label) path
     each [] all = tt
     each (e ∷ path) all = (uncounted_edge level ns e (thinned_in_order level ts ns e all.0), each path all.1)
 
-    behind : (path : List Edge) → AllByRecursion (λ e. In e (thinned_edges_between level ts ns)) path → AllByRecursion (λ e. In e (ds ++ thinned_edges_between level ts ns)) path
+    behind :
+        (path : List Edge)
+        → AllByRecursion (λ e. In e (thinned_edges_between level ts ns)) path
+        → AllByRecursion (λ e. In e (ds ++ thinned_edges_between level ts ns)) path
     behind [] all = tt
     behind (e ∷ path) all = (in_back e ds (thinned_edges_between level ts ns) all.0, behind path all.1)
 
-is_thinned_edge : (level : Level) (ts ns : List Transaction) (ds : List Edge) → AreReplaced (ds ++ thinned_edges_between level ts ns) (ds ++ order_edges_between level ns)
+is_thinned_edge :
+    (level : Level) (ts ns : List Transaction) (ds : List Edge)
+    → AreReplaced (ds ++ thinned_edges_between level ts ns) (ds ++ order_edges_between level ns)
 is_thinned_edge level ts ns ds e i =
     let there : In e (ds ++ order_edges_between level ns) = elim (in_append e ds (thinned_edges_between level ts ns) i) [
       | inl there ↦ in_front e ds (order_edges_between level ns) there
@@ -331,7 +408,9 @@ has_kept phenomenon level events ns ds included =
       has_carried phenomenon thinned order (carried_to_order level (transactions_of events) ns ds),
     )
 
-pub has_over : (phenomenon : Phenomenon) (level : Level) (ts : List Transaction) → Has phenomenon level ts ↔ HasOver phenomenon (edges_at level ts)
+pub has_over :
+    (phenomenon : Phenomenon) (level : Level) (ts : List Transaction)
+    → Has phenomenon level ts ↔ HasOver phenomenon (edges_at level ts)
 has_over phenomenon level ts = (
   λ h. (h.0, record { closed = h.1.closed; within = h.1.within; kinds = h.1.kinds }),
   λ h. (h.0, record { closed = h.1.closed; within = h.1.within; kinds = h.1.kinds }),

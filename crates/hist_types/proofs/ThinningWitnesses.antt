@@ -159,7 +159,10 @@ simple_way es p from to (e ∷ walk) joins leads within passes =
 abbrev IsDependency : Label → Type 0
 IsDependency l = not (is_ww_label l || is_wr_label l || is_rw_label l) ≡ false
 
-ww_dependency : (key : Atom) (earlier : Value) (later : Atom) (label : Label) → In label (ww_label key earlier later) → IsDependency label
+ww_dependency :
+    (key : Atom) (earlier : Value) (later : Atom) (label : Label)
+    → In label (ww_label key earlier later)
+    → IsDependency label
 ww_dependency key None later label i = elim i [ ]
 ww_dependency key (Some v) later label (inl e) = subst IsDependency e refl
 ww_dependency key (Some v) later label (inr i) = elim i [ ]
@@ -168,7 +171,10 @@ among : (holds : Bool) (ls : List Label) (label : Label) → In label (if holds 
 among true ls label i = i
 among false ls label i = elim i [ ]
 
-dependency_label : (pairs : List VersionPair) (t u : Transaction) (label : Label) → In label (dependency_labels pairs t u) → IsDependency label
+dependency_label :
+    (pairs : List VersionPair) (t u : Transaction) (label : Label)
+    → In label (dependency_labels pairs t u)
+    → IsDependency label
 dependency_label pairs t u label i = elim (in_append label (ww_labels pairs t u ++ wr_labels t u) (rw_labels pairs t u) i) [
   | inl j ↦ elim (in_append label (ww_labels pairs t u) (wr_labels t u) j) [
     | inl k ↦
@@ -190,7 +196,11 @@ dependency_edge ts e i =
     let (t, u, label, ends) = ends_of (nodes ts) (dependency_labels (version_pairs ts)) e i in
     subst (λ (d : Edge). is_order d ≡ false) (sym ends.is) (dependency_label (version_pairs ts) t u label ends.labelled)
 
-order_edge : (level : Level) (ts : List Transaction) (e : Edge) → In e (edges_at level ts) → is_order e ≡ true → In e (order_edges_between level (nodes ts))
+order_edge :
+    (level : Level) (ts : List Transaction) (e : Edge)
+    → In e (edges_at level ts)
+    → is_order e ≡ true
+    → In e (order_edges_between level (nodes ts))
 order_edge level ts e i order = elim (in_append e (dependency_edges ts) (order_edges level ts) i) [
   | inl j ↦ absurd (false≢true (sym (dependency_edge ts e j) ∙ order))
   | inr j ↦ j
@@ -206,13 +216,19 @@ third_holds true b c e = refl
 third_holds false true c e = refl
 third_holds false false c e = e
 
-order_may : (phenomenon : Phenomenon) (e : Edge) → is_order e ≡ true → is_rw e ≡ false → may_lead_back phenomenon e ≡ true
+order_may :
+    (phenomenon : Phenomenon) (e : Edge)
+    → is_order e ≡ true
+    → is_rw e ≡ false
+    → may_lead_back phenomenon e ≡ true
 order_may G0 e order no_rw = or_right (is_ww e) (is_order e) order
 order_may G1c e order no_rw = third_holds (is_ww e) (is_wr e) (is_order e) order
 order_may GSingle e order no_rw = not_from_false (is_rw e) no_rw
 order_may G2Item e order no_rw = refl
 
-edges_join : (phenomenon : Phenomenon) (level : Level) (events : List Operation) → Joins (edges_at level (transactions_of events)) (may_lead_back phenomenon)
+edges_join :
+    (phenomenon : Phenomenon) (level : Level) (events : List Operation)
+    → Joins (edges_at level (transactions_of events)) (may_lead_back phenomenon)
 edges_join phenomenon level events e f i j order order' meet =
     let ts : List Transaction = transactions_of events in
     let (d, k, from, end) = two_in_one level ts (nodes ts) e f (are_nodes events (nodes ts) (nodes_included ts)) (order_edge level ts e i order) (order_edge level ts f j order') meet in
@@ -253,7 +269,10 @@ list_passes : (p : Edge → Bool) (walk : List Edge) → AllByRecursion (λ e. p
 list_passes p [] all = refl
 list_passes p (d ∷ walk) all = and_from (p d) (list_all p walk) all.0 (list_passes p walk all.1)
 
-round_walk : (phenomenon : Phenomenon) (level : Level) (events : List Operation) → HasReturn phenomenon (edges_at level (transactions_of events)) → (walk : List Edge) × IsRound phenomenon (edges_at level (transactions_of events)) walk
+round_walk :
+    (phenomenon : Phenomenon) (level : Level) (events : List Operation)
+    → HasReturn phenomenon (edges_at level (transactions_of events))
+    → (walk : List Edge) × IsRound phenomenon (edges_at level (transactions_of events)) walk
 round_walk phenomenon level events r =
     let es : List Edge = edges_at level (transactions_of events) in
     let e : Edge = r.0 in
@@ -282,7 +301,7 @@ off_from n [] out = refl
 off_from n (m ∷ ns) out =
     or_from (n == m) (list_any (nat_eq n) ns) (ne_eqb n m (λ same. out (inl (sym same)))) (off_from n ns (λ i. out (inr i)))
 
--- no number stands twice in two lists, one behind the other
+-- neither list has a number twice, and the two have none in common
 record AreApart (ms ns : List ℕ) : Type 0 where
   front : all_different ms ≡ true
   back : all_different ns ≡ true
@@ -321,7 +340,9 @@ abbrev after : Bool → List Edge → Bool
 after before [] = before
 after before (e ∷ walk) = after (is_order e) walk
 
-after-append : (before : Bool) (front back : List Edge) → after before (front ++ back) ≡ after (after before front) back
+after-append :
+    (before : Bool) (front back : List Edge)
+    → after before (front ++ back) ≡ after (after before front) back
 after-append before [] back = refl
 after-append before (e ∷ front) back = after-append (is_order e) front back
 
@@ -329,18 +350,27 @@ ends_after : (e : Edge) (walk : List Edge) → ends_in_order (e ∷ walk) ≡ af
 ends_after e [] = refl
 ends_after e (f ∷ walk) = ends_after f walk
 
-ends_after_both : (front : List Edge) (e : Edge) (back : List Edge) → ends_in_order (front ++ e ∷ back) ≡ after (is_order e) back
+ends_after_both :
+    (front : List Edge) (e : Edge) (back : List Edge)
+    → ends_in_order (front ++ e ∷ back) ≡ after (is_order e) back
 ends_after_both [] e back = ends_after e back
 ends_after_both (d ∷ front) e back = ends_after d (front ++ e ∷ back) ∙ after-append (is_order d) front (e ∷ back)
 
-alternate_apart : (before : Bool) (front back : List Edge) → alternates before (front ++ back) ≡ true → (alternates before front ≡ true) × (alternates (after before front) back ≡ true)
+alternate_apart :
+    (before : Bool) (front back : List Edge)
+    → alternates before (front ++ back) ≡ true
+    → (alternates before front ≡ true) × (alternates (after before front) back ≡ true)
 alternate_apart before [] back e = (refl, e)
 alternate_apart before (d ∷ front) back e =
     let parts = and_parts (not (before && is_order d)) (alternates (is_order d) (front ++ back)) e in
     let rest = alternate_apart (is_order d) front back parts.1 in
     (and_from (not (before && is_order d)) (alternates (is_order d) front) parts.0 rest.0, rest.1)
 
-alternate_both : (before : Bool) (front back : List Edge) → alternates before front ≡ true → alternates (after before front) back ≡ true → alternates before (front ++ back) ≡ true
+alternate_both :
+    (before : Bool) (front back : List Edge)
+    → alternates before front ≡ true
+    → alternates (after before front) back ≡ true
+    → alternates before (front ++ back) ≡ true
 alternate_both before [] back e f = f
 alternate_both before (d ∷ front) back e f =
     let parts = and_parts (not (before && is_order d)) (alternates (is_order d) front) e in
@@ -357,7 +387,10 @@ alternate_turned front e back given =
     let ends : ends_in_order (e ∷ back ++ front) ≡ c = ends_after e (back ++ front) ∙ after-append (is_order e) back front in
     subst (λ x. alternates x (e ∷ back ++ front) ≡ true) (sym ends) (alternate_both c (e ∷ back) front parts.1 parts.0)
 
-leads_parts : (from to : ℕ) (front back : List Edge) → Leads from (front ++ back) to → (mid : ℕ) × Leads from front mid × Leads mid back to
+leads_parts :
+    (from to : ℕ) (front back : List Edge)
+    → Leads from (front ++ back) to
+    → (mid : ℕ) × Leads from front mid × Leads mid back to
 leads_parts from to [] back l = (from, refl, l)
 leads_parts from to (e ∷ front) back l =
     let rest = leads_parts e.to to front back l.1 in
@@ -396,7 +429,9 @@ record IsLeastOf (walk front : List Edge) (e : Edge) (back : List Edge) : Type 0
   is : walk ≡ front ++ e ∷ back
   least : (d : Edge) → In d walk → e.from ≤ d.from
 
-least_of : (e : Edge) (walk : List Edge) → (front : List Edge) × (f : Edge) × (back : List Edge) × IsLeastOf (e ∷ walk) front f back
+least_of :
+    (e : Edge) (walk : List Edge)
+    → (front : List Edge) × (f : Edge) × (back : List Edge) × IsLeastOf (e ∷ walk) front f back
 least_of e [] = ([], e, [], record { is = refl; least = λ d i. elim i [ inl same ↦ (let n : e.from ≡ d.from = ap (λ (c : Edge). c.from) same in omega arith) | inr j ↦ elim j [ ] ] })
 least_of e (d ∷ walk) =
     let (front, f, back, l) = least_of d walk in
@@ -424,7 +459,10 @@ least_of e (d ∷ walk) =
       )
     ]
 
-all_later : (n : ℕ) (walk : List Edge) → ((d : Edge) → In d walk → n ≤ d.from) → list_all (nat_le n) (stations walk) ≡ true
+all_later :
+    (n : ℕ) (walk : List Edge)
+    → ((d : Edge) → In d walk → n ≤ d.from)
+    → list_all (nat_le n) (stations walk) ≡ true
 all_later n [] each = refl
 all_later n (d ∷ walk) each =
     and_from (nat_le n d.from) (list_all (nat_le n) (stations walk)) (le-leb n d.from (each d (inl refl))) (all_later n walk (λ c i. each c (inr i)))
@@ -453,7 +491,9 @@ witness_of_round phenomenon level ts (d ∷ walk) r =
       },
     )
 
-pub has_witness : (phenomenon : Phenomenon) (level : Level) (events : List Operation) → Has phenomenon level (transactions_of events) ↔ HasWitness phenomenon level (transactions_of events)
+pub has_witness :
+    (phenomenon : Phenomenon) (level : Level) (events : List Operation)
+    → Has phenomenon level (transactions_of events) ↔ HasWitness phenomenon level (transactions_of events)
 has_witness phenomenon level events =
     let ts : List Transaction = transactions_of events in (
       λ h.

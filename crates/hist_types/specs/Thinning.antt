@@ -1,9 +1,12 @@
 -- Thinned order beside the whole order (this project's own): the words of the laws that relate them.
 --
--- Take any set of nodes with all ok transactions in it. Each order edge between two of them is a path of thinned edges, and each
--- such path is an order edge between its ends. So a closed walk over one kind of edges becomes a closed walk over the other, with
--- as many ww, wr and rw edges. And thinning leaves few edges: no transaction has more thinned predecessors than transactions were
--- ever open at once.
+-- Take any set of nodes with all ok transactions in it. Each order edge between two of them is a path of thinned edges,
+-- and each such path is an order edge between its ends. So a closed walk over one kind of edges becomes a closed walk over
+-- the other, with as many ww, wr and rw edges. And thinning leaves few edges: no transaction has more thinned predecessors
+-- than transactions were ever open at once.
+--
+-- What a search needs beside this: a phenomenon is there exactly where an edge of its kind has a way back, and then it has
+-- a witness.
 use Rattle.std.specs.Prelude.{◌≡◌, ℕ, ◌<◌, max, List, [], ◌∷◌, Bool, true, not, ◌&&◌, ◌||◌, ◌==◌, nat_le, nat_lt, Contains, All, IsTrue, count_by, map, filter, IfSome, ⊤}
 use Rattle.std.specs.List.{list_all}
 use Rattle.std.specs.Option.{option_map_or}
@@ -78,7 +81,8 @@ pub record SameCounts (walk other : List Edge) : Type 0 where
   pub wr : count_by is_wr walk ≡ count_by is_wr other
   pub rw : count_by is_rw walk ≡ count_by is_rw other
 
--- Each walk along these edges has one along the others with the same ends and the same counts, and each closed walk a closed one.
+-- Each walk along these edges has one along the others with the same ends and the same counts, and each closed walk has a
+-- closed one.
 pub record WalksCarryOver (es others : List Edge) : Type 0 where
   pub walks :
       (from to : ℕ) (walk : List Edge)

@@ -55,7 +55,8 @@ in_turn-no_node_between = (refl, refl)
 -- So those two nodes are too few: an ok transaction is missing.
 in_turn-not_all_ok : ¬ IncludesAllOk (transactions_of in_turn) (first ∷ last ∷ [])
 in_turn-not_all_ok all =
-    elim (in_from_Contains middle (first ∷ last ∷ []) (all.ok middle (Contains_from_in middle (transactions_of in_turn) (inr (inl refl))) refl)) [
+    let there : Contains (transactions_of in_turn) middle = Contains_from_in middle (transactions_of in_turn) (inr (inl refl)) in
+    elim (in_from_Contains middle (first ∷ last ∷ []) (all.ok middle there refl)) [
       | inl same ↦ (let n : 0 ≡ 2 = ap (λ (t : Transaction). t.invocation) same in omega (arith, n))
       | inr (inl same) ↦ (let n : 4 ≡ 2 = ap (λ (t : Transaction). t.invocation) same in omega (arith, n))
       | inr (inr i) ↦ i
@@ -67,7 +68,9 @@ then_open = invoke 0 (sets x 1 ∷ []) ∷ ok 0 (sets x 1 ∷ []) ∷ invoke 1 (
 
 then_open-all_ok : IncludesAllOk (transactions_of then_open) (first ∷ [])
 then_open-all_ok = record {
-  among = All-from_recursion (Contains (transactions_of then_open)) (first ∷ []) (Contains_from_in first (transactions_of then_open) (inl refl), tt);
+  among =
+      All-from_recursion (Contains (transactions_of then_open)) (first ∷ [])
+      (Contains_from_in first (transactions_of then_open) (inl refl), tt);
   ok = λ t c e. elim (in_from_Contains t (transactions_of then_open) c) [
     | inl same ↦ Contains_from_in t (first ∷ []) (inl same)
     | inr (inl same) ↦ absurd (false≢true (ap is_ok same ∙ e))
@@ -139,10 +142,16 @@ in_turn-other_counts : ¬ SameCounts (realtime_edge 0 4 1 4 ∷ []) (rw_nil_edge
 in_turn-other_counts same = let n : 0 ≡ 1 = same.rw in omega (arith, n)
 
 -- Order edges may be on every way back, ww edges too, a wr edge not for G0, and an rw edge for G2-item alone.
-back-order : (may_lead_back G0 (process_edge 0 2 0) ≡ true) × (may_lead_back G1c (process_edge 0 2 0) ≡ true) × (may_lead_back GSingle (process_edge 0 2 0) ≡ true)
+back-order :
+    (may_lead_back G0 (process_edge 0 2 0) ≡ true)
+    × (may_lead_back G1c (process_edge 0 2 0) ≡ true)
+    × (may_lead_back GSingle (process_edge 0 2 0) ≡ true)
 back-order = (refl, refl, refl)
 
-back-wr : (may_lead_back G0 (wr_edge 0 2 x 1) ≡ false) × (may_lead_back G1c (wr_edge 0 2 x 1) ≡ true) × (may_lead_back GSingle (wr_edge 0 2 x 1) ≡ true)
+back-wr :
+    (may_lead_back G0 (wr_edge 0 2 x 1) ≡ false)
+    × (may_lead_back G1c (wr_edge 0 2 x 1) ≡ true)
+    × (may_lead_back GSingle (wr_edge 0 2 x 1) ≡ true)
 back-wr = (refl, refl, refl)
 
 back-rw :
@@ -153,13 +162,20 @@ back-rw :
 back-rw = (refl, refl, refl, refl)
 
 -- G0 needs a ww edge, and G1c a wr edge: neither takes the other's.
-needed : (is_needed G0 (ww_edge 0 2 x 1 2) ≡ true) × (is_needed G1c (ww_edge 0 2 x 1 2) ≡ false) × (is_needed G0 (wr_edge 0 2 x 1) ≡ false)
+needed :
+    (is_needed G0 (ww_edge 0 2 x 1 2) ≡ true)
+    × (is_needed G1c (ww_edge 0 2 x 1 2) ≡ false)
+    × (is_needed G0 (wr_edge 0 2 x 1) ≡ false)
 needed = (refl, refl, refl)
 
 -- ---- open transactions
 
 -- A transaction is open from its invocation on, until its completion.
-first-open : (is_open_at 0 (committed 0 1 3 []) ≡ false) × (is_open_at 1 (committed 0 1 3 []) ≡ true) × (is_open_at 2 (committed 0 1 3 []) ≡ true) × (is_open_at 3 (committed 0 1 3 []) ≡ false)
+first-open :
+    (is_open_at 0 (committed 0 1 3 []) ≡ false)
+    × (is_open_at 1 (committed 0 1 3 []) ≡ true)
+    × (is_open_at 2 (committed 0 1 3 []) ≡ true)
+    × (is_open_at 3 (committed 0 1 3 []) ≡ false)
 first-open = (refl, refl, refl, refl)
 
 -- One that never completes stays open.
@@ -170,10 +186,16 @@ unfinished-open = refl
 abbrev three_at_once : List Operation
 three_at_once = invoke 0 [] ∷ invoke 1 [] ∷ invoke 2 [] ∷ ok 0 [] ∷ ok 1 [] ∷ info 2 ∷ []
 
-three_at_once-open : (open_at 2 (transactions_of three_at_once) ≡ 3) × (open_at 3 (transactions_of three_at_once) ≡ 2) × (open_at 5 (transactions_of three_at_once) ≡ 0)
+three_at_once-open :
+    (open_at 2 (transactions_of three_at_once) ≡ 3)
+    × (open_at 3 (transactions_of three_at_once) ≡ 2)
+    × (open_at 5 (transactions_of three_at_once) ≡ 0)
 three_at_once-open = (refl, refl, refl)
 
-three_at_once-most : (most_open (transactions_of three_at_once) ≡ 3) × (most_open (transactions_of in_turn) ≡ 1) × (most_open [] ≡ 0)
+three_at_once-most :
+    (most_open (transactions_of three_at_once) ≡ 3)
+    × (most_open (transactions_of in_turn) ≡ 1)
+    × (most_open [] ≡ 0)
 three_at_once-most = (refl, refl, refl)
 
 -- The three, then two more, one after the other.
@@ -192,7 +214,9 @@ then_two-predecessors :
 then_two-predecessors = (refl, refl, refl, refl)
 
 -- Within a process each has the one before it.
-then_two-in_process : (predecessors 6 (all_thinned_edges Process (transactions_of then_two)) ≡ 0 ∷ []) × (predecessors 8 (all_thinned_edges Process (transactions_of then_two)) ≡ 1 ∷ [])
+then_two-in_process :
+    (predecessors 6 (all_thinned_edges Process (transactions_of then_two)) ≡ 0 ∷ [])
+    × (predecessors 8 (all_thinned_edges Process (transactions_of then_two)) ≡ 1 ∷ [])
 then_two-in_process = (refl, refl)
 
 -- Where the one before the last fails, it thins nothing.
