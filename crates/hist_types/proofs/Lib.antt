@@ -18,4 +18,5 @@ pub mod MovedForms
 pub mod MovedReading
 pub mod MapAlone
 pub mod SpelledParts
+pub mod SingleTokens
 pub mod Keywords
