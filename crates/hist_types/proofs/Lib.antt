@@ -18,6 +18,7 @@ pub mod MovedForms
 pub mod MovedReading
 pub mod MapAlone
 pub mod SpelledParts
+pub mod SingleTokens
 pub mod Keywords
 pub mod ThinningTimes
 pub mod ThinningPaths

@@ -9,7 +9,7 @@ use Rattle.hist_types.specs.Atoms.{Atom, Value}
 use Rattle.hist_types.specs.AtomTokens.{atom_of_token, is_nil_kind, process_of}
 use Rattle.hist_types.specs.Entries.{PlacedMop, PlacedOperation, Entry, operation, skipped, atom_of, is_nil, value_of, is_named, int_of, elements_of, ◌>>=◌, refuse_if, or_refuse, pairs_of, the_one, field, kind_of, is_write_of, placed_write, placed_read, read_or_write, micro_op_of, micro_ops_of, transaction_of, mops_of, entry_by, end_of, entry_of}
 use Rattle.hist_types.specs.Forms.{Form, plain, collection, tagged, Forms, no_form, form, forms_of, list_of, place_of, OpenCollection, Open, is_map, is_vector_or_list, is_drop, settled, with_member, with_form, with_mark, with_opener, form_of}
-use Rattle.hist_types.specs.Placed.{IsTokenIn, Spells, SpellsValue, SpellsParts, IsMopIn, NoneEnded, KeepsLimits, IsTextOf}
+use Rattle.hist_types.specs.Placed.{IsTokenIn, Spells, SpellsValue, SpellsParts, IsMopIn, FitsKind, KeepsLimits, IsTextOf}
 use Rattle.hist_types.specs.Reading.{Reading, is_place_in, in_operation_place, may_open, Step, goes_on, close, step_by, step, then_read, reading_from, nothing_open}
 use Rattle.hist_types.specs.Tokens.{Item, ItemKind, Nil, Opener, Closer, Drop, Tag, open_after, is_token, tokens_of, BeginsWith, IsCut}
 use Rattle.hist_types.specs.declared.limits.TheConstants.{MAX_PROCESS, MAX_MICRO_OPS, MAX_OPERATION_BYTES}
@@ -49,7 +49,7 @@ micro_ops_of-few (f ∷ fs) before mops le e =
 
 -- the micro-operations of an operation of this kind: few, and none where it ended in another way than ok
 abbrev AreFew : OpKind → List PlacedMop → Type 0
-AreFew kind mops = (length mops ≤ MAX_MICRO_OPS) × NoneEnded kind mops
+AreFew kind mops = (length mops ≤ MAX_MICRO_OPS) × FitsKind kind mops
 
 transaction_of-few : (f : Form) (mops : List PlacedMop) → transaction_of f ≡ Ok mops → length mops ≤ MAX_MICRO_OPS
 transaction_of-few f mops e =
@@ -68,7 +68,7 @@ mops_of-few kinds.Info n ps mops e = ok_is (AreFew kinds.Info) [] mops (omega ar
 abbrev KeepsItsLimits : Entry → Type 0
 KeepsItsLimits skipped = Unit {0}
 KeepsItsLimits (operation o) =
-    ((o.end - o.start) ≤ MAX_OPERATION_BYTES) × (o.process ≤ MAX_PROCESS) × (length o.mops ≤ MAX_MICRO_OPS) × NoneEnded o.kind o.mops
+    ((o.end - o.start) ≤ MAX_OPERATION_BYTES) × (o.process ≤ MAX_PROCESS) × (length o.mops ≤ MAX_MICRO_OPS) × FitsKind o.kind o.mops
 
 entry_by-limits : (number : Option ℤ) (place start end : ℕ) (ps : List (Form × Form)) (entry : Entry) → entry_by number place start end ps ≡ Ok entry → KeepsItsLimits entry
 entry_by-limits None place start end ps entry e = ok_is KeepsItsLimits skipped entry tt e
@@ -358,7 +358,7 @@ module _ (P : Item → Type 0) where
 
 -- ---- tokens of a text
 
-BeginsWith-bytes : (text : List ℕ) (kind : ItemKind) (bytes : List ℕ) → BeginsWith text kind bytes → bytes ≡ take (length bytes) text
+pub BeginsWith-bytes : (text : List ℕ) (kind : ItemKind) (bytes : List ℕ) → BeginsWith text kind bytes → bytes ≡ take (length bytes) text
 BeginsWith-bytes [] kind bytes begins = absurd begins
 BeginsWith-bytes (b ∷ rest) kind bytes begins = begins.1
 

@@ -7,7 +7,7 @@ use Rattle.hist_types.specs.AtomTokens.{atom_of_token}
 use Rattle.hist_types.specs.Entries.{PlacedMop, PlacedOperation, operation, end_of}
 use Rattle.hist_types.specs.Operations.{Mop, read, write}
 use Rattle.hist_types.specs.Reading.{Reads}
-use Rattle.hist_types.specs.Tokens.{Item, Nil}
+use Rattle.hist_types.specs.Tokens.{Item, ItemKind, Nil, HasTokens}
 use Rattle.hist_types.specs.declared.limits.TheConstants.{MAX_PROCESS, MAX_MICRO_OPS, MAX_OPERATION_BYTES}
 use Rattle.hist_types.specs.declared.types.OpKind.{OpKind}
 use Rattle.hist_types.specs.declared.types.OpKind.TheVariants.{Fail, Info}
@@ -53,17 +53,25 @@ abbrev pub SpellsParts : Item → Item → Mop → Type 0
 SpellsParts first second (read key value) = Spells first key × SpellsValue second value
 SpellsParts first second (write key value) = Spells first key × Spells second value
 
+-- bytes that are one token of this kind, and nothing else
+abbrev pub IsTokenAlone : ItemKind → List ℕ → Type 0
+IsTokenAlone kind bytes = HasTokens bytes (record { kind = kind; start = 0; bytes = bytes } ∷ []) None
+
 -- the tokens of a micro-operation are in the text, and spell its key and its value
 abbrev pub IsMopIn : List ℕ → PlacedMop → Type 0
 IsMopIn text m = IsTokenIn text m.key × IsTokenIn text m.value × SpellsParts m.key m.value m.mop
 
 -- a fail and an info have no micro-operations
-abbrev pub NoneEnded : OpKind → List PlacedMop → Type 0
-NoneEnded Fail mops = mops ≡ []
-NoneEnded Info mops = mops ≡ []
-NoneEnded kind mops = ⊤
+abbrev pub FitsKind : OpKind → List PlacedMop → Type 0
+FitsKind Fail mops = mops ≡ []
+FitsKind Info mops = mops ≡ []
+FitsKind kind mops = ⊤
 
 -- an operation of this text keeps the limits
 abbrev pub KeepsLimits : List ℕ → PlacedOperation → Type 0
 KeepsLimits text o =
-    (length text ≤ MAX_OPERATION_BYTES) × (o.process ≤ MAX_PROCESS) × (length o.mops ≤ MAX_MICRO_OPS) × NoneEnded o.kind o.mops
+    (length text ≤ MAX_OPERATION_BYTES) × (o.process ≤ MAX_PROCESS) × (length o.mops ≤ MAX_MICRO_OPS) × FitsKind o.kind o.mops
+
+-- the key and the value of a micro-operation are tokens by themselves
+abbrev pub IsMopOfTokens : PlacedMop → Type 0
+IsMopOfTokens m = IsTokenAlone m.key.kind m.key.bytes × IsTokenAlone m.value.kind m.value.bytes

@@ -1,6 +1,6 @@
 //! Laws of this crate's definitions: the contracts of functions that do nothing, and of one that compares levels.
 
-ghost use Rattle.std.specs.Prelude.{◌≡◌, ◌↔◌, ◌<◌, ◌≤◌, ℕ, List, [], ◌∷◌, ◌++◌, length, drop, Bool, false, ◌==◌, IsTrue, IsFalse, Option, Some, None, All, Contains};
+ghost use Rattle.std.specs.Prelude.{◌≡◌, ◌↔◌, ◌<◌, ◌≤◌, ℕ, List, [], ◌∷◌, ◌++◌, length, drop, Bool, false, ◌==◌, IsTrue, IsFalse, Option, Some, None, All, Contains, true};
 ghost use Rattle.std.specs.Ordering.{nat_cmp};
 ghost use Rattle.hist_types.specs.Bytes.{is_run_byte};
 ghost use Rattle.hist_types.specs.Atoms.{Atom, Value, atom_eq, value_eq};
@@ -11,11 +11,11 @@ ghost use Rattle.hist_types.specs.Laws.{HasOne, RunEndsAt, IsNextOf, IsLastOf, R
 ghost use Rattle.hist_types.specs.Operations.{Operation};
 ghost use Rattle.hist_types.specs.Entries.{PlacedOperation, Entry, operation};
 ghost use Rattle.hist_types.specs.Phenomena.{height, makes, Has};
-ghost use Rattle.hist_types.specs.Placed.{IsMopIn, KeepsLimits, IsTextOf, IsIn};
+ghost use Rattle.hist_types.specs.Placed.{IsMopIn, KeepsLimits, IsTextOf, IsIn, SpellsValue, IsTokenAlone, IsMopOfTokens};
 ghost use Rattle.hist_types.specs.Reading.{Reads};
 ghost use Rattle.hist_types.specs.Refusals.{number_of, name_of};
 ghost use Rattle.hist_types.specs.Texts.{in_order};
-ghost use Rattle.hist_types.specs.Tokens.{IsCut, HasTokens, run_of, run_len};
+ghost use Rattle.hist_types.specs.Tokens.{IsCut, HasTokens, run_of, run_len, Item, ItemKind, is_token, item_fault, BeginsWith};
 ghost use Rattle.hist_types.specs.Thinning.{AreInvokedInOrder, CompletesLater, CompletesBefore, IncludesAllOk, order_edges_between, thinned_edges_between, HasEdge, HasPath, HasOver, SameCounts, WalksCarryOver, HasReturn, HasWitness, open_at, most_open, predecessors};
 ghost use Rattle.hist_types.specs.Transactions.{Transaction, Indexed, completion_in, transactions_of, Read, read_eq, external_reads, external_writes, nodes};
 ghost use Rattle.hist_types.specs.declared.limits.TheConstants.{MAX_PROCESS, MAX_MICRO_OPS, MAX_OPERATION_BYTES, MAX_OPEN_COLLECTIONS, MAX_BLOCK_OPERATIONS, MAX_BLOCK_BYTES, MAX_CELLS, MAX_EVENTS, MAX_LINE_BYTES, MAX_WORKERS};
@@ -105,6 +105,14 @@ pub fn operations_read_alone()
 pub fn operations_spell_their_parts()
     ensures mops { (text : List ℕ) → (o : PlacedOperation) → IsTextOf text o → All (IsMopIn text) o.mops }
     ensures limits { (text : List ℕ) → (o : PlacedOperation) → IsTextOf text o → KeepsLimits text o }
+{}
+
+/// A token that spells an atom or nil is one token by itself, and so are the keys and values of an operation. Bytes that are a
+/// token without a fault at the front of themselves are that one token.
+pub fn atoms_are_single_tokens()
+    ensures tokens { (text : List ℕ) → (tokens : List Item) → (ending : Option Fault) → (t : Item) → (value : Value) → HasTokens text tokens ending → Contains tokens t → SpellsValue t value → IsTokenAlone t.kind t.bytes }
+    ensures mops { (text : List ℕ) → (o : PlacedOperation) → IsTextOf text o → All IsMopOfTokens o.mops }
+    ensures bytes { (kind : ItemKind) → (bytes : List ℕ) → is_token kind ≡ true → BeginsWith bytes kind bytes → item_fault kind 0 bytes [] ≡ None → IsTokenAlone kind bytes }
 {}
 
 /// Order edges are those of all pairs of which the second end is a node; their first end is one by itself.

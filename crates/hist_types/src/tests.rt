@@ -139,6 +139,7 @@ fn laws_return() {
     laws::texts_have_one_reading();
     laws::operations_read_alone();
     laws::operations_spell_their_parts();
+    laws::atoms_are_single_tokens();
     laws::order_edges_between_nodes();
     laws::process_order_in_realtime();
     laws::thinned_among_order_edges();

@@ -1,12 +1,15 @@
 -- A text is cut by computation: for a written-out text the relation of tokens, and with it the reading, then holds by `refl`.
-use Rattle.std.proofs.Common.{◌≡◌, inl, inr, ℕ, zero, suc, ◌+◌, List, [], ◌∷◌, length, take, drop, Bool, true, false, ◌==◌, if◌then◌else◌, Option, Some, None, option_map, is_some, refl, ap, subst}
+use Rattle.std.proofs.Common.{◌≡◌, inl, inr, ℕ, zero, suc, ◌+◌, List, [], ◌∷◌, length, take, drop, Bool, true, false, ◌==◌, if◌then◌else◌, Option, Some, None, option_map, is_some, map, refl, ap, subst}
 use Rattle.std.specs.Bool.{⊤}
 use Rattle.std.specs.Str.{is_utf8, chars}
 use Rattle.std.specs.Str.Lossy.{utf8_valid_len}
 use lib.Utf8.{encode}
 use Rattle.std.proofs.lemmas.Bool.{eqb-true, false≢true}
+use Rattle.std.proofs.lemmas.Option.{same_Some}
 use Rattle.hist_types.specs.Tokens.{Item, ItemKind, Str, front, item_fault, open_after, byte_fault, tokens_of, IsCut, BeginsWith, HasTokens}
-use Rattle.hist_types.specs.LineReading.{Entry, Reading, reading_of, Reads}
+use Rattle.hist_types.specs.Entries.{Entry, operation, skipped, operation_of}
+use Rattle.hist_types.specs.Operations.{Operation}
+use Rattle.hist_types.specs.Reading.{Reading, reading_of, Reads}
 use Rattle.hist_types.specs.declared.types.Fault.{Fault}
 use Rattle.hist_types.specs.declared.types.Refusal.{Refusal}
 use Rattle.hist_types.specs.declared.types.Refusal.TheVariants.{UnclosedString}
@@ -149,6 +152,43 @@ reading_from_cut text entries fault (Some c) holds e = (tokens_of c.items, c.end
 -- A text reads as what its cut gives.
 pub reads : (n : ℕ) (text : List ℕ) (entries : List Entry) (fault : Option Fault) → reading_at n text ≡ Some (record { entries = entries; fault = fault }) → Reads text entries fault
 reads n text entries fault e = reading_from_cut text entries fault (cutting n text 0 []) (cutting-holds n text 0 []) e
+
+-- ---- what is read, wherever it stands
+
+-- the operation, or None where it is skipped
+abbrev pub without_place : Entry → Option Operation
+without_place (operation o) = Some (operation_of o)
+without_place skipped = None
+
+-- the text reads as these, with a None for each that is skipped, and then it ends or a fault stands
+abbrev pub ReadsAs : List ℕ → List (Option Operation) → Option Fault → Type 0
+ReadsAs text operations fault = (entries : List Entry) × Reads text entries fault × (map without_place entries ≡ operations)
+
+abbrev without_places : Reading → List (Option Operation) × Option Fault
+without_places reading = (map without_place reading.entries, reading.fault)
+
+read_as_cut :
+    (text : List ℕ) (operations : List (Option Operation)) (fault : Option Fault) (r : Option Cut)
+    → Holds text 0 [] r
+    → option_map without_places (option_map read_cut r) ≡ Some (operations, fault)
+    → ReadsAs text operations fault
+read_as_cut text operations fault None holds e = elim (false≢true (ap is_some e)) [ ]
+read_as_cut text operations fault (Some c) holds e =
+    let reading = read_cut c in
+    let same : without_places reading ≡ (operations, fault) = same_Some (without_places reading) (operations, fault) e in (
+      reading.entries,
+      (tokens_of c.items, c.ending, (c.items, holds, refl), ap (λ (f : Option Fault). with_fault reading.entries f) (ap (λ (p : List (Option Operation) × Option Fault). p.1) same)),
+      ap (λ (p : List (Option Operation) × Option Fault). p.0) same,
+    )
+  where
+    with_fault : List Entry → Option Fault → Reading
+    with_fault entries f = record { entries = entries; fault = f }
+
+pub reads_as :
+    (n : ℕ) (text : List ℕ) (operations : List (Option Operation)) (fault : Option Fault)
+    → option_map without_places (reading_at n text) ≡ Some (operations, fault)
+    → ReadsAs text operations fault
+reads_as n text operations fault e = read_as_cut text operations fault (cutting n text 0 []) (cutting-holds n text 0 []) e
 
 -- What a text is refused for, and where, with nothing read before it.
 abbrev pub RefusedAt : List ℕ → Refusal → ℕ → Type 0

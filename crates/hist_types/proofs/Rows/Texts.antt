@@ -1,12 +1,17 @@
 -- Texts and what they read as: tokens, operations, and the fault with its byte.
-use Rattle.std.proofs.Common.{◌≡◌, ℕ, List, [], ◌∷◌, ◌++◌, Some, None, codes, replicate, refl, negsuc}
+use Rattle.std.proofs.Common.{◌≡◌, ℕ, List, [], ◌∷◌, ◌++◌, Some, None, codes, replicate, refl, negsuc, arith, Err}
 use Rattle.hist_types.specs.Atoms.{integer, string, symbol}
 use Rattle.hist_types.specs.Operations.{read, write}
-use Rattle.hist_types.specs.Tokens.{Item, ItemKind, Opener, Closer, Str, Drop, Tag, Int, Keyword, Other, HasTokens, byte_fault, nesting_refusal}
-use Rattle.hist_types.specs.LineReading.{operation, skipped, Reads}
-use Rattle.hist_types.specs.declared.types.Refusal.TheVariants.{BadUtf8, UnclosedString, StrayCloser, TooDeep, Unclosed, OddMap, DanglingTag, NotAMap, MissingField, DuplicateField, BadType, BadProcess, NotTxn, BadAtom, NilWritten}
+use Rattle.hist_types.specs.Tokens.{Item, ItemKind, Opener, Closer, Str, Drop, Tag, Nil, Int, Keyword, Other, HasTokens, byte_fault, nesting_refusal}
+use Rattle.hist_types.specs.Entries.{PlacedOperation, operation, micro_ops_of}
+use Rattle.hist_types.specs.Forms.{Form, plain, collection, forms_of}
+use Rattle.hist_types.specs.Placed.{IsTextOf, IsIn}
+use Rattle.hist_types.specs.Reading.{Reading, reading_of, Reads}
+use Rattle.hist_types.specs.declared.types.OpKind.TheVariants as kinds
+use Rattle.hist_types.specs.declared.types.Refusal.{Refusal}
+use Rattle.hist_types.specs.declared.types.Refusal.TheVariants.{BadUtf8, UnclosedString, StrayCloser, TooDeep, Unclosed, OddMap, DanglingTag, NotAMap, MissingField, DuplicateField, BadType, BadProcess, NotTxn, BadAtom, NilWritten, TooLong, TooManyMicroOps}
 use Rattle.hist_types.proofs.Rows.History.{x, number, sets, gets, invoke, ok, fail, info}
-use Rattle.hist_types.proofs.Rows.Cutting.{has_tokens, reads, refused, RefusedAt, cutting_texts}
+use Rattle.hist_types.proofs.Rows.Cutting.{has_tokens, reads, ReadsAs, reads_as, refused, RefusedAt, cutting_texts}
 
 -- a token by its kind, the offset of its first byte, and its bytes
 abbrev token : ItemKind → ℕ → List ℕ → Item
@@ -54,9 +59,9 @@ unfolding cutting_texts
 tagged_line-tokens = has_tokens 112 tagged_line _ None refl
 
 -- It reads as an invocation that writes 1 to :x.
-tagged_line-reads : Reads tagged_line (operation (invoke 0 (sets x 1 ∷ [])) ∷ []) None
+tagged_line-reads : ReadsAs tagged_line (Some (invoke 0 (sets x 1 ∷ [])) ∷ []) None
 unfolding cutting_texts
-tagged_line-reads = reads 112 _ _ None refl
+tagged_line-reads = reads_as 112 _ _ None refl
 
 -- The same operation, written plainly.
 abbrev plain_line : List ℕ
@@ -87,79 +92,113 @@ unfolding cutting_texts
 plain_line-tokens = has_tokens 47 plain_line _ None refl
 
 -- It reads as the same invocation.
-plain_line-reads : Reads plain_line (operation (invoke 0 (sets x 1 ∷ [])) ∷ []) None
+plain_line-reads : ReadsAs plain_line (Some (invoke 0 (sets x 1 ∷ [])) ∷ []) None
 unfolding cutting_texts
-plain_line-reads = reads 47 _ _ None refl
+plain_line-reads = reads_as 47 _ _ None refl
+
+-- The invocation with its places: the map has all 47 bytes, the key stands at 40 and the value at 43.
+abbrev plain_operation : PlacedOperation
+plain_operation = record {
+  kind = kinds.Invoke;
+  process = 0;
+  mops = record { mop = sets x 1; key = token Keyword 40 (codes ":x"); value = token Int 43 (codes "1") } ∷ [];
+  start = 0;
+  end = 47;
+}
+
+plain_line-places : IsTextOf plain_line plain_operation
+unfolding cutting_texts
+plain_line-places = (refl, refl, reads 47 plain_line (operation plain_operation ∷ []) None refl)
+
+-- In the tagged line the map begins at 18; it is an operation of that line.
+abbrev tagged_operation : PlacedOperation
+tagged_operation = record {
+  kind = kinds.Invoke;
+  process = 0;
+  mops = record { mop = sets x 1; key = token Keyword 67 (codes ":x"); value = token Int 70 (codes "1") } ∷ [];
+  start = 18;
+  end = 104;
+}
+
+tagged_line-places : Reads tagged_line (operation tagged_operation ∷ []) None
+unfolding cutting_texts
+tagged_line-places = reads 112 tagged_line (operation tagged_operation ∷ []) None refl
+
+tagged_operation-in : IsIn tagged_line tagged_operation
+unfolding cutting_texts
+tagged_operation-in = (omega arith, omega arith, (refl, refl, reads 86 _ _ None refl))
 
 -- An operation whose process is no integer is skipped: by keyword, nil, decimal and tag.
 other_process :
-    (Reads (codes "{:type :info, :process :nemesis, :f :kill, :value nil}") (skipped ∷ []) None)
-    × (Reads (codes "{:process nil}") (skipped ∷ []) None)
-    × (Reads (codes "{:process 1.5 :type 7}") (skipped ∷ []) None)
-    × (Reads (codes "{:process #t 5}") (skipped ∷ []) None)
+    (ReadsAs (codes "{:type :info, :process :nemesis, :f :kill, :value nil}") (None ∷ []) None)
+    × (ReadsAs (codes "{:process nil}") (None ∷ []) None)
+    × (ReadsAs (codes "{:process 1.5 :type 7}") (None ∷ []) None)
+    × (ReadsAs (codes "{:process #t 5}") (None ∷ []) None)
 unfolding cutting_texts
 other_process = (
-  reads 54 _ _ None refl,
-  reads 14 _ _ None refl,
-  reads 22 _ _ None refl,
-  reads 15 _ _ None refl,
+  reads_as 54 _ _ None refl,
+  reads_as 14 _ _ None refl,
+  reads_as 22 _ _ None refl,
+  reads_as 15 _ _ None refl,
 )
 
 -- Both inside one vector, and in a list with a tag before it, read alike.
 in_a_vector :
-    (Reads (codes "[{:type :invoke, :process 0, :value [[:w :x 1]]}\n{:type :info, :process :nemesis, :f :kill, :value nil}]") (operation (invoke 0 (sets x 1 ∷ [])) ∷ skipped ∷ []) None)
-    × (Reads (codes "#t ({:type :info, :process :nemesis, :f :kill, :value nil} #u {:type :invoke, :process 0, :value [[:w :x 1]]})") (skipped ∷ operation (invoke 0 (sets x 1 ∷ [])) ∷ []) None)
+    (ReadsAs (codes "[{:type :invoke, :process 0, :value [[:w :x 1]]}\n{:type :info, :process :nemesis, :f :kill, :value nil}]") (Some (invoke 0 (sets x 1 ∷ [])) ∷ None ∷ []) None)
+    × (ReadsAs (codes "#t ({:type :info, :process :nemesis, :f :kill, :value nil} #u {:type :invoke, :process 0, :value [[:w :x 1]]})") (None ∷ Some (invoke 0 (sets x 1 ∷ [])) ∷ []) None)
 unfolding cutting_texts
 in_a_vector = (
-  reads 104 _ _ None refl,
-  reads 110 _ _ None refl,
+  reads_as 104 _ _ None refl,
+  reads_as 110 _ _ None refl,
 )
 
 -- Fields with an index and a time are passed over.
-indexed_line : Reads (codes "{:index 0, :time 5, :type :invoke, :process 0, :f :txn, :value [[:w :x 1]]}") (operation (invoke 0 (sets x 1 ∷ [])) ∷ []) None
+indexed_line : ReadsAs (codes "{:index 0, :time 5, :type :invoke, :process 0, :f :txn, :value [[:w :x 1]]}") (Some (invoke 0 (sets x 1 ∷ [])) ∷ []) None
 unfolding cutting_texts
-indexed_line = reads 75 _ _ None refl
+indexed_line = reads_as 75 _ _ None refl
 
--- A fail and an info have no micro-operations, whatever their value.
+-- A fail and an info have no micro-operations, whatever their value, and however many.
 completions :
-    (Reads (codes "{:type :fail, :process 7, :value [[:w :x]]}") (operation (fail 7) ∷ []) None)
-    × (Reads (codes "{:process 7 :type :info}") (operation (info 7) ∷ []) None)
+    (ReadsAs (codes "{:type :fail, :process 7, :value [[:w :x]]}") (Some (fail 7) ∷ []) None)
+    × (ReadsAs (codes "{:type :fail, :process 7, :value 1, :value 2}") (Some (fail 7) ∷ []) None)
+    × (ReadsAs (codes "{:process 7 :type :info}") (Some (info 7) ∷ []) None)
 unfolding cutting_texts
 completions = (
-  reads 43 _ _ None refl,
-  reads 24 _ _ None refl,
+  reads_as 43 _ _ None refl,
+  reads_as 44 _ _ None refl,
+  reads_as 24 _ _ None refl,
 )
 
 -- Blanks, comments and forms that are left out are no operation.
 no_operation :
-    (Reads (codes "") [] None)
-    × (Reads (codes " ,\n; {\n") [] None)
-    × (Reads (codes "#_ {:bad} #_ #_ 1 2") [] None)
-    × (Reads (codes "[] ()") [] None)
+    (ReadsAs (codes "") [] None)
+    × (ReadsAs (codes " ,\n; {\n") [] None)
+    × (ReadsAs (codes "#_ {:bad} #_ #_ 1 2") [] None)
+    × (ReadsAs (codes "[] ()") [] None)
 unfolding cutting_texts
 no_operation = (
-  reads 0 _ _ None refl,
-  reads 7 _ _ None refl,
-  reads 19 _ _ None refl,
-  reads 5 _ _ None refl,
+  reads_as 0 _ _ None refl,
+  reads_as 7 _ _ None refl,
+  reads_as 19 _ _ None refl,
+  reads_as 5 _ _ None refl,
 )
 
 -- ---- atoms
 
 -- A sign, a trailing N and a zero's sign change no number.
-equal_integers : Reads (codes "{:type :ok :process +0N :value [[:r x -0] [:w :x +5N] [:w -7 0]]}") (operation (ok 0 (gets (symbol (codes "x")) 0 ∷ sets x 5 ∷ sets (integer (negsuc 6)) 0 ∷ [])) ∷ []) None
+equal_integers : ReadsAs (codes "{:type :ok :process +0N :value [[:r x -0] [:w :x +5N] [:w -7 0]]}") (Some (ok 0 (gets (symbol (codes "x")) 0 ∷ sets x 5 ∷ sets (integer (negsuc 6)) 0 ∷ [])) ∷ []) None
 unfolding cutting_texts
-equal_integers = reads 65 _ _ None refl
+equal_integers = reads_as 65 _ _ None refl
 
 -- Strings are decoded: an escaped tab is the byte 9.
-strings : Reads (codes "{:type :ok :process 0 :value [[:w \"a\\tb\" \"\\b\\f\\n\\r\\\"\\\\\"]]}") (operation (ok 0 (write (string (97 ∷ 9 ∷ 98 ∷ [])) (string (8 ∷ 12 ∷ 10 ∷ 13 ∷ 34 ∷ 92 ∷ [])) ∷ [])) ∷ []) None
+strings : ReadsAs (codes "{:type :ok :process 0 :value [[:w \"a\\tb\" \"\\b\\f\\n\\r\\\"\\\\\"]]}") (Some (ok 0 (write (string (97 ∷ 9 ∷ 98 ∷ [])) (string (8 ∷ 12 ∷ 10 ∷ 13 ∷ 34 ∷ 92 ∷ [])) ∷ [])) ∷ []) None
 unfolding cutting_texts
-strings = reads 58 _ _ None refl
+strings = reads_as 58 _ _ None refl
 
 -- Integers go up to 64 bits,
-greatest_integers : Reads (codes "{:type :ok :process 0 :value [[:w 9223372036854775807 -9223372036854775808]]}") (operation (ok 0 (write (number 9223372036854775807) (integer (negsuc 9223372036854775807)) ∷ [])) ∷ []) None
+greatest_integers : ReadsAs (codes "{:type :ok :process 0 :value [[:w 9223372036854775807 -9223372036854775808]]}") (Some (ok 0 (write (number 9223372036854775807) (integer (negsuc 9223372036854775807)) ∷ [])) ∷ []) None
 unfolding cutting_texts
-greatest_integers = reads 77 _ _ None refl
+greatest_integers = reads_as 77 _ _ None refl
 
 -- and no further, neither as values nor as keys.
 past_64_bits :
@@ -172,14 +211,14 @@ past_64_bits = (
 )
 
 -- What looks like a number or nil, and is none, is a symbol.
-symbols : Reads (codes "{:type :ok :process 0 :value [[:w nil? N] [:r - ..5] [:w a#b a\\b]]}") (operation (ok 0 (write (symbol (codes "nil?")) (symbol (codes "N")) ∷ read (symbol (codes "-")) (Some (symbol (codes "..5"))) ∷ write (symbol (codes "a#b")) (symbol (codes "a\\b")) ∷ [])) ∷ []) None
+symbols : ReadsAs (codes "{:type :ok :process 0 :value [[:w nil? N] [:r - ..5] [:w a#b a\\b]]}") (Some (ok 0 (write (symbol (codes "nil?")) (symbol (codes "N")) ∷ read (symbol (codes "-")) (Some (symbol (codes "..5"))) ∷ write (symbol (codes "a#b")) (symbol (codes "a\\b")) ∷ [])) ∷ []) None
 unfolding cutting_texts
-symbols = reads 67 _ _ None refl
+symbols = reads_as 67 _ _ None refl
 
 -- A `#_` inside a run leaves nothing out.
-one_symbol : Reads (codes "{:type :ok :process 0 :value [[:w nil#_5 1]]}") (operation (ok 0 (sets (symbol (codes "nil#_5")) 1 ∷ [])) ∷ []) None
+one_symbol : ReadsAs (codes "{:type :ok :process 0 :value [[:w nil#_5 1]]}") (Some (ok 0 (sets (symbol (codes "nil#_5")) 1 ∷ [])) ∷ []) None
 unfolding cutting_texts
-one_symbol = reads 45 _ _ None refl
+one_symbol = reads_as 45 _ _ None refl
 
 -- ---- faults
 
@@ -191,12 +230,12 @@ truncated = refused 45 _ Unclosed 35 refl
 -- A process is at most 2147483647, and at least 0.
 bad_process :
     (RefusedAt (codes "{:type :invoke, :process 2147483648, :value []}") BadProcess 25)
-    × (Reads (codes "{:type :invoke, :process 2147483647, :value []}") (operation (invoke 2147483647 []) ∷ []) None)
+    × (ReadsAs (codes "{:type :invoke, :process 2147483647, :value []}") (Some (invoke 2147483647 []) ∷ []) None)
     × (RefusedAt (codes "{:type :info, :process -1}") BadProcess 23)
 unfolding cutting_texts
 bad_process = (
   refused 47 _ BadProcess 25 refl,
-  reads 47 _ _ None refl,
+  reads_as 47 _ _ None refl,
   refused 26 _ BadProcess 23 refl,
 )
 
@@ -221,24 +260,24 @@ nil_written = (
 stray_closer :
     (RefusedAt (codes "{:type :invoke, :process 0)") StrayCloser 26)
     × (RefusedAt (codes "{:error #a ]") StrayCloser 11)
-    × (Reads (codes "{:process a} )") (skipped ∷ []) (Some (byte_fault StrayCloser 13)))
+    × (ReadsAs (codes "{:process a} )") (None ∷ []) (Some (byte_fault StrayCloser 13)))
 unfolding cutting_texts
 stray_closer = (
   refused 27 _ StrayCloser 26 refl,
   refused 12 _ StrayCloser 11 refl,
-  reads 14 _ _ (Some (byte_fault StrayCloser 13)) refl,
+  reads_as 14 _ _ (Some (byte_fault StrayCloser 13)) refl,
 )
 
 -- A map that is cut off is told at its opener, wherever it is cut, and whole it is an operation.
 unclosed_map :
     (RefusedAt (codes "{") Unclosed 0)
     × (RefusedAt (codes "{:type :info, :process 1") Unclosed 0)
-    × (Reads (codes "{:type :info, :process 1}") (operation (info 1) ∷ []) None)
+    × (ReadsAs (codes "{:type :info, :process 1}") (Some (info 1) ∷ []) None)
 unfolding cutting_texts
 unclosed_map = (
   refused 1 _ Unclosed 0 refl,
   refused 24 _ Unclosed 0 refl,
-  reads 25 _ _ None refl,
+  reads_as 25 _ _ None refl,
 )
 
 -- A string that nothing closes is told at its quote, also where its bytes are no UTF-8.
@@ -265,35 +304,43 @@ bad_utf8 = (
 
 -- A tag or `#_` without a form is told at the last one that waits,
 dangling :
-    (RefusedAt (codes "{:error #_") DanglingTag 8)
+    (RefusedAt (codes "[#a]") DanglingTag 1)
+    × (RefusedAt (codes "[#a") DanglingTag 1)
+    × (RefusedAt (codes "{:error #_") DanglingTag 8)
     × (RefusedAt (codes "{:error #x") DanglingTag 8)
     × (RefusedAt (codes "{:error #_ #_ 1") DanglingTag 8)
     × (RefusedAt (codes "#") DanglingTag 0)
 unfolding cutting_texts
 dangling = (
+  refused 4 _ DanglingTag 1 refl,
+  refused 3 _ DanglingTag 1 refl,
   refused 10 _ DanglingTag 8 refl,
   refused 10 _ DanglingTag 8 refl,
   refused 15 _ DanglingTag 8 refl,
   refused 1 _ DanglingTag 0 refl,
 )
 
--- and not where a collection has been opened behind it.
+-- and not where a collection has been opened behind it, or has a member.
 not_dangling :
     (RefusedAt (codes "#a [") Unclosed 3)
     × (RefusedAt (codes "{:error #x [") Unclosed 11)
+    × (RefusedAt (codes "#_ [5") Unclosed 3)
 unfolding cutting_texts
 not_dangling = (
   refused 4 _ Unclosed 3 refl,
   refused 12 _ Unclosed 11 refl,
+  refused 5 _ Unclosed 3 refl,
 )
 
--- Only maps are operations: no number, no set, no vector in a vector, and no form behind a tag but a map.
+-- Only maps are operations: no number, no set, no vector in a vector, and no form behind a tag but a map; and a
+-- member of a tagged vector is in an operation's place too.
 not_a_map :
     (RefusedAt (codes "5") NotAMap 0)
     × (RefusedAt (codes "#{}") NotAMap 0)
     × (RefusedAt (codes "[[]]") NotAMap 1)
     × (RefusedAt (codes "#foo 5") NotAMap 5)
     × (RefusedAt (codes "[5") NotAMap 1)
+    × (RefusedAt (codes "#t [5") NotAMap 4)
 unfolding cutting_texts
 not_a_map = (
   refused 1 _ NotAMap 0 refl,
@@ -301,6 +348,7 @@ not_a_map = (
   refused 4 _ NotAMap 1 refl,
   refused 6 _ NotAMap 5 refl,
   refused 2 _ NotAMap 1 refl,
+  refused 5 _ NotAMap 4 refl,
 )
 
 -- A map with an odd number of forms, told before its fields are looked for.
@@ -317,6 +365,7 @@ odd_map = (
 fields :
     (RefusedAt (codes "{}") MissingField 0)
     × (RefusedAt (codes "{:type :info :process 1 :process 2}") DuplicateField 24)
+    × (RefusedAt (codes "{:process 1 :type :info :type :ok :type :fail}") DuplicateField 24)
     × (RefusedAt (codes "{:process a :process b}") DuplicateField 12)
     × (RefusedAt (codes "{:process 0 :type :ok}") MissingField 0)
     × (RefusedAt (codes "{#t :process 5}") MissingField 0)
@@ -324,6 +373,7 @@ unfolding cutting_texts
 fields = (
   refused 2 _ MissingField 0 refl,
   refused 35 _ DuplicateField 24 refl,
+  refused 45 _ DuplicateField 24 refl,
   refused 23 _ DuplicateField 12 refl,
   refused 22 _ MissingField 0 refl,
   refused 15 _ MissingField 0 refl,
@@ -344,24 +394,61 @@ not_txn :
     (RefusedAt (codes "{:process 0 :type :ok :value nil}") NotTxn 29)
     × (RefusedAt (codes "{:process 0 :type :ok :value #t []}") NotTxn 29)
     × (RefusedAt (codes "{:process 0 :type :ok :value [[:r :x]]}") NotTxn 30)
+    × (RefusedAt (codes "{:process 0 :type :ok :value [[:r :x 1 2]]}") NotTxn 30)
     × (RefusedAt (codes "{:process 0 :type :ok :value [#_ 5 [:append :x 1]]}") NotTxn 35)
 unfolding cutting_texts
 not_txn = (
   refused 33 _ NotTxn 29 refl,
   refused 35 _ NotTxn 29 refl,
   refused 39 _ NotTxn 30 refl,
+  refused 43 _ NotTxn 30 refl,
   refused 51 _ NotTxn 35 refl,
 )
 
 -- What has been read before a fault stands; an operation's own faults come before those of the text behind it.
 first_fault :
-    (Reads (codes "{:process a} {:process 0 :type :fail} 5") (skipped ∷ operation (fail 0) ∷ []) (Some (byte_fault NotAMap 38)))
+    (ReadsAs (codes "{:process a} {:process 0 :type :fail} 5") (None ∷ Some (fail 0) ∷ []) (Some (byte_fault NotAMap 38)))
     × (RefusedAt (codes "{} \"abc") MissingField 0)
 unfolding cutting_texts
 first_fault = (
-  reads 39 _ _ (Some (byte_fault NotAMap 38)) refl,
+  reads_as 39 _ _ (Some (byte_fault NotAMap 38)) refl,
   refused 7 _ MissingField 0 refl,
 )
+
+-- ---- long operations
+
+-- the reading of `{:process NUMBER}` with its closer at this place; what else stands between is left out
+abbrev process_alone : (number : List ℕ) → (closer : ℕ) → Reading
+process_alone number closer =
+    reading_of (token Opener 0 (codes "{") ∷ token Keyword 1 (codes ":process") ∷ token Int 10 number ∷ token Closer closer (codes "}") ∷ []) None
+
+abbrev refused_reading : Refusal → ℕ → Reading
+refused_reading refusal offset = record { entries = []; fault = Some (byte_fault refusal offset) }
+
+-- A map of 65,536 bytes is not too long, and one of a byte more is, before its type is looked for; but a process that is out of
+-- range comes before that.
+too_long :
+    (process_alone (codes "0") 65535 ≡ refused_reading MissingField 0)
+    × (process_alone (codes "0") 65536 ≡ refused_reading TooLong 0)
+    × (process_alone (codes "-1") 65536 ≡ refused_reading BadProcess 10)
+too_long = (refl, refl, refl)
+
+-- `[:r :x nil]`
+abbrev one_read : Form
+one_read =
+    collection (token Opener 30 (codes "[")) (token Closer 40 (codes "]"))
+    (forms_of (plain (token Keyword 31 (codes ":r")) ∷ plain (token Keyword 34 (codes ":x")) ∷ plain (token Nil 37 (codes "nil")) ∷ []))
+
+-- a member that is no micro-operation
+abbrev no_read : Form
+no_read = plain (token Int 70 (codes "5"))
+
+-- The 257th member is refused at its place, whatever it is; the 256th isn't, for that.
+too_many_micro_ops :
+    (micro_ops_of 0 (replicate 256 one_read ++ no_read ∷ []) ≡ Err (byte_fault TooManyMicroOps 70))
+    × (micro_ops_of 0 (replicate 256 one_read ++ one_read ∷ []) ≡ Err (byte_fault TooManyMicroOps 30))
+    × (micro_ops_of 0 (replicate 255 one_read ++ no_read ∷ []) ≡ Err (byte_fault NotTxn 70))
+too_many_micro_ops = (refl, refl, refl)
 
 -- ---- depth
 
