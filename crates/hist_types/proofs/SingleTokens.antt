@@ -56,10 +56,15 @@ items_alone :
 items_alone [] text offset closers ending cut = tt
 items_alone (t ∷ items) text offset closers ending cut = (
   item_alone text offset closers t cut.0 cut.2,
-  items_alone items (drop (length t.bytes) text) (offset + length t.bytes) (open_after t.kind t.bytes closers) ending cut.3,
+  items_alone items (drop (length t.bytes) text) (offset + length t.bytes)
+      (open_after t.kind t.bytes closers) ending cut.3,
 )
 
-if_alone : (token : Bool) (t : Item) (ts : List Item) → IsAlone t → AllByRecursion IsAlone ts → AllByRecursion IsAlone (if token then t ∷ ts else ts)
+if_alone :
+    (token : Bool) (t : Item) (ts : List Item)
+    → IsAlone t
+    → AllByRecursion IsAlone ts
+    → AllByRecursion IsAlone (if token then t ∷ ts else ts)
 if_alone true t ts one all = (one, all)
 if_alone false t ts one all = all
 
@@ -68,7 +73,10 @@ tokens_alone [] all = tt
 tokens_alone (t ∷ items) all = if_alone (is_token t.kind) t (tokens_of items) all.0 (tokens_alone items all.1)
 
 -- the tokens of a text
-row_alone : (text : List ℕ) (tokens : List Item) (ending : Option Fault) → HasTokens text tokens ending → AllByRecursion IsAlone tokens
+row_alone :
+    (text : List ℕ) (tokens : List Item) (ending : Option Fault)
+    → HasTokens text tokens ending
+    → AllByRecursion IsAlone tokens
 row_alone text tokens ending row =
     subst (AllByRecursion IsAlone) (sym row.2) (tokens_alone row.0 (items_alone row.0 text 0 [] ending row.1))
 
@@ -101,8 +109,14 @@ token_alone text tokens ending t value row contains spells =
 
 -- ---- the parts of operations
 
-parts_alone : (key value : Item) (m : Mop) → IsAlone key → IsAlone value → SpellsParts key value m → IsTokenAlone key.kind key.bytes × IsTokenAlone value.kind value.bytes
-parts_alone key value (read k v) first second spells = (first (spelled_free key.kind key.bytes k spells.0), second (value_free value v spells.1))
+parts_alone :
+    (key value : Item) (m : Mop)
+    → IsAlone key
+    → IsAlone value
+    → SpellsParts key value m
+    → IsTokenAlone key.kind key.bytes × IsTokenAlone value.kind value.bytes
+parts_alone key value (read k v) first second spells =
+    (first (spelled_free key.kind key.bytes k spells.0), second (value_free value v spells.1))
 parts_alone key value (write k v) first second spells =
     (first (spelled_free key.kind key.bytes k spells.0), second (spelled_free value.kind value.bytes v spells.1))
 
