@@ -1,22 +1,22 @@
 -- A token that spells an atom or nil is one token by itself.
-use Rattle.std.proofs.Common.{◌≡◌, inl, inr, ℕ, ◌+◌, List, [], ◌∷◌, length, take, drop, Bool, true, false, if◌then◌else◌, Option, Some, None, refl, sym, ap, subst, arith}
+use Rattle.std.proofs.Common.{◌≡◌, inl, inr, ℕ, ◌+◌, List, [], ◌∷◌, length, take, drop, Bool, true, false, if◌then◌else◌, Option, Some, None, refl, sym, subst, arith}
 use Rattle.std.specs.List.{AllByRecursion, All, Contains}
 use Rattle.std.proofs.lemmas.List.{drop_all}
 use Rattle.std.proofs.lemmas.List.Elements.{All-from_recursion}
 use Rattle.std.proofs.lemmas.Option.{none-some}
 use Rattle.hist_types.specs.Atoms.{Atom, Value}
 use Rattle.hist_types.specs.AtomTokens.{atom_of_token}
-use Rattle.hist_types.specs.Entries.{PlacedMop, PlacedOperation}
-use Rattle.hist_types.specs.Placed.{SpellsValue, SpellsParts, IsTokenAlone, IsMopOfTokens, IsTextOf}
+use Rattle.hist_types.specs.Entries.{PlacedMop, PlacedOperation, Entry, operation}
+use Rattle.hist_types.specs.Placed.{SpellsValue, SpellsParts, IsTokenAlone, IsMopOfTokens}
 use Rattle.hist_types.specs.Operations.{Mop, read, write}
-use Rattle.hist_types.specs.Reading.{Reading, nothing_open}
+use Rattle.hist_types.specs.Reading.{Reads}
 use Rattle.hist_types.specs.Tokens.{Item, ItemKind, Blank, Comment, Opener, Closer, item_fault, nesting_refusal, open_after, is_token, tokens_of, BeginsWith, IsCut, HasTokens}
 use Rattle.hist_types.specs.declared.types.Fault.{Fault}
 use Rattle.hist_types.proofs.Members.{In, in_from_Contains}
 use Rattle.hist_types.proofs.MovedReading.{tokens_of-token}
 use Rattle.hist_types.proofs.OneCut.{the_item}
 use Rattle.hist_types.proofs.PartCuts.{BeginsWith-take, item_fault-elsewhere}
-use Rattle.hist_types.proofs.SpelledParts.{BeginsWith-bytes, reading_from-spelled, IsSpelled, IsSpelledEntry}
+use Rattle.hist_types.proofs.SpelledParts.{BeginsWith-bytes, IsSpelled, spelled_by_tokens}
 
 -- a token that neither opens nor closes
 abbrev IsFree : ItemKind → Type 0
@@ -124,9 +124,12 @@ mops_alone : (mops : List PlacedMop) → AllByRecursion (IsSpelled IsAlone) mops
 mops_alone [] all = tt
 mops_alone (m ∷ mops) all = (parts_alone m.key m.value m.mop all.0.0 all.0.1 all.0.2, mops_alone mops all.1)
 
-pub operation_alone : (text : List ℕ) (o : PlacedOperation) → IsTextOf text o → All IsMopOfTokens o.mops
-operation_alone text o is =
-    let reads = is.2 in
-    let all = reading_from-spelled IsAlone reads.0 nothing_open reads.1 (row_alone text reads.0 reads.1 reads.2) tt in
-    let one = subst (AllByRecursion (IsSpelledEntry IsAlone)) (ap (λ (r : Reading). r.entries) reads.3) all in
-    All-from_recursion IsMopOfTokens o.mops (mops_alone o.mops one.0)
+pub mops_alone_in :
+    (text : List ℕ) (entries : List Entry) (fault : Option Fault) (o : PlacedOperation)
+    → Reads text entries fault
+    → Contains entries (operation o)
+    → All IsMopOfTokens o.mops
+mops_alone_in text entries fault o reads contains =
+    All-from_recursion IsMopOfTokens o.mops
+    (mops_alone o.mops
+    (spelled_by_tokens IsAlone text entries fault o (row_alone text) reads (in_from_Contains (operation o) entries contains)))

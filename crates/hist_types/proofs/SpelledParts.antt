@@ -1,7 +1,7 @@
 -- The parts of an operation that a text reads as are spelled by tokens of the text, within the limits.
-use Rattle.std.proofs.Common.{◌≡◌, inl, ℕ, suc, ◌+◌, ◌-◌, ◌≤◌, ◌<◌, ◌%◌, List, [], ◌∷◌, ◌++◌, length, take, drop, Bool, true, false, ◌&&◌, ◌==◌, if◌then◌else◌, Option, Some, None, option_map, Result, Ok, Err, filter, refl, sym, ◌∙◌, ap, subst, arith, length-drop, drop-drop, codes}
+use Rattle.std.proofs.Common.{◌≡◌, inl, inr, ℕ, suc, ◌+◌, ◌-◌, ◌≤◌, ◌<◌, ◌%◌, List, [], ◌∷◌, ◌++◌, length, take, drop, Bool, true, false, ◌&&◌, ◌==◌, if◌then◌else◌, Option, Some, None, option_map, Result, Ok, Err, filter, refl, sym, ◌∙◌, ap, subst, arith, length-drop, drop-drop, codes}
 use Rattle.std.specs.Prelude.{ℤ, pos, negsuc, nat_le, nat_lt}
-use Rattle.std.specs.List.{AllByRecursion, All}
+use Rattle.std.specs.List.{AllByRecursion, All, Contains}
 use Rattle.std.proofs.lemmas.Bool.{leb-true, leb-false, ltb-false}
 use Rattle.std.proofs.lemmas.List.Elements.{All-from_recursion}
 use Rattle.std.proofs.lemmas.Option.{none-some, same_Some}
@@ -10,8 +10,8 @@ use Rattle.hist_types.specs.AtomTokens.{atom_of_token, is_nil_kind, process_of}
 use Rattle.hist_types.specs.Entries.{PlacedMop, PlacedOperation, Entry, operation, skipped, atom_of, is_nil, value_of, is_named, int_of, elements_of, ◌>>=◌, refuse_if, or_refuse, pairs_of, the_one, field, kind_of, is_write_of, placed_write, placed_read, read_or_write, micro_op_of, micro_ops_of, transaction_of, mops_of, entry_by, end_of, entry_of}
 use Rattle.hist_types.specs.Forms.{Form, plain, collection, tagged, Forms, no_form, form, forms_of, list_of, place_of, OpenCollection, Open, is_map, is_vector_or_list, is_drop, settled, with_member, with_form, with_mark, with_opener, form_of}
 use Rattle.hist_types.specs.Placed.{IsTokenIn, Spells, SpellsValue, SpellsParts, IsMopIn, FitsKind, KeepsLimits, IsTextOf}
-use Rattle.hist_types.specs.Reading.{Reading, is_place_in, in_operation_place, may_open, Step, goes_on, close, step_by, step, then_read, reading_from, nothing_open}
-use Rattle.hist_types.specs.Tokens.{Item, ItemKind, Nil, Opener, Closer, Drop, Tag, open_after, is_token, tokens_of, BeginsWith, IsCut}
+use Rattle.hist_types.specs.Reading.{Reading, is_place_in, in_operation_place, may_open, Step, goes_on, close, step_by, step, then_read, reading_from, nothing_open, Reads}
+use Rattle.hist_types.specs.Tokens.{Item, ItemKind, Nil, Opener, Closer, Drop, Tag, open_after, is_token, tokens_of, BeginsWith, IsCut, HasTokens}
 use Rattle.hist_types.specs.declared.limits.TheConstants.{MAX_PROCESS, MAX_MICRO_OPS, MAX_OPERATION_BYTES}
 use Rattle.hist_types.specs.declared.types.Fault.{Fault}
 use Rattle.hist_types.specs.declared.types.OpKind.{OpKind}
@@ -20,6 +20,7 @@ use Rattle.hist_types.specs.declared.types.Refusal.TheVariants.{OddMap, BadType,
 use Rattle.hist_types.proofs.Checks.{no_ok, ok_then, ok_is, or_some, not_refused}
 use Rattle.hist_types.proofs.MovedReading.{closed, went_on_if, went_on_unless, same_step, no_step}
 use Rattle.hist_types.proofs.MapAlone.{found_in_text}
+use Rattle.hist_types.proofs.Members.{In, in_from_Contains}
 use Rattle.hist_types.proofs.PartCuts.{BeginsWith-len}
 
 -- ---- the limits
@@ -501,16 +502,43 @@ tokens_in text (t ∷ items) all = if_token text (is_token t.kind) t (tokens_of 
 
 -- ---- an operation's parts
 
+entry_in :
+    (P : Item → Type 0) (o : PlacedOperation) (entries : List Entry)
+    → In (operation o) entries
+    → AllByRecursion (IsSpelledEntry P) entries
+    → AllByRecursion (IsSpelled P) o.mops
+entry_in P o [] i all = absurd i
+entry_in P o (entry ∷ entries) (inl same) all = subst (IsSpelledEntry P) same all.0
+entry_in P o (entry ∷ entries) (inr i) all = entry_in P o entries i all.1
+
+-- what holds of each token of a text holds of those that spell an operation
+pub spelled_by_tokens :
+    (P : Item → Type 0) (text : List ℕ) (entries : List Entry) (fault : Option Fault) (o : PlacedOperation)
+    → ((tokens : List Item) → (ending : Option Fault) → HasTokens text tokens ending → AllByRecursion P tokens)
+    → Reads text entries fault
+    → In (operation o) entries
+    → AllByRecursion (IsSpelled P) o.mops
+spelled_by_tokens P text entries fault o each reads i =
+    let all = reading_from-spelled P reads.0 nothing_open reads.1 (each reads.0 reads.1 reads.2) tt in
+    entry_in P o entries i (subst (AllByRecursion (IsSpelledEntry P)) (ap (λ (r : Reading). r.entries) reads.3) all)
+
+row_in : (text : List ℕ) (tokens : List Item) (ending : Option Fault) → HasTokens text tokens ending → AllByRecursion (IsTokenIn text) tokens
+row_in text tokens ending row =
+    subst (AllByRecursion (IsTokenIn text)) (sym row.2) (tokens_in text row.0 (items_in row.0 text 0 [] ending row.1))
+
+pub parts_spelled_in :
+    (text : List ℕ) (entries : List Entry) (fault : Option Fault) (o : PlacedOperation)
+    → Reads text entries fault
+    → Contains entries (operation o)
+    → All (IsMopIn text) o.mops
+parts_spelled_in text entries fault o reads contains =
+    All-from_recursion (IsMopIn text) o.mops
+    (spelled_by_tokens (IsTokenIn text) text entries fault o (row_in text) reads (in_from_Contains (operation o) entries contains))
+
 pub parts_spelled : (text : List ℕ) (o : PlacedOperation) → IsTextOf text o → All (IsMopIn text) o.mops
 parts_spelled text o is =
-    let reads = is.2 in
-    let items = reads.2.0 in
-    let tokens : AllByRecursion (IsTokenIn text) reads.0 =
-    subst (AllByRecursion (IsTokenIn text)) (sym reads.2.2)
-    (tokens_in text items (items_in items text 0 [] reads.1 reads.2.1)) in
-    let all = reading_from-spelled (IsTokenIn text) reads.0 nothing_open reads.1 tokens tt in
-    let one = subst (AllByRecursion (IsSpelledEntry (IsTokenIn text))) (ap (λ (r : Reading). r.entries) reads.3) all in
-    All-from_recursion (IsMopIn text) o.mops one.0
+    All-from_recursion (IsMopIn text) o.mops
+    (spelled_by_tokens (IsTokenIn text) text (operation o ∷ []) None o (row_in text) is.2 (inl refl))
 
 pub limits_kept : (text : List ℕ) (o : PlacedOperation) → IsTextOf text o → KeepsLimits text o
 limits_kept text o is =
