@@ -23,10 +23,16 @@ ok_then P (Err f) next h y e = absurd (no_ok f y e)
 pub ok_is : {B : Type 0} (P : B → Type 0) (x y : B) → P x → (let r : Result B Fault = Ok x in r ≡ Ok y) → P y
 ok_is P x y h e = subst P (same_ok x y e) h
 
-pub or_some : {A : Type 0} (o : Option A) (refusal : Refusal) (n : ℕ) (x : A) → or_refuse o refusal n ≡ Ok x → o ≡ Some x
+pub or_some :
+    {A : Type 0} (o : Option A) (refusal : Refusal) (n : ℕ) (x : A)
+    → or_refuse o refusal n ≡ Ok x
+    → o ≡ Some x
 or_some None refusal n x e = absurd (no_ok _ x e)
 or_some (Some y) refusal n x e = ap Some (same_ok y x e)
 
-pub not_refused : (test : Bool) (refusal : Refusal) (n : ℕ) (u : Unit {0}) → refuse_if test refusal n ≡ Ok u → test ≡ false
+pub not_refused :
+    (test : Bool) (refusal : Refusal) (n : ℕ) (u : Unit {0})
+    → refuse_if test refusal n ≡ Ok u
+    → test ≡ false
 not_refused true refusal n u e = absurd (no_ok _ u e)
 not_refused false refusal n u e = refl

@@ -56,7 +56,8 @@ character_len-le (b ∷ rest) = let h = prefix_len-le-length is_run_byte rest in
 
 -- a byte and a run lie within the text
 run_shape : (rest : List ℕ) (kind : ItemKind) → IsShape (suc (length rest)) (kind, Some (suc (run_len rest)))
-run_shape rest kind = let h = prefix_len-le-length is_run_byte rest in within _ kind (suc (run_len rest)) (omega arith) (omega arith)
+run_shape rest kind =
+    let h = prefix_len-le-length is_run_byte rest in within _ kind (suc (run_len rest)) (omega arith) (omega arith)
 
 -- what a hash begins lies within the text
 hash_shape : (rest : List ℕ) → IsShape (suc (length rest)) (hash_front rest)
@@ -72,7 +73,8 @@ shape b rest =
     let comment = prefix_len-le-length (λ c. not (c == line_feed)) rest in
     let character = character_len-le rest in
     either _ (is_blank b) _ _ (within _ Blank 1 (omega arith) (omega arith))
-    (either _ (b == semicolon) _ _ (within _ Comment (suc (prefix_len (λ c. not (c == line_feed)) rest)) (omega arith) (omega arith))
+    (either _ (b == semicolon) _ _
+    (within _ Comment (suc (prefix_len (λ c. not (c == line_feed)) rest)) (omega arith) (omega arith))
     (either _ (b == quote) _ _ (string_shape (length rest) (content_len false rest) (content_len-within rest false))
     (either _ (b == backslash) _ _ (within _ Char (suc (character_len rest)) (omega arith) (omega arith))
     (either _ (is_opener b) _ _ (within _ Opener 1 (omega arith) (omega arith))
@@ -85,13 +87,15 @@ HasCut text offset closers = (items : List Item) × (ending : Option Fault) × I
 
 -- the item at the front, and a cut of what follows unless it has a fault
 cut_from :
-    (b : ℕ) (rest : List ℕ) (offset : ℕ) (closers : List ℕ) (kind : ItemKind) (bytes : List ℕ) (refused : Option Fault) →
+    (b : ℕ) (rest : List ℕ) (offset : ℕ) (closers : List ℕ) (kind : ItemKind) (bytes : List ℕ)
+    (refused : Option Fault) →
     BeginsWith (b ∷ rest) kind bytes → item_fault kind offset bytes closers ≡ refused →
     HasCut (drop (length bytes) (b ∷ rest)) (offset + length bytes) (open_after kind bytes closers) →
     HasCut (b ∷ rest) offset closers
 cut_from b rest offset closers kind bytes None begins fine later =
     (the_item kind offset bytes ∷ later.0, later.1, (begins, refl, fine, later.2))
-cut_from b rest offset closers kind bytes (Some fault) begins bad later = ([], Some fault, inr (kind, bytes, begins, bad))
+cut_from b rest offset closers kind bytes (Some fault) begins bad later =
+    ([], Some fault, inr (kind, bytes, begins, bad))
 
 -- texts of at most n bytes have cuts
 cut_within : (n : ℕ) (text : List ℕ) (offset : ℕ) (closers : List ℕ) → length text ≤ n → HasCut text offset closers
@@ -104,11 +108,14 @@ cut_within (suc n) (b ∷ rest) offset closers h =
           let kind = found.0 in
           let bytes = take found.1 (b ∷ rest) in
           let len : length bytes ≡ found.1 = length-take-le found.1 (b ∷ rest) found.4 in
-          let begins : BeginsWith (b ∷ rest) kind bytes = (found.2 ∙ ap (λ m. (kind, Some m)) (sym len), ap (λ m. take m (b ∷ rest)) (sym len)) in
+          let begins : BeginsWith (b ∷ rest) kind bytes =
+          (found.2 ∙ ap (λ m. (kind, Some m)) (sym len), ap (λ m. take m (b ∷ rest)) (sym len)) in
           let some : 0 < found.1 = found.3 in
-          let shorter : length (drop (length bytes) (b ∷ rest)) ≤ n = omega (arith, length-drop (length bytes) (b ∷ rest)) in
+          let shorter : length (drop (length bytes) (b ∷ rest)) ≤ n =
+          omega (arith, length-drop (length bytes) (b ∷ rest)) in
           cut_from b rest offset closers kind bytes _ begins refl
-          (cut_within n (drop (length bytes) (b ∷ rest)) (offset + length bytes) (open_after kind bytes closers) shorter)
+          (cut_within n (drop (length bytes) (b ∷ rest)) (offset + length bytes)
+          (open_after kind bytes closers) shorter)
     ]
 
 -- each text has a cut, from any offset and inside any collections

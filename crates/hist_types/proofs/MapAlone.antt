@@ -37,7 +37,8 @@ pub record Found (items : List Item) (o : PlacedOperation) : Type 0 where
   pub is_a_map : is_map c.opener ≡ true
   pub none_waits : c.marks ≡ []
   pub gives : entry_of c.opener closer c.members ≡ Ok (operation o)
-  pub runs : Runs nothing_open (map (item_from c.opener.start) (c.opener ∷ tokens_of within)) (inside c.opener.start [] c)
+  pub runs :
+      Runs nothing_open (map (item_from c.opener.start) (c.opener ∷ tokens_of within)) (inside c.opener.start [] c)
 
 same_entries : (es fs : List Entry) → (let r : Result (List Entry) Fault = Ok es in r ≡ Ok fs) → es ≡ fs
 same_entries es fs e = cc
@@ -46,7 +47,8 @@ no_entries : (f : Fault) (es : List Entry) → (let r : Result (List Entry) Faul
 no_entries f es e = cc
 
 -- a map in an operation's place, which gave the one entry
-pub record GivenBy (c : OpenCollection) (t : Item) (marks : List Item) (outer : List OpenCollection) (o : PlacedOperation) : Type 0 where
+pub record GivenBy (c : OpenCollection) (t : Item) (marks : List Item) (outer : List OpenCollection)
+    (o : PlacedOperation) : Type 0 where
   pub is_a_map : is_map c.opener ≡ true
   pub place : is_place_in marks outer ≡ true
   pub gives : entry_of c.opener t c.members ≡ Ok (operation o)
@@ -64,7 +66,8 @@ the_entry o es (Ok entry) e i =
 the_entry o es (Err f) e i = absurd (no_entries f es e)
 
 given_if :
-    (c : OpenCollection) (t : Item) (marks : List Item) (outer : List OpenCollection) (o : PlacedOperation) (es : List Entry) (test : Bool)
+    (c : OpenCollection) (t : Item) (marks : List Item) (outer : List OpenCollection)
+    (o : PlacedOperation) (es : List Entry) (test : Bool)
     → (is_map c.opener && is_place_in marks outer) ≡ test
     → (if test then (entry_of c.opener t c.members >>= λ entry. Ok (entry ∷ [])) else Ok []) ≡ Ok es
     → In (operation o) es
@@ -75,7 +78,8 @@ given_if c t marks outer o es true holds e i =
 given_if c t marks outer o es false holds e i = absurd (subst (In (operation o)) (sym (same_entries [] es e)) i)
 
 found_by_closer :
-    (done items : List Item) (marks : List Item) (collections : List OpenCollection) (t : Item) (s : Step) (o : PlacedOperation)
+    (done items : List Item) (marks : List Item) (collections : List OpenCollection) (t : Item) (s : Step)
+    (o : PlacedOperation)
     → t.kind ≡ Closer
     → Histories done (opened marks collections)
     → close t marks collections ≡ Ok s
@@ -113,14 +117,20 @@ found_by :
     → Found (done ++ (t ∷ items)) o
 found_by Opener done items p t s o is all e i = absurd (none_given o _ s (went_on_if (may_open p t) _ _ s e) i)
 found_by Closer done items p t s o is all e i = found_by_closer done items p.marks p.collections t s o is all e i
-found_by Tag done items p t s o is all e i = absurd (none_given o (with_mark t p.marks p.collections) s (same_step _ s e) i)
-found_by Drop done items p t s o is all e i = absurd (none_given o (with_mark t p.marks p.collections) s (same_step _ s e) i)
-found_by kind done items p t s o is all e i = absurd (none_given o _ s (went_on_unless (in_operation_place p) _ t.start s e) i)
+found_by Tag done items p t s o is all e i =
+    absurd (none_given o (with_mark t p.marks p.collections) s (same_step _ s e) i)
+found_by Drop done items p t s o is all e i =
+    absurd (none_given o (with_mark t p.marks p.collections) s (same_step _ s e) i)
+found_by kind done items p t s o is all e i =
+    absurd (none_given o _ s (went_on_unless (in_operation_place p) _ t.start s e) i)
 
 -- in what is left behind one token
 Behind : List Item → List Item → Item → Option Fault → PlacedOperation → Type 0
 Behind done items t ending o =
-    (q : Open) → Histories (done ++ (t ∷ [])) q → In (operation o) (reading_from q (tokens_of items) ending).entries → Found (done ++ (t ∷ items)) o
+    (q : Open)
+    → Histories (done ++ (t ∷ [])) q
+    → In (operation o) (reading_from q (tokens_of items) ending).entries
+    → Found (done ++ (t ∷ items)) o
 
 found_after :
     (done items : List Item) (p : Open) (t : Item) (ending : Option Fault) (o : PlacedOperation) (r : Result Step Fault)
@@ -150,7 +160,8 @@ found_at done items p t ending o true token further all i =
     found_after done items p t ending o (step p t) token further all refl
     (subst (λ ts. In (operation o) (reading_from p ts ending).entries) (tokens_of-token t items token) i)
 found_at done items p t ending o false gap further all i =
-    further p (Histories-gap done p t gap all) (subst (λ ts. In (operation o) (reading_from p ts ending).entries) (tokens_of-gap t items gap) i)
+    further p (Histories-gap done p t gap all)
+    (subst (λ ts. In (operation o) (reading_from p ts ending).entries) (tokens_of-gap t items gap) i)
 
 found_in :
     (items done : List Item) (p : Open) (ending : Option Fault) (o : PlacedOperation)
@@ -161,7 +172,8 @@ unfolding Behind
 found_in [] done p ending o all i = absurd i
 found_in (t ∷ items) done p ending o all i =
     found_at done items p t ending o (is_token t.kind) refl
-    (λ q kept later. subst (λ xs. Found xs o) (append_assoc done (t ∷ []) items) (found_in items (done ++ (t ∷ [])) q ending o kept later)) all i
+    (λ q kept later. subst (λ xs. Found xs o) (append_assoc done (t ∷ []) items)
+    (found_in items (done ++ (t ∷ [])) q ending o kept later)) all i
 
 nothing_yet : Histories [] nothing_open
 nothing_yet [] m outer e = absurd (let none : [] ≡ m ∷ outer = e in cc)
@@ -183,14 +195,19 @@ not_deep :
 not_deep true less fewer e = absurd (none-some TooDeep (sym e))
 not_deep false less fewer e = ap (λ b. let o : Option Refusal = if b then Some TooDeep else None in o) (fewer refl)
 
-less_deep : (inner outer : List ℕ) → nat_le MAX_OPEN_COLLECTIONS (length (inner ++ outer)) ≡ false → nat_le MAX_OPEN_COLLECTIONS (length inner) ≡ false
+less_deep :
+    (inner outer : List ℕ)
+    → nat_le MAX_OPEN_COLLECTIONS (length (inner ++ outer)) ≡ false
+    → nat_le MAX_OPEN_COLLECTIONS (length inner) ≡ false
 less_deep inner outer e =
     let all : length (inner ++ outer) ≡ length inner + length outer = length-append inner outer in
-    let few : length (inner ++ outer) < MAX_OPEN_COLLECTIONS = leb-false MAX_OPEN_COLLECTIONS (length (inner ++ outer)) e in
+    let few : length (inner ++ outer) < MAX_OPEN_COLLECTIONS =
+    leb-false MAX_OPEN_COLLECTIONS (length (inner ++ outer)) e in
     lt-leb MAX_OPEN_COLLECTIONS (length inner) (omega arith)
 
 nested_opener : (bytes inner outer : List ℕ) (n : ℕ) → n ≡ suc (length inner) → Nested Opener bytes inner outer n
-nested_opener bytes inner outer n deep = record { stands = not_deep _ _ (less_deep inner outer); after = refl; deep = deep }
+nested_opener bytes inner outer n deep =
+    record { stands = not_deep _ _ (less_deep inner outer); after = refl; deep = deep }
 
 nested_closer :
     (bytes inner outer : List ℕ) (marks : List Item) (collections : List OpenCollection) (t : Item) (s : Step)
@@ -206,14 +223,19 @@ nested_closer bytes (b ∷ inner) outer marks (c ∷ []) t s e len =
     record { stands = λ x. x; after = refl; deep = omega arith }
 nested_closer bytes (b ∷ inner) outer marks (c ∷ d ∷ around) t s e len =
     let taken = closed c t marks (d ∷ around) s e in
-    let count : length s.after.collections ≡ suc (length around) = ap (λ (x : Open). length x.collections) taken.after in
+    let count : length s.after.collections ≡ suc (length around) =
+    ap (λ (x : Open). length x.collections) taken.after in
     record { stands = λ x. x; after = refl; deep = omega arith }
 
-marked_len : (t : Item) (marks : List Item) (collections : List OpenCollection) → length (with_mark t marks collections).collections ≡ length collections
+marked_len :
+    (t : Item) (marks : List Item) (collections : List OpenCollection)
+    → length (with_mark t marks collections).collections ≡ length collections
 marked_len t marks [] = refl
 marked_len t marks (c ∷ outer) = refl
 
-formed_len : (f : Form) (marks : List Item) (collections : List OpenCollection) → length (with_form f marks collections).collections ≡ length collections
+formed_len :
+    (f : Form) (marks : List Item) (collections : List OpenCollection)
+    → length (with_form f marks collections).collections ≡ length collections
 formed_len f marks [] = refl
 formed_len f marks (c ∷ outer) = refl
 
@@ -229,17 +251,32 @@ nested Opener bytes inner outer p t s e len =
     nested_opener bytes inner outer _ (how_deep _ s _ (went_on_if (may_open p t) _ _ s e) (ap suc len))
 nested Closer bytes inner outer p t s e len = nested_closer bytes inner outer p.marks p.collections t s e len
 nested Tag bytes inner outer p t s e len =
-    record { stands = λ x. x; after = refl; deep = how_deep (with_mark t p.marks p.collections) s _ (same_step _ s e) (marked_len t p.marks p.collections ∙ len) }
+    record {
+      stands = λ x. x;
+      after = refl;
+      deep = how_deep (with_mark t p.marks p.collections) s _ (same_step _ s e)
+          (marked_len t p.marks p.collections ∙ len);
+    }
 nested Drop bytes inner outer p t s e len =
-    record { stands = λ x. x; after = refl; deep = how_deep (with_mark t p.marks p.collections) s _ (same_step _ s e) (marked_len t p.marks p.collections ∙ len) }
+    record {
+      stands = λ x. x;
+      after = refl;
+      deep = how_deep (with_mark t p.marks p.collections) s _ (same_step _ s e)
+          (marked_len t p.marks p.collections ∙ len);
+    }
 nested kind bytes inner outer p t s e len =
     record {
       stands = λ x. x;
       after = refl;
-      deep = how_deep _ s _ (went_on_unless (in_operation_place p) _ t.start s e) (formed_len _ p.marks p.collections ∙ len);
+      deep = how_deep _ s _ (went_on_unless (in_operation_place p) _ t.start s e)
+          (formed_len _ p.marks p.collections ∙ len);
     }
 
-nested_gap : (kind : ItemKind) (bytes inner outer : List ℕ) (n : ℕ) → is_token kind ≡ false → n ≡ length inner → Nested kind bytes inner outer n
+nested_gap :
+    (kind : ItemKind) (bytes inner outer : List ℕ) (n : ℕ)
+    → is_token kind ≡ false
+    → n ≡ length inner
+    → Nested kind bytes inner outer n
 nested_gap Blank bytes inner outer n gap len = record { stands = λ x. x; after = refl; deep = len }
 nested_gap Comment bytes inner outer n gap len = record { stands = λ x. x; after = refl; deep = len }
 nested_gap kind bytes inner outer n gap len = absurd (let no : true ≡ false = gap in cc)
@@ -250,7 +287,8 @@ ReadsOn p ts = (reading_from p ts None).fault ≡ None
 
 -- what is open behind one item, and that the others are read on there
 abbrev ReadsBehind : Item → List Item → Open → (inner outer : List ℕ) → Type 0
-ReadsBehind t items p inner outer = (q : Open) × Nested t.kind t.bytes inner outer (length q.collections) × ReadsOn q (tokens_of items)
+ReadsBehind t items p inner outer =
+    (q : Open) × Nested t.kind t.bytes inner outer (length q.collections) × ReadsOn q (tokens_of items)
 
 behind_step :
     (t : Item) (items : List Item) (p : Open) (inner outer : List ℕ) (r : Result Step Fault)
@@ -285,8 +323,10 @@ IsCut-inner (t ∷ items) text offset inner outer p cut len reads =
       cut.0,
       cut.1,
       item_fault-elsewhere t.kind offset offset t.bytes (inner ++ outer) inner nest.stands cut.2,
-      IsCut-inner items (drop (length t.bytes) text) (offset + length t.bytes) (open_after t.kind t.bytes inner) outer later.0
-          (subst (λ closers. IsCut (drop (length t.bytes) text) (offset + length t.bytes) closers items None) nest.after cut.3) nest.deep later.2,
+      IsCut-inner items (drop (length t.bytes) text) (offset + length t.bytes)
+          (open_after t.kind t.bytes inner) outer later.0
+          (subst (λ closers. IsCut (drop (length t.bytes) text)
+          (offset + length t.bytes) closers items None) nest.after cut.3) nest.deep later.2,
     )
 
 -- ---- where an entry says that it is
@@ -295,7 +335,10 @@ abbrev IsAt : (start end : ℕ) → Entry → Type 0
 IsAt start end (operation o) = (o.start ≡ start) × (o.end ≡ end)
 IsAt start end skipped = Unit {0}
 
-entry_by-at : (number : Option ℤ) (place start end : ℕ) (ps : List (Form × Form)) (entry : Entry) → entry_by number place start end ps ≡ Ok entry → IsAt start end entry
+entry_by-at :
+    (number : Option ℤ) (place start end : ℕ) (ps : List (Form × Form)) (entry : Entry)
+    → entry_by number place start end ps ≡ Ok entry
+    → IsAt start end entry
 entry_by-at None place start end ps entry e = ok_is (IsAt start end) skipped entry tt e
 entry_by-at (Some number) place start end ps entry e =
     let P = IsAt start end in
@@ -304,9 +347,13 @@ entry_by-at (Some number) place start end ps entry e =
     ok_then P (field (codes ":type") start ps) _ (λ type _.
     ok_then P (or_refuse (kind_of type) BadType (place_of type)) _ (λ kind _.
     ok_then P (mops_of kind start ps) _ (λ mops _ y.
-    ok_is P (operation (record { kind = kind; process = process; mops = mops; start = start; end = end })) y (refl, refl)))))) entry e
+    ok_is P (operation (record { kind = kind; process = process; mops = mops; start = start; end = end })) y
+    (refl, refl)))))) entry e
 
-entry_of-at : (opener closer : Item) (fs : List Form) (entry : Entry) → entry_of opener closer fs ≡ Ok entry → IsAt opener.start (end_of closer) entry
+entry_of-at :
+    (opener closer : Item) (fs : List Form) (entry : Entry)
+    → entry_of opener closer fs ≡ Ok entry
+    → IsAt opener.start (end_of closer) entry
 entry_of-at opener closer fs entry e =
     let P = IsAt opener.start (end_of closer) in
     ok_then P (refuse_if (length fs % 2 == 1) OddMap opener.start) _ (λ u _.
@@ -319,7 +366,10 @@ width-append : (xs ys : List Item) → width (xs ++ ys) ≡ width xs + width ys
 width-append [] ys = omega arith
 width-append (x ∷ xs) ys = let rest = width-append xs ys in omega arith
 
-kept_token : (k : ℕ) (token : Bool) (t : Item) (ts us : List Item) → us ≡ map (item_from k) ts → (if token then item_from k t ∷ us else us) ≡ map (item_from k) (if token then t ∷ ts else ts)
+kept_token :
+    (k : ℕ) (token : Bool) (t : Item) (ts us : List Item)
+    → us ≡ map (item_from k) ts
+    → (if token then item_from k t ∷ us else us) ≡ map (item_from k) (if token then t ∷ ts else ts)
 kept_token k true t ts us same = ap (λ xs. item_from k t ∷ xs) same
 kept_token k false t ts us same = same
 
@@ -351,7 +401,8 @@ closes_alone :
     → c.marks ≡ []
     → entry_of c.opener t c.members ≡ Ok (operation o)
     → c.opener.start ≤ t.start
-    → step (inside c.opener.start [] c) (item_from c.opener.start t) ≡ Ok (record { entries = operation (from_its_start o) ∷ []; after = nothing_open })
+    → step (inside c.opener.start [] c) (item_from c.opener.start t)
+    ≡ Ok (record { entries = operation (from_its_start o) ∷ []; after = nothing_open })
 closes_alone c t o closes is none gives order =
     let k = c.opener.start in
     let u = item_from k t in
@@ -361,20 +412,33 @@ closes_alone c t o closes is none gives order =
     let ends : o.end ≡ t.start + length t.bytes = at.1 in
     let moved = entry_of-from k c.opener t c.members (omega arith) (operation o) gives in
     let same = from_start k (end_of u) o begins (omega arith) in
-    let entry : entry_of d.opener u d.members ≡ Ok (operation (from_its_start o)) = moved ∙ (let ok : Entry → Result Entry Fault = λ x. Ok x in ap ok same) in
+    let entry : entry_of d.opener u d.members ≡ Ok (operation (from_its_start o)) =
+    moved ∙ (let ok : Entry → Result Entry Fault = λ x. Ok x in ap ok same) in
     ap (λ kind. step_by kind (inside k [] c) u) closes
     ∙ (ap (λ (ms : List Item). closes_as (refuse_waiting (map (item_from k) ms)) (given_by d u [] []) nothing_open) none
-    ∙ (ap (λ (b : Bool). closes_as (Ok tt) (if b && true then (entry_of d.opener u d.members >>= λ x. Ok (x ∷ [])) else Ok []) nothing_open) is
+    ∙ (ap (λ (b : Bool). closes_as (Ok tt)
+    (if b && true then (entry_of d.opener u d.members >>= λ x. Ok (x ∷ [])) else Ok []) nothing_open) is
     ∙ ap (λ (r : Result Entry Fault). closes_as (Ok tt) (r >>= λ x. Ok (x ∷ [])) nothing_open) entry))
 
-reads_alone : (items : List Item) (o : PlacedOperation) (f : Found items o) → f.c.opener.start ≤ f.closer.start →
-    reading_of (tokens_of (map (item_from f.c.opener.start) (f.c.opener ∷ (f.within ++ (f.closer ∷ []))))) None ≡ record { entries = operation (from_its_start o) ∷ []; fault = None }
+-- the items of the map, from its opener to its closer
+abbrev map_items : {items : List Item} {o : PlacedOperation} → Found items o → List Item
+map_items f = f.c.opener ∷ (f.within ++ (f.closer ∷ []))
+
+abbrev one_entry : Entry → Reading
+one_entry entry = record { entries = entry ∷ []; fault = None }
+
+reads_alone :
+    (items : List Item) (o : PlacedOperation) (f : Found items o)
+    → f.c.opener.start ≤ f.closer.start
+    → reading_of (tokens_of (map (item_from f.c.opener.start) (map_items f))) None
+    ≡ one_entry (operation (from_its_start o))
 reads_alone items o f order =
     let k = f.c.opener.start in
     let front = f.c.opener ∷ tokens_of f.within in
     let mid = f.c.opener ∷ (f.within ++ (f.closer ∷ [])) in
     let tokens : tokens_of mid ≡ front ++ (f.closer ∷ []) =
-    tokens_of-token f.c.opener (f.within ++ (f.closer ∷ [])) (ap is_token f.opens) ∙ ap (λ ts. f.c.opener ∷ ts) (tokens_of-token_last f.within f.closer (ap is_token f.closes)) in
+    tokens_of-token f.c.opener (f.within ++ (f.closer ∷ [])) (ap is_token f.opens) ∙ ap (λ ts. f.c.opener ∷ ts)
+    (tokens_of-token_last f.within f.closer (ap is_token f.closes)) in
     let all : tokens_of (map (item_from k) mid) ≡ map (item_from k) front ++ (item_from k f.closer ∷ []) =
     tokens_of-from k mid ∙ (ap (map (item_from k)) tokens ∙ map-append (item_from k) front (f.closer ∷ [])) in
     let last = closes_alone f.c f.closer o f.closes f.is_a_map f.none_waits f.gives order in
@@ -382,15 +446,21 @@ reads_alone items o f order =
     ∙ (Runs-reading (map (item_from k) front) (item_from k f.closer ∷ []) nothing_open (inside k [] f.c) None f.runs
     ∙ ap (λ (r : Result Step Fault). then_read r (λ after. reading_from after [] None)) last)
 
-found_alone : (text : List ℕ) (items : List Item) (ending : Option Fault) (o : PlacedOperation) → IsCut text 0 [] items ending → Found items o → IsIn text o
+found_alone :
+    (text : List ℕ) (items : List Item) (ending : Option Fault) (o : PlacedOperation)
+    → IsCut text 0 [] items ending
+    → Found items o
+    → IsIn text o
 found_alone text items ending o cut f =
     let k = f.c.opener.start in
     let front = f.c.opener ∷ f.within in
     let mid = f.c.opener ∷ (f.within ++ (f.closer ∷ [])) in
     let w = width f.before in
     let text_on = drop w text in
-    let split : items ≡ f.before ++ (front ++ (f.closer ∷ f.after)) = f.parts ∙ append_assoc f.before front (f.closer ∷ f.after) in
-    let cut_split : IsCut text 0 [] (f.before ++ (front ++ (f.closer ∷ f.after))) ending = subst (λ xs. IsCut text 0 [] xs ending) split cut in
+    let split : items ≡ f.before ++ (front ++ (f.closer ∷ f.after)) =
+    f.parts ∙ append_assoc f.before front (f.closer ∷ f.after) in
+    let cut_split : IsCut text 0 [] (f.before ++ (front ++ (f.closer ∷ f.after))) ending =
+    subst (λ xs. IsCut text 0 [] xs ending) split cut in
     let closers = closers_after f.before [] in
     let cut_on = IsCut-back f.before (front ++ (f.closer ∷ f.after)) text 0 [] ending cut_split in
     let begins : k ≡ 0 + w = cut_on.1 in
@@ -404,18 +474,22 @@ found_alone text items ending o cut f =
     let wide : width mid ≡ width front + (length f.closer.bytes + 0) = width-append front (f.closer ∷ []) in
     let alone = IsCut-front mid f.after text_on (0 + w) closers ending cut_mid in
     let there = take (width mid) text_on in
-    let moved = IsCut-moved k mid there 0 closers (subst (λ n. IsCut there n closers mid None) (let same : 0 + w ≡ k + 0 = omega arith in same) alone) in
+    let moved = IsCut-moved k mid there 0 closers
+    (subst (λ n. IsCut there n closers mid None) (let same : 0 + w ≡ k + 0 = omega arith in same) alone) in
     let order : k ≤ f.closer.start = omega arith in
     let reads = reads_alone items o f order in
     let inner : IsCut there 0 [] (map (item_from k) mid) None =
-    IsCut-inner (map (item_from k) mid) there 0 [] closers nothing_open moved refl (ap (λ (r : Reading). r.fault) reads) in
-    let at : (o.start ≡ k) × (o.end ≡ end_of f.closer) = entry_of-at f.c.opener f.closer f.c.members (operation o) f.gives in
+    IsCut-inner (map (item_from k) mid) there 0 [] closers nothing_open moved refl
+    (ap (λ (r : Reading). r.fault) reads) in
+    let at : (o.start ≡ k) × (o.end ≡ end_of f.closer) =
+    entry_of-at f.c.opener f.closer f.c.members (operation o) f.gives in
     let starts : o.start ≡ k = at.0 in
     let ends : o.end ≡ f.closer.start + length f.closer.bytes = at.1 in
     let len : length there ≡ width mid = length-take-le (width mid) text_on mid_fits in
     let from : o.start ≡ w = omega arith in
     let long : o.end - o.start ≡ width mid = omega arith in
-    let same : there ≡ between text o.start o.end = ap (λ n. take n text_on) (sym long) ∙ ap (λ n. take (o.end - o.start) (drop n text)) (sym from) in
+    let same : there ≡ between text o.start o.end =
+    ap (λ n. take n text_on) (sym long) ∙ ap (λ n. take (o.end - o.start) (drop n text)) (sym from) in
     let end_fits : o.end ≤ length text = omega arith in
     let in_order : o.start ≤ o.end = omega arith in
     let long_there : o.end - o.start ≡ length there = omega arith in
@@ -448,4 +522,5 @@ pub read_alone :
     → Contains entries (operation o)
     → IsIn text o
 read_alone text entries fault o reads contains =
-    found_alone text reads.2.0 reads.1 o reads.2.1 (found_in_text text entries fault o reads (in_from_Contains (operation o) entries contains))
+    found_alone text reads.2.0 reads.1 o reads.2.1
+    (found_in_text text entries fault o reads (in_from_Contains (operation o) entries contains))

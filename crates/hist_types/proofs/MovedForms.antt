@@ -21,7 +21,8 @@ use Rattle.hist_types.proofs.Checks.{no_ok, same_ok}
 abbrev mutual
   pub form_from : ℕ → Form → Form
   form_from k (plain t) = plain (item_from k t)
-  form_from k (collection opener closer members) = collection (item_from k opener) (item_from k closer) (forms_from k members)
+  form_from k (collection opener closer members) =
+      collection (item_from k opener) (item_from k closer) (forms_from k members)
   form_from k (tagged tag f) = tagged (item_from k tag) (form_from k f)
 
   pub forms_from : ℕ → Forms → Forms
@@ -54,7 +55,10 @@ follows_then :
 follows_then g h (Ok x) s next further first rest y e = ap (λ z. z >>= further) (first x refl) ∙ rest x y e
 follows_then g h (Err f) s next further first rest y e = absurd (no_ok f y e)
 
-follows_refuse : (test other : Bool) (refusal : Refusal) (m n : ℕ) → other ≡ test → Follows (λ u. u) (refuse_if test refusal m) (refuse_if other refusal n)
+follows_refuse :
+    (test other : Bool) (refusal : Refusal) (m n : ℕ)
+    → other ≡ test
+    → Follows (λ u. u) (refuse_if test refusal m) (refuse_if other refusal n)
 follows_refuse true other refusal m n same u e = absurd (no_ok _ u e)
 follows_refuse false other refusal m n same u e = ap (λ b. refuse_if b refusal n) same ∙ e
 
@@ -77,7 +81,9 @@ atom_from k p = (item_from k p.0, p.1)
 abbrev value_from : ℕ → Item × Value → Item × Value
 value_from k p = (item_from k p.0, p.1)
 
-with_token : (k : ℕ) (t : Item) (o : Option Atom) → option_map (λ atom. (item_from k t, atom)) o ≡ option_map (atom_from k) (option_map (λ atom. (t, atom)) o)
+with_token :
+    (k : ℕ) (t : Item) (o : Option Atom)
+    → option_map (λ atom. (item_from k t, atom)) o ≡ option_map (atom_from k) (option_map (λ atom. (t, atom)) o)
 with_token k t None = refl
 with_token k t (Some atom) = refl
 
@@ -89,7 +95,9 @@ atom_of-from k (tagged tag f) = refl
 nil_or_atom : Bool → Item → Option Atom → Option (Item × Value)
 nil_or_atom nil t o = if nil then Some (t, None) else option_map (λ atom. (t, Some atom)) o
 
-with_value : (k : ℕ) (nil : Bool) (t : Item) (o : Option Atom) → nil_or_atom nil (item_from k t) o ≡ option_map (value_from k) (nil_or_atom nil t o)
+with_value :
+    (k : ℕ) (nil : Bool) (t : Item) (o : Option Atom)
+    → nil_or_atom nil (item_from k t) o ≡ option_map (value_from k) (nil_or_atom nil t o)
 unfolding nil_or_atom
 with_value k true t o = refl
 with_value k false t None = refl
@@ -103,7 +111,8 @@ value_of-from k (tagged tag f) = refl
 
 if_members : (k : ℕ) (b : Bool) (fs : Forms) →
     (let none : Option (List Form) = None in
-    (if b then Some (list_of (forms_from k fs)) else none) ≡ option_map (map (form_from k)) (if b then Some (list_of fs) else none))
+    (if b then Some (list_of (forms_from k fs)) else none) ≡ option_map (map (form_from k))
+    (if b then Some (list_of fs) else none))
 if_members k true fs = ap Some (list_of-from k fs)
 if_members k false fs = refl
 
@@ -152,16 +161,22 @@ kept_pair :
     → c ≡ b
     → qs ≡ map (pair_from k) ps
     → (if c then pair_from k p ∷ qs else qs) ≡ map (pair_from k) (if b then p ∷ ps else ps)
-kept_pair k true c p ps qs test rest = ap (λ t. if t then pair_from k p ∷ qs else qs) test ∙ ap (λ xs. pair_from k p ∷ xs) rest
+kept_pair k true c p ps qs test rest =
+    ap (λ t. if t then pair_from k p ∷ qs else qs) test ∙ ap (λ xs. pair_from k p ∷ xs) rest
 kept_pair k false c p ps qs test rest = ap (λ t. if t then pair_from k p ∷ qs else qs) test ∙ rest
 
 named-from :
     (name : List ℕ) (k : ℕ) (ps : List (Form × Form))
-    → filter (λ pair. is_named name pair.0) (map (pair_from k) ps) ≡ map (pair_from k) (filter (λ pair. is_named name pair.0) ps)
+    → filter (λ pair. is_named name pair.0) (map (pair_from k) ps) ≡ map (pair_from k)
+    (filter (λ pair. is_named name pair.0) ps)
 named-from name k [] = refl
-named-from name k (p ∷ ps) = kept_pair k (is_named name p.0) (is_named name (form_from k p.0)) p _ _ (is_named-from name k p.0) (named-from name k ps)
+named-from name k (p ∷ ps) =
+    kept_pair k (is_named name p.0) (is_named name (form_from k p.0)) p _ _ (is_named-from name k p.0)
+    (named-from name k ps)
 
-the_one-from : (k m n : ℕ) (ps : List (Form × Form)) → Follows (form_from k) (the_one m ps) (the_one n (map (pair_from k) ps))
+the_one-from :
+    (k m n : ℕ) (ps : List (Form × Form))
+    → Follows (form_from k) (the_one m ps) (the_one n (map (pair_from k) ps))
 the_one-from k m n [] f e = absurd (no_ok _ f e)
 the_one-from k m n (p ∷ []) f e = follows_ok (form_from k) p.1 f e
 the_one-from k m n (p ∷ q ∷ ps) f e = absurd (no_ok _ f e)
@@ -170,7 +185,8 @@ field-from :
     (name : List ℕ) (k m n : ℕ) (ps : List (Form × Form))
     → Follows (form_from k) (field name m ps) (field name n (map (pair_from k) ps))
 field-from name k m n ps =
-    subst (λ qs. Follows (form_from k) (field name m ps) (the_one n qs)) (sym (named-from name k ps)) (the_one-from k m n (filter (λ pair. is_named name pair.0) ps))
+    subst (λ qs. Follows (form_from k) (field name m ps) (the_one n qs)) (sym (named-from name k ps))
+    (the_one-from k m n (filter (λ pair. is_named name pair.0) ps))
 
 -- ---- micro-operations
 
@@ -178,11 +194,14 @@ read_or_write-from :
     (k : ℕ) (is_write : Bool) (key : Item × Atom) (f : Form)
     → Follows (mop_from k) (read_or_write is_write key f) (read_or_write is_write (atom_from k key) (form_from k f))
 read_or_write-from k true key f =
-    follows_then (λ u. u) (mop_from k) _ _ _ _ (follows_refuse (is_nil f) (is_nil (form_from k f)) NilWritten _ _ (is_nil-from k f)) (λ u.
-    follows_then (atom_from k) (mop_from k) _ _ _ _ (follows_or (atom_from k) (atom_of f) _ BadAtom _ _ (atom_of-from k f)) (λ value.
+    follows_then (λ u. u) (mop_from k) _ _ _ _
+    (follows_refuse (is_nil f) (is_nil (form_from k f)) NilWritten _ _ (is_nil-from k f)) (λ u.
+    follows_then (atom_from k) (mop_from k) _ _ _ _
+    (follows_or (atom_from k) (atom_of f) _ BadAtom _ _ (atom_of-from k f)) (λ value.
     follows_ok (mop_from k) (placed_write key value)))
 read_or_write-from k false key f =
-    follows_then (value_from k) (mop_from k) _ _ _ _ (follows_or (value_from k) (value_of f) _ BadAtom _ _ (value_of-from k f)) (λ value.
+    follows_then (value_from k) (mop_from k) _ _ _ _
+    (follows_or (value_from k) (value_of f) _ BadAtom _ _ (value_of-from k f)) (λ value.
     follows_ok (mop_from k) (placed_read key value))
 
 micro_op_of-from :
@@ -194,8 +213,10 @@ micro_op_of-from k m n (Some (a ∷ [])) x e = absurd (no_ok _ x e)
 micro_op_of-from k m n (Some (a ∷ b ∷ [])) x e = absurd (no_ok _ x e)
 micro_op_of-from k m n (Some (a ∷ b ∷ c ∷ [])) x e =
     follows_then (λ (w : Bool). w) (mop_from k) _ _ _ _
-    (follows_or (λ (w : Bool). w) (is_write_of a) (is_write_of (form_from k a)) NotTxn m n (is_write_of-from k a ∙ option_map-same (is_write_of a))) (λ is_write.
-    follows_then (atom_from k) (mop_from k) _ _ _ _ (follows_or (atom_from k) (atom_of b) _ BadAtom _ _ (atom_of-from k b)) (λ key.
+    (follows_or (λ (w : Bool). w) (is_write_of a) (is_write_of (form_from k a)) NotTxn m n
+    (is_write_of-from k a ∙ option_map-same (is_write_of a))) (λ is_write.
+    follows_then (atom_from k) (mop_from k) _ _ _ _
+    (follows_or (atom_from k) (atom_of b) _ BadAtom _ _ (atom_of-from k b)) (λ key.
     read_or_write-from k is_write key c)) x e
 micro_op_of-from k m n (Some (a ∷ b ∷ c ∷ d ∷ more)) x e = absurd (no_ok _ x e)
 
@@ -207,23 +228,29 @@ micro_ops_of-from k (f ∷ fs) before =
     follows_then (λ u. u) (map (mop_from k)) _ _ _ _
     (follows_refuse (nat_le MAX_MICRO_OPS before) (nat_le MAX_MICRO_OPS before) TooManyMicroOps _ _ refl) (λ u.
     follows_then (mop_from k) (map (mop_from k)) _ _ _ _
-    (subst (λ o. Follows (mop_from k) (micro_op_of (place_of f) (elements_of f)) (micro_op_of (place_of (form_from k f)) o)) (sym (elements_of-from k f))
+    (subst (λ o. Follows (mop_from k) (micro_op_of (place_of f) (elements_of f))
+    (micro_op_of (place_of (form_from k f)) o)) (sym (elements_of-from k f))
     (micro_op_of-from k _ _ (elements_of f))) (λ mop.
     follows_then (map (mop_from k)) (map (mop_from k)) _ _ _ _ (micro_ops_of-from k fs (suc before)) (λ mops.
     follows_ok (map (mop_from k)) (mop ∷ mops))))
 
-transaction_of-from : (k : ℕ) (f : Form) → Follows (map (mop_from k)) (transaction_of f) (transaction_of (form_from k f))
+transaction_of-from :
+    (k : ℕ) (f : Form)
+    → Follows (map (mop_from k)) (transaction_of f) (transaction_of (form_from k f))
 transaction_of-from k f =
-    follows_then (map (form_from k)) (map (mop_from k)) _ _ _ _ (follows_or (map (form_from k)) (elements_of f) _ NotTxn _ _ (elements_of-from k f)) (λ fs.
+    follows_then (map (form_from k)) (map (mop_from k)) _ _ _ _
+    (follows_or (map (form_from k)) (elements_of f) _ NotTxn _ _ (elements_of-from k f)) (λ fs.
     micro_ops_of-from k fs 0)
 
 mops_of-from :
     (k : ℕ) (kind : OpKind) (m n : ℕ) (ps : List (Form × Form))
     → Follows (map (mop_from k)) (mops_of kind m ps) (mops_of kind n (map (pair_from k) ps))
 mops_of-from k kinds.Invoke m n ps =
-    follows_then (form_from k) (map (mop_from k)) _ _ _ _ (field-from (codes ":value") k m n ps) (λ f. transaction_of-from k f)
+    follows_then (form_from k) (map (mop_from k)) _ _ _ _ (field-from (codes ":value") k m n ps)
+    (λ f. transaction_of-from k f)
 mops_of-from k kinds.Ok m n ps =
-    follows_then (form_from k) (map (mop_from k)) _ _ _ _ (field-from (codes ":value") k m n ps) (λ f. transaction_of-from k f)
+    follows_then (form_from k) (map (mop_from k)) _ _ _ _ (field-from (codes ":value") k m n ps)
+    (λ f. transaction_of-from k f)
 mops_of-from k kinds.Fail m n ps = follows_ok (map (mop_from k)) []
 mops_of-from k kinds.Info m n ps = follows_ok (map (mop_from k)) []
 
@@ -231,30 +258,38 @@ mops_of-from k kinds.Info m n ps = follows_ok (map (mop_from k)) []
 
 -- the entry with its places counted from k; its map goes from `start` to `end`
 abbrev pub entry_at : (k start end : ℕ) → Entry → Entry
-entry_at k start end (operation o) = operation (record { kind = o.kind; process = o.process; mops = map (mop_from k) o.mops; start = start; end = end })
+entry_at k start end (operation o) =
+    operation (record { kind = o.kind; process = o.process; mops = map (mop_from k) o.mops; start = start; end = end })
 entry_at k start end skipped = skipped
 
 client_operation-from :
     (k : ℕ) (number : ℤ) (place there m n start end : ℕ) (ps : List (Form × Form))
     → (end - start) ≡ (n - m)
-    → Follows (entry_at k start end) (client_operation number place m n ps) (client_operation number there start end (map (pair_from k) ps))
+    → Follows (entry_at k start end) (client_operation number place m n ps)
+    (client_operation number there start end (map (pair_from k) ps))
 client_operation-from k number place there m n start end ps len =
     follows_then (λ (p : ℕ). p) (entry_at k start end) _ _ _ _
-    (follows_or (λ (p : ℕ). p) (process_of number) (process_of number) BadProcess _ _ (option_map-same (process_of number))) (λ process.
+    (follows_or (λ (p : ℕ). p) (process_of number) (process_of number) BadProcess _ _
+    (option_map-same (process_of number))) (λ process.
     follows_then (λ u. u) (entry_at k start end) _ _ _ _
-    (follows_refuse (nat_lt MAX_OPERATION_BYTES (n - m)) (nat_lt MAX_OPERATION_BYTES (end - start)) TooLong m start (ap (nat_lt MAX_OPERATION_BYTES) len)) (λ u.
+    (follows_refuse (nat_lt MAX_OPERATION_BYTES (n - m)) (nat_lt MAX_OPERATION_BYTES (end - start)) TooLong m start
+    (ap (nat_lt MAX_OPERATION_BYTES) len)) (λ u.
     follows_then (form_from k) (entry_at k start end) _ _ _ _ (field-from (codes ":type") k m start ps) (λ type.
     follows_then (λ (x : OpKind). x) (entry_at k start end) _ _ _ _
-    (follows_or (λ (x : OpKind). x) (kind_of type) (kind_of (form_from k type)) BadType _ _ (kind_of-from k type ∙ option_map-same (kind_of type))) (λ kind.
+    (follows_or (λ (x : OpKind). x) (kind_of type) (kind_of (form_from k type)) BadType _ _
+    (kind_of-from k type ∙ option_map-same (kind_of type))) (λ kind.
     follows_then (map (mop_from k)) (entry_at k start end) _ _ _ _ (mops_of-from k kind m start ps) (λ mops.
-    follows_ok (entry_at k start end) (operation (record { kind = kind; process = process; mops = mops; start = m; end = n })))))))
+    follows_ok (entry_at k start end)
+    (operation (record { kind = kind; process = process; mops = mops; start = m; end = n })))))))
 
 entry_by-from :
     (k : ℕ) (number : Option ℤ) (place there m n start end : ℕ) (ps : List (Form × Form))
     → (end - start) ≡ (n - m)
-    → Follows (entry_at k start end) (entry_by number place m n ps) (entry_by number there start end (map (pair_from k) ps))
+    → Follows (entry_at k start end) (entry_by number place m n ps)
+    (entry_by number there start end (map (pair_from k) ps))
 entry_by-from k None place there m n start end ps len = follows_ok (entry_at k start end) skipped
-entry_by-from k (Some number) place there m n start end ps len = client_operation-from k number place there m n start end ps len
+entry_by-from k (Some number) place there m n start end ps len =
+    client_operation-from k number place there m n start end ps len
 
 pub entry_of-from :
     (k : ℕ) (opener closer : Item) (fs : List Form)
@@ -264,12 +299,19 @@ pub entry_of-from :
 entry_of-from k opener closer fs len =
     let at = entry_at k (opener.start - k) (end_of (item_from k closer)) in
     follows_then (λ u. u) at _ _ _ _
-    (follows_refuse (length fs % 2 == 1) (length (map (form_from k) fs) % 2 == 1) OddMap _ _ (ap (λ n. n % 2 == 1) (length-map fs (form_from k)))) (λ u.
-    subst (λ qs. Follows at (field (codes ":process") opener.start (pairs_of fs) >>= λ process. entry_by (int_of process) (place_of process) opener.start (end_of closer) (pairs_of fs))
-    (field (codes ":process") (opener.start - k) qs >>= λ process. entry_by (int_of process) (place_of process) (opener.start - k) (end_of (item_from k closer)) qs))
+    (follows_refuse (length fs % 2 == 1) (length (map (form_from k) fs) % 2 == 1) OddMap _ _
+    (ap (λ n. n % 2 == 1) (length-map fs (form_from k)))) (λ u.
+    subst (λ qs. Follows at
+    (field (codes ":process") opener.start (pairs_of fs) >>= λ process. entry_by (int_of process)
+    (place_of process) opener.start (end_of closer) (pairs_of fs))
+    (field (codes ":process") (opener.start - k) qs >>= λ process. entry_by (int_of process) (place_of process)
+    (opener.start - k) (end_of (item_from k closer)) qs))
     (sym (pairs_of-from k fs))
-    (follows_then (form_from k) at _ _ _ _ (field-from (codes ":process") k opener.start (opener.start - k) (pairs_of fs)) (λ process.
-    subst (λ number. Follows at (entry_by (int_of process) (place_of process) opener.start (end_of closer) (pairs_of fs))
-    (entry_by number (place_of (form_from k process)) (opener.start - k) (end_of (item_from k closer)) (map (pair_from k) (pairs_of fs))))
+    (follows_then (form_from k) at _ _ _ _
+    (field-from (codes ":process") k opener.start (opener.start - k) (pairs_of fs)) (λ process.
+    subst (λ number. Follows at
+    (entry_by (int_of process) (place_of process) opener.start (end_of closer) (pairs_of fs))
+    (entry_by number (place_of (form_from k process)) (opener.start - k) (end_of (item_from k closer))
+    (map (pair_from k) (pairs_of fs))))
     (sym (int_of-from k process))
     (entry_by-from k (int_of process) _ _ _ _ _ _ (pairs_of fs) len))))

@@ -24,13 +24,19 @@ opened marks collections = record { marks = marks; collections = collections }
 abbrev pub collection_from : ℕ → OpenCollection → OpenCollection
 collection_from k c = open_collection (item_from k c.opener) (map (form_from k) c.members) (map (item_from k) c.marks)
 
-if_settled : (k : ℕ) (drops : Bool) (x y : Option Form) → y ≡ option_map (form_from k) x → (if drops then None else y) ≡ option_map (form_from k) (if drops then None else x)
+if_settled :
+    (k : ℕ) (drops : Bool) (x y : Option Form)
+    → y ≡ option_map (form_from k) x
+    → (if drops then None else y) ≡ option_map (form_from k) (if drops then None else x)
 if_settled k true x y same = refl
 if_settled k false x y same = same
 
-settled-from : (k : ℕ) (marks : List Item) (f : Form) → settled (map (item_from k) marks) (form_from k f) ≡ option_map (form_from k) (settled marks f)
+settled-from :
+    (k : ℕ) (marks : List Item) (f : Form)
+    → settled (map (item_from k) marks) (form_from k f) ≡ option_map (form_from k) (settled marks f)
 settled-from k [] f = refl
-settled-from k (mark ∷ marks) f = if_settled k (is_drop mark) (settled marks (tagged mark f)) _ (settled-from k marks (tagged mark f))
+settled-from k (mark ∷ marks) f =
+    if_settled k (is_drop mark) (settled marks (tagged mark f)) _ (settled-from k marks (tagged mark f))
 
 if_waiting :
     (k : ℕ) (drops : Bool) (marks xs ys : List Item)
@@ -39,9 +45,12 @@ if_waiting :
 if_waiting k true marks xs ys same = refl
 if_waiting k false marks xs ys same = same
 
-still_waiting-from : (k : ℕ) (marks : List Item) → still_waiting (map (item_from k) marks) ≡ map (item_from k) (still_waiting marks)
+still_waiting-from :
+    (k : ℕ) (marks : List Item)
+    → still_waiting (map (item_from k) marks) ≡ map (item_from k) (still_waiting marks)
 still_waiting-from k [] = refl
-still_waiting-from k (mark ∷ marks) = if_waiting k (is_drop mark) marks (still_waiting marks) _ (still_waiting-from k marks)
+still_waiting-from k (mark ∷ marks) =
+    if_waiting k (is_drop mark) marks (still_waiting marks) _ (still_waiting-from k marks)
 
 with_member-from :
     (k : ℕ) (o : Option Form) (fs : List Form)
@@ -49,30 +58,43 @@ with_member-from :
 with_member-from k None fs = refl
 with_member-from k (Some f) fs = sym (map-append (form_from k) fs (f ∷ []))
 
-with_form_in-from : (k : ℕ) (f : Form) (c : OpenCollection) → with_form_in (form_from k f) (collection_from k c) ≡ collection_from k (with_form_in f c)
+with_form_in-from :
+    (k : ℕ) (f : Form) (c : OpenCollection)
+    → with_form_in (form_from k f) (collection_from k c) ≡ collection_from k (with_form_in f c)
 with_form_in-from k f c =
     let opener = item_from k c.opener in
     let waiting = still_waiting (map (item_from k) c.marks) in
-    ap (λ (o : Option Form). open_collection opener (with_member o (map (form_from k) c.members)) waiting) (settled-from k c.marks f)
+    ap (λ (o : Option Form). open_collection opener (with_member o (map (form_from k) c.members)) waiting)
+    (settled-from k c.marks f)
     ∙ (ap (λ (fs : List Form). open_collection opener fs waiting) (with_member-from k (settled c.marks f) c.members)
-    ∙ ap (open_collection opener (map (form_from k) (with_member (settled c.marks f) c.members))) (still_waiting-from k c.marks))
+    ∙ ap (open_collection opener (map (form_from k) (with_member (settled c.marks f) c.members)))
+    (still_waiting-from k c.marks))
 
-form_of-from : (k : ℕ) (c : OpenCollection) (closer : Item) → form_of (collection_from k c) (item_from k closer) ≡ form_from k (form_of c closer)
+form_of-from :
+    (k : ℕ) (c : OpenCollection) (closer : Item)
+    → form_of (collection_from k c) (item_from k closer) ≡ form_from k (form_of c closer)
 form_of-from k c closer = ap (collection (item_from k c.opener) (item_from k closer)) (forms_of-from k c.members)
 
 -- what is open inside a map alone, of the collections inside it and of the map itself
 abbrev pub inside : ℕ → List OpenCollection → OpenCollection → Open
 inside k inner m = opened [] (map (collection_from k) (inner ++ (m ∷ [])))
 
-map_no_row : (bytes : List ℕ) → bytes_eq bytes (123 ∷ []) ≡ true → (bytes_eq bytes (91 ∷ []) || bytes_eq bytes (40 ∷ [])) ≡ false
+map_no_row :
+    (bytes : List ℕ)
+    → bytes_eq bytes (123 ∷ []) ≡ true
+    → (bytes_eq bytes (91 ∷ []) || bytes_eq bytes (40 ∷ [])) ≡ false
 map_no_row [] e = absurd (cc)
 map_no_row (b ∷ bytes) e =
     let is : b ≡ 123 = eqb-true b 123 (and_parts (nat_eq b 123) (bytes_eq bytes []) e).0 in
     ap (λ x. (nat_eq x 91 && bytes_eq bytes []) || (nat_eq x 40 && bytes_eq bytes [])) is
 
 -- nothing inside a map is in an operation's place
-not_in_place : (k : ℕ) (inner : List OpenCollection) (m : OpenCollection) → is_map m.opener ≡ true → is_place_in [] (map (collection_from k) (inner ++ (m ∷ []))) ≡ false
-not_in_place k [] m is = ap (λ b. b && not (leave_out []) && not (leave_out (map (item_from k) m.marks))) (map_no_row m.opener.bytes is)
+not_in_place :
+    (k : ℕ) (inner : List OpenCollection) (m : OpenCollection)
+    → is_map m.opener ≡ true
+    → is_place_in [] (map (collection_from k) (inner ++ (m ∷ []))) ≡ false
+not_in_place k [] m is =
+    ap (λ b. b && not (leave_out []) && not (leave_out (map (item_from k) m.marks))) (map_no_row m.opener.bytes is)
 not_in_place k (x ∷ []) m is = refl
 not_in_place k (x ∷ y ∷ inner) m is = refl
 
@@ -82,7 +104,11 @@ abbrev pub Runs : Open → List Item → Open → Type 0
 Runs o [] p = o ≡ p
 Runs o (t ∷ ts) p = (q : Open) × (step o t ≡ Ok (goes_on q)) × Runs q ts p
 
-Runs-more : (ts : List Item) (o p q : Open) (t : Item) → Runs o ts p → step p t ≡ Ok (goes_on q) → Runs o (ts ++ (t ∷ [])) q
+Runs-more :
+    (ts : List Item) (o p q : Open) (t : Item)
+    → Runs o ts p
+    → step p t ≡ Ok (goes_on q)
+    → Runs o (ts ++ (t ∷ [])) q
 Runs-more [] o p q t same e = (q, ap (λ x. step x t) same ∙ e, refl)
 Runs-more (u ∷ ts) o p q t runs e = (runs.0, runs.1, Runs-more ts runs.0 p q t runs.2 e)
 
@@ -92,7 +118,12 @@ pub Runs-reading :
     → reading_from o (ts ++ us) ending ≡ reading_from p us ending
 Runs-reading [] us o p ending same = ap (λ x. reading_from x us ending) same
 Runs-reading (t ∷ ts) us o p ending runs =
-    ap (λ (r : Result Step Fault). then_read r (λ after. reading_from after (ts ++ us) ending)) runs.1 ∙ Runs-reading ts us runs.0 p ending runs.2
+    ap (λ (r : Result Step Fault). then_read r (λ after. reading_from after (ts ++ us) ending)) runs.1
+    ∙ Runs-reading ts us runs.0 p ending runs.2
+
+-- a step without a fault, by what is open behind it inside a map alone
+abbrev went_on : List OpenCollection → Result Step Fault
+went_on collections = Ok (goes_on (opened [] collections))
 
 -- ---- what has been read since a map opened
 
@@ -102,7 +133,8 @@ pub record History (done : List Item) (inner : List OpenCollection) (m : OpenCol
   pub within : List Item
   pub done_is : done ≡ before ++ (m.opener ∷ within)
   pub opens : m.opener.kind ≡ Opener
-  pub runs : Runs nothing_open (map (item_from m.opener.start) (m.opener ∷ tokens_of within)) (inside m.opener.start inner m)
+  pub runs :
+      Runs nothing_open (map (item_from m.opener.start) (m.opener ∷ tokens_of within)) (inside m.opener.start inner m)
 
 -- Each open map in an operation's place has such a history.
 abbrev pub Histories : List Item → Open → Type 0
@@ -122,13 +154,24 @@ tokens_of-gap i xs h = rw h refl
 pub tokens_of-token : (i : Item) (xs : List Item) → is_token i.kind ≡ true → tokens_of (i ∷ xs) ≡ i ∷ tokens_of xs
 tokens_of-token i xs h = rw h refl
 
-pub tokens_of-gap_last : (xs : List Item) (t : Item) → is_token t.kind ≡ false → tokens_of (xs ++ (t ∷ [])) ≡ tokens_of xs
-tokens_of-gap_last xs t gap = tokens_of-append xs (t ∷ []) ∙ (ap (λ ts. tokens_of xs ++ ts) (tokens_of-gap t [] gap) ∙ append-nil (tokens_of xs))
+pub tokens_of-gap_last :
+    (xs : List Item) (t : Item)
+    → is_token t.kind ≡ false
+    → tokens_of (xs ++ (t ∷ [])) ≡ tokens_of xs
+tokens_of-gap_last xs t gap =
+    tokens_of-append xs (t ∷ []) ∙ (ap (λ ts. tokens_of xs ++ ts) (tokens_of-gap t [] gap) ∙ append-nil (tokens_of xs))
 
-pub tokens_of-token_last : (xs : List Item) (t : Item) → is_token t.kind ≡ true → tokens_of (xs ++ (t ∷ [])) ≡ tokens_of xs ++ (t ∷ [])
-tokens_of-token_last xs t token = tokens_of-append xs (t ∷ []) ∙ ap (λ ts. tokens_of xs ++ ts) (tokens_of-token t [] token)
+pub tokens_of-token_last :
+    (xs : List Item) (t : Item)
+    → is_token t.kind ≡ true
+    → tokens_of (xs ++ (t ∷ [])) ≡ tokens_of xs ++ (t ∷ [])
+tokens_of-token_last xs t token =
+    tokens_of-append xs (t ∷ []) ∙ ap (λ ts. tokens_of xs ++ ts) (tokens_of-token t [] token)
 
-done_more : (done before within : List Item) (opener t : Item) → done ≡ before ++ (opener ∷ within) → done ++ (t ∷ []) ≡ before ++ (opener ∷ (within ++ (t ∷ [])))
+done_more :
+    (done before within : List Item) (opener t : Item)
+    → done ≡ before ++ (opener ∷ within)
+    → done ++ (t ∷ []) ≡ before ++ (opener ∷ (within ++ (t ∷ [])))
 done_more done before within opener t e = ap (λ xs. xs ++ (t ∷ [])) e ∙ append_assoc before (opener ∷ within) (t ∷ [])
 
 History-gap :
@@ -144,14 +187,17 @@ History-gap done inner m t gap h =
       done_is = done_more done h.before h.within m.opener t h.done_is;
       opens = h.opens;
       runs =
-          subst (λ ts. Runs nothing_open (map (item_from k) (m.opener ∷ ts)) (inside k inner m)) (sym (tokens_of-gap_last h.within t gap)) h.runs;
+          subst (λ ts. Runs nothing_open (map (item_from k) (m.opener ∷ ts)) (inside k inner m))
+          (sym (tokens_of-gap_last h.within t gap)) h.runs;
     }
 
 History-token :
-    (done : List Item) (inner later : List OpenCollection) (m : OpenCollection) (members : List Form) (marks : List Item) (t : Item)
+    (done : List Item) (inner later : List OpenCollection) (m : OpenCollection)
+    (members : List Form) (marks : List Item) (t : Item)
     → is_token t.kind ≡ true
     → History done inner m
-    → step (inside m.opener.start inner m) (item_from m.opener.start t) ≡ Ok (goes_on (inside m.opener.start later (open_collection m.opener members marks)))
+    → step (inside m.opener.start inner m) (item_from m.opener.start t)
+    ≡ Ok (goes_on (inside m.opener.start later (open_collection m.opener members marks)))
     → History (done ++ (t ∷ [])) later (open_collection m.opener members marks)
 History-token done inner later m members marks t token h goes =
     let k = m.opener.start in
@@ -165,13 +211,17 @@ History-token done inner later m members marks t token h goes =
       done_is = done_more done h.before h.within m.opener t h.done_is;
       opens = h.opens;
       runs =
-          subst (λ us. Runs nothing_open (map (item_from k) (m.opener ∷ us)) (inside k later n)) (sym (tokens_of-token_last h.within t token))
+          subst (λ us. Runs nothing_open (map (item_from k) (m.opener ∷ us)) (inside k later n))
+          (sym (tokens_of-token_last h.within t token))
           (subst (λ us. Runs nothing_open us (inside k later n)) (sym (map-append (item_from k) ts (t ∷ []))) more);
     }
 
 -- ---- each step keeps the histories
 
-no_room : (inner : List OpenCollection) (m : OpenCollection) (outer : List OpenCollection) → [] ≡ inner ++ (m ∷ outer) → ⊥
+no_room :
+    (inner : List OpenCollection) (m : OpenCollection) (outer : List OpenCollection)
+    → [] ≡ inner ++ (m ∷ outer)
+    → ⊥
 no_room [] m outer e = cc
 no_room (x ∷ inner) m outer e = cc
 
@@ -184,7 +234,11 @@ rest_of_both x y xs ys e = cc
 Histories-none : (done : List Item) (marks : List Item) → Histories done (opened marks [])
 Histories-none done marks inner m outer e = absurd (no_room inner m outer e)
 
-pub Histories-gap : (done : List Item) (o : Open) (t : Item) → is_token t.kind ≡ false → Histories done o → Histories (done ++ (t ∷ [])) o
+pub Histories-gap :
+    (done : List Item) (o : Open) (t : Item)
+    → is_token t.kind ≡ false
+    → Histories done o
+    → Histories (done ++ (t ∷ [])) o
 Histories-gap done o t gap all inner m outer e is place = History-gap done inner m t gap (all inner m outer e is place)
 
 -- a step that changes the innermost collection, in the text and in the map alone
@@ -192,10 +246,12 @@ abbrev Changes : Item → OpenCollection → OpenCollection → Type 0
 Changes t c d =
     (k : ℕ) → (rest : List OpenCollection)
     → is_place_in [] (map (collection_from k) (c ∷ rest)) ≡ false
-    → step (opened [] (map (collection_from k) (c ∷ rest))) (item_from k t) ≡ Ok (goes_on (opened [] (map (collection_from k) (d ∷ rest))))
+    → step (opened [] (map (collection_from k) (c ∷ rest))) (item_from k t)
+    ≡ Ok (goes_on (opened [] (map (collection_from k) (d ∷ rest))))
 
 Histories-changed :
-    (done marks : List Item) (c : OpenCollection) (outer : List OpenCollection) (members : List Form) (waiting : List Item) (t : Item)
+    (done marks : List Item) (c : OpenCollection) (outer : List OpenCollection) (members : List Form)
+    (waiting : List Item) (t : Item)
     → is_token t.kind ≡ true
     → Changes t c (open_collection c.opener members waiting)
     → Histories done (opened marks (c ∷ outer))
@@ -207,7 +263,8 @@ Histories-changed done marks c outer members waiting t token changes all [] m os
     let was : is_map c.opener ≡ true = subst (λ (x : OpenCollection). is_map x.opener ≡ true) (sym same) is in
     let h = all [] c outer refl was (subst (λ xs. is_place_in marks xs ≡ true) (sym rest) place) in
     subst (History (done ++ (t ∷ [])) []) same
-    (History-token done [] [] c members waiting t token h (changes c.opener.start [] (not_in_place c.opener.start [] c was)))
+    (History-token done [] [] c members waiting t token h
+    (changes c.opener.start [] (not_in_place c.opener.start [] c was)))
 Histories-changed done marks c outer members waiting t token changes all (x ∷ inner) m os e is place =
     let d = open_collection c.opener members waiting in
     let same : d ≡ x = first_of_both d x outer (inner ++ (m ∷ os)) e in
@@ -215,7 +272,8 @@ Histories-changed done marks c outer members waiting t token changes all (x ∷ 
     let h = all (c ∷ inner) m os (ap (λ xs. c ∷ xs) rest) is place in
     let k = m.opener.start in
     subst (λ y. History (done ++ (t ∷ [])) (y ∷ inner) m) same
-    (History-token done (c ∷ inner) (d ∷ inner) m m.members m.marks t token h (changes k (inner ++ (m ∷ [])) (not_in_place k (c ∷ inner) m is)))
+    (History-token done (c ∷ inner) (d ∷ inner) m m.members m.marks t token h
+    (changes k (inner ++ (m ∷ [])) (not_in_place k (c ∷ inner) m is)))
 
 may_open_map : (t : Item) (k : ℕ) → is_map t ≡ true → may_open nothing_open (item_from k t) ≡ true
 may_open_map t k is = rw is refl
@@ -232,7 +290,8 @@ Histories-opened done o t opens all [] m os e is place =
     let was : is_map t ≡ true = subst (λ (x : OpenCollection). is_map x.opener ≡ true) (sym same) is in
     let goes : step nothing_open (item_from k t) ≡ Ok (goes_on (inside k [] new)) =
     ap (λ kind. step_by kind nothing_open (item_from k t)) opens
-    ∙ ap (λ (b : Bool). let s : Result Step Fault = if b then Ok (goes_on (inside k [] new)) else Err (byte_fault NotAMap (k - k)) in s) (may_open_map t k was) in
+    ∙ ap (λ (b : Bool). if b then went_on (collection_from k new ∷ []) else Err (byte_fault NotAMap (k - k)))
+    (may_open_map t k was) in
     subst (History (done ++ (t ∷ [])) []) same
     (record { before = done; within = []; done_is = refl; opens = opens; runs = (inside k [] new, goes, refl) })
 Histories-opened done o t opens all (x ∷ inner) m os e is place =
@@ -253,6 +312,9 @@ Histories-opened done o t opens all (x ∷ inner) m os e is place =
 abbrev pub closes_as : Result (Unit {0}) Fault → Result (List Entry) Fault → Open → Result Step Fault
 closes_as waits given after = waits >>= λ _. given >>= λ entries. Ok (record { entries = entries; after = after })
 
+abbrev given_if : Bool → Result Entry Fault → Result (List Entry) Fault
+given_if test r = if test then (r >>= λ entry. Ok (entry ∷ [])) else Ok []
+
 abbrev step_of : List Entry → Open → Step
 step_of entries after = record { entries = entries; after = after }
 
@@ -270,13 +332,14 @@ closes_inside k c d rest t closes none place =
     let e = collection_from k d in
     let f = form_of (collection_from k c) u in
     let given : given_by (collection_from k c) u [] (e ∷ outer) ≡ Ok [] =
-    ap (λ b. let r : Result (List Entry) Fault = if b then (entry_of (item_from k c.opener) u (map (form_from k) c.members) >>= λ entry. Ok (entry ∷ [])) else Ok [] in r)
+    ap (λ b. given_if b (entry_of (item_from k c.opener) u (map (form_from k) c.members)))
     (and_right (is_map c.opener) (is_place_in [] (e ∷ outer)) place) in
     ap (λ kind. step_by kind (opened [] (map (collection_from k) (c ∷ d ∷ rest))) u) closes
-    ∙ (ap (λ (ms : List Item). closes_as (refuse_waiting (map (item_from k) ms)) (given_by (collection_from k c) u [] (e ∷ outer)) (with_form f [] (e ∷ outer))) none
+    ∙ (ap (λ (ms : List Item). closes_as (refuse_waiting (map (item_from k) ms))
+    (given_by (collection_from k c) u [] (e ∷ outer)) (with_form f [] (e ∷ outer))) none
     ∙ (ap (λ (r : Result (List Entry) Fault). closes_as (Ok tt) r (with_form f [] (e ∷ outer))) given
-    ∙ (ap (λ (g : Form). let r : Result Step Fault = Ok (goes_on (opened [] (with_form_in g e ∷ outer))) in r) (form_of-from k c t)
-    ∙ ap (λ (x : OpenCollection). let r : Result Step Fault = Ok (goes_on (opened [] (x ∷ outer))) in r) (with_form_in-from k (form_of c t) d))))
+    ∙ (ap (λ (g : Form). went_on (with_form_in g e ∷ outer)) (form_of-from k c t)
+    ∙ ap (λ (x : OpenCollection). went_on (x ∷ outer)) (with_form_in-from k (form_of c t) d))))
 
 Histories-closed_inside :
     (done marks : List Item) (c d : OpenCollection) (outer : List OpenCollection) (t : Item)
@@ -292,7 +355,8 @@ Histories-closed_inside done marks c d outer t closes none all [] m os e is plac
     let h = all (c ∷ []) d outer refl was (subst (λ xs. is_place_in marks xs ≡ true) (sym rest) place) in
     let k = d.opener.start in
     subst (History (done ++ (t ∷ [])) []) same
-    (History-token done (c ∷ []) [] d n.members n.marks t (ap is_token closes) h (closes_inside k c d [] t closes none (not_in_place k [] d was)))
+    (History-token done (c ∷ []) [] d n.members n.marks t (ap is_token closes) h
+    (closes_inside k c d [] t closes none (not_in_place k [] d was)))
 Histories-closed_inside done marks c d outer t closes none all (x ∷ inner) m os e is place =
     let n = with_form_in (form_of c t) d in
     let same : n ≡ x = first_of_both n x outer (inner ++ (m ∷ os)) e in
@@ -310,7 +374,8 @@ Histories-closed :
     → Histories done (opened marks (c ∷ outer))
     → Histories (done ++ (t ∷ [])) (with_form (form_of c t) marks outer)
 Histories-closed done marks c [] t closes none all = Histories-none (done ++ (t ∷ [])) (still_waiting marks)
-Histories-closed done marks c (d ∷ outer) t closes none all = Histories-closed_inside done marks c d outer t closes none all
+Histories-closed done marks c (d ∷ outer) t closes none all =
+    Histories-closed_inside done marks c d outer t closes none all
 
 -- ---- one token
 
@@ -320,7 +385,10 @@ same_step s t e = cc
 pub no_step : (f : Fault) (s : Step) → (let r : Result Step Fault = Err f in r ≡ Ok s) → ⊥
 no_step f s e = cc
 
-pub went_on_if : (test : Bool) (o : Open) (f : Fault) (s : Step) → (let r : Result Step Fault = if test then Ok (goes_on o) else Err f in r ≡ Ok s) → goes_on o ≡ s
+pub went_on_if :
+    (test : Bool) (o : Open) (f : Fault) (s : Step)
+    → (let r : Result Step Fault = if test then Ok (goes_on o) else Err f in r ≡ Ok s)
+    → goes_on o ≡ s
 went_on_if true o f s e = same_step (goes_on o) s e
 went_on_if false o f s e = absurd (no_step f s e)
 
@@ -332,19 +400,22 @@ went_on_unless true o n s e = absurd (no_step _ s e)
 went_on_unless false o n s e = same_step (goes_on o) s e
 
 -- a closer that was taken: no mark waited, and these entries were given
-pub record Closed (c : OpenCollection) (t : Item) (marks : List Item) (outer : List OpenCollection) (s : Step) : Type 0 where
+pub record Closed (c : OpenCollection) (t : Item) (marks : List Item) (outer : List OpenCollection)
+    (s : Step) : Type 0 where
   pub none_waits : c.marks ≡ []
   pub given : given_by c t marks outer ≡ Ok s.entries
   pub after : s.after ≡ with_form (form_of c t) marks outer
 
 closed_as :
-    (c : OpenCollection) (t : Item) (marks : List Item) (outer : List OpenCollection) (s : Step) (waiting : List Item) (r : Result (List Entry) Fault)
+    (c : OpenCollection) (t : Item) (marks : List Item) (outer : List OpenCollection) (s : Step)
+    (waiting : List Item) (r : Result (List Entry) Fault)
     → c.marks ≡ waiting
     → given_by c t marks outer ≡ r
     → closes_as (refuse_waiting waiting) r (with_form (form_of c t) marks outer) ≡ Ok s
     → Closed c t marks outer s
 closed_as c t marks outer s [] (Ok entries) none given e =
-    let is : step_of entries (with_form (form_of c t) marks outer) ≡ s = same_step (step_of entries (with_form (form_of c t) marks outer)) s e in
+    let is : step_of entries (with_form (form_of c t) marks outer) ≡ s =
+    same_step (step_of entries (with_form (form_of c t) marks outer)) s e in
     record {
       none_waits = none;
       given = given ∙ ap (λ (x : Step). let g : Result (List Entry) Fault = Ok x.entries in g) is;
@@ -353,7 +424,10 @@ closed_as c t marks outer s [] (Ok entries) none given e =
 closed_as c t marks outer s [] (Err f) none given e = absurd (no_step f s e)
 closed_as c t marks outer s (w ∷ waiting) r none given e = absurd (no_step _ s e)
 
-pub closed : (c : OpenCollection) (t : Item) (marks : List Item) (outer : List OpenCollection) (s : Step) → close t marks (c ∷ outer) ≡ Ok s → Closed c t marks outer s
+pub closed :
+    (c : OpenCollection) (t : Item) (marks : List Item) (outer : List OpenCollection) (s : Step)
+    → close t marks (c ∷ outer) ≡ Ok s
+    → Closed c t marks outer s
 closed c t marks outer s e = closed_as c t marks outer s c.marks (given_by c t marks outer) refl refl e
 
 Histories-by_closer :
@@ -365,7 +439,8 @@ Histories-by_closer :
 Histories-by_closer done marks [] t s closes all e = absurd (no_step _ s e)
 Histories-by_closer done marks (c ∷ outer) t s closes all e =
     let taken = closed c t marks outer s e in
-    subst (Histories (done ++ (t ∷ []))) (sym taken.after) (Histories-closed done marks c outer t closes taken.none_waits all)
+    subst (Histories (done ++ (t ∷ []))) (sym taken.after)
+    (Histories-closed done marks c outer t closes taken.none_waits all)
 
 Histories-by_mark :
     (done marks : List Item) (collections : List OpenCollection) (t : Item)
@@ -382,7 +457,8 @@ Histories-by_mark done marks (c ∷ outer) t (inr is) all =
 
 -- a step with a token that stands alone
 abbrev plain_step : Open → Item → Result Step Fault
-plain_step o t = refuse_if (in_operation_place o) NotAMap t.start >>= λ _. Ok (goes_on (with_form (plain t) o.marks o.collections))
+plain_step o t =
+    refuse_if (in_operation_place o) NotAMap t.start >>= λ _. Ok (goes_on (with_form (plain t) o.marks o.collections))
 
 plain_changes :
     (t : Item) (c : OpenCollection)
@@ -392,8 +468,9 @@ plain_changes t c alone k rest place =
     let u = item_from k t in
     let outer = map (collection_from k) rest in
     alone (opened [] (map (collection_from k) (c ∷ rest))) u refl
-    ∙ (ap (λ (b : Bool). refuse_if b NotAMap u.start >>= λ _. let r : Result Step Fault = Ok (goes_on (opened [] (with_form_in (plain u) (collection_from k c) ∷ outer))) in r) place
-    ∙ ap (λ (x : OpenCollection). let r : Result Step Fault = Ok (goes_on (opened [] (x ∷ outer))) in r) (with_form_in-from k (plain t) c))
+    ∙ (ap (λ (b : Bool). refuse_if b NotAMap u.start >>= λ _. went_on (with_form_in (plain u) (collection_from k c) ∷ outer))
+    place
+    ∙ ap (λ (x : OpenCollection). went_on (x ∷ outer)) (with_form_in-from k (plain t) c))
 
 Histories-by_plain :
     (done marks : List Item) (collections : List OpenCollection) (t : Item)
@@ -414,14 +491,19 @@ pub Histories-step :
     → step_by kind o t ≡ Ok s
     → Histories (done ++ (t ∷ [])) s.after
 Histories-step Opener done o t s is token all e =
-    subst (λ (x : Step). Histories (done ++ (t ∷ [])) x.after) (went_on_if (may_open o t) (with_opener t o) _ s e) (Histories-opened done o t is all)
+    subst (λ (x : Step). Histories (done ++ (t ∷ [])) x.after) (went_on_if (may_open o t) (with_opener t o) _ s e)
+    (Histories-opened done o t is all)
 Histories-step Closer done o t s is token all e = Histories-by_closer done o.marks o.collections t s is all e
 Histories-step Tag done o t s is token all e =
-    subst (λ (x : Step). Histories (done ++ (t ∷ [])) x.after) (same_step (goes_on (with_mark t o.marks o.collections)) s e)
+    subst (λ (x : Step). Histories (done ++ (t ∷ [])) x.after)
+    (same_step (goes_on (with_mark t o.marks o.collections)) s e)
     (Histories-by_mark done o.marks o.collections t (inl is) all)
 Histories-step Drop done o t s is token all e =
-    subst (λ (x : Step). Histories (done ++ (t ∷ [])) x.after) (same_step (goes_on (with_mark t o.marks o.collections)) s e)
+    subst (λ (x : Step). Histories (done ++ (t ∷ [])) x.after)
+    (same_step (goes_on (with_mark t o.marks o.collections)) s e)
     (Histories-by_mark done o.marks o.collections t (inr is) all)
 Histories-step kind done o t s is token all e =
-    subst (λ (x : Step). Histories (done ++ (t ∷ [])) x.after) (went_on_unless (in_operation_place o) (with_form (plain t) o.marks o.collections) t.start s e)
-    (Histories-by_plain done o.marks o.collections t (ap is_token is ∙ token) (λ p u same. ap (λ x. step_by x p u) (same ∙ is)) all)
+    subst (λ (x : Step). Histories (done ++ (t ∷ [])) x.after)
+    (went_on_unless (in_operation_place o) (with_form (plain t) o.marks o.collections) t.start s e)
+    (Histories-by_plain done o.marks o.collections t (ap is_token is ∙ token)
+    (λ p u same. ap (λ x. step_by x p u) (same ∙ is)) all)

@@ -16,7 +16,8 @@ pub same_reading :
 same_reading text entries others fault other first second =
     let same = one_row_of_tokens text first.0 second.0 first.1 second.1 first.2 second.2 in
     let read : record { entries = entries; fault = fault } ≡ record { entries = others; fault = other } =
-    sym first.3 ∙ (ap (λ (ts : List Item). reading_of ts first.1) same.0 ∙ (ap (reading_of second.0) same.1 ∙ second.3)) in
+    sym first.3 ∙ (ap (λ (ts : List Item). reading_of ts first.1) same.0
+    ∙ (ap (reading_of second.0) same.1 ∙ second.3)) in
     (ap (λ (r : Reading). r.entries) read, ap (λ (r : Reading). r.fault) read)
 
 pub HasOne-cut : (text : List ℕ) (offset : ℕ) (closers : List ℕ) → HasOne (IsCut text offset closers)
@@ -24,10 +25,17 @@ HasOne-cut text offset closers =
     (each_cut text offset closers, λ items others ending other. one_cut text offset closers items others ending other)
 
 pub HasOne-tokens : (text : List ℕ) → HasOne (HasTokens text)
-HasOne-tokens text = (each_row_of_tokens text, λ tokens others ending other. one_row_of_tokens text tokens others ending other)
+HasOne-tokens text =
+    (each_row_of_tokens text, λ tokens others ending other. one_row_of_tokens text tokens others ending other)
 
 pub HasOne-reading : (text : List ℕ) → HasOne (Reads text)
 HasOne-reading text =
     let row = each_row_of_tokens text in
-    let reading = reading_of row.0 row.1 in
-    ((reading.entries, reading.fault, (row.0, row.1, row.2, refl)), λ entries others fault other. same_reading text entries others fault other)
+    let reading = reading_of row.0 row.1 in (
+      (
+        reading.entries,
+        reading.fault,
+        (row.0, row.1, row.2, refl),
+      ),
+      λ entries others fault other. same_reading text entries others fault other,
+    )

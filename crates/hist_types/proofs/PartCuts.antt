@@ -21,15 +21,23 @@ take-nil : (m : ℕ) → (let none : List ℕ = [] in take m none ≡ none)
 take-nil zero = refl
 take-nil (suc m) = refl
 
-counted : (passes : Bool) (a b m : ℕ) → (b ≤ m → a ≡ b) → cond passes (1 + b) 0 ≤ suc m → cond passes (1 + a) 0 ≡ cond passes (1 + b) 0
+counted :
+    (passes : Bool) (a b m : ℕ)
+    → (b ≤ m → a ≡ b)
+    → cond passes (1 + b) 0 ≤ suc m
+    → cond passes (1 + a) 0 ≡ cond passes (1 + b) 0
 counted true a b m same h = ap (λ n. 1 + n) (same (omega arith))
 counted false a b m same h = refl
 
 -- a longest row that lies within the first m
-prefix_len-take : (p : ℕ → Bool) (xs : List ℕ) (m : ℕ) → prefix_len p xs ≤ m → prefix_len p (take m xs) ≡ prefix_len p xs
+prefix_len-take :
+    (p : ℕ → Bool) (xs : List ℕ) (m : ℕ)
+    → prefix_len p xs ≤ m
+    → prefix_len p (take m xs) ≡ prefix_len p xs
 prefix_len-take p [] m h = ap (prefix_len p) (take-nil m)
 prefix_len-take p (x ∷ xs) zero h = let none : cond (p x) (1 + prefix_len p xs) 0 ≡ 0 = omega arith in sym none
-prefix_len-take p (x ∷ xs) (suc m) h = counted (p x) (prefix_len p (take m xs)) (prefix_len p xs) m (prefix_len-take p xs m) h
+prefix_len-take p (x ∷ xs) (suc m) h =
+    counted (p x) (prefix_len p (take m xs)) (prefix_len p xs) m (prefix_len-take p xs m) h
 
 run_of-take : (xs : List ℕ) (m : ℕ) → run_len xs ≤ m → run_of (take m xs) ≡ run_of xs
 run_of-take xs m h = ap (λ n. take n (take m xs)) (prefix_len-take is_run_byte xs m h) ∙ take-take (run_len xs) m xs h
@@ -60,7 +68,8 @@ content_len-take :
 content_len-take [] taken m k e within = absurd (none-some k e)
 content_len-take (x ∷ xs) taken zero k e within = absurd (omega arith)
 content_len-take (x ∷ xs) taken (suc m) k e within =
-    closed_alike ((x == quote) && not taken) _ _ m k (λ j. content_len-take xs ((x == backslash) && not taken) m j) e within
+    closed_alike ((x == quote) && not taken) _ _ m k
+    (λ j. content_len-take xs ((x == backslash) && not taken) m j) e within
 
 -- ---- an item in a front of a text that has all its bytes
 
@@ -76,7 +85,11 @@ kept_both :
 kept_both m true p q s t x y = x
 kept_both m false p q s t x y = y
 
-kept_either : (m : ℕ) (test : Bool) (p s q : ItemKind × Option ℕ) → Kept m p q → Kept m s q → Kept m (if test then p else s) q
+kept_either :
+    (m : ℕ) (test : Bool) (p s q : ItemKind × Option ℕ)
+    → Kept m p q
+    → Kept m s q
+    → Kept m (if test then p else s) q
 kept_either m true p s q x y = x
 kept_either m false p s q x y = y
 
@@ -86,7 +99,10 @@ kept_same m p kind n e fits = e
 len_of : (k l : ItemKind) (a b : ℕ) → (let p : ItemKind × Option ℕ = (k, Some a) in p ≡ (l, Some b)) → a ≡ b
 len_of k l a b e = same_Some a b (ap (λ (p : ItemKind × Option ℕ). p.1) e)
 
-kept_item : (m : ℕ) (k l : ItemKind) (a b : ℕ) → (a ≤ m → (l ≡ k) × (b ≡ a)) → Kept m (k, Some (suc a)) (l, Some (suc b))
+kept_item :
+    (m : ℕ) (k l : ItemKind) (a b : ℕ)
+    → (a ≤ m → (l ≡ k) × (b ≡ a))
+    → Kept m (k, Some (suc a)) (l, Some (suc b))
 kept_item m k l a b same kind n e fits =
     let len : suc a ≡ n = len_of k kind (suc a) n e in
     let is = same (omega arith) in
@@ -109,12 +125,16 @@ kept_string m (Some j) y same kind n e fits =
     ap by_content (same j refl (omega arith)) ∙ e
 
 -- a hash alone is a tag
-kept_hash_alone : (test : Bool) (k : ItemKind) (a : ℕ) → (test ≡ true → 0 < a) → Kept 0 (if test then (k, Some (suc a)) else (Tag, Some (suc a))) (Tag, Some 1)
+kept_hash_alone :
+    (test : Bool) (k : ItemKind) (a : ℕ)
+    → (test ≡ true → 0 < a)
+    → Kept 0 (if test then (k, Some (suc a)) else (Tag, Some (suc a))) (Tag, Some 1)
 kept_hash_alone true k a some = kept_none k a (Tag, Some 1) (some refl)
 kept_hash_alone false k a some = kept_item 0 Tag Tag a 0 (λ h. (refl, omega arith))
 
 hash_runs : (c : ℕ) (xs : List ℕ) → (c == hash) ≡ true → 0 < run_len (c ∷ xs)
-hash_runs c xs e = let more : run_len (c ∷ xs) ≡ 1 + run_len xs = ap (λ x. run_len (x ∷ xs)) (eqb-true c hash e) in omega arith
+hash_runs c xs e =
+    let more : run_len (c ∷ xs) ≡ 1 + run_len xs = ap (λ x. run_len (x ∷ xs)) (eqb-true c hash e) in omega arith
 
 kept_hash : (xs : List ℕ) (m : ℕ) → Kept m (hash_front xs) (hash_front (take m xs))
 kept_hash [] zero = kept_same zero (hash_front [])
@@ -128,8 +148,13 @@ kept_hash (c ∷ xs) (suc m) =
     (kept_both (suc m) (c == underscore) _ _ _ _ (kept_same (suc m) (Drop, Some 2))
     (kept_both (suc m) (c == hash) _ _ _ _
     (kept_item (suc m) _ _ (run_len (c ∷ xs)) (run_len (take (suc m) (c ∷ xs)))
-    (λ h. (ap (λ run. run_kind (hash ∷ run)) (run_of-take (c ∷ xs) (suc m) h), prefix_len-take is_run_byte (c ∷ xs) (suc m) h)))
-    (kept_item (suc m) Tag Tag (run_len (c ∷ xs)) (run_len (take (suc m) (c ∷ xs))) (λ h. (refl, prefix_len-take is_run_byte (c ∷ xs) (suc m) h)))))
+    (λ h. (
+      ap (λ run. run_kind (hash ∷ run)) (run_of-take (c ∷ xs) (suc m) h),
+      prefix_len-take is_run_byte (c ∷ xs)
+          (suc m) h,
+    )))
+    (kept_item (suc m) Tag Tag (run_len (c ∷ xs)) (run_len (take (suc m) (c ∷ xs)))
+    (λ h. (refl, prefix_len-take is_run_byte (c ∷ xs) (suc m) h)))))
 
 front-take : (b : ℕ) (xs : List ℕ) (m : ℕ) → Kept m (front b xs) (front b (take m xs))
 front-take b xs m =
@@ -145,7 +170,10 @@ front-take b xs m =
     (λ h. (ap (λ run. run_kind (b ∷ run)) (run_of-take xs m h), prefix_len-take is_run_byte xs m h)))))))))
 
 -- an item has bytes, all within the text
-pub BeginsWith-len : (text : List ℕ) (kind : ItemKind) (bytes : List ℕ) → BeginsWith text kind bytes → (0 < length bytes) × (length bytes ≤ length text)
+pub BeginsWith-len :
+    (text : List ℕ) (kind : ItemKind) (bytes : List ℕ)
+    → BeginsWith text kind bytes
+    → (0 < length bytes) × (length bytes ≤ length text)
 BeginsWith-len [] kind bytes begins = absurd begins
 BeginsWith-len (b ∷ rest) kind bytes begins =
     elim (shape b rest) [
@@ -163,7 +191,8 @@ pub BeginsWith-take :
     → length bytes ≤ m
     → BeginsWith (take m text) kind bytes
 BeginsWith-take [] m kind bytes begins h = absurd begins
-BeginsWith-take (b ∷ rest) zero kind bytes begins h = let some = (BeginsWith-len (b ∷ rest) kind bytes begins).0 in absurd (omega arith)
+BeginsWith-take (b ∷ rest) zero kind bytes begins h =
+    let some = (BeginsWith-len (b ∷ rest) kind bytes begins).0 in absurd (omega arith)
 BeginsWith-take (b ∷ rest) (suc m) kind bytes begins h =
     (front-take b rest m kind (length bytes) begins.0 h, begins.1 ∙ sym (take-take (length bytes) (suc m) (b ∷ rest) h))
 
@@ -185,7 +214,8 @@ pub item_fault-elsewhere :
     → item_fault kind offset bytes closers ≡ None
     → item_fault kind other bytes others ≡ None
 item_fault-elsewhere kind offset other bytes closers others stands fine =
-    refused_alike (nat_lt (utf8_valid_len bytes) (length bytes)) (nesting_refusal kind bytes closers) (nesting_refusal kind bytes others) _ _ offset other stands fine
+    refused_alike (nat_lt (utf8_valid_len bytes) (length bytes)) (nesting_refusal kind bytes closers)
+    (nesting_refusal kind bytes others) _ _ offset other stands fine
 
 -- ---- a cut in two
 
@@ -208,8 +238,10 @@ IsCut-front (x ∷ xs) ys text offset closers ending cut = (
   BeginsWith-take text (length x.bytes + width xs) x.kind x.bytes cut.0 (omega arith),
   cut.1,
   cut.2,
-  subst (λ t. IsCut t (offset + length x.bytes) (open_after x.kind x.bytes closers) xs None) (sym (drop-take (length x.bytes) (width xs) text))
-      (IsCut-front xs ys (drop (length x.bytes) text) (offset + length x.bytes) (open_after x.kind x.bytes closers) ending cut.3),
+  subst (λ t. IsCut t (offset + length x.bytes) (open_after x.kind x.bytes closers) xs None)
+      (sym (drop-take (length x.bytes) (width xs) text))
+      (IsCut-front xs ys (drop (length x.bytes) text) (offset + length x.bytes)
+      (open_after x.kind x.bytes closers) ending cut.3),
 )
 
 pub IsCut-back :
@@ -220,8 +252,10 @@ IsCut-back [] ys text offset closers ending cut = subst (λ n. IsCut text n clos
 IsCut-back (x ∷ xs) ys text offset closers ending cut =
     let n = length x.bytes in
     let later = IsCut-back xs ys (drop n text) (offset + n) (open_after x.kind x.bytes closers) ending cut.3 in
-    subst (λ t. IsCut t (offset + (n + width xs)) (closers_after (x ∷ xs) closers) ys ending) (drop-drop (width xs) n text)
-    (subst (λ k. IsCut (drop (width xs) (drop n text)) k (closers_after (x ∷ xs) closers) ys ending) (omega arith) later)
+    subst (λ t. IsCut t (offset + (n + width xs)) (closers_after (x ∷ xs) closers) ys ending)
+    (drop-drop (width xs) n text)
+    (subst (λ k. IsCut (drop (width xs) (drop n text)) k (closers_after (x ∷ xs) closers) ys ending)
+    (omega arith) later)
 
 pub IsCut-within :
     (xs ys : List Item) (text : List ℕ) (offset : ℕ) (closers : List ℕ) (ending : Option Fault)
@@ -231,7 +265,8 @@ IsCut-within [] ys text offset closers ending cut = omega arith
 IsCut-within (x ∷ xs) ys text offset closers ending cut =
     let len = BeginsWith-len text x.kind x.bytes cut.0 in
     let first : length x.bytes ≤ length text = len.1 in
-    let later = IsCut-within xs ys (drop (length x.bytes) text) (offset + length x.bytes) (open_after x.kind x.bytes closers) ending cut.3 in
+    let later = IsCut-within xs ys (drop (length x.bytes) text) (offset + length x.bytes)
+    (open_after x.kind x.bytes closers) ending cut.3 in
     omega (arith, length-drop (length x.bytes) text)
 
 -- the same text from another offset

@@ -1,22 +1,22 @@
 -- A token that spells an atom or nil is one token by itself.
-use Rattle.std.proofs.Common.{◌≡◌, inl, inr, ℕ, ◌+◌, List, [], ◌∷◌, length, take, drop, Bool, true, false, if◌then◌else◌, Option, Some, None, refl, sym, ap, subst, arith}
+use Rattle.std.proofs.Common.{◌≡◌, inl, inr, ℕ, ◌+◌, List, [], ◌∷◌, length, take, drop, Bool, true, false, if◌then◌else◌, Option, Some, None, refl, sym, subst, arith}
 use Rattle.std.specs.List.{AllByRecursion, All, Contains}
 use Rattle.std.proofs.lemmas.List.{drop_all}
 use Rattle.std.proofs.lemmas.List.Elements.{All-from_recursion}
 use Rattle.std.proofs.lemmas.Option.{none-some}
 use Rattle.hist_types.specs.Atoms.{Atom, Value}
 use Rattle.hist_types.specs.AtomTokens.{atom_of_token}
-use Rattle.hist_types.specs.Entries.{PlacedMop, PlacedOperation}
-use Rattle.hist_types.specs.Placed.{SpellsValue, SpellsParts, IsTokenAlone, IsMopOfTokens, IsTextOf}
+use Rattle.hist_types.specs.Entries.{PlacedMop, PlacedOperation, Entry, operation}
+use Rattle.hist_types.specs.Placed.{SpellsValue, SpellsParts, IsTokenAlone, IsMopOfTokens}
 use Rattle.hist_types.specs.Operations.{Mop, read, write}
-use Rattle.hist_types.specs.Reading.{Reading, nothing_open}
+use Rattle.hist_types.specs.Reading.{Reads}
 use Rattle.hist_types.specs.Tokens.{Item, ItemKind, Blank, Comment, Opener, Closer, item_fault, nesting_refusal, open_after, is_token, tokens_of, BeginsWith, IsCut, HasTokens}
 use Rattle.hist_types.specs.declared.types.Fault.{Fault}
 use Rattle.hist_types.proofs.Members.{In, in_from_Contains}
 use Rattle.hist_types.proofs.MovedReading.{tokens_of-token}
 use Rattle.hist_types.proofs.OneCut.{the_item}
 use Rattle.hist_types.proofs.PartCuts.{BeginsWith-take, item_fault-elsewhere}
-use Rattle.hist_types.proofs.SpelledParts.{BeginsWith-bytes, reading_from-spelled, IsSpelled, IsSpelledEntry}
+use Rattle.hist_types.proofs.SpelledParts.{BeginsWith-bytes, IsSpelled, spelled_by_tokens}
 
 -- a token that neither opens nor closes
 abbrev IsFree : ItemKind → Type 0
@@ -56,10 +56,15 @@ items_alone :
 items_alone [] text offset closers ending cut = tt
 items_alone (t ∷ items) text offset closers ending cut = (
   item_alone text offset closers t cut.0 cut.2,
-  items_alone items (drop (length t.bytes) text) (offset + length t.bytes) (open_after t.kind t.bytes closers) ending cut.3,
+  items_alone items (drop (length t.bytes) text) (offset + length t.bytes)
+      (open_after t.kind t.bytes closers) ending cut.3,
 )
 
-if_alone : (token : Bool) (t : Item) (ts : List Item) → IsAlone t → AllByRecursion IsAlone ts → AllByRecursion IsAlone (if token then t ∷ ts else ts)
+if_alone :
+    (token : Bool) (t : Item) (ts : List Item)
+    → IsAlone t
+    → AllByRecursion IsAlone ts
+    → AllByRecursion IsAlone (if token then t ∷ ts else ts)
 if_alone true t ts one all = (one, all)
 if_alone false t ts one all = all
 
@@ -68,7 +73,10 @@ tokens_alone [] all = tt
 tokens_alone (t ∷ items) all = if_alone (is_token t.kind) t (tokens_of items) all.0 (tokens_alone items all.1)
 
 -- the tokens of a text
-row_alone : (text : List ℕ) (tokens : List Item) (ending : Option Fault) → HasTokens text tokens ending → AllByRecursion IsAlone tokens
+row_alone :
+    (text : List ℕ) (tokens : List Item) (ending : Option Fault)
+    → HasTokens text tokens ending
+    → AllByRecursion IsAlone tokens
 row_alone text tokens ending row =
     subst (AllByRecursion IsAlone) (sym row.2) (tokens_alone row.0 (items_alone row.0 text 0 [] ending row.1))
 
@@ -101,8 +109,14 @@ token_alone text tokens ending t value row contains spells =
 
 -- ---- the parts of operations
 
-parts_alone : (key value : Item) (m : Mop) → IsAlone key → IsAlone value → SpellsParts key value m → IsTokenAlone key.kind key.bytes × IsTokenAlone value.kind value.bytes
-parts_alone key value (read k v) first second spells = (first (spelled_free key.kind key.bytes k spells.0), second (value_free value v spells.1))
+parts_alone :
+    (key value : Item) (m : Mop)
+    → IsAlone key
+    → IsAlone value
+    → SpellsParts key value m
+    → IsTokenAlone key.kind key.bytes × IsTokenAlone value.kind value.bytes
+parts_alone key value (read k v) first second spells =
+    (first (spelled_free key.kind key.bytes k spells.0), second (value_free value v spells.1))
 parts_alone key value (write k v) first second spells =
     (first (spelled_free key.kind key.bytes k spells.0), second (spelled_free value.kind value.bytes v spells.1))
 
@@ -110,9 +124,12 @@ mops_alone : (mops : List PlacedMop) → AllByRecursion (IsSpelled IsAlone) mops
 mops_alone [] all = tt
 mops_alone (m ∷ mops) all = (parts_alone m.key m.value m.mop all.0.0 all.0.1 all.0.2, mops_alone mops all.1)
 
-pub operation_alone : (text : List ℕ) (o : PlacedOperation) → IsTextOf text o → All IsMopOfTokens o.mops
-operation_alone text o is =
-    let reads = is.2 in
-    let all = reading_from-spelled IsAlone reads.0 nothing_open reads.1 (row_alone text reads.0 reads.1 reads.2) tt in
-    let one = subst (AllByRecursion (IsSpelledEntry IsAlone)) (ap (λ (r : Reading). r.entries) reads.3) all in
-    All-from_recursion IsMopOfTokens o.mops (mops_alone o.mops one.0)
+pub mops_alone_in :
+    (text : List ℕ) (entries : List Entry) (fault : Option Fault) (o : PlacedOperation)
+    → Reads text entries fault
+    → Contains entries (operation o)
+    → All IsMopOfTokens o.mops
+mops_alone_in text entries fault o reads contains =
+    All-from_recursion IsMopOfTokens o.mops
+    (mops_alone o.mops
+    (spelled_by_tokens IsAlone text entries fault o (row_alone text) reads (in_from_Contains (operation o) entries contains)))

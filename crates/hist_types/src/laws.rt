@@ -101,9 +101,11 @@ pub fn operations_read_alone()
     ensures { (text : List ℕ) → (entries : List Entry) → (fault : Option Fault) → (o : PlacedOperation) → Reads text entries fault → Contains entries (operation o) → IsIn text o }
 {}
 
-/// An operation's keys and values are spelled by tokens of its text, and the operation keeps the limits.
+/// An operation's keys and values are spelled by tokens of its text, where it stands alone or anywhere else, and the operation
+/// keeps the limits.
 pub fn operations_spell_their_parts()
     ensures mops { (text : List ℕ) → (o : PlacedOperation) → IsTextOf text o → All (IsMopIn text) o.mops }
+    ensures anywhere { (text : List ℕ) → (entries : List Entry) → (fault : Option Fault) → (o : PlacedOperation) → Reads text entries fault → Contains entries (operation o) → All (IsMopIn text) o.mops }
     ensures limits { (text : List ℕ) → (o : PlacedOperation) → IsTextOf text o → KeepsLimits text o }
 {}
 
@@ -111,7 +113,7 @@ pub fn operations_spell_their_parts()
 /// token without a fault at the front of themselves are that one token.
 pub fn atoms_are_single_tokens()
     ensures tokens { (text : List ℕ) → (tokens : List Item) → (ending : Option Fault) → (t : Item) → (value : Value) → HasTokens text tokens ending → Contains tokens t → SpellsValue t value → IsTokenAlone t.kind t.bytes }
-    ensures mops { (text : List ℕ) → (o : PlacedOperation) → IsTextOf text o → All IsMopOfTokens o.mops }
+    ensures mops { (text : List ℕ) → (entries : List Entry) → (fault : Option Fault) → (o : PlacedOperation) → Reads text entries fault → Contains entries (operation o) → All IsMopOfTokens o.mops }
     ensures bytes { (kind : ItemKind) → (bytes : List ℕ) → is_token kind ≡ true → BeginsWith bytes kind bytes → item_fault kind 0 bytes [] ≡ None → IsTokenAlone kind bytes }
 {}
 

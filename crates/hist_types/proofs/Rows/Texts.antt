@@ -5,7 +5,7 @@ use Rattle.hist_types.specs.Operations.{read, write}
 use Rattle.hist_types.specs.Tokens.{Item, ItemKind, Opener, Closer, Str, Drop, Tag, Nil, Int, Keyword, Other, HasTokens, byte_fault, nesting_refusal}
 use Rattle.hist_types.specs.Entries.{PlacedOperation, operation, micro_ops_of}
 use Rattle.hist_types.specs.Forms.{Form, plain, collection, forms_of}
-use Rattle.hist_types.specs.Placed.{IsTextOf, IsIn}
+use Rattle.hist_types.specs.Placed.{IsTextOf, IsIn, IsMopIn, IsTokenAlone}
 use Rattle.hist_types.specs.Reading.{Reading, reading_of, Reads}
 use Rattle.hist_types.specs.declared.types.OpKind.TheVariants as kinds
 use Rattle.hist_types.specs.declared.types.Refusal.{Refusal}
@@ -109,6 +109,13 @@ plain_operation = record {
 plain_line-places : IsTextOf plain_line plain_operation
 unfolding cutting_texts
 plain_line-places = (refl, refl, reads 47 plain_line (operation plain_operation ∷ []) None refl)
+
+-- Its key and its value are tokens of the line, which spell `:x` and 1, and the key alone is a text of one token.
+plain_line-parts :
+    IsMopIn plain_line (record { mop = sets x 1; key = token Keyword 40 (codes ":x"); value = token Int 43 (codes "1") })
+    × IsTokenAlone Keyword (codes ":x")
+unfolding cutting_texts
+plain_line-parts = (((omega arith, refl), (omega arith, refl), (refl, refl)), has_tokens 1 (codes ":x") _ None refl)
 
 -- In the tagged line the map begins at 18; it is an operation of that line.
 abbrev tagged_operation : PlacedOperation

@@ -1,4 +1,4 @@
-use Rattle.hist_types.proofs.SpelledParts.{parts_spelled, limits_kept}
+use Rattle.hist_types.proofs.SpelledParts.{parts_spelled, parts_spelled_in, limits_kept}
 use Rattle.hist_types.proofs.laws.operations_spell_their_parts.Goals as goal
 
 pub returns-clause-mops : goal.returns-clause-mops
@@ -6,3 +6,6 @@ returns-clause-mops c = parts_spelled
 
 pub returns-clause-limits : goal.returns-clause-limits
 returns-clause-limits c = limits_kept
+
+pub returns-clause-anywhere : goal.returns-clause-anywhere
+returns-clause-anywhere c = parts_spelled_in
