@@ -12,6 +12,9 @@ pub record Index (A : Type 0) : Type 0 where
 abbrev pub atom_index_code : Coded (Index Atom)
 atom_index_code = code_by (List Atom × ℕ) (coded× (coded_list coded_atom) coded_ℕ) (λ x. (x.items, x.spare)) (λ p. record { items = p.0; spare = p.1 }) (λ _. refl)
 
+abbrev pub pair_index_code : Coded (Index (ℕ × ℕ))
+pair_index_code = code_by (List (ℕ × ℕ) × ℕ) (coded× (coded_list (coded× coded_ℕ coded_ℕ)) coded_ℕ) (λ x. (x.items, x.spare)) (λ p. record { items = p.0; spare = p.1 }) (λ _. refl)
+
 -- the number of what stands in a list
 abbrev pub number_in : {A : Type 0} → (A → A → Bool) → A → List A → Option ℕ
 number_in eq x items = position (eq x) items

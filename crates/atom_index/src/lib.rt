@@ -2,4 +2,7 @@
 #![tactic(auto)]
 
 pub mod atoms;
+pub mod pairs;
 mod slots;
+#[cfg(test)]
+mod tests;
