@@ -1,13 +1,12 @@
 -- An index of atoms, and one atom more.
-use Rattle.std.proofs.Common.{◌≡◌, ◌⊎◌, inl, inr, ℕ, zero, suc, List, [], ◌∷◌, ◌++◌, length, get_or, Bool, true, false, cond, Option, Some, None, refl, sym, ◌∙◌, ap, subst}
-use Rattle.std.specs.Prelude.{slice_get}
+use Rattle.std.proofs.Common.{◌≡◌, inl, inr, ℕ, List, [], ◌∷◌, ◌++◌, length, get_or, Bool, true, false, cond, Option, Some, None, sym, ◌∙◌, ap}
 use Rattle.std.proofs.Math.ListN.{set}
 use Rattle.std.proofs.lemmas.Bool.{cases_Bool, true≢false, false_from_ne_true}
 use Rattle.std.proofs.lemmas.List.{length-set}
 use Rattle.indexmap.specs.IndexMap.{IndexMap, get}
 use Rattle.hist_types.specs.Atoms.{Atom, atom_eq}
 use Rattle.hist_types.proofs.Equality.{atom_eq-same, atom_eq-itself}
-use Rattle.atom_index.specs.Numbers.{number_in, AreNumbered}
+use Rattle.atom_index.specs.Numbers.{number_in}
 use Rattle.atom_index.specs.Slots.{slot_of}
 use Rattle.atom_index.specs.Lookups.{IsIndexed}
 use Rattle.atom_index.proofs.Pushed.{no_item, numbered_push, number_last, number_kept}

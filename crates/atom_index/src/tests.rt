@@ -13,7 +13,15 @@ fn atoms_are_numbered_as_first_seen(rt: HostRuntime) {
     assert_eq!(rt; index.len(), 0);
     assert_eq!(rt; index.get(&atom(&rt, b"5")), None);
     let texts: [&[u8]; 9] = [
-        b"5", b":x", b"\"a\\tb\"", b"5N", b"-1", b"\"a\tb\"", b"x", b":x", b"1000000",
+        b"5",
+        b":x",
+        b"\"a\\tb\"",
+        b"5N",
+        b"-1",
+        b"\"a\tb\"",
+        b"x",
+        b":x",
+        b"1000000",
     ];
     let numbers = [0, 1, 2, 0, 3, 2, 4, 1, 5];
     for i in 0..9 {
@@ -40,9 +48,7 @@ fn room_is_made_before_atoms_come(rt: HostRuntime) {
 
 #[test]
 fn many_small_integers(rt: HostRuntime) {
-    let texts: [&[u8]; 10] = [
-        b"0", b"1", b"2", b"3", b"4", b"5", b"6", b"7", b"8", b"9",
-    ];
+    let texts: [&[u8]; 10] = [b"0", b"1", b"2", b"3", b"4", b"5", b"6", b"7", b"8", b"9"];
     let mut index = AtomIndex::new(rt.alloc());
     for i in 0..10 {
         let number = index.insert(atom(&rt, texts[9 - i])).expect(&rt, "memory");
