@@ -22,7 +22,7 @@ use std::marker::Model;
 ///
 /// Atoms are compared by what they mean: integers by number, strings by their decoded content, keywords and symbols byte
 /// for byte. In order come the integers, the keywords, the strings and the symbols. No call takes memory.
-#[derive(Drop)]
+#[derive(Debug, Drop)]
 pub struct Atom<'a> {
     text: &'a [u8],
     spelling: Spelling,

@@ -16,7 +16,7 @@ use memchr::memchr;
 use std::str;
 
 /// An atom but for its text.
-#[derive(Clone, Copy)]
+#[derive(Clone, Copy, Debug)]
 pub(crate) enum Spelling {
     /// The number is parsed once, when the atom is made.
     Integer(i64),

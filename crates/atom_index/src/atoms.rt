@@ -1,0 +1,144 @@
+//! Numbers for atoms.
+
+ghost use Rattle.std.specs.Prelude.{◌≡◌, ◌≤◌, ◌<◌, ◌+◌, ◌++◌, ◌∷◌, [], length, None, Some, IfOk, OnOk, OnErr, slice_get};
+ghost use Rattle.hist_types.specs.Atoms.{atom_eq};
+ghost use Rattle.atom_index.specs.Numbers.{number_in, with_item};
+
+use crate::slots::{slot_of, table_of};
+use indexmap::IndexMap;
+use op_view::atom::Atom;
+use std::alloc::{AllocError, Global};
+use std::marker::Model;
+
+/// Numbers atoms from 0 on, in the order in which they are first inserted.
+///
+/// The small integers, which are most of the atoms of a history, are looked up in a table that grows with the number of
+/// atoms; everything else is looked up by its hash.
+#[derive(Drop)]
+pub struct AtomIndex<'a> {
+    alloc: Global,
+    /// By number.
+    atoms: Vec<Atom<'a>>,
+    /// The number of each small integer that has one.
+    small: Vec<Option<usize>>,
+    /// The numbers of the other atoms.
+    others: IndexMap<Atom<'a>, usize>,
+}
+
+impl<'a> Model for AtomIndex<'a> {
+    ghost use Rattle.std.specs.Prelude.{◌-◌, min};
+    ghost use Rattle.std.specs.Vec.{vec_len, vec_capacity};
+    ghost use Rattle.indexmap.specs.IndexMap.{spare};
+    ghost use Rattle.hist_types.specs.Atoms.{Atom as AnAtom};
+    ghost use Rattle.atom_index.specs.Numbers.{Index, atom_index_code};
+
+    ghost Value = { Index AnAtom };
+
+    ghost coded = { atom_index_code };
+
+    ghost use Rattle.atom_index.specs.Lookups.{IsIndexed};
+
+    ghost view = { λ x. record { items = x.atoms.items; spare = min (vec_capacity x.atoms - vec_len x.atoms) (spare x.others) } };
+
+    ghost invariant = { λ x. IsIndexed x.atoms.items x.small.items x.others };
+}
+
+impl<'a> AtomIndex<'a> {
+    /// No atom has a number yet.
+    pub fn new(alloc: Global) -> AtomIndex<'a>
+        ensures { result.items ≡ [] }
+    {
+        AtomIndex {
+            alloc,
+            atoms: Vec::new(alloc),
+            small: Vec::new(alloc),
+            others: IndexMap::new(alloc),
+        }
+    }
+
+    /// How many atoms have a number.
+    pub fn len(&self) -> usize
+        ensures { result ≡ length self.now.items }
+    {
+        self.atoms.len()
+    }
+
+    /// The atom with this number.
+    pub fn atom(&self, number: usize) -> Atom<'a>
+        requires { number < length self.now.items }
+        ensures item { slice_get self.now.items number ≡ Some result }
+        ensures number { number_in atom_eq result self.now.items ≡ Some number }
+    {
+        self.atoms[number].copy()
+    }
+
+    /// The number of an atom, if it has one.
+    pub fn get(&self, atom: &Atom) -> Option<usize>
+        ensures { result ≡ number_in atom_eq atom.now self.now.items }
+    {
+        match slot_of(atom, self.small.len()) {
+            Some(slot) => self.small[slot],
+            None => self.others.get(atom).copied(),
+        }
+    }
+
+    /// Makes room for so many more atoms. Out of memory leaves the atoms as they are.
+    pub fn reserve(&mut self, additional: usize) -> Result<(), AllocError>
+        ensures items { self.new.items ≡ self.old.items }
+        ensures room { OnOk result (additional ≤ self.new.spare) }
+    {
+        self.atoms.try_reserve(additional)?;
+        self.others.reserve(additional)?;
+        let wanted = self.atoms.len() + additional;
+        if self.small.len() < wanted {
+            let slots = wanted.saturating_mul(2);
+            self.small = table_of(self.alloc, &self.atoms, slots)?;
+        }
+        Ok(())
+    }
+
+    /// The number of an atom, which is its first one where it has none yet. Out of memory leaves the atoms as they are.
+    pub fn insert(&mut self, atom: Atom<'a>) -> Result<usize, AllocError>
+        ensures number { IfOk result (λ number. number_in atom_eq atom.entry self.new.items ≡ Some number) }
+        ensures items { OnOk result (self.new.items ≡ with_item atom_eq self.old.items atom.entry) }
+        ensures err { OnErr result (self.new.items ≡ self.old.items) }
+    {
+        if let Some(number) = self.get(&atom) {
+            return Ok(number);
+        }
+        self.reserve(1)?;
+        Ok(self.push(atom))
+    }
+
+    /// The same where there is room for one more atom, so that no memory is asked for.
+    pub fn insert_reserved(&mut self, atom: Atom<'a>) -> usize
+        requires { 0 < self.old.spare }
+        ensures number { number_in atom_eq atom.entry self.new.items ≡ Some result }
+        ensures items { self.new.items ≡ with_item atom_eq self.old.items atom.entry }
+        ensures room { self.old.spare ≤ self.new.spare + 1 }
+    {
+        match self.get(&atom) {
+            Some(number) => number,
+            None => self.push(atom),
+        }
+    }
+
+    /// Gives an atom that has none the next number.
+    fn push(&mut self, atom: Atom<'a>) -> usize
+        requires new { number_in atom_eq atom self.old.items ≡ None }
+        requires room { 0 < self.old.spare }
+        ensures number { number_in atom_eq atom.entry self.new.items ≡ Some result }
+        ensures items { self.new.items ≡ self.old.items ++ atom.entry ∷ [] }
+        ensures room { self.old.spare ≤ self.new.spare + 1 }
+    {
+        let number = self.atoms.len();
+        match slot_of(&atom, self.small.len()) {
+            Some(slot) => self.small[slot] = Some(number),
+            None => {
+                self.others.insert(atom.copy(), number).unwrap();
+            }
+        }
+        self.atoms.push(atom).unwrap();
+        number
+    }
+}

@@ -1,0 +1,8 @@
+//! Numbers for the keys and values of a history, in the order in which they are first seen.
+#![tactic(auto)]
+
+pub mod atoms;
+pub mod pairs;
+mod slots;
+#[cfg(test)]
+mod tests;
