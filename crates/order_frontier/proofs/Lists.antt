@@ -1,0 +1,17 @@
+-- Lists that are filtered, searched and read in order.
+use Rattle.std.proofs.Common.{◌≡◌, ◌⊎◌, inl, inr, Bool, true, false, not, ◌||◌, cond, Option, Some, None, List, [], ◌∷◌, ◌++◌, filter, refl, ap, sym, subst, ◌∙◌}
+use Rattle.std.specs.List.{list_any}
+use Rattle.std.specs.List.Retain.{RetainsInTurn}
+use Rattle.std.proofs.lemmas.Bool.{false≢true}
+use Rattle.hist_types.proofs.Members.{In}
+
+-- where no call changes the closure or the element, `retain` leaves what passes the test
+pub filter-from_retain : {X F : Type 0} (R : F → X → Bool → F → X → Type 0) (test : X → Bool) (f : F)
+    → ((x : X) (b : Bool) (f' : F) (y : X) → R f x b f' y → (b ≡ test x) × (f' ≡ f) × (y ≡ x))
+    → (xs ys : List X) → RetainsInTurn R f xs ys → ys ≡ filter test xs
+filter-from_retain R test f says [] ys h = h
+filter-from_retain R test f says (x ∷ xs) ys h =
+    let said = says x h.0 h.1 h.2 h.3 in
+    let later = subst (λ g. RetainsInTurn R g xs h.4) said.1 h.5 in
+    let rest = filter-from_retain R test f says xs h.4 later in
+    h.6 ∙ (λ i. cond (said.0 i) (said.2 i ∷ rest i) (rest i))

@@ -1,0 +1,5 @@
+//! Session order and real-time order: as all pairs, and thinned to a moving frontier.
+#![tactic(auto)]
+
+mod moving;
+pub mod types;
