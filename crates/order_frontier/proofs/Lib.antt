@@ -1,3 +1,5 @@
 pub mod Lists
 pub mod Kept
 pub mod Seen
+pub mod Timed
+pub mod States
