@@ -57,8 +57,8 @@ last_stays : (done : List Completed) (d : Completed) → ((v : Completed) → In
 last_stays done d earlier own =
     list_any-append (λ (v : Completed). nat_lt d.completion v.invocation) done (d ∷ [])
     ∙ or_from (is_overtaken done d) (nat_lt d.completion d.invocation || false)
-      (none_from (λ (v : Completed). nat_lt d.completion v.invocation) done (λ v i later. omega (arith, earlier v i, ltb-true d.completion v.invocation later)))
-      (or_from (nat_lt d.completion d.invocation) false (le-ltb d.completion d.invocation own) refl)
+    (none_from (λ (v : Completed). nat_lt d.completion v.invocation) done (λ v i later. omega (arith, earlier v i, ltb-true d.completion v.invocation later)))
+    (or_from (nat_lt d.completion d.invocation) false (le-ltb d.completion d.invocation own) refl)
 
 pub frontier-more : (done : List Completed) (d : Completed) → ((v : Completed) → In v done → v.invocation ≤ d.completion) → d.invocation ≤ d.completion
     → frontier_of (done ++ d ∷ []) ≡ filter (stays_at d) (frontier_of done) ++ predecessor_of d ∷ []
@@ -102,17 +102,20 @@ all_at P x (y ∷ xs) (inr i) all = all_at P x xs i all.1
 last_first : (process : ℕ) (d : Completed) (done : List Completed) (own : Bool) → (d.process == process) ≡ own → HasNone process done
     → HasNone process (d ∷ done) ⊎ ((l : Completed) × IsLast process (d ∷ done) l)
 last_first process d done true own none =
-    inr (d, record {
-      member = inl refl;
-      own = eqb-true d.process process own;
-      last =
-          ap (λ o. option_or o (if d.process == process then Some (predecessor_of d) else None)) none.0
-          ∙ ap (λ b. cond b (Some (predecessor_of d)) None) own;
-      latest = λ v i same. elim i [
-        | inl e ↦ (let e' : d.completion ≡ v.completion = ap (λ (x : Completed). x.completion) e in omega (arith, e'))
-        | inr j ↦ absurd (none.1 v j same)
-      ];
-    })
+    inr (
+      d,
+      record {
+        member = inl refl;
+        own = eqb-true d.process process own;
+        last =
+            ap (λ o. option_or o (if d.process == process then Some (predecessor_of d) else None)) none.0
+            ∙ ap (λ b. cond b (Some (predecessor_of d)) None) own;
+        latest = λ v i same. elim i [
+          | inl e ↦ (let e' : d.completion ≡ v.completion = ap (λ (x : Completed). x.completion) e in omega (arith, e'))
+          | inr j ↦ absurd (none.1 v j same)
+        ];
+      },
+    )
 last_first process d done false own none =
     inl (
       ap (λ o. option_or o (if d.process == process then Some (predecessor_of d) else None)) none.0 ∙ ap (λ b. cond b (Some (predecessor_of d)) None) own,
@@ -125,16 +128,19 @@ last-is process (d ∷ done) rising = elim (last-is process done rising.1) [
   | inl none ↦ last_first process d done (d.process == process) refl none
   | inr found ↦
       let l : Completed = found.0 in
-      inr (l, record {
-        member = inr found.1.member;
-        own = found.1.own;
-        last = ap (λ o. option_or o (if d.process == process then Some (predecessor_of d) else None)) found.1.last;
-        latest = λ v i same. elim i [
-          | inl e ↦ (let up : d.completion ≤ l.completion = all_at (λ (x : Completed). d.completion ≤ x.completion) l done found.1.member rising.0 in
-              let e' : d.completion ≡ v.completion = ap (λ (x : Completed). x.completion) e in omega (arith, up, e'))
-          | inr j ↦ found.1.latest v j same
-        ];
-      })
+      inr (
+        l,
+        record {
+          member = inr found.1.member;
+          own = found.1.own;
+          last = ap (λ o. option_or o (if d.process == process then Some (predecessor_of d) else None)) found.1.last;
+          latest = λ v i same. elim i [
+            | inl e ↦ (let up : d.completion ≤ l.completion = all_at (λ (x : Completed). d.completion ≤ x.completion) l done found.1.member rising.0 in
+                let e' : d.completion ≡ v.completion = ap (λ (x : Completed). x.completion) e in omega (arith, up, e'))
+            | inr j ↦ found.1.latest v j same
+          ];
+        },
+      )
 ]
 
 -- ---- one more ok transaction

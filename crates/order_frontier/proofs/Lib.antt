@@ -3,3 +3,4 @@ pub mod Kept
 pub mod Seen
 pub mod Timed
 pub mod States
+pub mod Moves

@@ -55,7 +55,7 @@ before_parts t u None has ok below = absurd (false≢true below)
 before_parts t u (Some c) has ok below = (
   record { completion = c; invocation = t.invocation; process = t.process },
   ap (λ b. if b then option_map (λ x. record { completion = x; invocation = t.invocation; process = t.process }) t.completion else None) ok
-  ∙ ap (option_map (λ x. record { completion = x; invocation = t.invocation; process = t.process })) has,
+      ∙ ap (option_map (λ x. record { completion = x; invocation = t.invocation; process = t.process })) has,
   ltb-true c u.invocation below,
 )
 
@@ -103,7 +103,7 @@ in_open : (level : Level) (ts : List Transaction) (t u : Transaction) (label : L
 in_open level ts t u label none i =
     let clear : has_between level ts t u ≡ false =
     none_from (λ v. is_ordered level t v && is_ordered level v u) ts (λ v j both.
-      let parts = and_parts (is_ordered level t v) (is_ordered level v u) both in none v j parts.0 parts.1) in
+    let parts = and_parts (is_ordered level t v) (is_ordered level v u) both in none v j parts.0 parts.1) in
     subst (λ b. In label (if b then [] else order_labels level t u)) (sym clear) i
 
 apart_by : (ts : List Transaction) (t u : Transaction) (d : Completed) → AreTimed ts → In t ts → completed_of t ≡ Some d → d.completion < u.invocation → (t.invocation == u.invocation) ≡ false
@@ -258,24 +258,24 @@ module _ (ts : List Transaction) (u : Transaction) (done : List Completed) (time
       let inside = seen.complete t d thinned.first thinned.done thinned.below in
       let clear : is_overtaken done d ≡ false =
       none_from (λ (v : Completed). nat_lt d.completion v.invocation) done (λ l j later.
-        let from = seen.sound l j in
-        let v : Transaction = from.0 in
-        let below : d.completion < v.invocation = subst (λ n. d.completion < n) (sym (done-parts v l from.2).invocation) (ltb-true d.completion l.invocation later) in
-        thinned.none v from.1 (before_from t v d thinned.done below) (before_from v u l from.2 from.3)) in
+      let from = seen.sound l j in
+      let v : Transaction = from.0 in
+      let below : d.completion < v.invocation = subst (λ n. d.completion < n) (sym (done-parts v l from.2).invocation) (ltb-true d.completion l.invocation later) in
+      thinned.none v from.1 (before_from t v d thinned.done below) (before_from v u l from.2 from.3)) in
       in_mapped predecessor_of d (filter (λ d. not (is_overtaken done d)) done) (in_filtered (λ d. not (is_overtaken done d)) d done inside (not_from_false (is_overtaken done d) clear))
 
   realtime_thinned : (e : Edge) → In e (map (realtime_edge u.invocation) (frontier_of done)) ↔ (In e (all_thinned_edges Realtime ts) × (e.to ≡ u.invocation))
   realtime_thinned e = (
     λ i. (let found = in_map (realtime_edge u.invocation) e (frontier_of done) i in
-      (subst (λ e. In e (all_thinned_edges Realtime ts)) found.2 (realtime_kept found.0 found.1), ap (λ (e : Edge). e.to) (sym found.2))),
+        (subst (λ e. In e (all_thinned_edges Realtime ts)) found.2 (realtime_kept found.0 found.1), ap (λ (e : Edge). e.to) (sym found.2))),
     λ i. (let from = realtime_to ts e i.0 in
-      let same : from.u ≡ u = timed.one from.u u from.thinned.second member (sym (ap (λ (e : Edge). e.to) from.is) ∙ i.1) in
-      let thinned = subst (λ w. IsThinned Realtime ts from.t w from.d) same from.thinned in
-      subst (λ e. In e (map (realtime_edge u.invocation) (frontier_of done))) (sym (from.is ∙ ap (λ (w : Transaction). realtime_edge w.invocation (predecessor_of from.d)) same))
-      (in_mapped (realtime_edge u.invocation) (predecessor_of from.d) (frontier_of done) (realtime_found from.t from.d thinned))),
+        let same : from.u ≡ u = timed.one from.u u from.thinned.second member (sym (ap (λ (e : Edge). e.to) from.is) ∙ i.1) in
+        let thinned = subst (λ w. IsThinned Realtime ts from.t w from.d) same from.thinned in
+        subst (λ e. In e (map (realtime_edge u.invocation) (frontier_of done))) (sym (from.is ∙ ap (λ (w : Transaction). realtime_edge w.invocation (predecessor_of from.d)) same))
+        (in_mapped (realtime_edge u.invocation) (predecessor_of from.d) (frontier_of done) (realtime_found from.t from.d thinned))),
   )
 
--- ---- one process
+  -- ---- one process
   process_kept : (l : Completed) → IsLast u.process done l → In (process_edge u.process u.invocation (predecessor_of l)) (all_thinned_edges Process ts)
   process_kept l last =
       let from = seen.sound l last.member in
@@ -311,8 +311,8 @@ module _ (ts : List Transaction) (u : Transaction) (done : List Completed) (time
         | inr (inl earlier) ↦
             let over : d.completion < v.invocation = timed.sequential t v d thinned.first from.1 (own ∙ sym own') earlier thinned.done in
             absurd (thinned.none v from.1
-              (and_from (is_before t v) (same_process t v) (before_from t v d thinned.done over) (eq-eqb t.process v.process (own ∙ sym own')))
-              (and_from (is_before v u) (same_process v u) (before_from v u l from.2 from.3) (eq-eqb v.process u.process own')))
+            (and_from (is_before t v) (same_process t v) (before_from t v d thinned.done over) (eq-eqb t.process v.process (own ∙ sym own')))
+            (and_from (is_before v u) (same_process v u) (before_from v u l from.2 from.3) (eq-eqb v.process u.process own')))
         | inr (inr later) ↦
             let over : l.completion < t.invocation = timed.sequential v t l from.1 thinned.first (own' ∙ sym own) later from.2 in
             let start = parts.invocation in
@@ -326,23 +326,24 @@ module _ (ts : List Transaction) (u : Transaction) (done : List Completed) (time
       let back : (from : FromProcess ts e) → e.to ≡ u.invocation → from.u ≡ u = λ from to. timed.one from.u u from.thinned.second member (sym (ap (λ (e : Edge). e.to) from.is) ∙ to) in
       elim (last-is u.process done seen.rising) [
         | inl none ↦ subst Answer (sym none.0) (
-            λ i. elim i [ ],
-            λ i. (let from = process_to ts e i.0 in
+          λ i. elim i [ ],
+          λ i. (let from = process_to ts e i.0 in
               let same : from.u ≡ u = back from i.1 in
               let thinned = subst (λ w. IsThinned Process ts from.t w from.d) same from.thinned in
               let own : from.t.process ≡ u.process = from.same ∙ ap (λ (w : Transaction). w.process) same in
-              absurd (none.1 from.d (seen.complete from.t from.d thinned.first thinned.done thinned.below) (sym (done-parts from.t from.d thinned.done).process ∙ own))))
+              absurd (none.1 from.d (seen.complete from.t from.d thinned.first thinned.done thinned.below) (sym (done-parts from.t from.d thinned.done).process ∙ own))),
+        )
         | inr found ↦
             let l : Completed = found.0 in
             subst Answer (sym found.1.last) (
               λ i. (let is : process_edge u.process u.invocation (predecessor_of l) ≡ e = only_one e (process_edge u.process u.invocation (predecessor_of l)) i in
-                (subst (λ e. In e (all_thinned_edges Process ts)) is (process_kept l found.1), ap (λ (e : Edge). e.to) (sym is))),
+                  (subst (λ e. In e (all_thinned_edges Process ts)) is (process_kept l found.1), ap (λ (e : Edge). e.to) (sym is))),
               λ i. (let from = process_to ts e i.0 in
-                let same : from.u ≡ u = back from i.1 in
-                let thinned = subst (λ w. IsThinned Process ts from.t w from.d) same from.thinned in
-                let own : from.t.process ≡ u.process = from.same ∙ ap (λ (w : Transaction). w.process) same in
-                let d : from.d ≡ l = process_found from.t from.d l thinned own found.1 in
-                inl (sym (from.is ∙ ap (λ (w : Transaction). process_edge w.process w.invocation (predecessor_of from.d)) same ∙ ap (λ d. process_edge u.process u.invocation (predecessor_of d)) d))),
+                  let same : from.u ≡ u = back from i.1 in
+                  let thinned = subst (λ w. IsThinned Process ts from.t w from.d) same from.thinned in
+                  let own : from.t.process ≡ u.process = from.same ∙ ap (λ (w : Transaction). w.process) same in
+                  let d : from.d ≡ l = process_found from.t from.d l thinned own found.1 in
+                  inl (sym (from.is ∙ ap (λ (w : Transaction). process_edge w.process w.invocation (predecessor_of from.d)) same ∙ ap (λ d. process_edge u.process u.invocation (predecessor_of d)) d))),
             )
       ]
 
@@ -350,8 +351,8 @@ module _ (ts : List Transaction) (u : Transaction) (done : List Completed) (time
   plain_thinned e = (
     λ i. elim i [ ],
     λ i. (let c : Comes ts (thinned_labels Plain ts) e = comes_from ts (thinned_labels Plain ts) e i.0 in
-      let found = in_map (edge c.0 c.1) e (thinned_labels Plain ts c.0 c.1) c.5 in
-      (in_unless found.0 (has_between Plain ts c.0 c.1) [] found.1).1),
+        let found = in_map (edge c.0 c.1) e (thinned_labels Plain ts c.0 c.1) c.5 in
+        (in_unless found.0 (has_between Plain ts c.0 c.1) [] found.1).1),
   )
 
 -- What is kept gives exactly the thinned edges to a transaction, where the ok ones that completed before it are seen.
@@ -372,7 +373,6 @@ kept_before u done = record {
 thinned_at : (ts : List Transaction) (u : Transaction) (done : List Completed) → AreTimed ts → In u ts → AreSeen ts u.invocation done
     → (level : Level) (e : Edge)
     → Contains (edges_to level (kept_before u done)) e ↔ (Contains (all_thinned_edges level ts) e × (e.to ≡ u.invocation))
-
 thinned_at ts u done timed member seen Plain e =
     contained (e.to ≡ u.invocation) e [] (all_thinned_edges Plain ts) (plain_thinned ts u done timed member seen e)
 thinned_at ts u done timed member seen Process e =

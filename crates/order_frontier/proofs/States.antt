@@ -69,8 +69,8 @@ done_by_from kind number index invocation d by =
     subst (λ k. In d (done_by k number index invocation)) (sym by.ok)
     (subst (λ o. In d (done_by kinds.Ok number index o)) (sym by.opened)
     (inl (
-      ap (λ n. record { completion = n; invocation = d.invocation; process = number }) by.at
-      ∙ ap (λ n. record { completion = d.completion; invocation = d.invocation; process = n }) by.process
+    ap (λ n. record { completion = n; invocation = d.invocation; process = number }) by.at
+    ∙ ap (λ n. record { completion = d.completion; invocation = d.invocation; process = n }) by.process
     )))
 
 -- what the completion of a process is, where the first event is of the process or of another
@@ -249,10 +249,10 @@ good_step s e true good = record {
 }
 good_step s e false good = record {
   rising = rising_more s.done (done_by e.kind e.process s.index (s.opened e.process)) good.rising (one_rises e.kind e.process s.index (s.opened e.process)) (λ v w i j.
-    let span = good.spans v i in
-    let by = done_by_parts e.kind e.process s.index (s.opened e.process) w j in
-    let at = by.at in
-    omega (arith, span.1, at));
+      let span = good.spans v i in
+      let by = done_by_parts e.kind e.process s.index (s.opened e.process) w j in
+      let at = by.at in
+      omega (arith, span.1, at));
   spans = λ v i. elim (in_append v s.done (done_by e.kind e.process s.index (s.opened e.process)) i) [
     | inl before ↦ (let span = good.spans v before in (span.0, omega (arith, span.1)))
     | inr here ↦

@@ -35,3 +35,12 @@ start = record { index = 0; opened = λ p. None; done = [] }
 
 abbrev pub state_of : List Operation → State
 state_of events = fold after start events
+
+-- an event without its micro-operations
+abbrev pub event_of : OpKind → ℕ → Operation
+event_of kind process = record { kind = kind; process = process; mops = [] }
+
+-- what is kept is the state after the events
+pub record IsStateOf (events : List Operation) (opened : ℕ → Option ℕ) (recent : List Predecessor) (last : ℕ → Option Predecessor) : Type 0 where
+  pub invocations : (process : ℕ) → opened process ≡ (state_of events).opened process
+  pub kept : AreKept (state_of events).done recent last

@@ -1,3 +1,4 @@
 pub mod Predecessors
 pub mod Completions
 pub mod Events
+pub mod Views
