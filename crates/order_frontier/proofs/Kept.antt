@@ -9,7 +9,7 @@ use Rattle.std.proofs.lemmas.List.Folds.{list_any-append}
 use Rattle.hist_types.proofs.Members.{In}
 use Rattle.order_frontier.specs.declared.types.Predecessor.{Predecessor}
 use Rattle.order_frontier.specs.declared.types.Completed.{Completed}
-use Rattle.order_frontier.specs.Completions.{predecessor_of, is_overtaken, frontier_of, last_of, AreKept}
+use Rattle.order_frontier.specs.Completions.{predecessor_of, is_overtaken, frontier_of, last_of, AreKept, AreRising}
 use Rattle.order_frontier.proofs.Lists.{none_from}
 
 -- ---- the frontier
@@ -80,11 +80,6 @@ last-more process (x ∷ done) d =
     last_step (d.process == process) process (last_of process (done ++ d ∷ [])) (last_of process done) (if x.process == process then Some (predecessor_of x) else None) (predecessor_of d)
     (last-more process done d)
 
--- each completes no later than those behind it
-abbrev pub AreRising : List Completed → Type 0
-AreRising [] = ⊤
-AreRising (d ∷ done) = AllByRecursion (λ (v : Completed). d.completion ≤ v.completion) done × AreRising done
-
 pub record IsLast (process : ℕ) (done : List Completed) (d : Completed) : Type 0 where
   pub member : In d done
   pub own : d.process ≡ process
@@ -94,10 +89,10 @@ pub record IsLast (process : ℕ) (done : List Completed) (d : Completed) : Type
 abbrev pub HasNone : ℕ → List Completed → Type 0
 HasNone process done = (last_of process done ≡ None) × ((v : Completed) → In v done → v.process ≡ process → ⊥)
 
-all_at : {X : Type 0} (P : X → Type 0) (x : X) (xs : List X) → In x xs → AllByRecursion P xs → P x
-all_at P x [] i all = elim i [ ]
-all_at P x (y ∷ xs) (inl e) all = subst P e all.0
-all_at P x (y ∷ xs) (inr i) all = all_at P x xs i all.1
+pub all_in : {X : Type 0} (P : X → Type 0) (x : X) (xs : List X) → AllByRecursion P xs → In x xs → P x
+all_in P x [] all i = elim i [ ]
+all_in P x (y ∷ xs) all (inl e) = subst P e all.0
+all_in P x (y ∷ xs) all (inr i) = all_in P x xs all.1 i
 
 last_first : (process : ℕ) (d : Completed) (done : List Completed) (own : Bool) → (d.process == process) ≡ own → HasNone process done
     → HasNone process (d ∷ done) ⊎ ((l : Completed) × IsLast process (d ∷ done) l)
@@ -135,7 +130,7 @@ last-is process (d ∷ done) rising = elim (last-is process done rising.1) [
           own = found.1.own;
           last = ap (λ o. option_or o (if d.process == process then Some (predecessor_of d) else None)) found.1.last;
           latest = λ v i same. elim i [
-            | inl e ↦ (let up : d.completion ≤ l.completion = all_at (λ (x : Completed). d.completion ≤ x.completion) l done found.1.member rising.0 in
+            | inl e ↦ (let up : d.completion ≤ l.completion = all_in (λ (x : Completed). d.completion ≤ x.completion) l done rising.0 found.1.member in
                 let e' : d.completion ≡ v.completion = ap (λ (x : Completed). x.completion) e in omega (arith, up, e'))
             | inr j ↦ found.1.latest v j same
           ];

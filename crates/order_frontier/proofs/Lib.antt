@@ -4,3 +4,5 @@ pub mod Seen
 pub mod Timed
 pub mod States
 pub mod Moves
+pub mod Advancing
+pub mod Passes

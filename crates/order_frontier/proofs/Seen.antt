@@ -12,10 +12,10 @@ use Rattle.hist_types.specs.declared.types.Level.{Level}
 use Rattle.hist_types.specs.declared.types.Level.TheVariants.{Plain, Process, Realtime}
 use Rattle.order_frontier.specs.declared.types.Predecessor.{Predecessor}
 use Rattle.order_frontier.specs.declared.types.Completed.{Completed}
-use Rattle.order_frontier.specs.Completions.{completed_of, predecessor_of, is_overtaken, frontier_of, last_of, AreKept}
+use Rattle.order_frontier.specs.Completions.{completed_of, predecessor_of, is_overtaken, frontier_of, last_of, AreKept, AreRising}
 use Rattle.order_frontier.specs.Predecessors.{Before, process_edge, realtime_edge, edges_to, HasThinned}
 use Rattle.order_frontier.proofs.Lists.{any_from, none_from, none_to, any_to, in_unless, in_if, passes_from_in}
-use Rattle.order_frontier.proofs.Kept.{AreRising, HasNone, IsLast, last-is}
+use Rattle.order_frontier.proofs.Kept.{HasNone, IsLast, last-is}
 
 -- ---- ok transactions
 

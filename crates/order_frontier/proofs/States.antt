@@ -11,9 +11,8 @@ use Rattle.hist_types.specs.Transactions.{Transaction, Indexed, completion_in, t
 use Rattle.hist_types.specs.declared.types.OpKind.{OpKind}
 use Rattle.hist_types.specs.declared.types.OpKind.TheVariants as kinds
 use Rattle.order_frontier.specs.declared.types.Completed.{Completed}
-use Rattle.order_frontier.specs.Completions.{completed_of}
+use Rattle.order_frontier.specs.Completions.{completed_of, AreRising}
 use Rattle.order_frontier.specs.Events.{State, done_by, after, start, state_of}
-use Rattle.order_frontier.proofs.Kept.{AreRising}
 use Rattle.order_frontier.proofs.Seen.{AreSeen}
 use Rattle.order_frontier.proofs.Timed.{IsOkBy, ok-by, ok-from, in-first, in-behind, in-head, timed}
 
