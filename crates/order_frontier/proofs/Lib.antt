@@ -6,3 +6,4 @@ pub mod States
 pub mod Moves
 pub mod Advancing
 pub mod Passes
+pub mod AllPairs

@@ -88,7 +88,7 @@ pub record IsThinned (level : Level) (ts : List Transaction) (t u : Transaction)
   pub below : d.completion < u.invocation
   pub none : (v : Transaction) → In v ts → is_ordered level t v ≡ true → is_ordered level v u ≡ true → ⊥
 
-goes_to : (ts : List Transaction) (f : Transaction → Transaction → List Label) (t u : Transaction) (label : Label)
+pub goes_to : (ts : List Transaction) (f : Transaction → Transaction → List Label) (t u : Transaction) (label : Label)
     → In t ts → In u ts → (t.invocation == u.invocation) ≡ false → In label (f t u) → In (edge t u label) (between_each ts f)
 goes_to ts f t u label first second apart i =
     let e = edge t u label in
@@ -106,7 +106,7 @@ in_open level ts t u label none i =
     let parts = and_parts (is_ordered level t v) (is_ordered level v u) both in none v j parts.0 parts.1) in
     subst (λ b. In label (if b then [] else order_labels level t u)) (sym clear) i
 
-apart_by : (ts : List Transaction) (t u : Transaction) (d : Completed) → AreTimed ts → In t ts → completed_of t ≡ Some d → d.completion < u.invocation → (t.invocation == u.invocation) ≡ false
+pub apart_by : (ts : List Transaction) (t u : Transaction) (d : Completed) → AreTimed ts → In t ts → completed_of t ≡ Some d → d.completion < u.invocation → (t.invocation == u.invocation) ≡ false
 apart_by ts t u d timed i e below =
     let span = timed.spans t d i e in
     let own = (done-parts t d e).invocation in
@@ -157,7 +157,7 @@ record FromProcess (ts : List Transaction) (e : Edge) : Type 0 where
   same : t.process ≡ u.process
   is : e ≡ process_edge u.process u.invocation (predecessor_of d)
 
-only_one : {X : Type 0} (x y : X) → In x (y ∷ []) → y ≡ x
+pub only_one : {X : Type 0} (x y : X) → In x (y ∷ []) → y ≡ x
 only_one x y (inl e) = e
 only_one x y (inr i) = elim i [ ]
 
