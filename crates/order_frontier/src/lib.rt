@@ -11,6 +11,8 @@ mod completions;
 pub mod frontier;
 mod moving;
 mod pairs;
+#[cfg(test)]
+mod tests;
 mod thinning;
 pub mod types;
 
