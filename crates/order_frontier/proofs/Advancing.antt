@@ -1,10 +1,9 @@
 -- One more of the ok transactions in order.
-use Rattle.std.proofs.Common.{◌≡◌, ◌⊎◌, inl, inr, ℕ, zero, suc, ◌+◌, ◌<◌, ◌≤◌, not, nat_lt, ◌==◌, if◌then◌else◌, Option, Some, None, List, [], ◌∷◌, ◌++◌, map, flat_map, filter, length, take, drop, get_or, option_to_list, All, Contains, ◌↔◌, refl, ap, sym, subst, ◌∙◌, arith, append_assoc, append-nil, take-append-drop}
+use Rattle.std.proofs.Common.{◌≡◌, inl, inr, ℕ, suc, ◌+◌, ◌<◌, ◌≤◌, ◌==◌, if◌then◌else◌, Option, Some, None, List, [], ◌∷◌, ◌++◌, filter, length, take, drop, get_or, option_to_list, refl, ap, sym, subst, ◌∙◌, arith, append_assoc, append-nil, take-append-drop}
 use Rattle.std.specs.List.{AllByRecursion}
 use Rattle.std.specs.List.Sorted.{IsNonDecreasingBy}
-use Rattle.std.proofs.lemmas.List.{take_more, drop_more, map-append}
-use Rattle.std.proofs.lemmas.List.Elements.{All-from_recursion}
-use Rattle.hist_types.proofs.Members.{In, in_front, in_back, in_append, in_from_Contains, Contains_from_in, in_each, in_some}
+use Rattle.std.proofs.lemmas.List.{take_more, drop_more}
+use Rattle.hist_types.proofs.Members.{In, in_front, in_back, in_append, Contains_from_in, in_each, in_some}
 use Rattle.hist_types.specs.Transactions.{Transaction}
 use Rattle.order_frontier.specs.declared.types.Predecessor.{Predecessor}
 use Rattle.order_frontier.specs.declared.types.Completed.{Completed}

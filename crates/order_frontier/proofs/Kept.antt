@@ -1,10 +1,9 @@
 -- What is kept of ok transactions, with one more of them.
 use Rattle.std.proofs.Common.{◌≡◌, ◌⊎◌, inl, inr, ℕ, ◌<◌, ◌≤◌, nat_lt, Bool, true, false, not, ◌||◌, ◌==◌, cond, if◌then◌else◌, Option, Some, None, List, [], ◌∷◌, ◌++◌, map, filter, refl, ap, sym, subst, ◌∙◌, arith}
-use Rattle.std.specs.List.{list_any, AllByRecursion}
+use Rattle.std.specs.List.{AllByRecursion}
 use Rattle.std.specs.Bool.{⊤}
 use Rattle.std.specs.Option.{option_or}
-use Rattle.std.proofs.lemmas.Bool.{false≢true, ltb-true, le-ltb, eqb-true, eqb-false, or_from, not_from_false}
-use Rattle.std.proofs.lemmas.List.{map-append}
+use Rattle.std.proofs.lemmas.Bool.{ltb-true, le-ltb, eqb-true, eqb-false, or_from}
 use Rattle.std.proofs.lemmas.List.Folds.{list_any-append}
 use Rattle.hist_types.proofs.Members.{In}
 use Rattle.order_frontier.specs.declared.types.Predecessor.{Predecessor}
@@ -155,3 +154,17 @@ kept-more done d recent recent' last last' earlier own kept is lasts = record {
       lasts process ∙ ap (λ o. if d.process == process then Some (predecessor_of d) else o) (kept.lasts process)
       ∙ sym (last-more process done d);
 }
+
+-- ---- completions one after the other
+
+abbrev pub AreStrict : List Completed → Type 0
+AreStrict [] = ⊤
+AreStrict (d ∷ done) = AllByRecursion (λ (v : Completed). d.completion < v.completion) done × AreStrict done
+
+up_all : (d : Completed) (done : List Completed) → AllByRecursion (λ (v : Completed). d.completion < v.completion) done → AllByRecursion (λ (v : Completed). d.completion ≤ v.completion) done
+up_all d [] all = tt
+up_all d (v ∷ done) all = (let up = all.0 in omega (arith, up), up_all d done all.1)
+
+pub rising_strict : (done : List Completed) → AreStrict done → AreRising done
+rising_strict [] strict = tt
+rising_strict (d ∷ done) strict = (up_all d done strict.0, rising_strict done strict.1)

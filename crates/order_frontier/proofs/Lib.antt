@@ -4,6 +4,8 @@ pub mod Seen
 pub mod Timed
 pub mod States
 pub mod Moves
+pub mod Fronts
 pub mod Advancing
+pub mod Apart
 pub mod Passes
 pub mod AllPairs

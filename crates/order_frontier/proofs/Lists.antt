@@ -1,5 +1,5 @@
 -- Lists that are filtered and searched.
-use Rattle.std.proofs.Common.{◌≡◌, ◌⊎◌, inl, inr, Bool, true, false, not, ◌||◌, cond, if◌then◌else◌, List, [], ◌∷◌, ◌++◌, filter, refl, ap, sym, subst, ◌∙◌}
+use Rattle.std.proofs.Common.{◌≡◌, inl, inr, Bool, true, false, cond, if◌then◌else◌, List, [], ◌∷◌, filter, refl, ap, sym, subst, ◌∙◌}
 use Rattle.std.specs.List.{list_any}
 use Rattle.std.specs.List.Retain.{RetainsInTurn}
 use Rattle.std.proofs.lemmas.Bool.{false≢true, or_left, or_right, or_cases, false_from_ne_true}

@@ -1,20 +1,20 @@
 -- One more event of a frontier.
-use Rattle.std.proofs.Common.{◌≡◌, ◌⊎◌, inl, inr, ℕ, ◌+◌, ◌<◌, ◌≤◌, Bool, true, false, not, nat_lt, ◌==◌, cond, if◌then◌else◌, Option, Some, None, List, [], ◌∷◌, ◌++◌, filter, length, option_to_list, refl, ap, sym, subst, ◌∙◌, arith, zero-add, append-nil}
+use Rattle.std.proofs.Common.{◌≡◌, ℕ, ◌<◌, Bool, true, false, not, nat_lt, ◌==◌, if◌then◌else◌, Option, Some, None, List, [], ◌∷◌, ◌++◌, filter, length, option_to_list, refl, ap, sym, subst, ◌∙◌, arith, zero-add, append-nil}
 use Rattle.std.proofs.lemmas.Bool.{eqb-true}
 use Rattle.hist_types.proofs.Members.{In}
 use Rattle.hist_types.specs.Operations.{Operation}
-use Rattle.hist_types.specs.Journal.{is_invoke}
-use Rattle.hist_types.specs.Transactions.{Transaction, transaction_by, transactions_of}
+use Rattle.hist_types.specs.Transactions.{transaction_by, transactions_of}
 use Rattle.hist_types.specs.declared.types.OpKind.TheVariants as kinds
 use Rattle.order_frontier.specs.declared.types.Predecessor.{Predecessor}
 use Rattle.order_frontier.specs.declared.types.Completed.{Completed}
-use Rattle.order_frontier.specs.Completions.{completed_of, predecessor_of, AreKept}
-use Rattle.order_frontier.specs.Events.{State, done_by, after, state_of, event_of, IsStateOf}
-use Rattle.order_frontier.specs.Predecessors.{Before, HasThinned}
-use Rattle.order_frontier.proofs.Kept.{stays_at, kept-more}
+use Rattle.order_frontier.specs.Completions.{AreKept}
+use Rattle.order_frontier.specs.Events.{State, done_by, state_of, event_of, IsStateOf}
+use Rattle.order_frontier.specs.Predecessors.{Before, HasThinned, NoneTwice}
+use Rattle.order_frontier.proofs.Kept.{kept-more, rising_strict}
+use Rattle.order_frontier.proofs.Apart.{apart_strict, none_twice}
 use Rattle.order_frontier.proofs.Seen.{AreSeen, has_thinned}
 use Rattle.order_frontier.proofs.Timed.{timed, in-last}
-use Rattle.order_frontier.proofs.States.{IsGood, state-good, state-index, state-more, state-sound, state-complete}
+use Rattle.order_frontier.proofs.States.{state-good, state-index, state-more, state-sound, state-complete}
 
 module _ (es : List Operation) (process : ℕ) (opened : ℕ → Option ℕ) (recent : List Predecessor) (last : ℕ → Option Predecessor) (is : IsStateOf es opened recent last) where
   -- an invocation
@@ -39,7 +39,7 @@ module _ (es : List Operation) (process : ℕ) (opened : ℕ → Option ℕ) (re
             let at = state-index es in
             (from.0, from.1, from.2, omega (arith, span, at));
         complete = λ t d i done below. subst (In d) same (state-complete (es ++ e ∷ []) t d i done);
-        rising = (state-good es).rising;
+        rising = rising_strict (state_of es).done (state-good es).strict;
       }
 
   pub thinned-invoke : (before : Before)
@@ -50,6 +50,13 @@ module _ (es : List Operation) (process : ℕ) (opened : ℕ → Option ℕ) (re
       let u = transaction_by (length es) e None in
       let member : In u (transactions_of (es ++ e ∷ [])) = subst (λ n. In (transaction_by n e None) (transactions_of (es ++ e ∷ []))) (zero-add (length es)) (in-last 0 es e refl) in
       has_thinned (transactions_of (es ++ e ∷ [])) u (state_of es).done recent last before (timed (es ++ e ∷ [])) member seen_invoked is.kept same
+
+  pub once-invoke : (before : Before)
+      → before ≡ record { process = process; invocation = length es; in_process = option_to_list (last process); in_realtime = recent }
+      → NoneTwice before
+  once-invoke before same =
+      none_twice (state_of es).done before (last process) (apart_strict es (state_of es).done (state-sound es) (state-good es).strict)
+      (ap (λ (b : Before). b.in_process) same) (ap (λ (b : Before). b.in_realtime) same ∙ is.kept.frontier)
 
   -- a completion
   pub state-ok : (invocation : ℕ) (recent' : List Predecessor) (last' : ℕ → Option Predecessor) (opened' : ℕ → Option ℕ)

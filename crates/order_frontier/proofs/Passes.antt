@@ -1,50 +1,23 @@
 -- One more transaction of a pass over the transactions of events.
-use Rattle.std.proofs.Common.{◌≡◌, ◌⊎◌, inl, inr, ◌↔◌, ℕ, zero, suc, ◌+◌, ◌-◌, ◌<◌, ◌≤◌, ◌==◌, Bool, true, false, if◌then◌else◌, Option, Some, None, List, [], ◌∷◌, ◌++◌, map, length, take, drop, get_or, option_to_list, All, Contains, refl, ap, sym, subst, ◌∙◌, arith, take-append-drop}
-use Rattle.std.specs.List.{AllByRecursion}
+use Rattle.std.proofs.Common.{◌≡◌, inl, inr, ◌↔◌, ℕ, zero, suc, ◌+◌, ◌-◌, ◌<◌, ◌≤◌, Option, List, [], ◌∷◌, ◌++◌, map, length, take, drop, get_or, option_to_list, All, Contains, refl, ap, sym, subst, ◌∙◌, arith, take-append-drop}
 use Rattle.std.proofs.Math.Seq.{take-add}
-use Rattle.std.proofs.lemmas.List.{take_all, take_more, drop_more, map-append, drop-drop, length-drop, get_or-drop}
+use Rattle.std.proofs.lemmas.List.{take_all, take_more, drop_more, map-append, drop-drop, length-drop}
 use Rattle.std.proofs.lemmas.List.Elements.{All-from_recursion, recursion_from_All}
-use Rattle.hist_types.proofs.Members.{In, in_front, in_back, in_append, in_from_Contains, Contains_from_in, in_each, in_some, in_map, in_mapped}
+use Rattle.hist_types.proofs.Members.{In, in_back, in_append, in_from_Contains, Contains_from_in, in_each, in_some, in_map, in_mapped}
 use Rattle.hist_types.proofs.OrderEdges.{Comes, comes_from}
 use Rattle.hist_types.specs.Operations.{Operation}
-use Rattle.hist_types.specs.Journal.{is_invoke}
-use Rattle.hist_types.specs.Transactions.{Transaction, Indexed, completion_in, transaction_by, transactions_from, transactions_of}
+use Rattle.hist_types.specs.Transactions.{Transaction, transactions_of}
 use Rattle.hist_types.specs.Edges.{Edge, edge}
 use Rattle.hist_types.specs.Frontier.{thinned_labels, all_thinned_edges}
-use Rattle.hist_types.specs.declared.types.Level.{Level}
 use Rattle.order_frontier.specs.declared.types.Predecessor.{Predecessor}
 use Rattle.order_frontier.specs.declared.types.Completed.{Completed}
-use Rattle.order_frontier.specs.Completions.{completed_of, all_completed, predecessor_of, AreKept, AreRising, AreTimely}
-use Rattle.order_frontier.specs.Predecessors.{Before, edges_to, edges_of, HasThinned, HasEdges, name_of, names}
+use Rattle.order_frontier.specs.Completions.{all_completed, AreKept, AreRising, AreTimely}
+use Rattle.order_frontier.specs.Predecessors.{Before, edges_to, edges_of, HasThinned, HasEdges, NoneTwice, name_of, names}
 use Rattle.order_frontier.proofs.Kept.{all_in}
-use Rattle.order_frontier.proofs.Seen.{AreTimed, AreSeen, has_thinned}
-use Rattle.order_frontier.proofs.Timed.{timed, in-first, invoked-late, by-invocation}
+use Rattle.order_frontier.proofs.Seen.{AreSeen, has_thinned}
+use Rattle.order_frontier.proofs.Timed.{timed}
 use Rattle.order_frontier.proofs.Advancing.{completed-to, completed-from, all_from}
-
--- ---- transactions in the order of their invocations
-
-abbrev pub Ascend : List Transaction → Type 0
-Ascend [] = Unit {0}
-Ascend (t ∷ ts) = AllByRecursion (λ (u : Transaction). t.invocation < u.invocation) ts × Ascend ts
-
-ascend_if : (b : Bool) (t : Transaction) (ts : List Transaction) → AllByRecursion (λ (u : Transaction). t.invocation < u.invocation) ts → Ascend ts → Ascend (if b then t ∷ ts else ts)
-ascend_if true t ts first rest = (first, rest)
-ascend_if false t ts first rest = rest
-
-ascend_from : (index : ℕ) (es : List Operation) → Ascend (transactions_from index es)
-ascend_from index [] = tt
-ascend_from index (e ∷ es) =
-    let t = transaction_by index e (completion_in e.process (index + 1) es) in
-    let at : t.invocation ≡ index = by-invocation index e (completion_in e.process (index + 1) es) in
-    ascend_if (is_invoke e.kind) t (transactions_from (index + 1) es)
-    (all_from (λ (u : Transaction). t.invocation < u.invocation) (transactions_from (index + 1) es) (λ u i.
-    let up = invoked-late u (index + 1) es i in omega (arith, at, up)))
-    (ascend_from (index + 1) es)
-
-ascend_drop : (k : ℕ) (ts : List Transaction) → Ascend ts → Ascend (drop k ts)
-ascend_drop zero ts up = up
-ascend_drop (suc k) [] up = tt
-ascend_drop (suc k) (t ∷ ts) up = ascend_drop k ts up.1
+use Rattle.order_frontier.proofs.Apart.{Ascend, ascend_from, ascend_drop, Apart, apart_take, none_twice}
 
 -- ---- the ok transactions of events
 
@@ -86,6 +59,7 @@ late_from (d ∷ done) (suc k) index rising next v i = late_from done k index ri
 pub record AreAll (ts : List Transaction) (done : List Completed) : Type 0 where
   pub all : (d : Completed) → Contains done d ↔ Contains (all_completed ts) d
   pub rising : AreRising done
+  pub apart : Apart done
 
 pub timely : (es : List Operation) (done : List Completed) → AreAll (transactions_of es) done → AreTimely done
 timely es done are = (
@@ -102,6 +76,7 @@ pub record IsPart (ts : List Transaction) (done : List Completed) (k taken : ℕ
   pub kept : AreKept (take taken done) recent last
   pub below : (d : Completed) → In d (take taken done) → (u : Transaction) → In u (drop k ts) → d.completion < u.invocation
   pub thinned : (b : Before) → In b order → HasThinned ts b
+  pub once : (b : Before) → In b order → NoneTwice b
   pub named : names order ≡ map name_of (take k ts)
 
 -- the first ones that are left were taken, and only these completed before the index
@@ -171,6 +146,13 @@ module _ (es : List Operation) (done : List Completed) (are : AreAll (transactio
           | inr (inl e) ↦ subst (HasThinned ts) e (has_thinned ts u (take (taken + count) done) recent' last' before' (timed es) member seen kept' made)
           | inr (inr none) ↦ elim none [ ]
         ];
+        once = λ b i. elim (in_append b order (before' ∷ []) (subst (In b) put i)) [
+          | inl j ↦ part.once b j
+          | inr (inl e) ↦ subst NoneTwice e
+              (none_twice (take (taken + count) done) before' (last' u.process) (apart_take (taken + count) done are.apart)
+              (ap (λ (b : Before). b.in_process) made) (ap (λ (b : Before). b.in_realtime) made ∙ kept'.frontier))
+          | inr (inr none) ↦ elim none [ ]
+        ];
         named =
             ap names put ∙ map-append (λ (b : Before). (b.process, b.invocation)) order (before' ∷ [])
             ∙ ap (λ ns. ns ++ (before'.process, before'.invocation) ∷ []) part.named
@@ -208,3 +190,6 @@ all_thinned ts order thinned = All-from_recursion (HasThinned ts) order (all_fro
 
 pub thinned_all : (ts : List Transaction) (order : List Before) → All (HasThinned ts) order → (b : Before) → In b order → HasThinned ts b
 thinned_all ts order all b i = all_in (HasThinned ts) b order (recursion_from_All (HasThinned ts) order all) i
+
+pub all_once : (order : List Before) → ((b : Before) → In b order → NoneTwice b) → All NoneTwice order
+all_once order once = All-from_recursion NoneTwice order (all_from NoneTwice order once)

@@ -1,12 +1,11 @@
 -- The predecessors that are kept give exactly the thinned edges.
-use Rattle.std.proofs.Common.{◌≡◌, ◌⊎◌, inl, inr, ◌↔◌, ℕ, ◌<◌, ◌≤◌, nat_lt, nat_eq, flat_map, Bool, true, false, not, ◌||◌, ◌&&◌, ◌==◌, cond, if◌then◌else◌, Option, Some, None, option_map, List, [], ◌∷◌, ◌++◌, map, filter, Contains, refl, ap, sym, subst, ◌∙◌, arith}
-use Rattle.std.specs.List.{list_any}
+use Rattle.std.proofs.Common.{◌≡◌, inl, inr, ◌↔◌, ℕ, ◌<◌, ◌≤◌, nat_lt, flat_map, Bool, true, false, not, ◌&&◌, ◌==◌, if◌then◌else◌, Option, Some, None, option_map, List, [], ◌∷◌, map, filter, Contains, refl, ap, sym, subst, ◌∙◌, arith}
 use Rattle.std.specs.Option.{option_map_or, option_to_list}
-use Rattle.std.proofs.lemmas.Bool.{false≢true, ltb-true, lt-ltb, eqb-true, eq-eqb, ne_eqb, and_parts, and_from, not-true, not_from_false, false_from_ne_true, cases_order}
+use Rattle.std.proofs.lemmas.Bool.{false≢true, ltb-true, lt-ltb, eqb-true, eq-eqb, ne_eqb, and_parts, and_from, not-true, not_from_false, cases_order}
 use Rattle.hist_types.proofs.Members.{In, in_from_Contains, Contains_from_in, in_each, in_mapped, in_map, in_filter, in_filtered}
 use Rattle.hist_types.proofs.OrderEdges.{Comes, comes_from}
 use Rattle.hist_types.specs.Transactions.{Transaction, is_ok}
-use Rattle.hist_types.specs.Edges.{Label, process, realtime, Edge, edge, between_each, is_before, same_process, process_labels, realtime_label, realtime_labels, order_labels}
+use Rattle.hist_types.specs.Edges.{Label, process, realtime, Edge, edge, between_each, is_before, same_process, realtime_label, order_labels}
 use Rattle.hist_types.specs.Frontier.{is_ordered, has_between, thinned_labels, all_thinned_edges}
 use Rattle.hist_types.specs.declared.types.Level.{Level}
 use Rattle.hist_types.specs.declared.types.Level.TheVariants.{Plain, Process, Realtime}
@@ -14,8 +13,8 @@ use Rattle.order_frontier.specs.declared.types.Predecessor.{Predecessor}
 use Rattle.order_frontier.specs.declared.types.Completed.{Completed}
 use Rattle.order_frontier.specs.Completions.{completed_of, predecessor_of, is_overtaken, frontier_of, last_of, AreKept, AreRising}
 use Rattle.order_frontier.specs.Predecessors.{Before, process_edge, realtime_edge, edges_to, HasThinned}
-use Rattle.order_frontier.proofs.Lists.{any_from, none_from, none_to, any_to, in_unless, in_if, passes_from_in}
-use Rattle.order_frontier.proofs.Kept.{HasNone, IsLast, last-is}
+use Rattle.order_frontier.proofs.Lists.{none_from, none_to, in_unless, in_if, passes_from_in}
+use Rattle.order_frontier.proofs.Kept.{IsLast, last-is}
 
 -- ---- ok transactions
 
@@ -226,7 +225,7 @@ process_to ts e i =
 
 -- ---- real time
 
-some_same : (t : Transaction) (d e : Completed) → completed_of t ≡ Some d → completed_of t ≡ Some e → d ≡ e
+pub some_same : (t : Transaction) (d e : Completed) → completed_of t ≡ Some d → completed_of t ≡ Some e → d ≡ e
 some_same t d e is is' = cc
 
 module _ (ts : List Transaction) (u : Transaction) (done : List Completed) (timed : AreTimed ts) (member : In u ts) (seen : AreSeen ts u.invocation done) where

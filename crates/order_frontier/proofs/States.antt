@@ -1,8 +1,7 @@
 -- The state after events has exactly the ok transactions of these events, in the order of their completions.
-use Rattle.std.proofs.Common.{◌≡◌, ◌⊎◌, inl, inr, ◌↔◌, ℕ, ◌+◌, ◌<◌, ◌≤◌, Bool, true, false, ◌==◌, cond, if◌then◌else◌, Option, Some, None, List, [], ◌∷◌, ◌++◌, length, fold, refl, ap, sym, subst, ◌∙◌, arith}
+use Rattle.std.proofs.Common.{◌≡◌, ◌⊎◌, inl, inr, ℕ, ◌+◌, ◌<◌, ◌≤◌, Bool, true, false, ◌==◌, if◌then◌else◌, Option, Some, None, List, [], ◌∷◌, ◌++◌, length, fold, refl, ap, sym, subst, ◌∙◌, arith}
 use Rattle.std.specs.List.{AllByRecursion}
-use Rattle.std.specs.Bool.{⊤}
-use Rattle.std.proofs.lemmas.Bool.{false≢true, eqb-true, eqb-false, eq-eqb}
+use Rattle.std.proofs.lemmas.Bool.{false≢true, eqb-true, eq-eqb}
 use Rattle.std.proofs.lemmas.List.Sums.{fold-append}
 use Rattle.hist_types.proofs.Members.{In, in_front, in_back, in_append}
 use Rattle.hist_types.specs.Operations.{Operation}
@@ -11,10 +10,11 @@ use Rattle.hist_types.specs.Transactions.{Transaction, Indexed, completion_in, t
 use Rattle.hist_types.specs.declared.types.OpKind.{OpKind}
 use Rattle.hist_types.specs.declared.types.OpKind.TheVariants as kinds
 use Rattle.order_frontier.specs.declared.types.Completed.{Completed}
-use Rattle.order_frontier.specs.Completions.{completed_of, AreRising}
+use Rattle.order_frontier.specs.Completions.{completed_of}
 use Rattle.order_frontier.specs.Events.{State, done_by, after, start, state_of}
+use Rattle.order_frontier.proofs.Kept.{AreStrict, rising_strict}
 use Rattle.order_frontier.proofs.Seen.{AreSeen}
-use Rattle.order_frontier.proofs.Timed.{IsOkBy, ok-by, ok-from, in-first, in-behind, in-head, timed}
+use Rattle.order_frontier.proofs.Timed.{IsOkBy, ok-by, ok-from, in-first, in-behind, in-head}
 
 -- ---- one event
 
@@ -209,7 +209,7 @@ complete s (e ∷ es) d comes = complete (after s e) es d (complete_step s e es 
 -- ---- in order
 
 pub record IsGood (s : State) : Type 0 where
-  pub rising : AreRising s.done
+  pub strict : AreStrict s.done
   pub spans : (v : Completed) → In v s.done → (v.invocation < v.completion) × (v.completion < s.index)
   pub opened : (process invocation : ℕ) → s.opened process ≡ Some invocation → invocation < s.index
 
@@ -221,19 +221,19 @@ all_from : {X : Type 0} (P : X → Type 0) (xs : List X) → ((x : X) → In x x
 all_from P [] h = tt
 all_from P (x ∷ xs) h = (h x (inl refl), all_from P xs (λ y i. h y (inr i)))
 
-rising_more : (done more : List Completed) → AreRising done → AreRising more → ((v w : Completed) → In v done → In w more → v.completion ≤ w.completion) → AreRising (done ++ more)
-rising_more [] more rising rest later = rest
-rising_more (d ∷ done) more rising rest later = (
-  all_append (λ (v : Completed). d.completion ≤ v.completion) done more rising.0 (all_from (λ (v : Completed). d.completion ≤ v.completion) more (λ w i. later d w (inl refl) i)),
-  rising_more done more rising.1 rest (λ v w i j. later v w (inr i) j),
+strict_more : (done more : List Completed) → AreStrict done → AreStrict more → ((v w : Completed) → In v done → In w more → v.completion < w.completion) → AreStrict (done ++ more)
+strict_more [] more strict rest later = rest
+strict_more (d ∷ done) more strict rest later = (
+  all_append (λ (v : Completed). d.completion < v.completion) done more strict.0 (all_from (λ (v : Completed). d.completion < v.completion) more (λ w i. later d w (inl refl) i)),
+  strict_more done more strict.1 rest (λ v w i j. later v w (inr i) j),
 )
 
-one_rises : (kind : OpKind) (number index : ℕ) (invocation : Option ℕ) → AreRising (done_by kind number index invocation)
-one_rises kinds.Ok number index (Some j) = (tt, tt)
-one_rises kinds.Ok number index None = tt
-one_rises kinds.Invoke number index invocation = tt
-one_rises kinds.Fail number index invocation = tt
-one_rises kinds.Info number index invocation = tt
+one_alone : (kind : OpKind) (number index : ℕ) (invocation : Option ℕ) → AreStrict (done_by kind number index invocation)
+one_alone kinds.Ok number index (Some j) = (tt, tt)
+one_alone kinds.Ok number index None = tt
+one_alone kinds.Invoke number index invocation = tt
+one_alone kinds.Fail number index invocation = tt
+one_alone kinds.Info number index invocation = tt
 
 opened_step : (s : State) (e : Operation) (more : Option ℕ) (process invocation : ℕ) (own : Bool) → IsGood s
     → (more ≡ Some invocation → invocation < s.index + 1) → (if own then more else s.opened process) ≡ Some invocation → invocation < s.index + 1
@@ -242,12 +242,12 @@ opened_step s e more process invocation false good here is = let below = good.op
 
 good_step : (s : State) (e : Operation) (invokes : Bool) → IsGood s → IsGood (after_by invokes s e)
 good_step s e true good = record {
-  rising = good.rising;
+  strict = good.strict;
   spans = λ v i. (let span = good.spans v i in (span.0, omega (arith, span.1)));
   opened = λ process invocation is. opened_step s e (Some s.index) process invocation (e.process == process) good (λ h. (let same : s.index ≡ invocation = cc in omega (arith, same))) is;
 }
 good_step s e false good = record {
-  rising = rising_more s.done (done_by e.kind e.process s.index (s.opened e.process)) good.rising (one_rises e.kind e.process s.index (s.opened e.process)) (λ v w i j.
+  strict = strict_more s.done (done_by e.kind e.process s.index (s.opened e.process)) good.strict (one_alone e.kind e.process s.index (s.opened e.process)) (λ v w i j.
       let span = good.spans v i in
       let by = done_by_parts e.kind e.process s.index (s.opened e.process) w j in
       let at = by.at in
@@ -278,7 +278,7 @@ indexes s (e ∷ es) = indexes (after s e) es ∙ next_index s e es (is_invoke e
 -- ---- the state after events
 
 start_good : IsGood start
-start_good = record { rising = tt; spans = λ v i. elim i [ ]; opened = λ process invocation is. cc }
+start_good = record { strict = tt; spans = λ v i. elim i [ ]; opened = λ process invocation is. cc }
 
 pub state-good : (es : List Operation) → IsGood (state_of es)
 state-good es = goods start es start_good
@@ -308,5 +308,5 @@ state-seen es index up = record {
       let at = state-index es in
       (from.0, from.1, from.2, omega (arith, span, at, up));
   complete = λ t d i is below. state-complete es t d i is;
-  rising = (state-good es).rising;
+  rising = rising_strict (state_of es).done (state-good es).strict;
 }

@@ -1,6 +1,6 @@
 -- The transactions of events, in time.
-use Rattle.std.proofs.Common.{◌≡◌, ◌⊎◌, inl, inr, ℕ, ◌+◌, ◌<◌, ◌≤◌, Bool, true, false, ◌==◌, cond, if◌then◌else◌, Option, Some, None, List, [], ◌∷◌, ◌++◌, length, refl, ap, sym, subst, ◌∙◌, arith}
-use Rattle.std.proofs.lemmas.Bool.{false≢true, eqb-true, eqb-false}
+use Rattle.std.proofs.Common.{◌≡◌, ◌⊎◌, inl, inr, ℕ, ◌+◌, ◌<◌, ◌≤◌, Bool, true, false, ◌==◌, if◌then◌else◌, Option, Some, None, List, [], ◌∷◌, ◌++◌, length, refl, ap, sym, subst, ◌∙◌, arith}
+use Rattle.std.proofs.lemmas.Bool.{false≢true, eqb-false}
 use Rattle.hist_types.proofs.Members.{In}
 use Rattle.hist_types.specs.Operations.{Operation}
 use Rattle.hist_types.specs.Journal.{is_invoke}
@@ -9,7 +9,7 @@ use Rattle.hist_types.specs.declared.types.OpKind.{OpKind}
 use Rattle.hist_types.specs.declared.types.OpKind.TheVariants as kinds
 use Rattle.order_frontier.specs.declared.types.Completed.{Completed}
 use Rattle.order_frontier.specs.Completions.{completed_of}
-use Rattle.order_frontier.proofs.Seen.{IsDone, done-parts, AreTimed}
+use Rattle.order_frontier.proofs.Seen.{done-parts, AreTimed}
 
 -- ---- the transaction of one invocation
 

@@ -1,5 +1,5 @@
 -- All that comes before a transaction.
-use Rattle.std.specs.Prelude.{ℕ, List, Bool, not, ◌&&◌, ◌==◌, nat_lt, map, filter}
+use Rattle.std.specs.Prelude.{List, Bool, not, ◌&&◌, ◌==◌, nat_lt, map, filter}
 use Rattle.hist_types.specs.Transactions.{Transaction}
 use Rattle.order_frontier.specs.declared.types.Completed.{Completed}
 use Rattle.order_frontier.specs.Completions.{predecessor_of}

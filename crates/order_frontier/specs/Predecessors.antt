@@ -1,8 +1,9 @@
 -- What comes before each transaction, and the order edges that this gives.
-use Rattle.std.specs.Prelude.{◌≡◌, ℕ, List, [], ◌∷◌, map, flat_map, Contains, ◌↔◌}
+use Rattle.std.specs.Prelude.{◌≡◌, nat_eq, ℕ, Bool, ◌&&◌, Some, IsTrue, IsFalse, List, [], map, flat_map, Contains, ◌↔◌}
+use Rattle.std.specs.List.{IsDistinct, list_any}
 use Rattle.hist_types.specs.Operations.{Operation}
-use Rattle.hist_types.specs.Transactions.{Transaction, transactions_of}
-use Rattle.hist_types.specs.Edges.{process, realtime, Edge}
+use Rattle.hist_types.specs.Transactions.{Transaction, is_ok, transactions_of}
+use Rattle.hist_types.specs.Edges.{process, realtime, Edge, is_before}
 use Rattle.hist_types.specs.Frontier.{all_thinned_edges}
 use Rattle.hist_types.specs.declared.types.Level.{Level}
 use Rattle.hist_types.specs.declared.types.Level.TheVariants.{Plain, Process, Realtime}
@@ -39,6 +40,13 @@ abbrev pub HasThinned : List Transaction → Before → Type 0
 HasThinned ts u =
     (level : Level) (e : Edge) → Contains (edges_to level u) e ↔ (Contains (all_thinned_edges level ts) e × (e.to ≡ u.invocation))
 
+abbrev pub AreDistinct : List Predecessor → Type 0
+AreDistinct ps = IsDistinct nat_eq (map (λ (p : Predecessor). p.invocation) ps)
+
+-- no predecessor is listed twice
+abbrev pub NoneTwice : Before → Type 0
+NoneTwice u = AreDistinct u.in_process × AreDistinct u.in_realtime
+
 -- a transaction's process and the index of its invocation
 abbrev pub name_of : Transaction → ℕ × ℕ
 name_of t = (t.process, t.invocation)
@@ -49,3 +57,16 @@ names order = map (λ (u : Before). (u.process, u.invocation)) order
 -- the transactions are those of some events
 abbrev pub AreOfEvents : List Transaction → Type 0
 AreOfEvents ts = (events : List Operation) × (ts ≡ transactions_of events)
+
+-- a transaction's invocation and completion
+abbrev pub IsAt : Transaction → Predecessor → Type 0
+IsAt t p = (t.invocation ≡ p.invocation) × (t.completion ≡ Some p.completion)
+
+-- whether an ok transaction was both invoked after a transaction's completion and completed
+abbrev pub is_passed : List Transaction → Transaction → Bool
+is_passed ts t = list_any (λ v. is_ok v && is_before t v) ts
+
+-- exactly the ok transactions that none has passed
+abbrev pub AreFrontier : List Transaction → List Predecessor → Type 0
+AreFrontier ts ps =
+    (p : Predecessor) → Contains ps p ↔ ((t : Transaction) × Contains ts t × IsAt t p × IsTrue (is_ok t) × IsFalse (is_passed ts t))

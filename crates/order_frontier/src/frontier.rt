@@ -5,10 +5,10 @@ ghost use Rattle.hist_types.specs.Refusals.{memory_fault};
 ghost use Rattle.hist_types.specs.Transactions.{transactions_of};
 ghost use Rattle.hist_types.specs.declared.types.OpKind.TheVariants as kinds;
 ghost use Rattle.order_frontier.specs.Events.{event_of};
-ghost use Rattle.order_frontier.specs.Predecessors.{HasThinned};
+ghost use Rattle.order_frontier.specs.Predecessors.{AreFrontier, HasThinned, NoneTwice};
 
 use crate::moving::Moving;
-use crate::types::{Completed, Predecessors};
+use crate::types::{Completed, Predecessor, Predecessors};
 use hist_types::types::{Fault, OpKind, Process};
 use std::alloc::Global;
 use std::collections::HashMap;
@@ -61,6 +61,14 @@ impl Frontier {
         }
     }
 
+    /// The ok transactions after whose completion no ok transaction was both invoked and completed, in the order of
+    /// their completions.
+    pub fn as_slice(&self) -> &[Predecessor]
+        ensures { AreFrontier (transactions_of self.now) result.now }
+    {
+        self.moving.frontier()
+    }
+
     /// Takes the next event, an invocation of the process, and answers what comes before its transaction in thinned
     /// order. Out of memory is reported as that, and leaves the frontier as it was.
     pub fn invoked(&mut self, alloc: Global, process: Process) -> Result<Predecessors, Fault>
@@ -68,6 +76,7 @@ impl Frontier {
         ensures process { IfOk result (λ before. before.process ≡ process) }
         ensures invocation { IfOk result (λ before. before.invocation ≡ length self.old) }
         ensures thinned { IfOk result (λ before. HasThinned (transactions_of self.new) before) }
+        ensures once { IfOk result (λ before. NoneTwice before) }
         ensures memory { IfErr result (λ fault. fault ≡ memory_fault) }
         ensures err { OnErr result (self.new ≡ self.old) }
     {

@@ -1,11 +1,11 @@
 //! Session order and real-time order: as all pairs, and thinned to a moving frontier.
 #![tactic(auto)]
 
-ghost use Rattle.std.specs.Prelude.{◌≡◌, map, IfOk, IfErr};
+ghost use Rattle.std.specs.Prelude.{◌≡◌, map, All, IfOk, IfErr};
 ghost use Rattle.hist_types.specs.Edges.{all_order_edges};
 ghost use Rattle.hist_types.specs.Frontier.{all_thinned_edges};
 ghost use Rattle.hist_types.specs.Refusals.{memory_fault};
-ghost use Rattle.order_frontier.specs.Predecessors.{AreOfEvents, HasEdges, name_of, names};
+ghost use Rattle.order_frontier.specs.Predecessors.{AreOfEvents, HasEdges, NoneTwice, name_of, names};
 
 mod completions;
 pub mod frontier;
@@ -27,6 +27,7 @@ use txn_pairs::types::Txns;
 /// Only memory can run out.
 pub fn all_pairs(alloc: Global, txns: &Txns<'_>) -> Result<Order, Fault>
     ensures edges { IfOk result (λ order. HasEdges order (λ level. all_order_edges level txns.now)) }
+    ensures once { AreOfEvents txns.now → IfOk result (λ order. All NoneTwice order) }
     ensures transactions { IfOk result (λ order. names order ≡ map name_of txns.now) }
     ensures err { IfErr result (λ fault. fault ≡ memory_fault) }
 {
@@ -41,6 +42,7 @@ pub fn all_pairs(alloc: Global, txns: &Txns<'_>) -> Result<Order, Fault>
 pub fn thin(alloc: Global, txns: &Txns<'_>) -> Result<Order, Fault>
     requires { AreOfEvents txns.now }
     ensures edges { IfOk result (λ order. HasEdges order (λ level. all_thinned_edges level txns.now)) }
+    ensures once { IfOk result (λ order. All NoneTwice order) }
     ensures transactions { IfOk result (λ order. names order ≡ map name_of txns.now) }
     ensures err { IfErr result (λ fault. fault ≡ memory_fault) }
 {

@@ -28,6 +28,13 @@ impl Moving {
         }
     }
 
+    /// Those after whose completion no ok transaction was invoked, in the order of their completions.
+    pub fn frontier(&self) -> &[Predecessor]
+        ensures { result.now ≡ self.now.recent.items }
+    {
+        self.recent.as_slice()
+    }
+
     /// The thinned predecessors of a transaction that is invoked now.
     pub fn before(
         &self,

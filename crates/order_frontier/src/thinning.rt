@@ -4,7 +4,7 @@ ghost use Rattle.std.specs.Prelude.{◌≡◌, ◌<◌, ◌≤◌, ℕ, List, ma
 ghost use Rattle.std.specs.HashMap.{get};
 ghost use Rattle.txn_pairs.specs.Txns.{transaction_of_txn};
 ghost use Rattle.order_frontier.specs.Completions.{AreKept, AreRising, AreTimely};
-ghost use Rattle.order_frontier.specs.Predecessors.{AreOfEvents, HasThinned, name_of, names};
+ghost use Rattle.order_frontier.specs.Predecessors.{AreOfEvents, HasThinned, NoneTwice, name_of, names};
 
 use crate::completions::completions;
 use crate::moving::Moving;
@@ -32,6 +32,7 @@ fn advance(moving: &mut Moving, done: &[Completed], index: u64) -> Result<usize,
 pub fn thinned(alloc: Global, txns: &[Txn<'_>]) -> Result<Vec<Predecessors>, AllocError>
     requires { AreOfEvents (map transaction_of_txn txns.now) }
     ensures thinned { IfOk result (λ order. All (HasThinned (map transaction_of_txn txns.now)) order.items) }
+    ensures once { IfOk result (λ order. All NoneTwice order.items) }
     ensures names { IfOk result (λ order. names order.items ≡ map name_of (map transaction_of_txn txns.now)) }
 {
     let done = completions(alloc, txns)?;

@@ -1,4 +1,4 @@
-use Rattle.std.proofs.Common.{◌≡◌, sym, subst}
+use Rattle.std.proofs.Common.{sym, subst}
 use Rattle.hist_types.specs.Edges.{all_order_edges}
 use Rattle.order_frontier.specs.Predecessors.{HasEdges}
 use Rattle.order_frontier.proofs.all_pairs.Goals as goal

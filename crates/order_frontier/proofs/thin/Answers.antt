@@ -1,6 +1,6 @@
-use Rattle.std.proofs.Common.{rules, ◌≡◌, ◌∙◌, sym, ap, subst, map, All}
+use Rattle.std.proofs.Common.{◌∙◌, sym, ap, subst, map, All}
 use Rattle.hist_types.specs.Frontier.{all_thinned_edges}
-use Rattle.order_frontier.specs.Predecessors.{HasThinned, HasEdges, name_of, names}
+use Rattle.order_frontier.specs.Predecessors.{HasThinned, HasEdges, name_of}
 use Rattle.order_frontier.proofs.Passes.{has_edges, thinned_all}
 use Rattle.order_frontier.proofs.thin.Goals as goal
 

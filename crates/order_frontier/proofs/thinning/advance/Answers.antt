@@ -1,4 +1,4 @@
-use Rattle.std.proofs.Common.{rules, ◌≡◌, ◌<◌, ◌∙◌, sym, ap, subst, ◌++◌, take, length, arith, get_or, nat_eq}
+use Rattle.std.proofs.Common.{◌≡◌, ◌<◌, subst, take, length, arith, get_or, nat_eq}
 use Rattle.std.specs.HashMap.{get}
 use Rattle.std.proofs.lemmas.List.{get_or_default}
 use Rattle.std.proofs.lemmas.List.Elements.{All-from_recursion}

@@ -1,11 +1,11 @@
-use Rattle.std.proofs.Common.{rules, ◌≡◌, ◌∙◌, ◌∷◌, [], List, ◌+◌, ◌-◌, ◌<◌, ◌++◌, sym, ap, subst, map, take, drop, length, arith, get_or, nat_eq, take-append-drop}
+use Rattle.std.proofs.Common.{◌≡◌, ◌∙◌, ◌+◌, ◌-◌, ◌<◌, ◌++◌, sym, ap, subst, map, take, drop, length, arith, get_or, nat_eq, take-append-drop}
 use Rattle.std.specs.HashMap.{get}
 use Rattle.std.proofs.lemmas.List.{length-map, get_or-map}
 use Rattle.hist_types.specs.Transactions.{Transaction, transactions_of}
 use Rattle.txn_pairs.specs.Txns.{transaction_of_txn}
-use Rattle.order_frontier.specs.declared.types.Completed.{Completed}
 use Rattle.order_frontier.specs.Completions.{AreTimely}
-use Rattle.order_frontier.proofs.Passes.{AreAll, Advances, IsPart, timely, part-next, rest-whole, all_thinned}
+use Rattle.order_frontier.proofs.Passes.{AreAll, Advances, IsPart, timely, part-next, rest-whole, all_thinned, all_once}
+use Rattle.order_frontier.proofs.Apart.{apart_from}
 use Rattle.order_frontier.proofs.thinning.thinned.Goals as goal
 
 pub loop-txn-preserved : goal.loop-txn-preserved
@@ -21,7 +21,7 @@ loop-txn-preserved c =
     let last' = get nat_eq c.advance.new.moving.last in
     let rest = take (length c.deref.result.now - taken) (drop taken c.deref.result.now) in
     let whole : rest ≡ drop taken done = rest-whole c.deref.result.now done taken c.deref.ensures.value in
-    let are : AreAll ts done = record { all = c.in_ok-done.ensures.all; rising = c.in_ok-done.ensures.rising } in
+    let are : AreAll ts done = record { all = c.in_ok-done.ensures.all; rising = c.in_ok-done.ensures.rising; apart = apart_from done (c.in_ok-done.ensures.once c.requires) } in
     let are' : AreAll (transactions_of es) done = subst (λ ts. AreAll ts done) of are in
     let in_time : AreTimely (take taken done ++ rest) =
     subst (λ xs. AreTimely (take taken done ++ xs)) (sym whole) (subst AreTimely (sym (take-append-drop taken done)) (timely es done are')) in
@@ -41,3 +41,6 @@ loop-txn-preserved c =
 
 pub returns-clause-thinned : goal.returns-clause-thinned
 returns-clause-thinned c = all_thinned (map transaction_of_txn c.args.txns.now) c.loop-txn.order.items c.loop-txn.invariant.thinned
+
+pub returns-clause-once : goal.returns-clause-once
+returns-clause-once c = all_once c.loop-txn.order.items c.loop-txn.invariant.once

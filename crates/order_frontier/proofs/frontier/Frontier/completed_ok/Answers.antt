@@ -1,4 +1,4 @@
-use Rattle.std.proofs.Common.{rules, ◌≡◌, [], ◌∷◌, ◌++◌, ◌==◌, ◌∙◌, ap, sym, subst, map, filter, not, nat_lt, length, ℕ, Some, None, nat_eq, List, if◌then◌else◌, arith}
+use Rattle.std.proofs.Common.{◌≡◌, [], ◌∷◌, ◌++◌, ◌==◌, ◌∙◌, ap, sym, subst, map, filter, not, nat_lt, length, Some, None, nat_eq, List, if◌then◌else◌, arith}
 use Rattle.std.specs.HashMap.{get}
 use Rattle.std.specs.Option.{option_copied}
 use Rattle.std.proofs.lemmas.List.{map-append, length-map}

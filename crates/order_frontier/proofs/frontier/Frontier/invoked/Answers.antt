@@ -1,4 +1,4 @@
-use Rattle.std.proofs.Common.{rules, ◌≡◌, [], ◌∷◌, ◌++◌, ◌==◌, ◌∙◌, ap, sym, subst, map, length, ℕ, Some, nat_eq, List, if◌then◌else◌, option_to_list, arith}
+use Rattle.std.proofs.Common.{◌≡◌, [], ◌∷◌, ◌++◌, ◌==◌, ◌∙◌, ap, sym, subst, map, length, Some, nat_eq, List, if◌then◌else◌, option_to_list, arith}
 use Rattle.std.specs.HashMap.{get}
 use Rattle.std.proofs.lemmas.List.{map-append, length-map}
 use Rattle.hist_types.specs.Operations.{Operation}
@@ -7,7 +7,7 @@ use Rattle.hist_types.specs.declared.types.OpKind.TheVariants as kinds
 use Rattle.order_frontier.specs.Events.{event_of, IsStateOf}
 use Rattle.order_frontier.specs.Views.{operation_of_event}
 use Rattle.order_frontier.specs.Predecessors.{HasThinned}
-use Rattle.order_frontier.proofs.Moves.{state-invoke, thinned-invoke}
+use Rattle.order_frontier.proofs.Moves.{state-invoke, thinned-invoke, once-invoke}
 use Rattle.order_frontier.proofs.frontier.Frontier.invoked.Goals as goal
 
 at : (c : goal.After-push_reserved) → c.len-index.result ≡ length (map operation_of_event c.self.inside.events.items)
@@ -29,11 +29,20 @@ invariant_of-self-2 c =
     ∙ ap (λ k. if k == p then Some c.len-index.result else get nat_eq c.self.inside.opened p) c.number-2.ensures.number
     ∙ ap (λ n. if c.args.process == p then Some n else get nat_eq c.self.inside.opened p) (at c)))
 
+made : (c : goal.After-push_reserved)
+    → c.in_ok-before.before ≡ record { process = c.args.process; invocation = length (map operation_of_event c.self.inside.events.items); in_process = option_to_list (get nat_eq c.self.inside.moving.last c.args.process); in_realtime = c.self.inside.moving.recent.items }
+made c =
+    c.in_ok-before.ensures
+    ∙ ap (λ k. record { process = k; invocation = c.len-index.result; in_process = option_to_list (get nat_eq c.self.inside.moving.last k); in_realtime = c.self.inside.moving.recent.items }) c.number.ensures.number
+    ∙ ap (λ n. record { process = c.args.process; invocation = n; in_process = option_to_list (get nat_eq c.self.inside.moving.last c.args.process); in_realtime = c.self.inside.moving.recent.items }) (at c)
+
 pub returns-clause-thinned : goal.returns-clause-thinned
 returns-clause-thinned c =
     let es = map operation_of_event c.self.inside.events.items in
     subst (λ xs. HasThinned (transactions_of xs) c.in_ok-before.before) (sym (more c))
-    (thinned-invoke es c.args.process (get nat_eq c.self.inside.opened) c.self.inside.moving.recent.items (get nat_eq c.self.inside.moving.last) c.self.invariant c.in_ok-before.before
-    (c.in_ok-before.ensures
-    ∙ ap (λ k. record { process = k; invocation = c.len-index.result; in_process = option_to_list (get nat_eq c.self.inside.moving.last k); in_realtime = c.self.inside.moving.recent.items }) c.number.ensures.number
-    ∙ ap (λ n. record { process = c.args.process; invocation = n; in_process = option_to_list (get nat_eq c.self.inside.moving.last c.args.process); in_realtime = c.self.inside.moving.recent.items }) (at c)))
+    (thinned-invoke es c.args.process (get nat_eq c.self.inside.opened) c.self.inside.moving.recent.items (get nat_eq c.self.inside.moving.last) c.self.invariant c.in_ok-before.before (made c))
+
+pub returns-clause-once : goal.returns-clause-once
+returns-clause-once c =
+    let es = map operation_of_event c.self.inside.events.items in
+    once-invoke es c.args.process (get nat_eq c.self.inside.opened) c.self.inside.moving.recent.items (get nat_eq c.self.inside.moving.last) c.self.invariant c.in_ok-before.before (made c)

@@ -1,5 +1,4 @@
 use Rattle.std.proofs.Common.{rules, ◌≡◌, ◌∷◌, [], ◌++◌, ◌∙◌, ap, not, nat_lt, filter}
-use borrow.Author.Tests.{tests}
 use Rattle.order_frontier.specs.Completions.{predecessor_of}
 use Rattle.order_frontier.proofs.Lists.{filter-from_retain}
 use Rattle.order_frontier.proofs.moving.Moving.complete.Goals as goal
