@@ -1,0 +1,11 @@
+pub mod Lists
+pub mod Kept
+pub mod Seen
+pub mod Timed
+pub mod States
+pub mod Moves
+pub mod Fronts
+pub mod Advancing
+pub mod Apart
+pub mod Passes
+pub mod AllPairs

@@ -1,0 +1,102 @@
+-- One more event of a frontier.
+use Rattle.std.proofs.Common.{◌≡◌, ℕ, ◌<◌, Bool, true, false, not, nat_lt, ◌==◌, if◌then◌else◌, Option, Some, None, List, [], ◌∷◌, ◌++◌, filter, length, option_to_list, refl, ap, sym, subst, ◌∙◌, arith, zero-add, append-nil}
+use Rattle.std.proofs.lemmas.Bool.{eqb-true}
+use Rattle.hist_types.proofs.Members.{In}
+use Rattle.hist_types.specs.Operations.{Operation}
+use Rattle.hist_types.specs.Transactions.{transaction_by, transactions_of}
+use Rattle.hist_types.specs.declared.types.OpKind.TheVariants as kinds
+use Rattle.order_frontier.specs.declared.types.Predecessor.{Predecessor}
+use Rattle.order_frontier.specs.declared.types.Completed.{Completed}
+use Rattle.order_frontier.specs.Completions.{AreKept}
+use Rattle.order_frontier.specs.Events.{State, done_by, state_of, event_of, IsStateOf}
+use Rattle.order_frontier.specs.Predecessors.{Before, HasThinned, NoneTwice}
+use Rattle.order_frontier.proofs.Kept.{kept-more, rising_strict}
+use Rattle.order_frontier.proofs.Apart.{apart_strict, none_twice}
+use Rattle.order_frontier.proofs.Seen.{AreSeen, has_thinned}
+use Rattle.order_frontier.proofs.Timed.{timed, in-last}
+use Rattle.order_frontier.proofs.States.{state-good, state-index, state-more, state-sound, state-complete}
+
+module _ (es : List Operation) (process : ℕ) (opened : ℕ → Option ℕ) (recent : List Predecessor) (last : ℕ → Option Predecessor) (is : IsStateOf es opened recent last) where
+  -- an invocation
+  pub state-invoke : (opened' : ℕ → Option ℕ) → ((p : ℕ) → opened' p ≡ (if process == p then Some (length es) else opened p))
+      → IsStateOf (es ++ event_of kinds.Invoke process ∷ []) opened' recent last
+  state-invoke opened' says = record {
+    invocations = λ p.
+        says p ∙ ap (λ n. if process == p then Some n else opened p) (sym (state-index es))
+        ∙ ap (λ o. if process == p then Some (state_of es).index else o) (is.invocations p)
+        ∙ ap (λ (s : State). s.opened p) (sym (state-more es (event_of kinds.Invoke process)));
+    kept = subst (λ (s : State). AreKept s.done recent last) (sym (state-more es (event_of kinds.Invoke process))) is.kept;
+  }
+
+  seen_invoked : AreSeen (transactions_of (es ++ event_of kinds.Invoke process ∷ [])) (length es) (state_of es).done
+  seen_invoked =
+      let e = event_of kinds.Invoke process in
+      let same : (state_of (es ++ e ∷ [])).done ≡ (state_of es).done = ap (λ (s : State). s.done) (state-more es e) in
+      record {
+        sound = λ d i.
+            let from = state-sound (es ++ e ∷ []) d (subst (In d) (sym same) i) in
+            let span = ((state-good es).spans d i).1 in
+            let at = state-index es in
+            (from.0, from.1, from.2, omega (arith, span, at));
+        complete = λ t d i done below. subst (In d) same (state-complete (es ++ e ∷ []) t d i done);
+        rising = rising_strict (state_of es).done (state-good es).strict;
+      }
+
+  pub thinned-invoke : (before : Before)
+      → before ≡ record { process = process; invocation = length es; in_process = option_to_list (last process); in_realtime = recent }
+      → HasThinned (transactions_of (es ++ event_of kinds.Invoke process ∷ [])) before
+  thinned-invoke before same =
+      let e = event_of kinds.Invoke process in
+      let u = transaction_by (length es) e None in
+      let member : In u (transactions_of (es ++ e ∷ [])) = subst (λ n. In (transaction_by n e None) (transactions_of (es ++ e ∷ []))) (zero-add (length es)) (in-last 0 es e refl) in
+      has_thinned (transactions_of (es ++ e ∷ [])) u (state_of es).done recent last before (timed (es ++ e ∷ [])) member seen_invoked is.kept same
+
+  pub once-invoke : (before : Before)
+      → before ≡ record { process = process; invocation = length es; in_process = option_to_list (last process); in_realtime = recent }
+      → NoneTwice before
+  once-invoke before same =
+      none_twice (state_of es).done before (last process) (apart_strict es (state_of es).done (state-sound es) (state-good es).strict)
+      (ap (λ (b : Before). b.in_process) same) (ap (λ (b : Before). b.in_realtime) same ∙ is.kept.frontier)
+
+  -- a completion
+  pub state-ok : (invocation : ℕ) (recent' : List Predecessor) (last' : ℕ → Option Predecessor) (opened' : ℕ → Option ℕ)
+      → opened process ≡ Some invocation
+      → recent' ≡ filter (λ p. not (nat_lt p.completion invocation)) recent ++ record { invocation = invocation; completion = length es } ∷ []
+      → ((p : ℕ) → last' p ≡ (if process == p then Some (record { invocation = invocation; completion = length es }) else last p))
+      → ((p : ℕ) → opened' p ≡ (if process == p then None else opened p))
+      → IsStateOf (es ++ event_of kinds.Ok process ∷ []) opened' recent' last'
+  state-ok invocation recent' last' opened' found recents lasts opens =
+      let e = event_of kinds.Ok process in
+      let s = state_of es in
+      let d : Completed = record { completion = length es; invocation = invocation; process = process } in
+      let good = state-good es in
+      let at = state-index es in
+      let own : invocation < s.index = good.opened process invocation (sym (is.invocations process) ∙ found) in
+      let more : AreKept (s.done ++ d ∷ []) recent' last' =
+      kept-more s.done d recent recent' last last' (λ v i. (let span = good.spans v i in omega (arith, span.0, span.1, at))) (omega (arith, own, at)) is.kept recents lasts in
+      let done : s.done ++ d ∷ [] ≡ s.done ++ done_by kinds.Ok process s.index (s.opened process) =
+      ap (λ n. s.done ++ record { completion = n; invocation = invocation; process = process } ∷ []) (sym at)
+      ∙ ap (λ o. s.done ++ done_by kinds.Ok process s.index o) (sym found ∙ is.invocations process) in
+      record {
+        invocations = λ p.
+            opens p ∙ ap (λ o. if process == p then None else o) (is.invocations p)
+            ∙ ap (λ (s : State). s.opened p) (sym (state-more es e));
+        kept = subst (λ (s : State). AreKept s.done recent' last') (sym (state-more es e)) (subst (λ done. AreKept done recent' last') done more);
+      }
+
+  idle_at : (p : ℕ) (own : Bool) → (process == p) ≡ own → opened process ≡ None → (if own then None else opened p) ≡ opened p
+  idle_at p true own found = sym (ap opened (sym (eqb-true process p own)) ∙ found)
+  idle_at p false own found = refl
+
+  pub state-idle : opened process ≡ None → IsStateOf (es ++ event_of kinds.Ok process ∷ []) opened recent last
+  state-idle found =
+      let e = event_of kinds.Ok process in
+      let s = state_of es in
+      let done : s.done ≡ s.done ++ done_by kinds.Ok process s.index (s.opened process) =
+      sym (append-nil s.done) ∙ ap (λ o. s.done ++ done_by kinds.Ok process s.index o) (sym found ∙ is.invocations process) in
+      record {
+        invocations = λ p.
+            sym (idle_at p (process == p) refl found) ∙ ap (λ o. if process == p then None else o) (is.invocations p)
+            ∙ ap (λ (s : State). s.opened p) (sym (state-more es e));
+        kept = subst (λ (s : State). AreKept s.done recent last) (sym (state-more es e)) (subst (λ done. AreKept done recent last) done is.kept);
+      }

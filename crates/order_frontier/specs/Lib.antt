@@ -1,0 +1,5 @@
+pub mod Predecessors
+pub mod Completions
+pub mod Events
+pub mod Views
+pub mod Pairs

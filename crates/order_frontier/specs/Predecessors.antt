@@ -1,0 +1,72 @@
+-- What comes before each transaction, and the order edges that this gives.
+use Rattle.std.specs.Prelude.{◌≡◌, nat_eq, ℕ, Bool, ◌&&◌, Some, IsTrue, IsFalse, List, [], map, flat_map, Contains, ◌↔◌}
+use Rattle.std.specs.List.{IsDistinct, list_any}
+use Rattle.hist_types.specs.Operations.{Operation}
+use Rattle.hist_types.specs.Transactions.{Transaction, is_ok, transactions_of}
+use Rattle.hist_types.specs.Edges.{process, realtime, Edge, is_before}
+use Rattle.hist_types.specs.Frontier.{all_thinned_edges}
+use Rattle.hist_types.specs.declared.types.Level.{Level}
+use Rattle.hist_types.specs.declared.types.Level.TheVariants.{Plain, Process, Realtime}
+use Rattle.order_frontier.specs.declared.types.Predecessor.{Predecessor}
+
+-- a transaction, by its process and the index of its invocation, and what comes before it in its process and in real time
+pub record Before : Type 0 where
+  pub process : ℕ
+  pub invocation : ℕ
+  pub in_process : List Predecessor
+  pub in_realtime : List Predecessor
+
+abbrev pub process_edge : (process invocation : ℕ) → Predecessor → Edge
+process_edge number invocation p = record { from = p.invocation; to = invocation; label = process number }
+
+abbrev pub realtime_edge : (invocation : ℕ) → Predecessor → Edge
+realtime_edge invocation p = record { from = p.invocation; to = invocation; label = realtime p.completion invocation }
+
+-- the edges of the level from a transaction's predecessors to it
+abbrev pub edges_to : Level → Before → List Edge
+edges_to Plain u = []
+edges_to Process u = map (process_edge u.process u.invocation) u.in_process
+edges_to Realtime u = map (realtime_edge u.invocation) u.in_realtime
+
+abbrev pub edges_of : Level → List Before → List Edge
+edges_of level order = flat_map (edges_to level) order
+
+-- exactly these edges, at each level
+abbrev pub HasEdges : List Before → (Level → List Edge) → Type 0
+HasEdges order edges = (level : Level) (e : Edge) → Contains (edges_of level order) e ↔ Contains (edges level) e
+
+-- exactly the thinned edges to the one transaction
+abbrev pub HasThinned : List Transaction → Before → Type 0
+HasThinned ts u =
+    (level : Level) (e : Edge) → Contains (edges_to level u) e ↔ (Contains (all_thinned_edges level ts) e × (e.to ≡ u.invocation))
+
+abbrev pub AreDistinct : List Predecessor → Type 0
+AreDistinct ps = IsDistinct nat_eq (map (λ (p : Predecessor). p.invocation) ps)
+
+-- no predecessor is listed twice
+abbrev pub NoneTwice : Before → Type 0
+NoneTwice u = AreDistinct u.in_process × AreDistinct u.in_realtime
+
+-- a transaction's process and the index of its invocation
+abbrev pub name_of : Transaction → ℕ × ℕ
+name_of t = (t.process, t.invocation)
+
+abbrev pub names : List Before → List (ℕ × ℕ)
+names order = map (λ (u : Before). (u.process, u.invocation)) order
+
+-- the transactions are those of some events
+abbrev pub AreOfEvents : List Transaction → Type 0
+AreOfEvents ts = (events : List Operation) × (ts ≡ transactions_of events)
+
+-- a transaction's invocation and completion
+abbrev pub IsAt : Transaction → Predecessor → Type 0
+IsAt t p = (t.invocation ≡ p.invocation) × (t.completion ≡ Some p.completion)
+
+-- whether an ok transaction was both invoked after a transaction's completion and completed
+abbrev pub is_passed : List Transaction → Transaction → Bool
+is_passed ts t = list_any (λ v. is_ok v && is_before t v) ts
+
+-- exactly the ok transactions that none has passed
+abbrev pub AreFrontier : List Transaction → List Predecessor → Type 0
+AreFrontier ts ps =
+    (p : Predecessor) → Contains ps p ↔ ((t : Transaction) × Contains ts t × IsAt t p × IsTrue (is_ok t) × IsFalse (is_passed ts t))

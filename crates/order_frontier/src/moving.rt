@@ -1,0 +1,69 @@
+//! What is kept of the ok transactions so far.
+
+ghost use Rattle.std.specs.Prelude.{◌≡◌, ℕ, [], ◌∷◌, ◌++◌, Some, None, OnOk, OnErr, IfOk, not, ◌==◌, nat_lt, nat_eq, filter, if◌then◌else◌};
+ghost use Rattle.std.specs.HashMap.{get};
+ghost use Rattle.std.specs.Option.{option_to_list};
+ghost use Rattle.order_frontier.specs.Completions.{predecessor_of};
+
+use crate::types::{Completed, Predecessor, Predecessors};
+use smallvec::SmallVec;
+use std::alloc::{AllocError, Global};
+use std::collections::HashMap;
+
+/// The ok transactions so far after whose completion no ok one was invoked, and the last one of each process.
+#[derive(Drop)]
+pub struct Moving {
+    recent: SmallVec<Predecessor, 8>,
+    last: HashMap<u64, Predecessor>,
+}
+
+impl Moving {
+    pub fn new(alloc: Global) -> Self
+        ensures recent { result.recent.items ≡ [] }
+        ensures last { (p : ℕ) → get nat_eq result.last p ≡ None }
+    {
+        Moving {
+            recent: SmallVec::new(alloc),
+            last: HashMap::new(alloc),
+        }
+    }
+
+    /// Those after whose completion no ok transaction was invoked, in the order of their completions.
+    pub fn frontier(&self) -> &[Predecessor]
+        ensures { result.now ≡ self.now.recent.items }
+    {
+        self.recent.as_slice()
+    }
+
+    /// The thinned predecessors of a transaction that is invoked now.
+    pub fn before(
+        &self,
+        alloc: Global,
+        process: u64,
+        invocation: u64,
+    ) -> Result<Predecessors, AllocError>
+        ensures { IfOk result (λ u. u ≡ record { process = process; invocation = invocation; in_process = option_to_list (get nat_eq self.now.last process); in_realtime = self.now.recent.items }) }
+    {
+        let mut in_process = SmallVec::new(alloc);
+        if let Some(last) = self.last.get(&process) {
+            in_process.push(*last)?;
+        }
+        let in_realtime = SmallVec::from_slice(alloc, self.recent.as_slice())?;
+        Ok(Predecessors::new(process, invocation, in_process, in_realtime))
+    }
+
+    /// Takes an ok transaction, which removes those that completed before its invocation.
+    pub fn complete(&mut self, done: Completed) -> Result<(), AllocError>
+        ensures recent { OnOk result (self.new.recent.items ≡ filter (λ p. not (nat_lt p.completion done.invocation)) self.old.recent.items ++ predecessor_of done ∷ []) }
+        ensures last { OnOk result ((p : ℕ) → get nat_eq self.new.last p ≡ (if done.process == p then Some (predecessor_of done) else get nat_eq self.old.last p)) }
+        ensures recent_kept { OnErr result (self.new.recent.items ≡ self.old.recent.items) }
+        ensures last_kept { OnErr result ((p : ℕ) → get nat_eq self.new.last p ≡ get nat_eq self.old.last p) }
+    {
+        self.recent.reserve(1)?;
+        self.last.insert(done.process, done.predecessor())?;
+        self.recent
+            .retain(|earlier| earlier.completion >= done.invocation);
+        self.recent.push_reserved(done.predecessor());
+        Ok(())
+    }
+}
