@@ -132,4 +132,5 @@ pub mops_alone_in :
 mops_alone_in text entries fault o reads contains =
     All-from_recursion IsMopOfTokens o.mops
     (mops_alone o.mops
-    (spelled_by_tokens IsAlone text entries fault o (row_alone text) reads (in_from_Contains (operation o) entries contains)))
+    (spelled_by_tokens IsAlone text entries fault o (row_alone text) reads
+    (in_from_Contains (operation o) entries contains)))

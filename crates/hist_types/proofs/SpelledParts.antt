@@ -522,7 +522,10 @@ spelled_by_tokens P text entries fault o each reads i =
     let all = reading_from-spelled P reads.0 nothing_open reads.1 (each reads.0 reads.1 reads.2) tt in
     entry_in P o entries i (subst (AllByRecursion (IsSpelledEntry P)) (ap (λ (r : Reading). r.entries) reads.3) all)
 
-row_in : (text : List ℕ) (tokens : List Item) (ending : Option Fault) → HasTokens text tokens ending → AllByRecursion (IsTokenIn text) tokens
+row_in :
+    (text : List ℕ) (tokens : List Item) (ending : Option Fault)
+    → HasTokens text tokens ending
+    → AllByRecursion (IsTokenIn text) tokens
 row_in text tokens ending row =
     subst (AllByRecursion (IsTokenIn text)) (sym row.2) (tokens_in text row.0 (items_in row.0 text 0 [] ending row.1))
 
@@ -533,7 +536,8 @@ pub parts_spelled_in :
     → All (IsMopIn text) o.mops
 parts_spelled_in text entries fault o reads contains =
     All-from_recursion (IsMopIn text) o.mops
-    (spelled_by_tokens (IsTokenIn text) text entries fault o (row_in text) reads (in_from_Contains (operation o) entries contains))
+    (spelled_by_tokens (IsTokenIn text) text entries fault o (row_in text) reads
+    (in_from_Contains (operation o) entries contains))
 
 pub parts_spelled : (text : List ℕ) (o : PlacedOperation) → IsTextOf text o → All (IsMopIn text) o.mops
 parts_spelled text o is =
