@@ -3,7 +3,7 @@ use Rattle.std.specs.Prelude.{◌≡◌, nat_eq, ℕ, Bool, ◌&&◌, Some, IsTr
 use Rattle.std.specs.List.{IsDistinct, list_any}
 use Rattle.hist_types.specs.Operations.{Operation}
 use Rattle.hist_types.specs.Transactions.{Transaction, is_ok, transactions_of}
-use Rattle.hist_types.specs.Edges.{process, realtime, Edge, is_before}
+use Rattle.hist_types.specs.Edges.{process, realtime, Edge, is_before, all_order_edges}
 use Rattle.hist_types.specs.Frontier.{all_thinned_edges}
 use Rattle.hist_types.specs.declared.types.Level.{Level}
 use Rattle.hist_types.specs.declared.types.Level.TheVariants.{Plain, Process, Realtime}
@@ -34,6 +34,13 @@ edges_of level order = flat_map (edges_to level) order
 -- exactly these edges, at each level
 abbrev pub HasEdges : List Before → (Level → List Edge) → Type 0
 HasEdges order edges = (level : Level) (e : Edge) → Contains (edges_of level order) e ↔ Contains (edges level) e
+
+-- all order edges of the transactions, or the thinned ones, as if every transaction were a node
+abbrev pub HasOrderEdges : List Transaction → List Before → Type 0
+HasOrderEdges ts order = HasEdges order (λ level. all_order_edges level ts)
+
+abbrev pub HasThinnedEdges : List Transaction → List Before → Type 0
+HasThinnedEdges ts order = HasEdges order (λ level. all_thinned_edges level ts)
 
 -- exactly the thinned edges to the one transaction
 abbrev pub HasThinned : List Transaction → Before → Type 0

@@ -2,10 +2,8 @@
 #![tactic(auto)]
 
 ghost use Rattle.std.specs.Prelude.{◌≡◌, map, All, IfOk, IfErr};
-ghost use Rattle.hist_types.specs.Edges.{all_order_edges};
-ghost use Rattle.hist_types.specs.Frontier.{all_thinned_edges};
 ghost use Rattle.hist_types.specs.Refusals.{memory_fault};
-ghost use Rattle.order_frontier.specs.Predecessors.{AreOfEvents, HasEdges, NoneTwice, name_of, names};
+ghost use Rattle.order_frontier.specs.Predecessors.{AreOfEvents, HasOrderEdges, HasThinnedEdges, NoneTwice, name_of, names};
 
 mod completions;
 pub mod frontier;
@@ -26,7 +24,7 @@ use txn_pairs::types::Txns;
 /// This is the definition of the order, and it grows with the square of the history: it is for tests.
 /// Only memory can run out.
 pub fn all_pairs(alloc: Global, txns: &Txns<'_>) -> Result<Order, Fault>
-    ensures edges { IfOk result (λ order. HasEdges order (λ level. all_order_edges level txns.now)) }
+    ensures edges { IfOk result (HasOrderEdges txns.now) }
     ensures once { AreOfEvents txns.now → IfOk result (λ order. All NoneTwice order) }
     ensures transactions { IfOk result (λ order. names order ≡ map name_of txns.now) }
     ensures err { IfErr result (λ fault. fault ≡ memory_fault) }
@@ -41,7 +39,7 @@ pub fn all_pairs(alloc: Global, txns: &Txns<'_>) -> Result<Order, Fault>
 /// Only memory can run out.
 pub fn thin(alloc: Global, txns: &Txns<'_>) -> Result<Order, Fault>
     requires { AreOfEvents txns.now }
-    ensures edges { IfOk result (λ order. HasEdges order (λ level. all_thinned_edges level txns.now)) }
+    ensures edges { IfOk result (HasThinnedEdges txns.now) }
     ensures once { IfOk result (λ order. All NoneTwice order) }
     ensures transactions { IfOk result (λ order. names order ≡ map name_of txns.now) }
     ensures err { IfErr result (λ fault. fault ≡ memory_fault) }

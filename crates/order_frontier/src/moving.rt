@@ -3,7 +3,7 @@
 ghost use Rattle.std.specs.Prelude.{◌≡◌, ℕ, [], ◌∷◌, ◌++◌, Some, None, OnOk, OnErr, IfOk, not, ◌==◌, nat_lt, nat_eq, filter, if◌then◌else◌};
 ghost use Rattle.std.specs.HashMap.{get};
 ghost use Rattle.std.specs.Option.{option_to_list};
-ghost use Rattle.order_frontier.specs.Completions.{predecessor_of};
+ghost use Rattle.order_frontier.specs.Completions.{predecessor_of, frontier_after};
 
 use crate::types::{Completed, Predecessor, Predecessors};
 use smallvec::SmallVec;
@@ -54,7 +54,7 @@ impl Moving {
 
     /// Takes an ok transaction, which removes those that completed before its invocation.
     pub fn complete(&mut self, done: Completed) -> Result<(), AllocError>
-        ensures recent { OnOk result (self.new.recent.items ≡ filter (λ p. not (nat_lt p.completion done.invocation)) self.old.recent.items ++ predecessor_of done ∷ []) }
+        ensures recent { OnOk result (self.new.recent.items ≡ frontier_after self.old.recent.items done) }
         ensures last { OnOk result ((p : ℕ) → get nat_eq self.new.last p ≡ (if done.process == p then Some (predecessor_of done) else get nat_eq self.old.last p)) }
         ensures recent_kept { OnErr result (self.new.recent.items ≡ self.old.recent.items) }
         ensures last_kept { OnErr result ((p : ℕ) → get nat_eq self.new.last p ≡ get nat_eq self.old.last p) }

@@ -2,9 +2,8 @@
 
 ghost use Rattle.std.specs.Prelude.{◌≡◌, map, IfOk, All};
 ghost use Rattle.txn_pairs.specs.Txns.{transaction_of_txn};
-ghost use Rattle.hist_types.specs.Edges.{all_order_edges};
 ghost use Rattle.order_frontier.specs.Pairs.{all_before};
-ghost use Rattle.order_frontier.specs.Predecessors.{AreOfEvents, HasEdges, NoneTwice, name_of, names};
+ghost use Rattle.order_frontier.specs.Predecessors.{AreOfEvents, HasOrderEdges, NoneTwice, name_of, names};
 
 use crate::completions::completions;
 use crate::types::{Completed, Predecessors};
@@ -31,7 +30,7 @@ fn all_before(alloc: Global, done: &[Completed], txn: &Txn<'_>) -> Result<Predec
 
 /// The predecessors of each transaction: all of them.
 pub fn all(alloc: Global, txns: &[Txn<'_>]) -> Result<Vec<Predecessors>, AllocError>
-    ensures edges { IfOk result (λ order. HasEdges order.items (λ level. all_order_edges level (map transaction_of_txn txns.now))) }
+    ensures edges { IfOk result (λ order. HasOrderEdges (map transaction_of_txn txns.now) order.items) }
     ensures once { AreOfEvents (map transaction_of_txn txns.now) → IfOk result (λ order. All NoneTwice order.items) }
     ensures names { IfOk result (λ order. names order.items ≡ map name_of (map transaction_of_txn txns.now)) }
 {
