@@ -5,3 +5,5 @@ pub mod Fronts
 pub mod KindsByFront
 pub mod OnlyToken
 pub mod Spelled
+pub mod NilTokens
+pub mod SpelledMops

@@ -4,3 +4,6 @@ pub mod Fronts
 pub mod Spellings
 pub mod Hashing
 pub mod AtomLaws
+pub mod Mops
+pub mod MopTexts
+pub mod MopParts

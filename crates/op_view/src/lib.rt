@@ -3,6 +3,8 @@
 
 pub mod atom;
 mod content;
+pub mod mops;
+pub mod op;
 mod spelling;
 #[cfg(test)]
 mod tests;

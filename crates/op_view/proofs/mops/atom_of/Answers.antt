@@ -1,0 +1,5 @@
+use Rattle.op_view.specs.MopTexts.{atom_in}
+use Rattle.op_view.proofs.mops.atom_of.Goals as goal
+
+pub returns : goal.returns
+returns c = c.of.ensures (atom_in c.args.bytes.now) c.requires

@@ -1,0 +1,177 @@
+//! Micro-operations, and the iterator over those of an operation.
+
+ghost use Rattle.std.specs.Prelude.{◌≡◌, map};
+ghost use Rattle.std.specs.Iterator.{YieldsFirst, item_count};
+ghost use Rattle.hist_types.specs.Operations.{read, write};
+ghost use Rattle.edn_ops.specs.Shapes.{is_write};
+ghost use Rattle.op_view.specs.MopTexts.{bytes_at, atom_in, mop_at as mop_of_text, mops_at, IsAtom, IsWithin, IsMopAt, AreMopsAt};
+ghost use Rattle.op_view.specs.Mops.{key_of, value_of};
+
+use crate::atom::Atom;
+use op_block::shapes::{ShortMop, ShortSpan};
+use std::iter::ExactSizeIterator;
+use std::marker::Model;
+
+#[derive(Drop)]
+enum Parts<'a> {
+    Read(Atom<'a>, Option<Atom<'a>>),
+    Write(Atom<'a>, Atom<'a>),
+}
+
+/// A read of a key with what it returned, nil or an atom, or a write of an atom to a key.
+#[derive(Drop)]
+pub struct Mop<'a> {
+    parts: Parts<'a>,
+}
+
+impl<'a> Model for Mop<'a> {
+    ghost use Rattle.hist_types.specs.Operations.{Mop as AMop};
+    ghost use Rattle.hist_types.specs.Stored.{coded_mop};
+
+    ghost Value = { AMop };
+
+    ghost coded = { coded_mop };
+
+    ghost use Rattle.op_view.specs.MopParts.{mop_of};
+
+    ghost view = { λ m. mop_of m.parts };
+}
+
+impl<'a> Mop<'a> {
+    /// A read. None stands for nil.
+    pub fn r(key: Atom<'a>, value: Option<Atom<'a>>) -> Self
+        ensures { result ≡ read key.entry value.entry }
+    {
+        Mop {
+            parts: Parts::Read(key, value),
+        }
+    }
+
+    /// A write.
+    pub fn w(key: Atom<'a>, value: Atom<'a>) -> Self
+        ensures { result ≡ write key.entry value.entry }
+    {
+        Mop {
+            parts: Parts::Write(key, value),
+        }
+    }
+
+    pub fn is_write(&self) -> bool
+        ensures { result ≡ is_write self.now }
+    {
+        match &self.parts {
+            Parts::Read(_, _) => false,
+            Parts::Write(_, _) => true,
+        }
+    }
+
+    pub fn key(&self) -> Atom<'a>
+        ensures { result ≡ key_of self.now }
+    {
+        match &self.parts {
+            Parts::Read(key, _) | Parts::Write(key, _) => key.copy(),
+        }
+    }
+
+    /// What was read or is written. None stands for nil, which only a read has.
+    pub fn value(&self) -> Option<Atom<'a>>
+        ensures { result ≡ value_of self.now }
+    {
+        match &self.parts {
+            Parts::Read(_, None) => None,
+            Parts::Read(_, Some(value)) | Parts::Write(_, value) => Some(value.copy()),
+        }
+    }
+}
+
+/// The bytes of the text in a place.
+fn slice_at(text: &[u8], span: ShortSpan) -> &[u8]
+    requires { IsWithin text.now span }
+    ensures { result.now ≡ bytes_at text.now span }
+{
+    &text[span.start as usize..span.end as usize]
+}
+
+/// The atom that the bytes are known to be.
+fn atom_of(bytes: &[u8]) -> Atom<'_>
+    requires { IsAtom bytes.now }
+    ensures { result ≡ atom_in bytes.now }
+{
+    Atom::of(bytes)
+}
+
+/// The micro-operation in these places of the text.
+fn mop_at(text: &[u8], shape: ShortMop) -> Mop<'_>
+    requires { IsMopAt text.now shape }
+    ensures { result ≡ mop_of_text text.now shape }
+{
+    let key = atom_of(slice_at(text, shape.key));
+    let value = slice_at(text, shape.value);
+    if shape.is_write {
+        Mop::w(key, atom_of(value))
+    } else if value == b"nil".as_slice() {
+        Mop::r(key, None)
+    } else {
+        Mop::r(key, Some(atom_of(value)))
+    }
+}
+
+/// Gives the micro-operations of an operation one after the other, as slices of its text. It takes no memory.
+#[derive(Drop)]
+pub struct Mops<'a> {
+    text: &'a [u8],
+    left: &'a [ShortMop],
+}
+
+impl<'a> Model for Mops<'a> {
+    ghost use Rattle.std.specs.Prelude.{List};
+    ghost use Rattle.std.specs.Coded.{coded_list};
+    ghost use Rattle.hist_types.specs.Operations.{Mop as AMop};
+    ghost use Rattle.hist_types.specs.Stored.{coded_mop};
+
+    ghost Value = { List AMop };
+
+    ghost coded = { coded_list coded_mop };
+
+    ghost use Rattle.op_view.specs.MopTexts.{mops_at, AreMopsAt};
+
+    ghost view = { λ m. mops_at m.text.now m.left.now };
+
+    ghost invariant = { λ m. AreMopsAt m.text.now m.left.now };
+}
+
+impl<'a> Mops<'a> {
+    /// The micro-operations in these places of the text.
+    pub(crate) fn new(text: &'a [u8], left: &'a [ShortMop]) -> Self
+        requires { AreMopsAt text.now left.now }
+        ensures { result ≡ mops_at text.now left.now }
+    {
+        Mops { text, left }
+    }
+}
+
+impl<'a> Iterator for Mops<'a> {
+    type Item = Mop<'a>;
+
+    ghost next_gives = { YieldsFirst (λ left. left) };
+
+    ghost remaining = { item_count (λ left. left) };
+
+    fn next(&mut self) -> Option<Mop<'a>> {
+        let (first, others) = self.left.split_first()?;
+        let mop = mop_at(self.text, *first);
+        self.left = others;
+        Some(mop)
+    }
+
+    fn size_hint(&self) -> (usize, Option<usize>) {
+        let len = self.left.len();
+        (len, Some(len))
+    }
+}
+
+impl ExactSizeIterator for Mops<'_> {
+    fn len(&self) -> usize {
+        self.left.len()
+    }
+}
