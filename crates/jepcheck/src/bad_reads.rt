@@ -6,14 +6,14 @@ ghost use Rattle.hist_types.specs.Transactions.{has_key, is_fail_status, is_ok_s
 ghost use Rattle.hist_types.specs.Journal.{writes_of};
 ghost use Rattle.hist_types.specs.Phenomena.{g1a, g1b, stray};
 ghost use Rattle.simple_ops.specs.Owned.{atom_of_owned, mop_of_owned};
-ghost use Rattle.txn_pairs.specs.Txns.{transaction_of_txn, status_of};
+ghost use Rattle.simple_txns.specs.Txns.{transaction_of_txn, status_of};
 ghost use Rattle.jepcheck.specs.declared.bad_reads.Written.{Written};
 ghost use Rattle.jepcheck.specs.Writers.{first_some, aborted_sight, intermediate_sight, add, note_of, notes, notes_of, after_note, after_notes, write_of, written_eq, sight_of, sights_of, sights, bad_read_of, bad_sight, over_apart, nobody};
 
 use simple_ops::types::{OwnedAtom, OwnedMop};
 use std::alloc::{AllocError, Global};
 use std::collections::HashMap;
-use txn_pairs::types::{Status, Txn};
+use simple_txns::types::{Status, Txn};
 
 /// A read of an ok transaction, and the transaction that wrote its value, each by the index of its invocation.
 #[derive(Clone, Copy)]

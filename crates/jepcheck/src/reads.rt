@@ -10,9 +10,9 @@ use crate::answer::{Answer, Status};
 use crate::bad_reads::{BadReads, bad_reads};
 use crate::text::write_reads;
 use hist_types::types::Fault;
-use journal_core::types::Core;
+use simple_journal::types::Core;
 use std::alloc::Global;
-use txn_pairs::pair;
+use simple_txns::pair;
 
 fn status_of(found: &BadReads<'_>) -> Status
     ensures { result ≡ status_by (is_some found.now.aborted || is_some found.now.intermediate) }

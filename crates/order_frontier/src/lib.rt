@@ -17,7 +17,7 @@ pub mod types;
 use crate::types::Order;
 use hist_types::types::Fault;
 use std::alloc::Global;
-use txn_pairs::types::Txns;
+use simple_txns::types::Txns;
 
 /// All predecessors of each transaction in its process and in real time, as if every transaction were a node.
 ///

@@ -1,7 +1,7 @@
 //! All pairs of transactions in order.
 
 ghost use Rattle.std.specs.Prelude.{◌≡◌, map, IfOk, All};
-ghost use Rattle.txn_pairs.specs.Txns.{transaction_of_txn};
+ghost use Rattle.simple_txns.specs.Txns.{transaction_of_txn};
 ghost use Rattle.order_frontier.specs.Pairs.{all_before};
 ghost use Rattle.order_frontier.specs.Predecessors.{AreOfEvents, HasOrderEdges, NoneTwice, name_of, names};
 
@@ -9,7 +9,7 @@ use crate::completions::completions;
 use crate::types::{Completed, Predecessors};
 use smallvec::SmallVec;
 use std::alloc::{AllocError, Global};
-use txn_pairs::types::Txn;
+use simple_txns::types::Txn;
 
 /// All of the ok transactions that come before one.
 fn all_before(alloc: Global, done: &[Completed], txn: &Txn<'_>) -> Result<Predecessors, AllocError>

@@ -2,7 +2,7 @@
 
 ghost use Rattle.std.specs.Prelude.{◌≡◌, ◌<◌, ◌≤◌, ℕ, List, map, take, ◌++◌, length, nat_eq, All, IfOk, slice_index_or};
 ghost use Rattle.std.specs.HashMap.{get};
-ghost use Rattle.txn_pairs.specs.Txns.{transaction_of_txn};
+ghost use Rattle.simple_txns.specs.Txns.{transaction_of_txn};
 ghost use Rattle.order_frontier.specs.Completions.{AreKept, AreRising, AreTimely};
 ghost use Rattle.order_frontier.specs.Predecessors.{AreOfEvents, HasThinned, NoneTwice, name_of, names};
 
@@ -10,7 +10,7 @@ use crate::completions::completions;
 use crate::moving::Moving;
 use crate::types::{Completed, Predecessors};
 use std::alloc::{AllocError, Global};
-use txn_pairs::types::Txn;
+use simple_txns::types::Txn;
 
 /// Takes the first of the ok transactions, those that completed before the index, and answers how many these are.
 fn advance(moving: &mut Moving, done: &[Completed], index: u64) -> Result<usize, AllocError>

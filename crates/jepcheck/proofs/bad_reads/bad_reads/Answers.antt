@@ -1,5 +1,5 @@
 use Rattle.std.proofs.Common.{◌∙◌, ap, not, is_some, map}
-use Rattle.txn_pairs.specs.Txns.{transaction_of_txn}
+use Rattle.simple_txns.specs.Txns.{transaction_of_txn}
 use Rattle.std.specs.Prelude.{count_by}
 use Rattle.std.specs.HashMap.{get}
 use Rattle.jepcheck.specs.Writers.{written_eq, sight_of, aborted_sight, intermediate_sight, first_some}

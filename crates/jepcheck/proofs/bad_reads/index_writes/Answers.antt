@@ -1,6 +1,6 @@
 use Rattle.std.proofs.Common.{◌+◌, drop, map, ap, sym, ◌∙◌}
 use Rattle.std.specs.HashMap.{get}
-use Rattle.txn_pairs.specs.Txns.{transaction_of_txn}
+use Rattle.simple_txns.specs.Txns.{transaction_of_txn}
 use Rattle.jepcheck.specs.Writers.{notes, notes_of, after_notes, write_of, written_eq}
 use Rattle.jepcheck.proofs.Lists.{drop_item}
 use Rattle.jepcheck.proofs.Noting.{after_notes-append}

@@ -1,6 +1,6 @@
 use Rattle.std.proofs.Common.{◌≡◌, map, drop, None}
 use Rattle.std.specs.HashMap.{get}
-use Rattle.txn_pairs.specs.Txns.{transaction_of_txn}
+use Rattle.simple_txns.specs.Txns.{transaction_of_txn}
 use Rattle.jepcheck.specs.declared.bad_reads.Written.{Written}
 use Rattle.jepcheck.specs.Writers.{notes, after_notes, write_of, written_eq}
 use Rattle.jepcheck.proofs.bad_reads.index_writes.Given as goal

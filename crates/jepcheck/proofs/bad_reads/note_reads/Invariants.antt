@@ -1,6 +1,6 @@
 use Rattle.std.proofs.Common.{◌≡◌, ◌++◌, map, drop, take}
 use Rattle.simple_ops.specs.Owned.{mop_of_owned}
-use Rattle.txn_pairs.specs.Txns.{transaction_of_txn}
+use Rattle.simple_txns.specs.Txns.{transaction_of_txn}
 use Rattle.jepcheck.specs.Writers.{sight_of, sights_of, sights_behind}
 use Rattle.jepcheck.proofs.bad_reads.note_reads.Given as goal
 

@@ -1,6 +1,6 @@
 use Rattle.std.proofs.Common.{◌≡◌, map, length}
 use Rattle.std.specs.HashMap.{get}
-use Rattle.txn_pairs.specs.Txns.{transaction_of_txn}
+use Rattle.simple_txns.specs.Txns.{transaction_of_txn}
 use Rattle.simple_ops.specs.Owned.{mop_of_owned}
 use Rattle.jepcheck.specs.declared.bad_reads.Written.{Written}
 use Rattle.jepcheck.specs.Writers.{notes_of, notes_of_mops, after_notes, write_of, written_eq}

@@ -1,5 +1,5 @@
 use Rattle.std.proofs.Common.{◌≡◌, ◌++◌, map, drop}
-use Rattle.txn_pairs.specs.Txns.{transaction_of_txn}
+use Rattle.simple_txns.specs.Txns.{transaction_of_txn}
 use Rattle.jepcheck.specs.Writers.{sight_of, sights}
 use Rattle.jepcheck.proofs.bad_reads.reads_seen.Given as goal
 

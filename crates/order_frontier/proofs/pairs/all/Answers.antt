@@ -1,7 +1,7 @@
 use Rattle.std.proofs.Common.{◌≡◌, ◌∙◌, sym, ap, subst, map, List, All}
 use Rattle.std.proofs.lemmas.List.{take_all}
 use Rattle.hist_types.specs.Edges.{all_order_edges}
-use Rattle.txn_pairs.specs.Txns.{transaction_of_txn}
+use Rattle.simple_txns.specs.Txns.{transaction_of_txn}
 use Rattle.order_frontier.specs.Pairs.{all_before}
 use Rattle.order_frontier.specs.Predecessors.{Before, HasEdges, NoneTwice, names}
 use Rattle.order_frontier.proofs.AllPairs.{has_all, names_all, all_distinct}

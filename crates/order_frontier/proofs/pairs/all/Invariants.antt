@@ -1,6 +1,6 @@
 -- The predecessors so far are those of the transactions so far.
 use Rattle.std.proofs.Common.{◌≡◌, map, take}
-use Rattle.txn_pairs.specs.Txns.{transaction_of_txn}
+use Rattle.simple_txns.specs.Txns.{transaction_of_txn}
 use Rattle.order_frontier.specs.Pairs.{all_before}
 use Rattle.order_frontier.proofs.pairs.all.Given as goal
 

@@ -1,6 +1,6 @@
 -- Those so far are of the ok transactions so far.
 use Rattle.std.proofs.Common.{◌≡◌, ◌&&◌, ◌==◌, map, filter, take}
-use Rattle.txn_pairs.specs.Txns.{transaction_of_txn}
+use Rattle.simple_txns.specs.Txns.{transaction_of_txn}
 use Rattle.order_frontier.specs.declared.types.Completed.{Completed}
 use Rattle.order_frontier.specs.Completions.{predecessor_of}
 use Rattle.order_frontier.specs.Pairs.{is_earlier}

@@ -2,7 +2,7 @@ use Rattle.std.proofs.Common.{◌≡◌, ◌∙◌, ◌+◌, ◌-◌, ◌<◌, �
 use Rattle.std.specs.HashMap.{get}
 use Rattle.std.proofs.lemmas.List.{length-map, get_or-map}
 use Rattle.hist_types.specs.Transactions.{Transaction, transactions_of}
-use Rattle.txn_pairs.specs.Txns.{transaction_of_txn}
+use Rattle.simple_txns.specs.Txns.{transaction_of_txn}
 use Rattle.order_frontier.specs.Completions.{AreTimely}
 use Rattle.order_frontier.proofs.Passes.{AreAll, Advances, IsPart, timely, part-next, rest-whole, all_thinned, all_once}
 use Rattle.order_frontier.proofs.Apart.{apart_from}

@@ -1,7 +1,7 @@
 -- The predecessors so far are those of the transactions so far.
 use Rattle.std.proofs.Common.{map, nat_eq}
 use Rattle.std.specs.HashMap.{get}
-use Rattle.txn_pairs.specs.Txns.{transaction_of_txn}
+use Rattle.simple_txns.specs.Txns.{transaction_of_txn}
 use Rattle.order_frontier.proofs.Passes.{IsPart}
 use Rattle.order_frontier.proofs.thinning.thinned.Given as goal
 
