@@ -1,4 +1,5 @@
 use crate::atom::Atom;
+use crate::mops::Mop;
 use std::cmp::Ordering;
 use std::hash::{FoldHasher, Hash, Hasher};
 use std::process::Abort;
@@ -98,4 +99,30 @@ fn known_texts_are_not_cut_again(rt: HostRuntime) {
     assert_eq!(rt; again(&rt, b"-"), None);
     assert_eq!(rt; again(&rt, b"+x"), None);
     assert_eq!(rt; again(&rt, b"."), None);
+}
+
+/// The parts of a micro-operation, by their texts.
+fn has_parts(rt: &impl Abort, mop: &Mop, is_write: bool, key: &[u8], value: Option<&[u8]>) {
+    assert_eq!(rt; mop.is_write(), is_write);
+    assert_eq!(rt; mop.key().text(), key);
+    match (mop.value(), value) {
+        (Some(atom), Some(text)) => assert_eq!(rt; atom.text(), text),
+        (None, None) => {}
+        _ => panic!(rt; "another value"),
+    }
+}
+
+#[test]
+fn micro_operations_have_their_parts(rt: HostRuntime) {
+    let x = Atom::read(b":x").expect(&rt, "an atom");
+    let one = Atom::read(b"1").expect(&rt, "an atom");
+    has_parts(&rt, &Mop::r(x.copy(), None), false, b":x", None);
+    has_parts(
+        &rt,
+        &Mop::r(x.copy(), Some(one.copy())),
+        false,
+        b":x",
+        Some(b"1"),
+    );
+    has_parts(&rt, &Mop::w(x, one), true, b":x", Some(b"1"));
 }
