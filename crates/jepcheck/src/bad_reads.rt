@@ -11,9 +11,9 @@ ghost use Rattle.jepcheck.specs.declared.bad_reads.Written.{Written};
 ghost use Rattle.jepcheck.specs.Writers.{first_some, aborted_sight, intermediate_sight, add, note_of, notes, notes_of, after_note, after_notes, write_of, written_eq, sight_of, sights_of, sights, bad_read_of, bad_sight, over_apart, nobody};
 
 use simple_ops::types::{OwnedAtom, OwnedMop};
+use simple_txns::types::{Status, Txn};
 use std::alloc::{AllocError, Global};
 use std::collections::HashMap;
-use simple_txns::types::{Status, Txn};
 
 /// A read of an ok transaction, and the transaction that wrote its value, each by the index of its invocation.
 #[derive(Clone, Copy)]

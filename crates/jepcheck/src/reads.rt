@@ -11,8 +11,8 @@ use crate::bad_reads::{BadReads, bad_reads};
 use crate::text::write_reads;
 use hist_types::types::Fault;
 use simple_journal::types::Core;
-use std::alloc::Global;
 use simple_txns::pair;
+use std::alloc::Global;
 
 fn status_of(found: &BadReads<'_>) -> Status
     ensures { result ≡ status_by (is_some found.now.aborted || is_some found.now.intermediate) }

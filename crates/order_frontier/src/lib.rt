@@ -16,8 +16,8 @@ pub mod types;
 
 use crate::types::Order;
 use hist_types::types::Fault;
-use std::alloc::Global;
 use simple_txns::types::Txns;
+use std::alloc::Global;
 
 /// All predecessors of each transaction in its process and in real time, as if every transaction were a node.
 ///

@@ -7,9 +7,9 @@ ghost use Rattle.order_frontier.specs.Predecessors.{AreOfEvents, HasOrderEdges, 
 
 use crate::completions::completions;
 use crate::types::{Completed, Predecessors};
+use simple_txns::types::Txn;
 use smallvec::SmallVec;
 use std::alloc::{AllocError, Global};
-use simple_txns::types::Txn;
 
 /// All of the ok transactions that come before one.
 fn all_before(alloc: Global, done: &[Completed], txn: &Txn<'_>) -> Result<Predecessors, AllocError>

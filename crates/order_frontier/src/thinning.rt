@@ -9,8 +9,8 @@ ghost use Rattle.order_frontier.specs.Predecessors.{AreOfEvents, HasThinned, Non
 use crate::completions::completions;
 use crate::moving::Moving;
 use crate::types::{Completed, Predecessors};
-use std::alloc::{AllocError, Global};
 use simple_txns::types::Txn;
+use std::alloc::{AllocError, Global};
 
 /// Takes the first of the ok transactions, those that completed before the index, and answers how many these are.
 fn advance(moving: &mut Moving, done: &[Completed], index: u64) -> Result<usize, AllocError>
