@@ -1,4 +1,5 @@
 //! Operations of a text (EDN as Jepsen prints it): reading them, and their canonical text.
 #![tactic(auto)]
 
+mod forms;
 pub mod types;
