@@ -1,2 +1,4 @@
 pub mod Shapes
+pub mod LevelEnds
 pub mod Leads
+pub mod Marks

@@ -2,4 +2,5 @@
 #![tactic(auto)]
 
 mod forms;
+mod marks;
 pub mod types;
