@@ -1,2 +1,6 @@
 pub mod Steps
 pub mod Levels
+pub mod LevelSteps
+pub mod MarksKept
+pub mod LastMark
+pub mod LeftOut
