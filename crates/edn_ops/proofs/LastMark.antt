@@ -9,7 +9,7 @@ use Rattle.edn_lex.specs.declared.types.TokenKind.TheVariants as kinds
 use Rattle.edn_lex.specs.Kinds.{kind_of, item_of}
 use Rattle.edn_lex.specs.State.{State, Rest, GivesToken}
 use Rattle.edn_ops.specs.declared.marks.LastMark.{LastMark}
-use Rattle.edn_ops.specs.Leads.{is_mark_kind}
+use Rattle.edn_ops.specs.Leads.{is_mark_kind, is_plain_kind}
 use Rattle.edn_ops.specs.LevelEnds.{Role, opens, closes, waits, stands, role_of, passed_by, level_end, WaitAtEnd}
 use Rattle.edn_ops.specs.Marks.{drops_among, IsLastOf}
 use Rattle.edn_ops.proofs.LevelSteps.{InLevel, InLevel-step, passes, WaitAtEnd-closer, WaitAtEnd-end, WaitAtEnd-unique}
@@ -52,6 +52,40 @@ role-form kind = elim kind as (λ k. is_mark_kind (kind_of k) ≡ false → (k �
   | kinds.Keyword ↦ λ h a b. refl
   | kinds.Symbol ↦ λ h a b. refl
   | kinds.Other ↦ λ h a b. refl
+]
+
+pub plain-form : (kind : TokenKind) → is_mark_kind (kind_of kind) ≡ false → (kind ≡ kinds.Open → ⊥) → (kind ≡ kinds.Close → ⊥) → is_plain_kind (kind_of kind) ≡ true
+plain-form kind = elim kind as (λ k. is_mark_kind (kind_of k) ≡ false → (k ≡ kinds.Open → ⊥) → (k ≡ kinds.Close → ⊥) → is_plain_kind (kind_of k) ≡ true) [
+  | kinds.Open ↦ λ h a b. absurd (a refl)
+  | kinds.Close ↦ λ h a b. absurd (b refl)
+  | kinds.Str ↦ λ h a b. refl
+  | kinds.Char ↦ λ h a b. refl
+  | kinds.Drop ↦ λ h a b. cc
+  | kinds.Tag ↦ λ h a b. cc
+  | kinds.Nil ↦ λ h a b. refl
+  | kinds.True ↦ λ h a b. refl
+  | kinds.False ↦ λ h a b. refl
+  | kinds.Int ↦ λ h a b. refl
+  | kinds.Keyword ↦ λ h a b. refl
+  | kinds.Symbol ↦ λ h a b. refl
+  | kinds.Other ↦ λ h a b. refl
+]
+
+pub closer-kind : (kind : TokenKind) → kind_of kind ≡ Closer → kind ≡ kinds.Close
+closer-kind kind = elim kind as (λ k. kind_of k ≡ Closer → k ≡ kinds.Close) [
+  | kinds.Open ↦ λ h. cc
+  | kinds.Close ↦ λ h. refl
+  | kinds.Str ↦ λ h. cc
+  | kinds.Char ↦ λ h. cc
+  | kinds.Drop ↦ λ h. cc
+  | kinds.Tag ↦ λ h. cc
+  | kinds.Nil ↦ λ h. cc
+  | kinds.True ↦ λ h. cc
+  | kinds.False ↦ λ h. cc
+  | kinds.Int ↦ λ h. cc
+  | kinds.Keyword ↦ λ h. cc
+  | kinds.Symbol ↦ λ h. cc
+  | kinds.Other ↦ λ h. cc
 ]
 
 -- ---- the walk
@@ -218,25 +252,25 @@ Walk-here s t u first token last next depth w g a b none mark form fewer =
     let P : Bool → Type 0 = λ x. is_mark_kind (kind_of token.kind) ≡ x → Walk s first u next depth in
     elim (is_mark_kind (kind_of token.kind)) as P [
       | true ↦ λ is. record {
-            inner = [];
-            marks = i ∷ w.marks;
-            deep = sym none;
-            is_last = mark is t.text w.marks w.is_last;
-            few = omega arith;
-            shallow = omega arith;
-            level = InLevel-step s t u token (first ∷ []) w.inner w.marks [] (i ∷ w.marks) w.level g
-                (at_level i w.inner w.marks waits (w.deep ∙ none) (role-mark (kind_of token.kind) is));
-          }
+        inner = [];
+        marks = i ∷ w.marks;
+        deep = sym none;
+        is_last = mark is t.text w.marks w.is_last;
+        few = omega arith;
+        shallow = omega arith;
+        level = InLevel-step s t u token (first ∷ []) w.inner w.marks [] (i ∷ w.marks) w.level g
+            (at_level i w.inner w.marks waits (w.deep ∙ none) (role-mark (kind_of token.kind) is));
+      }
       | false ↦ λ is. record {
-            inner = [];
-            marks = still_waiting w.marks;
-            deep = sym none;
-            is_last = form is w.marks w.is_last;
-            few = omega arith;
-            shallow = omega arith;
-            level = InLevel-step s t u token (first ∷ []) w.inner w.marks [] (still_waiting w.marks) w.level g
-                (at_level i w.inner w.marks stands (w.deep ∙ none) (role-form token.kind is a b));
-          }
+        inner = [];
+        marks = still_waiting w.marks;
+        deep = sym none;
+        is_last = form is w.marks w.is_last;
+        few = omega arith;
+        shallow = omega arith;
+        level = InLevel-step s t u token (first ∷ []) w.inner w.marks [] (still_waiting w.marks) w.level g
+            (at_level i w.inner w.marks stands (w.deep ∙ none) (role-form token.kind is a b));
+      }
     ] refl
 
 -- ---- the end

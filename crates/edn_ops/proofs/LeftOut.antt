@@ -1,5 +1,5 @@
 -- Marks that wait, and the forms that they leave out.
-use Rattle.std.proofs.Common.{◌≡◌, ℕ, zero, suc, ◌+◌, ◌-◌, ◌<◌, ◌≤◌, List, [], ◌∷◌, length, Bool, true, false, not, ◌&&◌, ◌||◌, Option, Some, None, Result, Ok, Err, refl, sym, ◌∙◌, ap, arith, subst}
+use Rattle.std.proofs.Common.{◌≡◌, ℕ, zero, suc, ◌+◌, ◌-◌, ◌<◌, ◌≤◌, List, [], ◌∷◌, length, Bool, true, false, cond, not, ◌&&◌, ◌||◌, Option, Some, None, Result, Ok, Err, refl, sym, ◌∙◌, ap, arith, subst}
 use Rattle.std.specs.Bool.{if◌then◌else◌}
 use Rattle.hist_types.specs.Entries.{Entry}
 use Rattle.hist_types.specs.Forms.{Form, plain, collection, tagged, forms_of, OpenCollection, Open, is_drop, leave_out, is_vector_or_list, settled, still_waiting, with_member, with_form, with_mark, with_opener}
@@ -18,6 +18,7 @@ use Rattle.edn_ops.proofs.Steps.{Leads-refl, Leads-then, Leads-stops, Leads-read
 use Rattle.edn_ops.proofs.Levels.{step-plain, step-opener}
 use Rattle.edn_ops.proofs.LevelSteps.{InLevel-refl, InLevel-step, InLevel-collection, SameLevel-then, passes, WaitAtEnd-closer, WaitAtEnd-end}
 use Rattle.edn_ops.proofs.LastMark.{role-mark}
+use Rattle.edn_ops.proofs.MarksKept.{Waits-drops}
 
 -- ---- a mark more
 
@@ -120,9 +121,9 @@ Stops-dangling_at :
     Stops s (marks_among (m ∷ marks) ms cs) (byte_fault DanglingTag m.start)
 Stops-dangling_at s t token m marks ms [] g is =
     λ depth. absurd (
-      let i = item_of s.text token in
-      let nests : nesting_refusal Closer i.bytes s.closers ≡ None = ap (λ k. nesting_refusal k i.bytes s.closers) (sym is) ∙ g.nests in
-      closes_nothing s.closers _ depth (closer-depth i.bytes s.closers (token-some s token t g) nests)
+    let i = item_of s.text token in
+    let nests : nesting_refusal Closer i.bytes s.closers ≡ None = ap (λ k. nesting_refusal k i.bytes s.closers) (sym is) ∙ g.nests in
+    closes_nothing s.closers _ depth (closer-depth i.bytes s.closers (token-some s token t g) nests)
     )
 Stops-dangling_at s t token m marks ms (c ∷ outer) g is =
     let i = item_of s.text token in
@@ -152,16 +153,18 @@ pub record Behind (s : State) (first : Item) (t : State) (drops : ℕ) (tag : Op
   pub marks : List Item
   pub waits : Waits drops tag marks
   pub few : drops ≤ t.offset
+  pub forward : s.offset ≤ t.offset
   pub text : t.text ≡ s.text
   pub leads : (o : Open) → Leads s (with_marks (first ∷ []) o) [] t (with_marks marks o)
   pub level : SameLevel s (first ∷ []) t marks
 
 pub Behind-start : (s : State) (first : Item) (drops : ℕ) (tag : Option ℕ) → Waits drops tag (first ∷ []) → drops ≤ s.offset → Behind s first s drops tag
-Behind-start s first drops tag waits few =
+Behind-start s first drops tag h few =
     record {
       marks = first ∷ [];
-      waits = waits;
+      waits = h;
       few = few;
+      forward = omega arith;
       text = refl;
       leads = λ o. Leads-refl s (with_marks (first ∷ []) o);
       level = InLevel-refl s (first ∷ []);
@@ -178,10 +181,12 @@ Behind-mark s t u first token drops tag drops' tag' b g is more most =
     let some = g.some in
     let next = g.next in
     let few = b.few in
+    let forward = b.forward in
     record {
       marks = i ∷ b.marks;
       waits = more t.text b.marks b.waits;
       few = omega arith;
+      forward = omega arith;
       text = g.text ∙ b.text;
       leads = λ o. Leads-then s t u (with_marks (first ∷ []) o) (with_marks b.marks o) (with_marks (i ∷ b.marks) o) [] (b.leads o) (Leads-mark t u token b.marks o g is);
       level = InLevel-step s t u token (first ∷ []) [] b.marks [] (i ∷ b.marks) b.level g (λ ts. passes i ts [] b.marks waits (role-mark i.kind is));
@@ -204,11 +209,13 @@ Behind-form s t u first token drops tag b g is role some =
     let more = g.some in
     let next = g.next in
     let few = b.few in
+    let forward = b.forward in
     let w = taken drops tag b.marks some b.waits in
     record {
       marks = still_waiting b.marks;
       waits = w.1;
       few = omega arith;
+      forward = omega arith;
       text = g.text ∙ b.text;
       leads = λ o. Leads-then s t u (with_marks (first ∷ []) o) (with_marks b.marks o) (with_marks (still_waiting b.marks) o) [] (b.leads o) (Leads-left_out t u token b.marks o g is w.0);
       level = InLevel-step s t u token (first ∷ []) [] b.marks [] (still_waiting b.marks) b.level g (λ ts. passes i ts [] b.marks stands role);
@@ -224,15 +231,17 @@ Behind-collection s t u v first token drops tag b g is passed some =
     let more = g.some in
     let next = g.next in
     let few = b.few in
+    let forward = b.forward in
     let w = taken drops tag b.marks some b.waits in
     let nothing : Open = record { marks = []; collections = [] } in
     let lead : (o : Open) → Leads t (with_marks b.marks o) [] v (with_marks (still_waiting b.marks) o) =
-        λ o. Leads-left_out_collection t u v token b.marks o g is w.0 passed in
+    λ o. Leads-left_out_collection t u v token b.marks o g is w.0 passed in
     let further = (lead nothing).forward in
     record {
       marks = still_waiting b.marks;
       waits = w.1;
       few = omega arith;
+      forward = omega arith;
       text = (lead nothing).text ∙ b.text;
       leads = λ o. Leads-then s t v (with_marks (first ∷ []) o) (with_marks b.marks o) (with_marks (still_waiting b.marks) o) [] (b.leads o) (lead o);
       level = InLevel-collection s t u v token (first ∷ []) [] b.marks b.level g (ap role_of is) passed.level [] (still_waiting b.marks) (λ later. refl);
@@ -267,7 +276,7 @@ module _ (s t : State) (mark : Token) (g : GivesToken s mark t) (is : is_mark_ki
 
   pub GivesMember-behind :
       (u v : State) (token : Token) (tag : Option ℕ) → Behind t (item_of t.text mark) u 0 tag → GivesToken u token v →
-      is_mark_kind (kind_of token.kind) ≡ false → (kind_of token.kind ≡ Closer → (marks : List Item) → Waits 0 tag marks → any_mark marks ≡ false) →
+      is_mark_kind (kind_of token.kind) ≡ false → (kind_of token.kind ≡ Closer → ⊥) →
       GivesMember s (record { token = token; tag = tag }) v
   GivesMember-behind u v token tag b next none closer =
       record {
@@ -279,7 +288,7 @@ module _ (s t : State) (mark : Token) (g : GivesToken s mark t) (is : is_mark_ki
         level = SameLevel-then s t u [] (item_of t.text mark ∷ []) b.marks at_first-level b.level;
         token = next;
         no_mark = none;
-        closer = λ h. no_mark_waits b.marks (closer h b.marks b.waits);
+        closer = λ h. absurd (closer h);
       }
 
   pub GivesNoMember-behind :
@@ -287,8 +296,8 @@ module _ (s t : State) (mark : Token) (g : GivesToken s mark t) (is : is_mark_ki
   GivesNoMember-behind u v drops tag b end none =
       let empty = no_mark_waits b.marks none in
       let lead : (o : Open) → Leads s (with_marks [] o) [] u (with_marks [] o) =
-          λ o. Leads-then s t u (with_marks [] o) (with_marks (item_of t.text mark ∷ []) o) (with_marks [] o) [] (at_first o)
-              (subst (λ (ks : List Item). Leads t (with_marks (item_of t.text mark ∷ []) o) [] u (with_marks ks o)) empty (b.leads o)) in
+      λ o. Leads-then s t u (with_marks [] o) (with_marks (item_of t.text mark ∷ []) o) (with_marks [] o) [] (at_first o)
+      (subst (λ (ks : List Item). Leads t (with_marks (item_of t.text mark ∷ []) o) [] u (with_marks ks o)) empty (b.leads o)) in
       let nothing : Open = record { marks = []; collections = [] } in
       record {
         text = end.text ∙ (lead nothing).text;
@@ -325,3 +334,98 @@ GivesMember-first s t token g none =
 
 pub GivesNoMember-end : (s t : State) → GivesEnd s t → GivesNoMember s t
 GivesNoMember-end s t g = record { text = g.text; reads = λ o. ReadsAs-end s t (with_marks [] o) g; after = g.after }
+
+-- ---- refused at a mark
+
+some_mark : (marks : List Item) → any_mark marks ≡ true → (m : Item) × (ms : List Item) × (marks ≡ m ∷ ms)
+some_mark [] h = cc
+some_mark (m ∷ ms) h = (m, ms, refl)
+
+-- what is told of the marks that wait at the end of the level behind a copy
+abbrev TellsMark : State → Token → ℕ → Fault → Type 0
+TellsMark copy mark drops fault =
+    (m : Item) (ms : List Item) → drops_among (m ∷ ms) ≡ drops → WaitAtEnd copy (item_of copy.text mark ∷ []) (m ∷ ms) → fault ≡ byte_fault DanglingTag m.start
+
+told :
+    (t u : State) (mark : Token) (drops : ℕ) (tag : Option ℕ) (b : Behind t (item_of t.text mark) u drops tag) → any_mark b.marks ≡ true →
+    WaitAtEnd t (item_of t.text mark ∷ []) b.marks → (copy : State) → copy ≡ t → (fault : Fault) → TellsMark copy mark drops fault →
+    ((m : Item) (ms : List Item) (o : Open) → Stops u (with_marks (m ∷ ms) o) (byte_fault DanglingTag m.start)) →
+    (o : Open) → Stops u (with_marks b.marks o) fault
+told t u mark drops tag b some wait copy same fault tells stops o =
+    let x = some_mark b.marks some in
+    let tells_t = subst (λ (c : State). TellsMark c mark drops fault) same tells in
+    let count : drops_among (x.0 ∷ x.1) ≡ drops = ap drops_among (sym x.2) ∙ Waits-drops drops tag b.marks b.waits in
+    let is = tells_t x.0 x.1 count (subst (λ (ms : List Item). WaitAtEnd t (item_of t.text mark ∷ []) ms) x.2 wait) in
+    subst (λ (ms : List Item). Stops u (with_marks ms o) fault) (sym x.2)
+    (subst (λ f. Stops u (with_marks (x.0 ∷ x.1) o) f) (sym is) (stops x.0 x.1 o))
+
+pub Stops-told :
+    (t u v : State) (mark token : Token) (drops : ℕ) (tag : Option ℕ) (b : Behind t (item_of t.text mark) u drops tag) → GivesToken u token v →
+    kind_of token.kind ≡ Closer → any_mark b.marks ≡ true → (copy : State) → copy ≡ t → (fault : Fault) → TellsMark copy mark drops fault →
+    (o : Open) → Stops u (with_marks b.marks o) fault
+Stops-told t u v mark token drops tag b g is some copy same fault tells =
+    told t u mark drops tag b some (WaitAtEnd-behind t u v (item_of t.text mark) token drops tag b g is) copy same fault tells
+    (λ m ms o. Stops-dangling u v token m ms o g is)
+
+pub Stops-told_end :
+    (t u v : State) (mark : Token) (drops : ℕ) (tag : Option ℕ) (b : Behind t (item_of t.text mark) u drops tag) → GivesEnd u v →
+    any_mark b.marks ≡ true → (copy : State) → copy ≡ t → (fault : Fault) → TellsMark copy mark drops fault →
+    (o : Open) → Stops u (with_marks b.marks o) fault
+Stops-told_end t u v mark drops tag b g some copy same fault tells =
+    told t u mark drops tag b some (WaitAtEnd-behind_end t u v (item_of t.text mark) drops tag b g) copy same fault tells
+    (λ m ms o. Stops-dangling_end u v m ms o g)
+
+-- a fault within a collection that is left out
+pub Stops-left_out :
+    (s t u : State) (first : Item) (token : Token) (drops : ℕ) (tag : Option ℕ) (b : Behind s first t drops tag) → GivesToken t token u →
+    kind_of token.kind ≡ Opener → 0 < drops → (fault : Fault) →
+    ((o : Open) → in_operation_place o ≡ false → Stops u (with_opener (item_of u.text token) o) fault) →
+    (o : Open) → Stops t (with_marks b.marks o) fault
+Stops-left_out s t u first token drops tag b g is some fault stops o =
+    let i = item_of t.text token in
+    let p = with_marks b.marks o in
+    let out = hidden b.marks o.marks o.collections (taken drops tag b.marks some b.waits).0 in
+    let same : item_of u.text token ≡ i = ap (λ text. item_of text token) g.text in
+    let may : may_open p i ≡ true = rw out refl in
+    Leads-stops t u p (with_opener i p) fault (Leads-step t u token p (goes_on (with_opener i p)) g (step-opener i.kind i p is may))
+    (subst (λ (j : Item). Stops u (with_opener j p) fault) same (stops p out))
+
+-- the closer, where no mark waits
+module _ (s t : State) (mark : Token) (g : GivesToken s mark t) (is : is_mark_kind (kind_of mark.kind) ≡ true) where
+  pub GivesMember-closer :
+      (u v : State) (token : Token) (drops : ℕ) (tag : Option ℕ) → (b : Behind t (item_of t.text mark) u drops tag) → GivesToken u token v →
+      is_mark_kind (kind_of token.kind) ≡ false → any_mark b.marks ≡ false →
+      GivesMember s (record { token = token; tag = None }) v
+  GivesMember-closer u v token drops tag b next none empty =
+      let nothing = no_mark_waits b.marks empty in
+      record {
+        tags = [];
+        no_drop = refl;
+        first = refl;
+        before = u;
+        leads = λ o. Leads-then s t u (with_marks [] o) (with_marks (item_of t.text mark ∷ []) o) (with_marks [] o) [] (at_first s t mark g is o)
+            (subst (λ (ks : List Item). Leads t (with_marks (item_of t.text mark ∷ []) o) [] u (with_marks ks o)) nothing (b.leads o));
+        level = SameLevel-then s t u [] (item_of t.text mark ∷ []) [] (at_first-level s t mark g is)
+            (subst (λ (ks : List Item). SameLevel t (item_of t.text mark ∷ []) u ks) nothing b.level);
+        token = next;
+        no_mark = none;
+        closer = λ h. refl;
+      }
+
+-- ---- less is left
+
+cond_less : (b : Bool) (m n : ℕ) → m < n → cond b 0 m < n
+cond_less true m n h = omega arith
+cond_less false m n h = h
+
+-- fewer calls of the lexer are left
+pub fewer_calls : (s t u : State) (token : Token) → GivesToken s token t → t.offset ≤ u.offset → u.text ≡ s.text →
+    cond u.ended 0 (length u.text - u.offset + 1) < cond s.ended 0 (length s.text - s.offset + 1)
+fewer_calls s t u token g further same =
+    let low = g.low in
+    let some = g.some in
+    let next = g.next in
+    let fits = g.fits in
+    let less : length s.text - u.offset + 1 < length s.text - s.offset + 1 = omega arith in
+    subst (λ b. cond u.ended 0 (length u.text - u.offset + 1) < cond b 0 (length s.text - s.offset + 1)) (sym g.going)
+    (subst (λ (xs : List ℕ). cond u.ended 0 (length xs - u.offset + 1) < length s.text - s.offset + 1) (sym same) (cond_less u.ended _ _ less))

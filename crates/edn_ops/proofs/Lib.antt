@@ -4,3 +4,4 @@ pub mod LevelSteps
 pub mod MarksKept
 pub mod LastMark
 pub mod LeftOut
+pub mod PassedOver

@@ -5,7 +5,7 @@ ghost use Rattle.edn_lex.specs.Kinds.{kind_of, item_of};
 ghost use Rattle.edn_lex.specs.State.{State, GivesToken};
 ghost use Rattle.edn_ops.specs.Leads.{is_mark_kind, NextMember, SkipsCollection};
 
-use crate::marks::{Waiting, dangling, is_mark};
+use crate::marks::{Waiting, closes, dangling, is_mark, opens};
 use edn_lex::lexer::Lexer;
 use edn_lex::types::{Token, TokenKind};
 use hist_types::types::{At, Fault, Refusal};
@@ -52,8 +52,11 @@ fn member_behind(lexer: &mut Lexer, mark: Token) -> Result<Option<Member>, Fault
             waiting = waiting.and(token);
             continue;
         }
-        if token.kind == TokenKind::Close && waiting.is_some() {
-            return Err(dangling(start, mark, waiting.drops));
+        if closes(token) {
+            if waiting.is_some() {
+                return Err(dangling(start, mark, waiting.drops));
+            }
+            return Ok(Some(Member { token, tag: None }));
         }
         if waiting.drops == 0 {
             return Ok(Some(Member {
@@ -61,7 +64,7 @@ fn member_behind(lexer: &mut Lexer, mark: Token) -> Result<Option<Member>, Fault
                 tag: waiting.tag,
             }));
         }
-        if token.kind == TokenKind::Open {
+        if opens(token) {
             skip_collection(lexer, token)?;
         }
         waiting.drops -= 1;

@@ -1,9 +1,10 @@
 //! Tags and `#_` that wait for a form in one level of a text.
 
-ghost use Rattle.std.specs.Prelude.{◌≡◌, ℕ, ◌+◌, ◌<◌, ◌≤◌, List, [], ◌∷◌, true, false};
+ghost use Rattle.std.specs.Prelude.{◌≡◌, ◌≢◌, ℕ, ◌+◌, ◌<◌, ◌≤◌, List, [], ◌∷◌, true, false};
 ghost use Rattle.hist_types.specs.Forms.{still_waiting};
 ghost use Rattle.hist_types.specs.Tokens.{Item, byte_fault};
 ghost use Rattle.hist_types.specs.declared.types.Refusal.TheVariants.{DanglingTag};
+ghost use Rattle.edn_lex.specs.declared.types.TokenKind.TheVariants.{Open, Close};
 ghost use Rattle.edn_lex.specs.Kinds.{kind_of, item_of};
 ghost use Rattle.edn_ops.specs.Leads.{is_mark_kind};
 ghost use Rattle.edn_ops.specs.LevelEnds.{WaitAtEnd};
@@ -74,6 +75,20 @@ pub(crate) fn is_mark(token: Token) -> bool
     ensures { result ≡ is_mark_kind (kind_of token.kind) }
 {
     matches!(token.kind, TokenKind::Tag | TokenKind::Drop)
+}
+
+pub(crate) fn opens(token: Token) -> bool
+    ensures yes { result ≡ true → token.kind ≡ Open }
+    ensures no { result ≡ false → token.kind ≢ Open }
+{
+    matches!(token.kind, TokenKind::Open)
+}
+
+pub(crate) fn closes(token: Token) -> bool
+    ensures yes { result ≡ true → token.kind ≡ Close }
+    ensures no { result ≡ false → token.kind ≢ Close }
+{
+    matches!(token.kind, TokenKind::Close)
 }
 
 /// The fault of the last mark that waits when this level ends, where so many `#_` wait then. The lexer is behind the first mark

@@ -23,10 +23,13 @@ loop-given-preserved-then-depth-eq0-2 c =
     let zero = c.if-depth-eq0-2.true in
     let some = c.if-depth-eq0.false in
     let w : Walk c.args.lexer (item_of c.args.lexer.text c.args.first) c.next.new.self c.settled-last.result 0 =
-        Walk-closed _ _ _ _ c.in-Ok.token c.loop-given.last c.settled-last.result c.loop-given.depth c.loop-given.invariant.2 g c.in-Close.is (omega arith)
-        c.settled-last.ensures.waits c.settled-last.ensures.few in
-    (tt, tt, subst (λ n. Walk c.args.lexer (item_of c.args.lexer.text c.args.first) c.next.new.self c.settled-last.result n) (sym zero) w,
-        c.settled-last.ensures.drops ∙ c.loop-given.invariant.3)
+    Walk-closed _ _ _ _ c.in-Ok.token c.loop-given.last c.settled-last.result c.loop-given.depth c.loop-given.invariant.2 g c.in-Close.is (omega arith)
+    c.settled-last.ensures.waits c.settled-last.ensures.few in (
+      tt,
+      tt,
+      subst (λ n. Walk c.args.lexer (item_of c.args.lexer.text c.args.first) c.next.new.self c.settled-last.result n) (sym zero) w,
+      c.settled-last.ensures.drops ∙ c.loop-given.invariant.3,
+    )
 
 pub loop-given-preserved-else-depth-eq0-2 : goal.loop-given-preserved-else-depth-eq0-2
 loop-given-preserved-else-depth-eq0-2 c =
@@ -38,18 +41,25 @@ loop-given-preserved-else-depth-eq0-2 c =
 pub loop-given-preserved-then-depth-eq0-3 : goal.loop-given-preserved-then-depth-eq0-3
 loop-given-preserved-then-depth-eq0-3 c =
     let P : Result Token Fault → Type 0 = λ x. Gives c.loop-given.lexer (Some x) c.next.new.self in
-    let g = subst P c.in-Ok.is c.in-Some.ensures.steps in
-    (tt, tt, Walk-here _ _ _ _ c.in-Ok.token c.loop-given.last c.and-last.result _ c.loop-given.invariant.2 g c.in_default-kind.not-Open c.in_default-kind.not-Close
-        c.if-depth-eq0-3.true c.and-last.ensures.mark c.and-last.ensures.form c.and-last.ensures.few,
-        c.and-last.ensures.drops ∙ c.loop-given.invariant.3)
+    let g = subst P c.in-Ok.is c.in-Some.ensures.steps in (
+      tt,
+      tt,
+      Walk-here _ _ _ _ c.in-Ok.token c.loop-given.last c.and-last.result _ c.loop-given.invariant.2 g c.in_default-kind.not-Open c.in_default-kind.not-Close
+          c.if-depth-eq0-3.true c.and-last.ensures.mark c.and-last.ensures.form c.and-last.ensures.few,
+      c.and-last.ensures.drops ∙ c.loop-given.invariant.3,
+    )
 
 pub loop-given-preserved : goal.loop-given-preserved
 loop-given-preserved c =
     let P : Result Token Fault → Type 0 = λ x. Gives c.loop-given.lexer (Some x) c.next.new.self in
     let g = subst P c.in-Ok.is c.in-Some.ensures.steps in
-    let some = c.if-depth-eq0-3.false in
-    (tt, tt, Walk-inside _ _ _ _ c.in-Ok.token _ _ c.loop-given.invariant.2 g c.in_default-kind.not-Open c.in_default-kind.not-Close
-        (omega arith), c.loop-given.invariant.3)
+    let some = c.if-depth-eq0-3.false in (
+      tt,
+      tt,
+      Walk-inside _ _ _ _ c.in-Ok.token _ _ c.loop-given.invariant.2 g c.in_default-kind.not-Open c.in_default-kind.not-Close
+          (omega arith),
+      c.loop-given.invariant.3,
+    )
 
 pub returns-then-depth-eq0 : goal.returns-then-depth-eq0
 returns-then-depth-eq0 c =
