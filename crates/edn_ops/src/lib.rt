@@ -1,4 +1,6 @@
 //! Operations of a text (EDN as Jepsen prints it): reading them, and their canonical text.
 #![tactic(auto)]
 
+mod atoms;
+mod outline;
 pub mod types;
