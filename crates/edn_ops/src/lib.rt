@@ -2,5 +2,6 @@
 #![tactic(auto)]
 
 mod atoms;
+mod forms;
 mod outline;
 pub mod types;
