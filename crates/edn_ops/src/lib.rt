@@ -2,6 +2,9 @@
 #![tactic(auto)]
 
 mod atoms;
+mod faults;
+mod fields;
 mod forms;
+mod micro_ops;
 mod outline;
 pub mod types;
