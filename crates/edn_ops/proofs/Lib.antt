@@ -1,1 +1,3 @@
 pub mod Integers
+pub mod OutlineLemmas
+pub mod Gathering

@@ -1,15 +1,20 @@
 //! The fields of an operation's map, gathered as its members come.
 
 ghost use Rattle.std.specs.Prelude.{◌≡◌, ℕ, List, [], ◌∷◌, ◌++◌, ◌-◌, ◌<◌, true, false, Option, IfOk};
-ghost use Rattle.hist_types.specs.Entries.{the_one, entry_of, end_of, kind_of as kind_of_form};
+ghost use Rattle.hist_types.specs.Entries.{the_one, transaction_of, mops_of, entry_of, end_of, kind_of as kind_of_form};
 ghost use Rattle.hist_types.specs.Forms.{Form, place_of};
 ghost use Rattle.hist_types.specs.Tokens.{Item};
 ghost use Rattle.edn_ops.specs.Outlines.{outline, outline_of, IsOutlineIn};
-ghost use Rattle.edn_ops.specs.Fields.{IsField, IsFieldIn, result_outline, result_outline_of};
+ghost use Rattle.edn_ops.specs.Fields.{IsField, IsFieldIn, result_outline, result_outline_of, shapes_result, mops_result, Gathers, AreFieldsIn, awaits, IsEntry};
 
+use crate::atoms;
 use crate::faults::fault_at;
-use crate::outline::Outline;
+use crate::outline::{Outline, bytes_of};
+use crate::types::{MopShape, OpShape, Span};
+use hist_types::limits::MAX_OPERATION_BYTES;
 use hist_types::types::{Fault, OpKind, Refusal};
+use smallvec::SmallVec;
+use std::alloc::Global;
 
 /// The fields of one name in a map: the value of the first, and where the key of the second begins.
 #[derive(Clone, Copy)]
@@ -71,5 +76,80 @@ fn kind_of(text: &[u8], value: Outline) -> Option<OpKind>
         Some(OpKind::Info)
     } else {
         None
+    }
+}
+
+/// The fields of a map, as far as its members have been gathered.
+#[derive(Drop)]
+pub(crate) struct Fields {
+    /// The key that has no value yet.
+    key: Option<Outline>,
+    kind: Field,
+    process: Field,
+    value: Field,
+    /// What the first value of `:value` is as a transaction.
+    transaction: Result<SmallVec<MopShape, 4>, Fault>,
+}
+
+impl Fields {
+    pub(crate) fn new(alloc: Global) -> Fields
+        ensures fields { (text : List ℕ) → Gathers text result [] }
+        ensures within { (text : List ℕ) → AreFieldsIn text result }
+    {
+        Fields {
+            key: None,
+            kind: Field::new(),
+            process: Field::new(),
+            value: Field::new(),
+            transaction: Ok(SmallVec::new(alloc)),
+        }
+    }
+
+    /// Whether the next member is the value of the first `:value`, whose transaction is to be read.
+    pub(crate) fn awaits_transaction(&self, text: &[u8]) -> bool
+        requires { AreFieldsIn text.now self.now }
+        ensures { result ≡ awaits text.now self.now }
+    {
+        match self.key {
+            Some(key) => {
+                key.is_named(text, b":value") && self.value.value.is_none()
+            }
+            None => false,
+        }
+    }
+
+    /// Gathers the value of the first `:value`, with what it is as a transaction.
+    pub(crate) fn add_transaction(
+        &mut self,
+        value: Outline,
+        transaction: Result<SmallVec<MopShape, 4>, Fault>,
+    )
+        ensures fields { (text : List ℕ) (members : List Form) (form : Form) → Gathers text self.old members → awaits text self.old ≡ true → outline form ≡ outline_of text value → shapes_result (λ v. v.items) transaction ≡ mops_result (transaction_of form) → Gathers text self.new (members ++ form ∷ []) }
+        ensures within { (text : List ℕ) → AreFieldsIn text self.old → IsOutlineIn text value → AreFieldsIn text self.new }
+    {
+        self.key = None;
+        self.value.value = Some(value);
+        self.transaction = transaction;
+    }
+
+    /// Gathers any other member.
+    pub(crate) fn add(&mut self, text: &[u8], member: Outline)
+        requires fields { AreFieldsIn text.now self.old }
+        requires member { IsOutlineIn text.now member }
+        ensures fields { (members : List Form) (form : Form) → Gathers text.now self.old members → awaits text.now self.old ≡ false → outline form ≡ outline_of text.now member → Gathers text.now self.new (members ++ form ∷ []) }
+        ensures within { AreFieldsIn text.now self.new }
+    {
+        let Some(key) = self.key else {
+            self.key = Some(member);
+            return;
+        };
+        self.key = None;
+        if key.is_named(text, b":type") {
+            self.kind.add(key.place(), member);
+        } else if key.is_named(text, b":process") {
+            self.process.add(key.place(), member);
+        } else if key.is_named(text, b":value") {
+            self.value.add(key.place(), member);
+        }
     }
 }
