@@ -145,7 +145,7 @@ value_gathered text old new members key form g some grows same waits =
       transaction =
           let P : Form × Form → Type 0 = λ pair. shapes_result (λ v. v.items) new.transaction ≡ mops_result (transaction_of pair.1) in
           let before : IfSome (slice_get (fields_named (codes ":value") g.pairs) 0) P =
-              subst (λ (r : Result (List MopShape) Fault). IfSome (slice_get (fields_named (codes ":value") g.pairs) 0) (λ pair. r ≡ mops_result (transaction_of pair.1))) (sym same) g.transaction in
+          subst (λ (r : Result (List MopShape) Fault). IfSome (slice_get (fields_named (codes ":value") g.pairs) 0) (λ pair. r ≡ mops_result (transaction_of pair.1))) (sym same) g.transaction in
           subst (λ (xs : List (Form × Form)). IfSome (slice_get xs 0) P) (sym (named_more (codes ":value") g.pairs k form))
           (first_stays P text old.value (fields_named (codes ":value") g.pairs) (is_named (codes ":value") k) k form g.value (ap (λ (t : Bool). t && is_none old.value.value) (sym named) ∙ waits) before);
     }
@@ -163,9 +163,9 @@ transaction_gathered text old new members key form g some grows is_value first i
     let k = found.0 in
     let named : is_named (codes ":value") k ≡ true = sym (is_named-outline (codes ":value") k) ∙ ap (is_named (codes ":value")) found.2 ∙ is_value in
     let all : fields_named (codes ":value") (g.pairs ++ (k, form) ∷ []) ≡ (k, form) ∷ [] =
-        named_more (codes ":value") g.pairs k form
-        ∙ ap (λ (xs : List (Form × Form)). xs ++ if_named (is_named (codes ":value") k) k form) (none_named text old.value (fields_named (codes ":value") g.pairs) g.value first)
-        ∙ ap (λ (t : Bool). if_named t k form) named in
+    named_more (codes ":value") g.pairs k form
+    ∙ ap (λ (xs : List (Form × Form)). xs ++ if_named (is_named (codes ":value") k) k form) (none_named text old.value (fields_named (codes ":value") g.pairs) g.value first)
+    ∙ ap (λ (t : Bool). if_named t k form) named in
     record {
       pairs = g.pairs ++ (k, form) ∷ [];
       pending = None;

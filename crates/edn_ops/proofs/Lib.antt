@@ -1,3 +1,4 @@
 pub mod Integers
 pub mod OutlineLemmas
 pub mod Gathering
+pub mod Closing

@@ -88,6 +88,14 @@ awaits_by text (Some key) field = is_named (codes ":value") (outline_of text key
 abbrev pub awaits : List ℕ → Fields → Bool
 awaits text fields = awaits_by text fields.key fields.value
 
+-- what the code gives for an operation is what the map gives
+abbrev pub IsOperation : Result OpShape Fault → Result Entry Fault → Type 0
+IsOperation (Ok shape) (Ok (operation o)) = IsShapeOf shape o
+IsOperation (Ok shape) (Ok skipped) = ⊥
+IsOperation (Ok shape) (Err fault) = ⊥
+IsOperation (Err fault) (Ok entry) = ⊥
+IsOperation (Err fault) (Err other) = fault ≡ other
+
 -- what the code gives for a map is the entry that the map gives
 abbrev pub IsEntry : Result (Option OpShape) Fault → Result Entry Fault → Type 0
 IsEntry (Ok (Some shape)) (Ok (operation o)) = IsShapeOf shape o

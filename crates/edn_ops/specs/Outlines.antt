@@ -1,5 +1,6 @@
 -- Members of an operation's map and of its transaction: what its checks ask of a form without looking into it.
-use Rattle.std.specs.Prelude.{◌≡◌, ℕ, ◌≤◌, List, [], length, true, slice_range}
+use Rattle.std.specs.Prelude.{◌≡◌, ℕ, ℤ, ◌≤◌, List, [], length, true, slice_range}
+use Rattle.hist_types.specs.AtomTokens.{int_value}
 use Rattle.hist_types.specs.Forms.{Form, plain, collection, tagged, no_form}
 use Rattle.hist_types.specs.Tokens.{Item, ItemKind, Tag, Int, is_int}
 use Rattle.edn_lex.specs.declared.types.Token.{Token}
@@ -17,6 +18,14 @@ pub record IsTokenIn (text : List ℕ) (token : Token) : Type 0 where
   pub ordered : token.start ≤ token.end
   pub within : token.end ≤ length text
   pub spelled : IsSpelled (kind_of token.kind) (slice_range text token.start token.end)
+
+-- the text has the token, an integer
+pub record IsIntIn (text : List ℕ) (token : Token) : Type 0 where
+  pub token_in : IsTokenIn text token
+  pub int : is_int (slice_range text token.start token.end) ≡ true
+
+abbrev pub number_of : List ℕ → Token → ℤ
+number_of text token = int_value (slice_range text token.start token.end)
 
 abbrev pub IsOutlineIn : List ℕ → Outline → Type 0
 IsOutlineIn text (outlines.Plain token) = IsTokenIn text token

@@ -36,10 +36,7 @@ fn integer_of(spelling: &[u8]) -> Option<i64>
 fn is_escape(byte: u8) -> bool
     ensures { result ≡ is_some (escape_value byte) }
 {
-    matches!(
-        byte,
-        b't' | b'r' | b'n' | b'\\' | b'"' | b'b' | b'f'
-    )
+    matches!(byte, b't' | b'r' | b'n' | b'\\' | b'"' | b'b' | b'f')
 }
 
 /// Whether each backslash in a string takes a byte that stands for one.

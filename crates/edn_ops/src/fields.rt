@@ -1,16 +1,17 @@
 //! The fields of an operation's map, gathered as its members come.
 
 ghost use Rattle.std.specs.Prelude.{◌≡◌, ℕ, List, [], ◌∷◌, ◌++◌, ◌-◌, ◌<◌, true, false, Option, IfOk};
-ghost use Rattle.hist_types.specs.Entries.{the_one, transaction_of, mops_of, entry_of, end_of, kind_of as kind_of_form};
+ghost use Rattle.hist_types.specs.Entries.{the_one, transaction_of, mops_of, entry_of, end_of, kind_of as kind_of_form, client_operation as client_entry};
 ghost use Rattle.hist_types.specs.Forms.{Form, place_of};
 ghost use Rattle.hist_types.specs.Tokens.{Item};
-ghost use Rattle.edn_ops.specs.Outlines.{outline, outline_of, IsOutlineIn};
-ghost use Rattle.edn_ops.specs.Fields.{IsField, IsFieldIn, result_outline, result_outline_of, shapes_result, mops_result, Gathers, AreFieldsIn, awaits, IsEntry};
+ghost use Rattle.edn_ops.specs.Outlines.{outline, outline_of, IsOutlineIn, IsIntIn, number_of};
+ghost use Rattle.edn_ops.specs.Fields.{IsField, IsFieldIn, result_outline, result_outline_of, shapes_result, mops_result, Gathers, AreFieldsIn, awaits, IsEntry, IsOperation};
 
 use crate::atoms;
 use crate::faults::fault_at;
 use crate::outline::{Outline, bytes_of};
 use crate::types::{MopShape, OpShape, Span};
+use edn_lex::types::Token;
 use hist_types::limits::MAX_OPERATION_BYTES;
 use hist_types::types::{Fault, OpKind, Refusal};
 use smallvec::SmallVec;
@@ -53,9 +54,7 @@ impl Field {
     {
         match (self.value, self.second) {
             (None, _) => Err(fault_at(Refusal::MissingField, start)),
-            (Some(_), Some(place)) => {
-                Err(fault_at(Refusal::DuplicateField, place))
-            }
+            (Some(_), Some(place)) => { Err(fault_at(Refusal::DuplicateField, place)) }
             (Some(value), None) => Ok(value),
         }
     }
@@ -111,9 +110,7 @@ impl Fields {
         ensures { result ≡ awaits text.now self.now }
     {
         match self.key {
-            Some(key) => {
-                key.is_named(text, b":value") && self.value.value.is_none()
-            }
+            Some(key) => { key.is_named(text, b":value") && self.value.value.is_none() }
             None => false,
         }
     }
@@ -150,6 +147,71 @@ impl Fields {
             self.process.add(key.place(), member);
         } else if key.is_named(text, b":value") {
             self.value.add(key.place(), member);
+        }
+    }
+
+    /// What the map gives once it is closed: an operation, or none where it is skipped.
+    pub(crate) fn entry(
+        self,
+        alloc: Global,
+        text: &[u8],
+        span: Span,
+    ) -> Result<Option<OpShape>, Fault>
+        requires { AreFieldsIn text.now self }
+        ensures { (opener closer : Item) (members : List Form) → Gathers text.now self members → opener.start ≡ span.start → end_of closer ≡ span.end → IsEntry result (entry_of opener closer members) }
+    {
+        if self.key.is_some() {
+            return Err(fault_at(Refusal::OddMap, span.start));
+        }
+        let process = self.process.the_one(span.start)?;
+        let Some(number) = process.integer() else {
+            return Ok(None);
+        };
+        let shape = self.client_operation(alloc, text, span, number)?;
+        Ok(Some(shape))
+    }
+
+    /// The operation, by the integer that is the value of its `:process`.
+    fn client_operation(
+        self,
+        alloc: Global,
+        text: &[u8],
+        span: Span,
+        number: Token,
+    ) -> Result<OpShape, Fault>
+        requires fields { AreFieldsIn text.now self }
+        requires number { IsIntIn text.now number }
+        ensures { (members : List Form) (g : Gathers text.now self members) → IsOperation result (client_entry (number_of text.now number) number.start span.start span.end g.pairs) }
+    {
+        let Some(process) = atoms::process_of(bytes_of(text, number)) else {
+            return Err(fault_at(Refusal::BadProcess, number.start));
+        };
+        if span.end.saturating_sub(span.start) > MAX_OPERATION_BYTES {
+            return Err(fault_at(Refusal::TooLong, span.start));
+        }
+        let value = self.kind.the_one(span.start)?;
+        let Some(kind) = kind_of(text, value) else {
+            return Err(fault_at(Refusal::BadType, value.place()));
+        };
+        let mops = self.mops(alloc, kind, span.start)?;
+        Ok(OpShape {
+            span,
+            kind,
+            process,
+            mops,
+        })
+    }
+
+    /// The micro-operations of an operation of this kind, whose map begins at `start`.
+    fn mops(self, alloc: Global, kind: OpKind, start: usize) -> Result<SmallVec<MopShape, 4>, Fault>
+        ensures { (text : List ℕ) (members : List Form) (g : Gathers text self members) → shapes_result (λ v. v.items) result ≡ mops_result (mops_of kind start g.pairs) }
+    {
+        match kind {
+            OpKind::Invoke | OpKind::Ok => {
+                self.value.the_one(start)?;
+                self.transaction
+            }
+            OpKind::Fail | OpKind::Info => Ok(SmallVec::new(alloc)),
         }
     }
 }

@@ -1,10 +1,9 @@
 //! Members of an operation's map and of its transaction, as far as its checks look at them.
 
-ghost use Rattle.std.specs.Prelude.{◌≡◌, ◌≤◌, List, ℕ, length, slice_range, option_map};
+ghost use Rattle.std.specs.Prelude.{◌≡◌, ◌≤◌, List, ℕ, length, slice_range, option_map, IfSome};
 ghost use Rattle.hist_types.specs.Entries.{is_named, is_nil as is_nil_form, int_of, atom_of, value_of};
-ghost use Rattle.hist_types.specs.AtomTokens.{int_value};
 ghost use Rattle.hist_types.specs.Forms.{place_of};
-ghost use Rattle.edn_ops.specs.Outlines.{outline_of, IsTokenIn, IsOutlineIn};
+ghost use Rattle.edn_ops.specs.Outlines.{outline_of, IsTokenIn, IsOutlineIn, IsIntIn, number_of};
 ghost use Rattle.edn_ops.specs.Shapes.{span_of};
 
 use crate::atoms;
@@ -57,8 +56,7 @@ impl Outline {
     {
         match self {
             Outline::Plain(token) => {
-                matches!(token.kind, TokenKind::Keyword)
-                    && name == bytes_of(text, token)
+                matches!(token.kind, TokenKind::Keyword) && name == bytes_of(text, token)
             }
             Outline::Collection(_) | Outline::Tagged(_) => false,
         }
@@ -79,9 +77,7 @@ impl Outline {
         ensures { result ≡ option_map (λ a. span_of a.0) (atom_of (outline_of text.now self)) }
     {
         match self {
-            Outline::Plain(token)
-                if atoms::is_atom(token.kind, bytes_of(text, token)) =>
-            {
+            Outline::Plain(token) if atoms::is_atom(token.kind, bytes_of(text, token)) => {
                 Some(span(token))
             }
             _ => None,
@@ -94,21 +90,19 @@ impl Outline {
         ensures { result ≡ option_map (λ a. span_of a.0) (value_of (outline_of text.now self)) }
     {
         match self {
-            Outline::Plain(token) if matches!(token.kind, TokenKind::Nil) => {
-                Some(span(token))
-            }
+            Outline::Plain(token) if matches!(token.kind, TokenKind::Nil) => { Some(span(token)) }
             _ => self.atom(text),
         }
     }
 
     /// The token, if it is an integer.
     pub(crate) fn integer(self) -> Option<Token>
-        ensures { (text : List ℕ) → int_of (outline_of text self) ≡ option_map (λ token. int_value (slice_range text token.start token.end)) result }
+        ensures number { (text : List ℕ) → int_of (outline_of text self) ≡ option_map (number_of text) result }
+        ensures within { (text : List ℕ) → IsOutlineIn text self → IfSome result (IsIntIn text) }
+        ensures place { (text : List ℕ) → IfSome result (λ token. token.start ≡ place_of (outline_of text self)) }
     {
         match self {
-            Outline::Plain(token) if matches!(token.kind, TokenKind::Int) => {
-                Some(token)
-            }
+            Outline::Plain(token) if matches!(token.kind, TokenKind::Int) => { Some(token) }
             _ => None,
         }
     }
