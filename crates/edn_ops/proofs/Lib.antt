@@ -2,3 +2,5 @@ pub mod Integers
 pub mod OutlineLemmas
 pub mod Gathering
 pub mod Closing
+pub mod Steps
+pub mod Levels

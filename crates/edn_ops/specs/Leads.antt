@@ -11,6 +11,7 @@ use Rattle.hist_types.specs.declared.types.Fault.{Fault}
 use Rattle.edn_lex.specs.Kinds.{kind_of, item_of}
 use Rattle.edn_lex.specs.State.{State, Rest, GivesToken}
 use Rattle.edn_ops.specs.declared.forms.Member.{Member}
+use Rattle.edn_ops.specs.LevelEnds.{SameLevel, LevelEnds}
 
 -- ---- from one place to another
 
@@ -92,6 +93,7 @@ pub record GivesMember (s : State) (member : Member) (t : State) : Type 0 where
   pub first : member.tag ≡ first_place tags
   pub before : State
   pub leads : (o : Open) → Leads s (with_marks [] o) [] before (with_marks tags o)
+  pub level : SameLevel s [] before tags
   pub token : GivesToken before member.token t
   pub no_mark : is_mark_kind (kind_of member.token.kind) ≡ false
   pub closer : kind_of member.token.kind ≡ Closer → tags ≡ []
@@ -112,6 +114,7 @@ NextMember s (Err fault) t = (o : Open) → Stops s (with_marks [] o) fault
 pub record PassesCollection (s : State) (opener : Item) (t : State) : Type 0 where
   pub members : List Form
   pub closer : Item
+  pub level : LevelEnds s t
   pub leads :
       (o : Open) → in_operation_place o ≡ false →
       Leads s (with_opener opener o) [] t (with_form (collection opener closer (forms_of members)) o.marks o.collections)

@@ -2,3 +2,5 @@ pub mod Shapes
 pub mod Outlines
 pub mod Leads
 pub mod Fields
+pub mod LevelEnds
+pub mod Marks

@@ -3,6 +3,7 @@
 ghost use Rattle.edn_lex.specs.Kinds.{item_of};
 ghost use Rattle.edn_ops.specs.Leads.{NextMember, SkipsCollection};
 
+use crate::marks::{Waiting, dangling};
 use edn_lex::lexer::Lexer;
 use edn_lex::types::{Token, TokenKind};
 use hist_types::types::{At, Fault, Refusal};
@@ -16,19 +17,54 @@ pub(crate) struct Member {
 }
 
 /// The next member of the innermost open collection, or of the top level, where no tag and no `#_` waits; or the closer, or
-/// none at the text's end. A `DanglingTag` is told here.
+/// none at the text's end. `DanglingTag` is the fault of a closer or an end before which one waits, at the last that does.
+#[cycle(forms)]
 pub(crate) fn next_member(lexer: &mut Lexer) -> Result<Option<Member>, Fault>
     ensures { NextMember lexer.old result lexer.new }
 {
-    match lexer.next() {
-        None => Ok(None),
-        Some(Err(fault)) => Err(fault),
-        Some(Ok(token)) => Ok(Some(Member { token, tag: None })),
+    let Some(given) = lexer.next() else {
+        return Ok(None);
+    };
+    let token = given?;
+    match token.kind {
+        TokenKind::Tag | TokenKind::Drop => member_behind(lexer, token),
+        _ => Ok(Some(Member { token, tag: None })),
     }
 }
 
-/// Passes over a collection up to behind its closer, whose opener has just been given. Only its members' tokens, its nesting
-/// and its tags are looked at.
+/// The same, behind the first tag or `#_`.
+#[cycle(forms)]
+fn member_behind(lexer: &mut Lexer, mark: Token) -> Result<Option<Member>, Fault> {
+    let start = lexer.copy();
+    let mut waiting = Waiting::by(mark);
+    while let Some(given) = lexer.next() {
+        let token = given?;
+        if waiting.joined_by(token) {
+            continue;
+        }
+        if token.kind == TokenKind::Close && waiting.is_some() {
+            return Err(dangling(start, mark, waiting.drops));
+        }
+        if waiting.drops == 0 {
+            return Ok(Some(Member {
+                token,
+                tag: waiting.tag,
+            }));
+        }
+        if token.kind == TokenKind::Open {
+            skip_collection(lexer, token)?;
+        }
+        waiting.drops -= 1;
+    }
+    if waiting.is_some() {
+        return Err(dangling(start, mark, waiting.drops));
+    }
+    Ok(None)
+}
+
+/// Passes over a collection up to behind its closer, whose opener has just been given. Only its tokens, its nesting and its tags
+/// are looked at. Calls are at most as deep as collections may be.
+#[cycle(forms)]
 pub(crate) fn skip_collection(lexer: &mut Lexer, opener: Token) -> Result<(), Fault>
     ensures { SkipsCollection lexer.old (item_of lexer.old.text opener) result lexer.new }
 {

@@ -5,6 +5,8 @@ mod atoms;
 mod faults;
 mod fields;
 mod forms;
+mod maps;
+mod marks;
 mod micro_ops;
 mod outline;
 pub mod types;
