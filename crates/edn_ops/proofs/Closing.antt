@@ -134,8 +134,8 @@ pub is_operation : (number : ℤ) (place process start end : ℕ) (pairs : List 
 is_operation number place process start end pairs o kind shape is e k m is_span is_kind is_process =
     let mops = ok_mops shape.mops.items (mops_of kind start pairs) m in
     let given : client_operation number place start end pairs ≡ Ok (operation (record { kind = kind; process = process; mops = mops.0; start = start; end = end })) =
-        typed number place process start end pairs o (Some kind) is e k
-        ∙ bind_ok (mops_of kind start pairs) mops.0 (λ mops. Ok (operation (record { kind = kind; process = process; mops = mops; start = start; end = end }))) mops.1 in
+    typed number place process start end pairs o (Some kind) is e k
+    ∙ bind_ok (mops_of kind start pairs) mops.0 (λ mops. Ok (operation (record { kind = kind; process = process; mops = mops; start = start; end = end }))) mops.1 in
     subst (IsOperation (Ok shape)) (sym given) (record { span = is_span; kind = is_kind; process = is_process; mops = mops.2 })
 
 pub operation_err : (fault : Fault) (r : Result Entry Fault) → r ≡ Err fault → IsOperation (Err fault) r

@@ -172,7 +172,7 @@ pub Leads-skipped :
     (s t u : State) (m : Member) (h : GivesMember s m t) (opener : Item) (members : List Form) (around : Open) →
     kind_of m.token.kind ≡ Opener → NoPlaceIn opener around → (p : PassesCollection t (item_of t.text m.token) u) →
     Leads s (inside opener members [] around) [] u
-        (inside opener (members ++ behind h.tags (collection (item_of s.text m.token) p.closer (forms_of p.members)) ∷ []) [] around)
+    (inside opener (members ++ behind h.tags (collection (item_of s.text m.token) p.closer (forms_of p.members)) ∷ []) [] around)
 Leads-skipped s t u m h opener members around is out p =
     let o = inside opener members h.tags around in
     let same : item_of t.text m.token ≡ item_of s.text m.token = ap (λ text. item_of text m.token) (h.token.text ∙ text_before s t m h) in

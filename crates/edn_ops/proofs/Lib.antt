@@ -4,3 +4,4 @@ pub mod Gathering
 pub mod Closing
 pub mod Steps
 pub mod Levels
+pub mod Collected

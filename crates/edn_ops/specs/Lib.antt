@@ -4,3 +4,4 @@ pub mod Leads
 pub mod Fields
 pub mod LevelEnds
 pub mod Marks
+pub mod Collections

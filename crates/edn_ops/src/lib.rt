@@ -6,6 +6,7 @@ mod faults;
 mod fields;
 mod forms;
 mod maps;
+mod members;
 mod marks;
 mod micro_ops;
 mod outline;

@@ -1,12 +1,16 @@
 //! Members of an operation's map and of its transaction, as far as its checks look at them.
 
-ghost use Rattle.std.specs.Prelude.{◌≡◌, ◌≤◌, List, ℕ, length, slice_range, option_map, IfSome};
+ghost use Rattle.std.specs.Prelude.{◌≡◌, ◌≤◌, List, true, ℕ, length, slice_range, option_map, IfSome};
 ghost use Rattle.hist_types.specs.Entries.{is_named, is_nil as is_nil_form, int_of, atom_of, value_of};
-ghost use Rattle.hist_types.specs.Forms.{place_of};
-ghost use Rattle.edn_ops.specs.Outlines.{outline_of, IsTokenIn, IsOutlineIn, IsIntIn, number_of};
+ghost use Rattle.hist_types.specs.Forms.{Form, Forms, plain, collection, place_of};
+ghost use Rattle.hist_types.specs.Tokens.{Item, Opener};
+ghost use Rattle.edn_lex.specs.Kinds.{kind_of, item_of};
+ghost use Rattle.edn_ops.specs.Leads.{is_plain_kind, IsBehind};
+ghost use Rattle.edn_ops.specs.Outlines.{outline, outline_of, IsTokenIn, IsOutlineIn, IsIntIn, number_of};
 ghost use Rattle.edn_ops.specs.Shapes.{span_of};
 
 use crate::atoms;
+use crate::forms::Member;
 use crate::types::Span;
 use edn_lex::types::{Token, TokenKind};
 
@@ -38,7 +42,29 @@ fn span(token: Token) -> Span
     }
 }
 
+/// The form of a reserved place.
+impl Default for Outline {
+    fn default() -> Outline {
+        Outline::Tagged(0)
+    }
+}
+
 impl Outline {
+    /// The outline of the form that begins with this member's token.
+    pub(crate) fn of(member: Member) -> Outline
+        ensures plain { (text : List ℕ) (form : Form) → is_plain_kind (kind_of member.token.kind) ≡ true → IsBehind member.tag (plain (item_of text member.token)) form → outline form ≡ outline_of text result }
+        ensures collection { (text : List ℕ) (closer : Item) (members : Forms) (form : Form) → kind_of member.token.kind ≡ Opener → IsBehind member.tag (collection (item_of text member.token) closer members) form → outline form ≡ outline_of text result }
+        ensures within { (text : List ℕ) → IsTokenIn text member.token → IsOutlineIn text result }
+    {
+        match member.tag {
+            Some(place) => Outline::Tagged(place),
+            None => match member.token.kind {
+                TokenKind::Open => Outline::Collection(member.token),
+                _ => Outline::Plain(member.token),
+            },
+        }
+    }
+
     /// Where it begins.
     pub(crate) fn place(self) -> usize
         ensures { (text : List ℕ) → result ≡ place_of (outline_of text self) }

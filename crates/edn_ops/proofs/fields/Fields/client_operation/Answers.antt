@@ -49,8 +49,8 @@ returns-in_err-mops c members g =
     let value = c.in_ok-value.value in
     let is = is_fit text c.bytes_of.result.now c.args.number c.in-Some.process c.saturating_sub.result start end c.in-Some.ensures c.bytes_of.ensures c.saturating_sub.ensures c.if-saturating_sub-gt-MAX_OPERATION_BYTES.false in
     let fails =
-        bad_mops (number_of text c.args.number) c.args.number.start c.in-Some.process start end g.pairs (outline_of text value) c.in-Some-kind_of.kind _ is
-        (c.in_ok-value.ensures.one text (fields_named (codes ":type") g.pairs) g.kind) c.in-Some-kind_of.ensures (c.in_err-mops.ensures text members g) in
+    bad_mops (number_of text c.args.number) c.args.number.start c.in-Some.process start end g.pairs (outline_of text value) c.in-Some-kind_of.kind _ is
+    (c.in_ok-value.ensures.one text (fields_named (codes ":type") g.pairs) g.kind) c.in-Some-kind_of.ensures (c.in_err-mops.ensures text members g) in
     fails_with _ _ _ c.from_residual-in_err-mops.ensures.1 fails
 
 pub returns : goal.returns

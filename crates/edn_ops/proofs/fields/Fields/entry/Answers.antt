@@ -16,8 +16,8 @@ returns-then-is_some c opener closer members g start end =
 pub returns-in_err-process : goal.returns-in_err-process
 returns-in_err-process c opener closer members g start end =
     let fails =
-        no_process opener closer c.args.span.start c.args.span.end c.args.text.now c.args.self members _ g (record { start_is = start; end_is = end }) (sym c.is_some.ensures ∙ c.if-is_some.false)
-        (c.in_err-process.ensures.one c.args.text.now (fields_named (codes ":process") g.pairs) g.process) in
+    no_process opener closer c.args.span.start c.args.span.end c.args.text.now c.args.self members _ g (record { start_is = start; end_is = end }) (sym c.is_some.ensures ∙ c.if-is_some.false)
+    (c.in_err-process.ensures.one c.args.text.now (fields_named (codes ":process") g.pairs) g.process) in
     entry_fails_with _ _ _ c.from_residual.ensures.1 fails
 
 pub returns-in_default : goal.returns-in_default
@@ -35,10 +35,10 @@ returns-in_err-shape c opener closer members g start end =
     let o = outline_of text c.in_ok-process.process in
     let number = number_of text c.in-Some.number in
     let given =
-        processed opener closer c.args.span.start c.args.span.end text c.args.self members o (Some number) g (record { start_is = start; end_is = end }) (sym c.is_some.ensures ∙ c.if-is_some.false)
-        (c.in_ok-process.ensures.one text (fields_named (codes ":process") g.pairs) g.process) (c.in-Some.ensures.number text) in
+    processed opener closer c.args.span.start c.args.span.end text c.args.self members o (Some number) g (record { start_is = start; end_is = end }) (sym c.is_some.ensures ∙ c.if-is_some.false)
+    (c.in_ok-process.ensures.one text (fields_named (codes ":process") g.pairs) g.process) (c.in-Some.ensures.number text) in
     let here : IsOperation (Err c.in_err-shape.field-0.0) (entry_by (Some number) (place_of o) c.args.span.start c.args.span.end g.pairs) =
-        placed (Err c.in_err-shape.field-0.0) number c.in-Some.number.start (place_of o) c.args.span.start c.args.span.end g.pairs (c.in-Some.ensures.place text) (c.in_err-shape.ensures members g) in
+    placed (Err c.in_err-shape.field-0.0) number c.in-Some.number.start (place_of o) c.args.span.start c.args.span.end g.pairs (c.in-Some.ensures.place text) (c.in_err-shape.ensures members g) in
     entry_fails _ _ _ _ c.from_residual-in_err-shape.ensures.1 given here
 
 pub returns : goal.returns
@@ -47,8 +47,8 @@ returns c opener closer members g start end =
     let o = outline_of text c.in_ok-process.process in
     let number = number_of text c.in-Some.number in
     let given =
-        processed opener closer c.args.span.start c.args.span.end text c.args.self members o (Some number) g (record { start_is = start; end_is = end }) (sym c.is_some.ensures ∙ c.if-is_some.false)
-        (c.in_ok-process.ensures.one text (fields_named (codes ":process") g.pairs) g.process) (c.in-Some.ensures.number text) in
+    processed opener closer c.args.span.start c.args.span.end text c.args.self members o (Some number) g (record { start_is = start; end_is = end }) (sym c.is_some.ensures ∙ c.if-is_some.false)
+    (c.in_ok-process.ensures.one text (fields_named (codes ":process") g.pairs) g.process) (c.in-Some.ensures.number text) in
     let here : IsOperation (Ok c.in_ok-shape.shape) (entry_by (Some number) (place_of o) c.args.span.start c.args.span.end g.pairs) =
-        placed (Ok c.in_ok-shape.shape) number c.in-Some.number.start (place_of o) c.args.span.start c.args.span.end g.pairs (c.in-Some.ensures.place text) (c.in_ok-shape.ensures members g) in
+    placed (Ok c.in_ok-shape.shape) number c.in-Some.number.start (place_of o) c.args.span.start c.args.span.end g.pairs (c.in-Some.ensures.place text) (c.in_ok-shape.ensures members g) in
     entry_is c.in_ok-shape.shape _ _ given here
