@@ -5,3 +5,4 @@ pub mod Closing
 pub mod Steps
 pub mod Levels
 pub mod Collected
+pub mod ByMember

@@ -1,5 +1,5 @@
 -- What calls read of the members of a collection, and of a collection as a whole.
-use Rattle.std.specs.Prelude.{◌≡◌, ¬, ◌≤◌, ◌<◌, ℕ, List, [], ◌∷◌, ◌++◌, take, map, false, Option, Some, None, Result, Ok, Err}
+use Rattle.std.specs.Prelude.{◌≡◌, ◌≢◌, ◌≤◌, ◌<◌, ℕ, List, [], ◌∷◌, ◌++◌, take, map, false, Option, Some, None, Result, Ok, Err}
 use Rattle.std.specs.List.{AllByRecursion}
 use Rattle.hist_types.specs.Entries.{PlacedMop, Entry, operation, skipped, micro_op_of, micro_ops_of, elements_of}
 use Rattle.hist_types.specs.Forms.{Form, collection, forms_of, Open, place_of, with_form, with_opener}
@@ -19,7 +19,7 @@ use Rattle.edn_ops.specs.Shapes.{IsShapeOf}
 
 -- what holds of a fault that is not out of memory
 abbrev pub UnlessMemory : Fault → Type 0 → Type 0
-UnlessMemory fault P = ¬ (fault ≡ memory_fault) → P
+UnlessMemory fault P = fault ≢ memory_fault → P
 
 -- ---- a member
 

@@ -20,8 +20,9 @@ pub(crate) fn pass_member(lexer: &mut Lexer, member: Member) -> Result<Outline, 
     requires { kind_of member.token.kind ≢ Closer }
     ensures { (s : State) → GivesMember s member lexer.old → PassesMember s result lexer.new }
 {
-    if matches!(member.token.kind, TokenKind::Open) {
-        skip_collection(lexer, member.token)?;
+    match member.token.kind {
+        TokenKind::Open => skip_collection(lexer, member.token)?,
+        _ => {}
     }
     Ok(Outline::of(member))
 }
@@ -32,8 +33,9 @@ pub(crate) fn first_forms(lexer: &mut Lexer, opener: Token) -> Result<ArrayVec<O
 {
     let mut forms = ArrayVec::new();
     while let Some(member) = next_member(lexer)? {
-        if matches!(member.token.kind, TokenKind::Close) {
-            return Ok(forms);
+        match member.token.kind {
+            TokenKind::Close => return Ok(forms),
+            _ => {}
         }
         let form = pass_member(lexer, member)?;
         if !forms.is_full() {
