@@ -1,5 +1,11 @@
 pub mod Steps
 pub mod Levels
+pub mod Integers
+pub mod OutlineLemmas
+pub mod Gathering
+pub mod Closing
+pub mod Collected
+pub mod ByMember
 pub mod LevelSteps
 pub mod MarksKept
 pub mod LastMark

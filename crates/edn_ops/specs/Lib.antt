@@ -1,4 +1,7 @@
 pub mod Shapes
-pub mod LevelEnds
+pub mod Outlines
 pub mod Leads
+pub mod Fields
+pub mod LevelEnds
 pub mod Marks
+pub mod Collections

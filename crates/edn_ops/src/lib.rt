@@ -1,6 +1,13 @@
 //! Operations of a text (EDN as Jepsen prints it): reading them, and their canonical text.
 #![tactic(auto)]
 
+mod atoms;
+mod faults;
+mod fields;
 mod forms;
+mod maps;
+mod members;
 mod marks;
+mod micro_ops;
+mod outline;
 pub mod types;

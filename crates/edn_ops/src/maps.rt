@@ -1,0 +1,1 @@
+//! The map of an operation, read member by member.
