@@ -130,6 +130,13 @@ impl<'a> Lexer<'a> {
         }
     }
 
+    /// The whole text.
+    pub fn text(&self) -> &'a [u8]
+        ensures { result.now ≡ self.now.text }
+    {
+        self.text
+    }
+
     /// A lexer at the same place of the same text.
     pub fn copy(&self) -> Lexer<'a>
         ensures { result ≡ self.now }

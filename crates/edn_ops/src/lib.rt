@@ -10,4 +10,5 @@ mod members;
 mod marks;
 mod micro_ops;
 mod outline;
+pub mod reader;
 pub mod types;

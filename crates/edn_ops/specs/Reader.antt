@@ -1,0 +1,58 @@
+-- Readers of operations, and what their calls read.
+use Rattle.std.specs.Prelude.{◌≡◌, ◌≢◌, ◌≤◌, ◌<◌, ◌+◌, ℕ, zero, suc, List, [], ◌∷◌, ◌++◌, true, false, Option, Some, None, Result, Ok, Err}
+use Rattle.hist_types.specs.Entries.{Entry, operation, skipped, PlacedOperation}
+use Rattle.hist_types.specs.Forms.{Form, collection, forms_of, Open, leave_out, is_vector_or_list, with_form, with_opener}
+use Rattle.hist_types.specs.Reading.{in_operation_place, nothing_open}
+use Rattle.hist_types.specs.Refusals.{memory_fault}
+use Rattle.hist_types.specs.Tokens.{Item}
+use Rattle.hist_types.specs.declared.types.Fault.{Fault}
+use Rattle.edn_lex.specs.declared.types.Token.{Token}
+use Rattle.edn_lex.specs.Kinds.{item_of}
+use Rattle.edn_lex.specs.State.{State, Rest}
+use Rattle.edn_ops.specs.declared.types.OpShape.{OpShape}
+use Rattle.edn_ops.specs.Fields.{IsEntry}
+use Rattle.edn_ops.specs.Leads.{SameDepth, Leads, ReadsAs, Stops, inside}
+use Rattle.edn_ops.specs.Shapes.{IsShapeOf}
+
+-- ---- maps
+
+-- what holds of a fault that is not out of memory
+abbrev pub UnlessMemory : Fault → Type 0 → Type 0
+UnlessMemory fault P = fault ≢ memory_fault → P
+
+-- a call read the map of an operation, behind whose opener s is
+abbrev pub ReadsMap : State → Item → Result (Option OpShape) Fault → State → Type 0
+ReadsMap s opener (Ok found) t =
+    (entry : Entry) × (members : List Form) × (closer : Item) × IsEntry (Ok found) (Ok entry) × (t.text ≡ s.text) × (s.offset ≤ t.offset)
+    × ((o : Open) → in_operation_place o ≡ true →
+    Leads s (with_opener opener o) (entry ∷ []) t (with_form (collection opener closer (forms_of members)) o.marks o.collections))
+ReadsMap s opener (Err fault) t = UnlessMemory fault ((o : Open) → in_operation_place o ≡ true → Stops s (with_opener opener o) fault)
+
+-- ---- what is open between two operations
+
+-- Nothing is open, or at the top level the vector or list with this opener, perhaps behind tags. The members that it has so far
+-- don't matter any more.
+abbrev pub OpenWith : List ℕ → Option Token → Open → Type 0
+OpenWith text None o = o ≡ nothing_open
+OpenWith text (Some opener) o =
+    (members : List Form) × (tags : List Item) × (leave_out tags ≡ false) × (is_vector_or_list (item_of text opener) ≡ true)
+    × (o ≡ inside (item_of text opener) members [] (record { marks = tags; collections = [] }))
+
+-- the same, where the lexer has as many open collections
+abbrev pub AreOpen : State → Option Token → Open → Type 0
+AreOpen s list o = OpenWith s.text list o × SameDepth s o
+
+-- ---- what is read
+
+-- so many skipped operations
+abbrev pub skips : ℕ → List Entry
+skips zero = []
+skips (suc n) = skipped ∷ skips n
+
+-- From s, where the list is open, the entries are read, and then what is read from t.
+abbrev pub Goes : State → Option Token → List Entry → State → Option Token → Type 0
+Goes s list entries t list' = (o : Open) → AreOpen s list o → (p : Open) × AreOpen t list' p × Leads s o entries t p
+
+-- What is left from s, where the list is open, reads as these entries and the fault.
+abbrev pub EndsWith : State → Option Token → List Entry → Option Fault → Type 0
+EndsWith s list entries fault = (o : Open) → AreOpen s list o → ReadsAs s o (record { entries = entries; fault = fault })
