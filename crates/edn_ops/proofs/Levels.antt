@@ -84,7 +84,7 @@ NoPlaceIn-outside opener around h = NoPlaceIn-outside-at opener around.marks aro
 -- ---- members
 
 -- a form behind tags is one member more
-with_form-behind :
+pub with_form-behind :
     (opener : Item) (members : List Form) (tags : List Item) (around : Open) (f : Form) → leave_out tags ≡ false →
     (let o = inside opener members tags around in with_form f o.marks o.collections ≡ inside opener (members ++ behind tags f ∷ []) [] around)
 with_form-behind opener members tags around f h =

@@ -11,3 +11,4 @@ pub mod MarksKept
 pub mod LastMark
 pub mod LeftOut
 pub mod PassedOver
+pub mod Places
