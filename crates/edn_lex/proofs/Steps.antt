@@ -273,6 +273,7 @@ GivesEnd-at_end s t g going end =
     let nothing : left t ≡ [] = drop_all t.offset t.text end in
     record {
       text = g.text;
+      low = g.low;
       rest = rest_going s [] None was_going (g.gap ++ [], g.cut [] None nothing, sym (gap_nothing g.gap g.is_gap));
       only = λ tokens ending rest.
           let split = rest_cut s tokens ending was_going rest in

@@ -74,6 +74,7 @@ pub record GivesFault (s : State) (fault : Fault) (t : State) : Type 0 where
 -- a call gave nothing, nor does a later one
 pub record GivesEnd (s : State) (t : State) : Type 0 where
   pub text : t.text ≡ s.text
+  pub low : s.offset ≤ t.offset
   pub rest : Rest s [] None
   pub only : (tokens : List Item) (ending : Option Fault) → Rest s tokens ending → (tokens ≡ []) × (ending ≡ None)
   pub after : Rest t [] None

@@ -301,6 +301,7 @@ module _ (s t : State) (mark : Token) (g : GivesToken s mark t) (is : is_mark_ki
       let nothing : Open = record { marks = []; collections = [] } in
       record {
         text = end.text ∙ (lead nothing).text;
+        forward = (let low = (lead nothing).forward in let high = end.low in omega arith);
         reads = λ o. Leads-reads s u (with_marks [] o) (with_marks [] o) [] _ (lead o) (ReadsAs-end u v (with_marks [] o) end);
         after = end.after;
       }
@@ -333,7 +334,7 @@ GivesMember-first s t token g none =
     }
 
 pub GivesNoMember-end : (s t : State) → GivesEnd s t → GivesNoMember s t
-GivesNoMember-end s t g = record { text = g.text; reads = λ o. ReadsAs-end s t (with_marks [] o) g; after = g.after }
+GivesNoMember-end s t g = record { text = g.text; forward = g.low; reads = λ o. ReadsAs-end s t (with_marks [] o) g; after = g.after }
 
 -- ---- refused at a mark
 

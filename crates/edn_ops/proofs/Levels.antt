@@ -237,3 +237,11 @@ GivesMember-shorter s t m h =
     let next = h.token.next in
     let fits : m.token.end ≤ length s.text = subst (λ xs. m.token.end ≤ length xs) text h.token.fits in
     (omega arith, omega arith, h.token.text ∙ text)
+
+-- its token ends behind what had been passed
+pub GivesMember-end : (s t : State) (m : Member) → GivesMember s m t → s.offset < m.token.end
+GivesMember-end s t m h =
+    let low = (h.leads (record { marks = []; collections = [] })).forward in
+    let above = h.token.low in
+    let some = h.token.some in
+    omega arith

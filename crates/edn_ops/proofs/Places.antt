@@ -1,9 +1,10 @@
 -- From one operation to the next.
-use Rattle.std.proofs.Common.{◌≡◌, ◌≢◌, ℕ, zero, suc, ◌+◌, ◌<◌, ◌≤◌, List, [], ◌∷◌, ◌++◌, length, Bool, true, false, not, ◌&&◌, ◌||◌, bytes_eq, Option, Some, None, Result, Ok, Err, refl, sym, ◌∙◌, ap, arith, subst, append_assoc}
+use Rattle.std.proofs.Common.{◌≡◌, ◌≢◌, ℕ, zero, suc, ◌+◌, ◌<◌, ◌≤◌, List, [], ◌∷◌, ◌++◌, length, Bool, true, false, not, ◌&&◌, ◌||◌, bytes_eq, Option, Some, None, Result, Ok, Err, refl, sym, ◌∙◌, ap, arith, subst, append_assoc, ◌⊎◌, inl, inr}
+use Rattle.std.specs.Option.{is_some}
 use Rattle.std.specs.Bool.{if◌then◌else◌}
 use Rattle.std.proofs.lemmas.Slice.Eq.{bytes_eq-Decides}
 use Rattle.hist_types.specs.Bytes.{open_round, open_square, open_brace}
-use Rattle.hist_types.specs.Entries.{Entry, operation, skipped, ◌>>=◌, refuse_if}
+use Rattle.hist_types.specs.Entries.{Entry, PlacedOperation, operation, skipped, ◌>>=◌, refuse_if}
 use Rattle.hist_types.specs.Forms.{Form, plain, collection, forms_of, OpenCollection, Open, is_map, is_vector_or_list, leave_out, still_waiting, with_form, with_opener}
 use Rattle.hist_types.specs.Reading.{Reading, Step, step, step_by, may_open, is_place_in, in_operation_place, in_front_of, fault_at_end, reading_from, goes_on, nothing_open, given_by}
 use Rattle.hist_types.specs.Tokens.{Item, ItemKind, Blank, Comment, Opener, Closer, Str, Char, Drop, Tag, Nil, True, False, Int, Keyword, Symbol, Other, byte_fault, nesting_refusal}
@@ -17,6 +18,8 @@ use Rattle.edn_lex.specs.State.{State, Rest, GivesToken}
 use Rattle.edn_ops.specs.declared.forms.Member.{Member}
 use Rattle.edn_ops.specs.declared.types.OpShape.{OpShape}
 use Rattle.edn_ops.specs.Leads.{SameDepth, Leads, ReadsAs, Stops, inside, behind, marks_among, with_marks, is_mark_kind, is_plain_kind, GivesMember, GivesNoMember}
+use Rattle.edn_ops.specs.Fields.{IsEntry}
+use Rattle.edn_ops.specs.Shapes.{IsShapeOf}
 use Rattle.edn_ops.specs.Reader.{ReadsMap, OpenWith, AreOpen, skips, Goes, EndsWith}
 use Rattle.edn_ops.proofs.Steps.{Leads-refl, Leads-append, Leads-then, Leads-stops, Leads-reads, Leads-depth, Leads-step, Stops-step, closer-depth, token-some}
 use Rattle.edn_ops.proofs.Levels.{nothing_waits, with_form-behind, step-opener, Leads-closer}
@@ -212,3 +215,149 @@ end_unclosed s t h opener o is =
 -- a fault at the next member
 pub member_stops : (s : State) (list : Option Token) (o : Open) (fault : Fault) → OpenWith s.text list o → ((p : Open) → Stops s (with_marks [] p) fault) → Stops s o fault
 member_stops s list o fault is stops = subst (λ (p : Open). Stops s p fault) (no_marks s.text list o is) (stops o)
+
+-- ---- from place to place
+
+-- so many operations have been skipped from s to t
+pub record Passed (s : State) (list : Option Token) (before : ℕ) (t : State) (list' : Option Token) (now : ℕ) : Type 0 where
+  pub more : ℕ
+  pub count : now ≡ before + more
+  pub few : now ≤ t.offset
+  pub text : t.text ≡ s.text
+  pub goes : Goes s list (skips more) t list'
+
+pub Passed-start : (s : State) (list : Option Token) (n : ℕ) → n ≤ s.offset → Passed s list n s list n
+Passed-start s list n few =
+    record { more = 0; count = omega arith; few = few; text = refl; goes = λ o is. (o, is, Leads-refl s o) }
+
+Goes-append :
+    (s t u : State) (a b c : Option Token) (g h : List Entry) → Goes s a g t b → Goes t b h u c → Goes s a (g ++ h) u c
+Goes-append s t u a b c g h first second =
+    λ o is.
+    let x = first o is in
+    let y = second x.0 x.1 in
+    (y.0, y.1, Leads-append s t u o x.0 y.0 g h x.2 y.2)
+
+skips-none : (n : ℕ) → skips n ++ [] ≡ skips n
+skips-none zero = refl
+skips-none (suc n) = ap (λ xs. skipped ∷ xs) (skips-none n)
+
+skips-more : (n : ℕ) → skips n ++ skipped ∷ [] ≡ skips (suc n)
+skips-more zero = refl
+skips-more (suc n) = ap (λ xs. skipped ∷ xs) (skips-more n)
+
+-- what leads on from each that is open
+abbrev pub LeadsOn : State → Option Token → List Entry → State → Option Token → Type 0
+LeadsOn s list given t list' = (o : Open) → AreOpen s list o → (q : Open) × OpenWith s.text list' q × Leads s o given t q
+
+Goes-on : (s t : State) (list list' : Option Token) (given : List Entry) → LeadsOn s list given t list' → Goes s list given t list'
+Goes-on s t list list' given leads =
+    λ o is.
+    let x = leads o is in
+    (x.0, (subst (λ text. OpenWith text list' x.0) (sym x.2.text) x.1, Leads-depth s t o x.0 given x.2 is.1), x.2)
+
+-- a list opened or closed
+pub Passed-list :
+    (s t u : State) (a b c : Option Token) (n m : ℕ) → Passed s a n t b m → t.offset ≤ u.offset → u.text ≡ t.text → LeadsOn t b [] u c → Passed s a n u c m
+Passed-list s t u a b c n m p further text leads =
+    let few = p.few in
+    record {
+      more = p.more;
+      count = p.count;
+      few = omega arith;
+      text = text ∙ p.text;
+      goes = subst (λ (es : List Entry). Goes s a es u c) (skips-none p.more) (Goes-append s t u a b c (skips p.more) [] p.goes (Goes-on t u b c [] leads));
+    }
+
+-- one operation skipped more
+pub Passed-skipped :
+    (s t u : State) (a b c : Option Token) (n m : ℕ) → Passed s a n t b m → t.offset < u.offset → u.text ≡ t.text → LeadsOn t b (skipped ∷ []) u c → Passed s a n u c (m + 1)
+Passed-skipped s t u a b c n m p further text leads =
+    let few = p.few in
+    let count = p.count in
+    record {
+      more = suc p.more;
+      count = omega arith;
+      few = omega arith;
+      text = text ∙ p.text;
+      goes = subst (λ (es : List Entry). Goes s a es u c) (skips-more p.more) (Goes-append s t u a b c (skips p.more) (skipped ∷ []) p.goes (Goes-on t u b c (skipped ∷ []) leads));
+    }
+
+-- an operation
+pub Passed-op :
+    (s t u : State) (a b c : Option Token) (n m : ℕ) (p : Passed s a n t b m) (entry : Entry) → LeadsOn t b (entry ∷ []) u c → Goes s a (skips p.more ++ entry ∷ []) u c
+Passed-op s t u a b c n m p entry leads = Goes-append s t u a b c (skips p.more) (entry ∷ []) p.goes (Goes-on t u b c (entry ∷ []) leads)
+
+-- the end, or a fault
+pub Passed-ends :
+    (s t : State) (a b : Option Token) (n m : ℕ) (p : Passed s a n t b m) (fault : Option Fault) →
+    ((o : Open) → AreOpen t b o → ReadsAs t o (record { entries = []; fault = fault })) → EndsWith s a (skips p.more) fault
+Passed-ends s t a b n m p fault reads =
+    λ o is.
+    let x = p.goes o is in
+    subst (λ (es : List Entry). ReadsAs s o (record { entries = es; fault = fault })) (skips-none p.more)
+    (Leads-reads s t o x.0 (skips p.more) (record { entries = []; fault = fault }) x.2 (reads x.0 x.1))
+
+-- ---- what a call of the reader does with a member
+
+pub closes_on : (s t : State) (m : Member) (h : GivesMember s m t) (list : Option Token) → kind_of m.token.kind ≡ Closer → LeadsOn s list [] t None
+closes_on s t m h None kind = λ o is. absurd (no_closer s t m h o is kind)
+closes_on s t m h (Some opener) kind = λ o is. list_closed s t m h opener o is.0 kind
+
+pub opens_on :
+    (s t : State) (m : Member) (h : GivesMember s m t) (list : Option Token) → is_some list ≡ false → kind_of m.token.kind ≡ Opener →
+    is_vector_or_list (item_of s.text m.token) ≡ true → LeadsOn s list [] t (Some m.token)
+opens_on s t m h None none kind vector = λ o is. list_opened s t m h o is.0 kind vector
+opens_on s t m h (Some opener) none kind vector = cc
+
+is_op : (entry : Entry) (shape : OpShape) → IsEntry (Ok (Some shape)) (Ok entry) → (read : PlacedOperation) × (entry ≡ operation read) × IsShapeOf shape read
+is_op (operation read) shape h = (read, refl, h)
+is_op skipped shape h = absurd h
+
+is_skip : (entry : Entry) → IsEntry (Ok None) (Ok entry) → entry ≡ skipped
+is_skip (operation read) h = absurd h
+is_skip skipped h = refl
+
+-- a map that is an operation
+pub op_on :
+    (s t u : State) (m : Member) (h : GivesMember s m t) (list : Option Token) (opener : Item) (shape : OpShape) → kind_of m.token.kind ≡ Opener →
+    is_map (item_of s.text m.token) ≡ true → opener ≡ item_of s.text m.token → ReadsMap t opener (Ok (Some shape)) u →
+    (read : PlacedOperation) × IsShapeOf shape read × LeadsOn s list (operation read ∷ []) u list
+op_on s t u m h list opener shape kind map same reads =
+    let x = is_op reads.0 shape reads.3 in
+    (x.0, x.2, λ o is.
+      subst (λ (e : Entry). (q : Open) × OpenWith s.text list q × Leads s o (e ∷ []) u q) x.1
+      (map_read s t u m h list o opener reads.2 reads.1 reads.0 is.0 kind map same reads.6))
+
+-- a map that is skipped
+pub skip_on :
+    (s t u : State) (m : Member) (h : GivesMember s m t) (list : Option Token) (opener : Item) → kind_of m.token.kind ≡ Opener →
+    is_map (item_of s.text m.token) ≡ true → opener ≡ item_of s.text m.token → ReadsMap t opener (Ok None) u →
+    LeadsOn s list (skipped ∷ []) u list
+skip_on s t u m h list opener kind map same reads =
+    λ o is.
+    subst (λ (e : Entry). (q : Open) × OpenWith s.text list q × Leads s o (e ∷ []) u q) (is_skip reads.0 reads.3)
+    (map_read s t u m h list o opener reads.2 reads.1 reads.0 is.0 kind map same reads.6)
+
+-- what stops gives the fault
+pub stops_with : (s : State) (list : Option Token) (fault : Fault) → ((o : Open) → OpenWith s.text list o → Stops s o fault) →
+    (o : Open) → AreOpen s list o → ReadsAs s o (record { entries = []; fault = Some fault })
+stops_with s list fault stops o is = stops o is.0 is.1
+
+none_is : (list : Option Token) → list ≡ None → is_some list ≡ false
+none_is list h = ap is_some h
+
+not_vector_at : (m : Member) (s : State) (list : Option Token) →
+    (is_some list ≡ true) ⊎ (m.token.kind ≡ kinds.Open → is_vector_or_list (item_of s.text m.token) ≡ false) →
+    m.token.kind ≡ kinds.Open → list ≡ None → is_vector_or_list (item_of s.text m.token) ≡ false
+not_vector_at m s list (inl some) at none = absurd (let clash : false ≡ true = sym (none_is list none) ∙ some in cc)
+not_vector_at m s list (inr vector) at none = vector at
+
+-- 27
+pub refuses_on :
+    (s t : State) (m : Member) (h : GivesMember s m t) (list : Option Token) → (m.token.kind ≡ kinds.Close → ⊥) →
+    (m.token.kind ≡ kinds.Open → is_map (item_of s.text m.token) ≡ false) →
+    (is_some list ≡ true) ⊎ (m.token.kind ≡ kinds.Open → is_vector_or_list (item_of s.text m.token) ≡ false) →
+    (o : Open) → AreOpen s list o → ReadsAs s o (record { entries = []; fault = Some (byte_fault NotAMap m.token.start) })
+refuses_on s t m h list closer map vector =
+    stops_with s list (byte_fault NotAMap m.token.start) (λ o is. not_a_map s t m h list o is closer map (λ at none. not_vector_at m s list vector at none))

@@ -101,6 +101,7 @@ pub record GivesMember (s : State) (member : Member) (t : State) : Type 0 where
 -- nothing is left but what is left out
 pub record GivesNoMember (s : State) (t : State) : Type 0 where
   pub text : t.text ≡ s.text
+  pub forward : s.offset ≤ t.offset
   pub reads : (o : Open) → ReadsAs s (with_marks [] o) (record { entries = []; fault = fault_at_end (with_marks [] o) })
   pub after : Rest t [] None
 

@@ -52,12 +52,20 @@ fn opens_list(text: &[u8], token: Token) -> bool
     bytes == b"[".as_slice() || bytes == b"(".as_slice()
 }
 
+/// One more skipped operation. They are fewer than the bytes up to the end of its opener.
+fn with_one_more(skipped: u64, opener: Token) -> u64
+    requires { skipped < opener.end }
+    ensures { result ≡ skipped + 1 }
+{
+    skipped + 1
+}
+
 impl Place<'_> {
     /// The next operation, or none at the text's end. After a fault the place is of no use.
     fn next_op(&mut self, alloc: Global) -> Result<Option<OpShape>, Fault>
         requires { self.old.skipped ≤ self.old.lexer.offset }
         ensures next { NextOp self.old result self.new }
-        ensures few { self.new.skipped ≤ self.new.lexer.offset }
+        ensures few { IfOk result (λ _. self.new.skipped ≤ self.new.lexer.offset) }
     {
         while let Some(member) = next_member(&mut self.lexer)? {
             let text = self.lexer.text();
@@ -76,7 +84,7 @@ impl Place<'_> {
             if let Some(shape) = read_map(alloc, text, &mut self.lexer, token)? {
                 return Ok(Some(shape));
             }
-            self.skipped += 1;
+            self.skipped = with_one_more(self.skipped, token);
         }
         match self.list {
             Some(opener) => Err(fault_at(Refusal::Unclosed, opener.start)),
