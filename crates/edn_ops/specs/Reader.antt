@@ -1,5 +1,5 @@
 -- Readers of operations, and what their calls read.
-use Rattle.std.specs.Prelude.{◌≡◌, ◌≢◌, ◌≤◌, ◌<◌, ◌+◌, ℕ, zero, suc, List, [], ◌∷◌, ◌++◌, true, false, Option, Some, None, Result, Ok, Err}
+use Rattle.std.specs.Prelude.{◌≡◌, ◌≢◌, ◌⊎◌, ◌≤◌, ◌<◌, ◌+◌, ℕ, zero, suc, List, [], ◌∷◌, ◌++◌, true, false, Option, Some, None, Result, Ok, Err}
 use Rattle.hist_types.specs.Entries.{Entry, operation, skipped, PlacedOperation}
 use Rattle.hist_types.specs.Forms.{Form, collection, forms_of, Open, leave_out, is_vector_or_list, with_form, with_opener}
 use Rattle.hist_types.specs.Reading.{in_operation_place, nothing_open}
@@ -8,7 +8,7 @@ use Rattle.hist_types.specs.Tokens.{Item}
 use Rattle.hist_types.specs.declared.types.Fault.{Fault}
 use Rattle.edn_lex.specs.declared.types.Token.{Token}
 use Rattle.edn_lex.specs.Kinds.{item_of}
-use Rattle.edn_lex.specs.State.{State, Rest}
+use Rattle.edn_lex.specs.State.{State, Rest, state_at_start}
 use Rattle.edn_ops.specs.declared.types.OpShape.{OpShape}
 use Rattle.edn_ops.specs.Fields.{IsEntry}
 use Rattle.edn_ops.specs.Leads.{SameDepth, Leads, ReadsAs, Stops, inside}
@@ -56,3 +56,51 @@ Goes s list entries t list' = (o : Open) → AreOpen s list o → (p : Open) × 
 -- What is left from s, where the list is open, reads as these entries and the fault.
 abbrev pub EndsWith : State → Option Token → List Entry → Option Fault → Type 0
 EndsWith s list entries fault = (o : Open) → AreOpen s list o → ReadsAs s o (record { entries = entries; fault = fault })
+
+-- ---- readers
+
+-- A reader between two operations: the lexer's state, the opener of the vector or list that is open at the top level, the fault that
+-- has been given, and how many operations were skipped.
+pub record Reader : Type 0 where
+  pub state : State
+  pub list : Option Token
+  pub failed : Option Fault
+  pub skipped : ℕ
+
+abbrev pub reader_at_start : List ℕ → Reader
+reader_at_start text = record { state = state_at_start text; list = None; failed = None; skipped = 0 }
+
+-- what is left of the text reads so
+abbrev pub Left : Reader → List Entry → Option Fault → Type 0
+Left r entries fault = EndsWith r.state r.list entries fault
+
+-- A call skipped some operations, and read this one.
+pub record HasRead (old : Reader) (shape : OpShape) (new : Reader) : Type 0 where
+  pub going : new.failed ≡ None
+  pub more : ℕ
+  pub skipped : new.skipped ≡ old.skipped + more
+  pub read : PlacedOperation
+  pub shape_of : IsShapeOf shape read
+  pub goes : Goes old.state old.list (skips more ++ operation read ∷ []) new.state new.list
+
+-- A call skipped some operations, and then the text ended.
+pub record HasEnded (old : Reader) (new : Reader) : Type 0 where
+  pub going : new.failed ≡ None
+  pub more : ℕ
+  pub skipped : new.skipped ≡ old.skipped + more
+  pub closed : new.list ≡ None
+  pub text : new.state.text ≡ old.state.text
+  pub ends : Left old (skips more) None
+  pub after : Rest new.state [] None
+
+-- A call skipped some operations, and then the fault came.
+pub record HasFailed (old : Reader) (fault : Fault) (new : Reader) : Type 0 where
+  pub failed : new ≡ record old { failed = Some fault }
+  pub more : ℕ
+  pub ends : Left old (skips more) (Some fault)
+
+-- what a call gives where no fault has been given
+abbrev pub NextOf : Reader → Result (Option OpShape) Fault → Reader → Type 0
+NextOf old (Ok (Some shape)) new = HasRead old shape new
+NextOf old (Ok None) new = HasEnded old new
+NextOf old (Err fault) new = ((fault ≡ memory_fault) × (new ≡ old)) ⊎ ((fault ≢ memory_fault) × HasFailed old fault new)

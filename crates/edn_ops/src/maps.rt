@@ -15,8 +15,8 @@ use std::alloc::Global;
 /// Reads the map of an operation, whose opener has just been given: the operation, or none where it is skipped.
 pub(crate) fn read_map(
     alloc: Global,
-    text: &[u8],
     lexer: &mut Lexer,
+    text: &[u8],
     opener: Token,
 ) -> Result<Option<OpShape>, Fault>
     requires text { text.now ≡ lexer.old.text }

@@ -1,9 +1,12 @@
 //! The operations of a text, one after the other.
 
-ghost use Rattle.std.specs.Prelude.{◌≡◌, ◌≢◌, ◌+◌, ◌≤◌, ◌<◌, length, true, false, None, Some, IfOk, IfErr, IfSome, IfNone};
+ghost use Rattle.std.specs.Prelude.{◌≡◌, ◌≢◌, ◌+◌, ◌≤◌, ◌<◌, length, true, false, List, Option, IfOk, IfSome};
+ghost use Rattle.hist_types.specs.Entries.{Entry};
+ghost use Rattle.hist_types.specs.Reading.{Reads};
 ghost use Rattle.hist_types.specs.Forms.{is_map, is_vector_or_list};
 ghost use Rattle.edn_lex.specs.declared.types.TokenKind.TheVariants.{Open};
 ghost use Rattle.edn_lex.specs.Kinds.{item_of};
+ghost use Rattle.edn_ops.specs.Reader.{reader_at_start, Left, NextOf};
 ghost use Rattle.edn_ops.specs.Places.{NextOp};
 
 use crate::faults::fault_at;
@@ -15,6 +18,7 @@ use edn_lex::lexer::Lexer;
 use edn_lex::types::Token;
 use hist_types::types::{Fault, Refusal};
 use std::alloc::Global;
+use std::marker::Model;
 
 /// Where a reader is in its text, between two operations.
 #[derive(Drop)]
@@ -60,7 +64,18 @@ fn with_one_more(skipped: u64, opener: Token) -> u64
     skipped + 1
 }
 
-impl Place<'_> {
+impl<'a> Place<'a> {
+    /// The same place.
+    fn copy(&self) -> Place<'a>
+        ensures { result ≡ self.now }
+    {
+        Place {
+            lexer: self.lexer.copy(),
+            list: self.list,
+            skipped: self.skipped,
+        }
+    }
+
     /// The next operation, or none at the text's end. After a fault the place is of no use.
     fn next_op(&mut self, alloc: Global) -> Result<Option<OpShape>, Fault>
         requires { self.old.skipped ≤ self.old.lexer.offset }
@@ -81,7 +96,7 @@ impl Place<'_> {
             if !opens_map(text, token) {
                 return Err(fault_at(Refusal::NotAMap, token.start));
             }
-            if let Some(shape) = read_map(alloc, text, &mut self.lexer, token)? {
+            if let Some(shape) = read_map(alloc, &mut self.lexer, text, token)? {
                 return Ok(Some(shape));
             }
             self.skipped = with_one_more(self.skipped, token);
@@ -90,5 +105,77 @@ impl Place<'_> {
             Some(opener) => Err(fault_at(Refusal::Unclosed, opener.start)),
             None => Ok(None),
         }
+    }
+}
+
+/// Reads the operations of a text in EDN as Jepsen prints it: maps at the top level, or directly in a vector or list there.
+///
+/// It keeps nothing of the text but the micro-operations of the operation that it is at. Operations whose process is no integer are
+/// skipped.
+#[derive(Drop)]
+pub struct OpReader<'a> {
+    alloc: Global,
+    place: Place<'a>,
+    failed: Option<Fault>,
+}
+
+impl<'a> Model for OpReader<'a> {
+    ghost use Rattle.std.specs.Prelude.{◌≤◌};
+    ghost use Rattle.edn_ops.specs.Reader.{Reader};
+
+    ghost Value = { Reader };
+
+    ghost view = { λ r. record { state = r.place.lexer; list = r.place.list; failed = r.failed; skipped = r.place.skipped } };
+
+    ghost invariant = { λ r. r.place.skipped ≤ r.place.lexer.offset };
+}
+
+impl<'a> OpReader<'a> {
+    /// A reader at the start of the text.
+    pub fn new(alloc: Global, text: &'a [u8]) -> OpReader<'a>
+        ensures start { result ≡ reader_at_start text.now }
+        ensures left { (entries : List Entry) (fault : Option Fault) → Reads text.now entries fault → Left result entries fault }
+        ensures reads { (entries : List Entry) (fault : Option Fault) → Left result entries fault → Reads text.now entries fault }
+    {
+        OpReader {
+            alloc,
+            place: Place {
+                lexer: Lexer::new(text),
+                list: None,
+                skipped: 0,
+            },
+            failed: None,
+        }
+    }
+
+    /// The next operation, or none at the text's end. A fault ends the reading, and each later call gives it again; but
+    /// where memory is refused (`Memory`) the reader is unchanged, and the call can be made again.
+    pub fn next_op(&mut self) -> Result<Option<OpShape>, Fault>
+        ensures again { IfSome self.old.failed (λ fault. (result ≡ Err fault) × (self.new ≡ self.old)) }
+        ensures next { self.old.failed ≡ None → NextOf self.old result self.new }
+    {
+        if let Some(fault) = self.failed {
+            return Err(fault);
+        }
+        let mut place = self.place.copy();
+        match place.next_op(self.alloc) {
+            Ok(found) => {
+                self.place = place;
+                Ok(found)
+            }
+            Err(fault) => {
+                if fault != Fault::memory() {
+                    self.failed = Some(fault);
+                }
+                Err(fault)
+            }
+        }
+    }
+
+    /// How many operations were skipped so far.
+    pub fn skipped(&self) -> u64
+        ensures { result ≡ self.now.skipped }
+    {
+        self.place.skipped
     }
 }
