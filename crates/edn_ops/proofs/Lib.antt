@@ -6,3 +6,4 @@ pub mod Steps
 pub mod Levels
 pub mod Collected
 pub mod ByMember
+pub mod MicroOps
