@@ -92,7 +92,7 @@ with_form-behind opener members tags around f h =
     ∙ ap (λ ks. inside opener (members ++ behind tags f ∷ []) ks around) (nothing_waits tags h)
 
 -- a form in no operation's place
-step-plain :
+pub step-plain :
     (kind : ItemKind) (i : Item) (o : Open) → is_plain_kind kind ≡ true → in_operation_place o ≡ false →
     step_by kind o i ≡ Ok (goes_on (with_form (plain i) o.marks o.collections))
 step-plain kind i o = elim kind as (λ k. is_plain_kind k ≡ true → in_operation_place o ≡ false → step_by k o i ≡ Ok (goes_on (with_form (plain i) o.marks o.collections))) [
@@ -113,7 +113,7 @@ step-plain kind i o = elim kind as (λ k. is_plain_kind k ≡ true → in_operat
   | Other ↦ λ is no. rw no refl
 ]
 
-step-opener : (kind : ItemKind) (i : Item) (o : Open) → kind ≡ Opener → may_open o i ≡ true → step_by kind o i ≡ Ok (goes_on (with_opener i o))
+pub step-opener : (kind : ItemKind) (i : Item) (o : Open) → kind ≡ Opener → may_open o i ≡ true → step_by kind o i ≡ Ok (goes_on (with_opener i o))
 step-opener kind i o is may = ap (λ k. step_by k o i) is ∙ rw may refl
 
 -- the member's text is the whole text

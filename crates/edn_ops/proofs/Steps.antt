@@ -82,7 +82,7 @@ after_of : (st : Step) (p : Open) → step_to p ≡ Ok st → p ≡ st.after
 after_of st p h = let e : goes_on p ≡ st = cc in ap (λ (x : Step). x.after) e
 
 -- a closer ends a collection that is open for the lexer
-closer-depth : (bytes closers : List ℕ) → 0 < length bytes → nesting_refusal Closer bytes closers ≡ None → length closers ≡ suc (length (open_after Closer bytes closers))
+pub closer-depth : (bytes closers : List ℕ) → 0 < length bytes → nesting_refusal Closer bytes closers ≡ None → length closers ≡ suc (length (open_after Closer bytes closers))
 closer-depth [] closers some fine = absurd (omega arith)
 closer-depth (b ∷ bs) [] some fine = absurd (let clash : Some StrayCloser ≡ None = fine in cc)
 closer-depth (b ∷ bs) (c ∷ cs) some fine = omega (arith, length-drop 1 (c ∷ cs))

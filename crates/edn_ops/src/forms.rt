@@ -1,9 +1,11 @@
 //! The members of a collection, one after the other: tags and forms that `#_` leaves out are passed over.
 
-ghost use Rattle.edn_lex.specs.Kinds.{item_of};
-ghost use Rattle.edn_ops.specs.Leads.{NextMember, SkipsCollection};
+ghost use Rattle.std.specs.Prelude.{◌≡◌, ◌<◌, true};
+ghost use Rattle.edn_lex.specs.Kinds.{kind_of, item_of};
+ghost use Rattle.edn_lex.specs.State.{State, GivesToken};
+ghost use Rattle.edn_ops.specs.Leads.{is_mark_kind, NextMember, SkipsCollection};
 
-use crate::marks::{Waiting, dangling};
+use crate::marks::{Waiting, closes, dangling, is_mark, opens};
 use edn_lex::lexer::Lexer;
 use edn_lex::types::{Token, TokenKind};
 use hist_types::types::{At, Fault, Refusal};
@@ -22,28 +24,39 @@ pub(crate) struct Member {
 pub(crate) fn next_member(lexer: &mut Lexer) -> Result<Option<Member>, Fault>
     ensures { NextMember lexer.old result lexer.new }
 {
-    let Some(given) = lexer.next() else {
-        return Ok(None);
-    };
-    let token = given?;
-    match token.kind {
-        TokenKind::Tag | TokenKind::Drop => member_behind(lexer, token),
-        _ => Ok(Some(Member { token, tag: None })),
+    match lexer.next() {
+        None => Ok(None),
+        Some(Err(fault)) => Err(fault),
+        Some(Ok(token)) => {
+            if is_mark(token) {
+                member_behind(lexer, token)
+            } else {
+                Ok(Some(Member { token, tag: None }))
+            }
+        }
     }
 }
 
-/// The same, behind the first tag or `#_`.
+/// The same, once the first tag or `#_` has been given.
 #[cycle(forms)]
-fn member_behind(lexer: &mut Lexer, mark: Token) -> Result<Option<Member>, Fault> {
+fn member_behind(lexer: &mut Lexer, mark: Token) -> Result<Option<Member>, Fault>
+    requires mark { is_mark_kind (kind_of mark.kind) ≡ true }
+    requires behind { mark.start < lexer.old.offset }
+    ensures { (s : State) → GivesToken s mark lexer.old → NextMember s result lexer.new }
+{
     let start = lexer.copy();
     let mut waiting = Waiting::by(mark);
     while let Some(given) = lexer.next() {
         let token = given?;
-        if waiting.joined_by(token) {
+        if is_mark(token) {
+            waiting = waiting.and(token);
             continue;
         }
-        if token.kind == TokenKind::Close && waiting.is_some() {
-            return Err(dangling(start, mark, waiting.drops));
+        if closes(token) {
+            if waiting.is_some() {
+                return Err(dangling(start, mark, waiting.drops));
+            }
+            return Ok(Some(Member { token, tag: None }));
         }
         if waiting.drops == 0 {
             return Ok(Some(Member {
@@ -51,7 +64,7 @@ fn member_behind(lexer: &mut Lexer, mark: Token) -> Result<Option<Member>, Fault
                 tag: waiting.tag,
             }));
         }
-        if token.kind == TokenKind::Open {
+        if opens(token) {
             skip_collection(lexer, token)?;
         }
         waiting.drops -= 1;
