@@ -1,5 +1,5 @@
 -- A transaction grows by one member, and a micro-operation goes by the outlines of its forms.
-use Rattle.std.proofs.Common.{◌≡◌, ℕ, suc, ◌+◌, ◌<◌, ◌≤◌, List, [], ◌∷◌, ◌++◌, length, take, map, Bool, true, false, nat_le, Option, Some, None, Result, Ok, Err, refl, sym, ◌∙◌, ap, arith, subst}
+use Rattle.std.proofs.Common.{◌≡◌, ℕ, suc, ◌+◌, ◌<◌, ◌≤◌, List, [], ◌∷◌, ◌++◌, length, take, map, Bool, true, false, cond, nat_le, Option, Some, None, Result, Ok, Err, refl, sym, ◌∙◌, ap, arith, subst}
 use Rattle.std.proofs.lemmas.Bool.{le-leb, lt-leb}
 use Rattle.std.proofs.lemmas.List.{length-map, map_push}
 use Rattle.hist_types.specs.Atoms.{Atom}
@@ -12,7 +12,9 @@ use Rattle.hist_types.specs.declared.types.Refusal.TheVariants.{TooManyMicroOps,
 use Rattle.edn_ops.specs.declared.types.MopShape.{MopShape}
 use Rattle.edn_ops.specs.Shapes.{mop_shape_of}
 use Rattle.edn_ops.specs.Fields.{mop_result, mops_result}
-use Rattle.edn_ops.specs.Outlines.{outline}
+use Rattle.edn_ops.specs.declared.outline.Outline.{Outline}
+use Rattle.edn_ops.specs.Collections.{AreFirstForms}
+use Rattle.edn_ops.specs.Outlines.{outline, outline_of}
 use Rattle.edn_ops.proofs.Closing.{bind_ok, bind_err, err_mops, ok_mops}
 use Rattle.edn_ops.proofs.OutlineLemmas.{place_of-outline, atom_of-outline, is_write_of-outline}
 
@@ -113,7 +115,7 @@ one_micro_op shapes members f shape e some m =
     let found = so_far shapes members e in
     let mop = ok_mop shape (micro_op_of (place_of f) (elements_of f)) m in
     let whole : micro_ops_of 0 (members ++ f ∷ []) ≡ Ok (found.0 ++ mop.0 ∷ []) =
-        room shapes members f found.0 found.1 found.3 some ∙ bind_ok (micro_op_of (place_of f) (elements_of f)) mop.0 (λ m. Ok (found.0 ++ m ∷ [])) mop.1 in
+    room shapes members f found.0 found.1 found.3 some ∙ bind_ok (micro_op_of (place_of f) (elements_of f)) mop.0 (λ m. Ok (found.0 ++ m ∷ [])) mop.1 in
     ap (λ (xs : List MopShape). Ok (xs ++ shape ∷ [])) found.2 ∙ ap (λ (x : MopShape). Ok (map mop_shape_of found.0 ++ x ∷ [])) mop.2
     ∙ ap (λ (xs : List MopShape). Ok xs) (sym (map_push mop_shape_of found.0 mop.0)) ∙ sym (ap mops_result whole)
 
@@ -151,3 +153,28 @@ micro_op_of-outlines offset (a ∷ b ∷ c ∷ d ∷ more) = refl
 pub list_of-forms_of : (fs : List Form) → list_of (forms_of fs) ≡ fs
 list_of-forms_of [] = refl
 list_of-forms_of (f ∷ fs) = ap (λ (xs : List Form). f ∷ xs) (list_of-forms_of fs)
+
+none_if : (test : Bool) (fs gs : List Form) → cond test (Some fs) None ≡ None → cond test (Some gs) None ≡ None
+none_if true fs gs e = cc
+none_if false fs gs e = refl
+
+some_if : (test : Bool) (fs : List Form) → test ≡ true → cond test (Some fs) None ≡ Some fs
+some_if true fs e = refl
+some_if false fs e = cc
+
+-- what is no vector or list by its outline is none
+pub no_elements : (f : Form) → elements_of (outline f) ≡ None → elements_of f ≡ None
+no_elements (plain t) e = refl
+no_elements (collection opener closer members) e = none_if (is_vector_or_list opener) [] (list_of members) e
+no_elements (tagged tag f) e = refl
+
+pub elements : (opener closer : Item) (members : List Form) → is_vector_or_list opener ≡ true → elements_of (collection opener closer (forms_of members)) ≡ Some members
+elements opener closer members is = some_if (is_vector_or_list opener) (list_of (forms_of members)) is ∙ ap (λ (fs : List Form). Some fs) (list_of-forms_of members)
+
+-- a micro-operation by the outlines that the code has
+pub micro_op_is : (text : List ℕ) (mop : Result MopShape Fault) (start : ℕ) (os : List Outline) (opener closer : Item) (members : List Form) → mop ≡ mop_result (micro_op_of start (Some (map (outline_of text) os)))
+    → AreFirstForms text os members → is_vector_or_list opener ≡ true → start ≡ opener.start
+    → mop ≡ mop_result (micro_op_of (place_of (collection opener closer (forms_of members))) (elements_of (collection opener closer (forms_of members))))
+micro_op_is text mop start os opener closer members is first sequence at =
+    is ∙ ap (λ (fs : List Form). mop_result (micro_op_of start (Some fs))) (sym first.outlines_are)
+    ∙ ap mop_result (micro_op_of-outlines start members ∙ ap (λ (n : ℕ). micro_op_of n (Some members)) at ∙ ap (micro_op_of opener.start) (sym (elements opener closer members sequence)))

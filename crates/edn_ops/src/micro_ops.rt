@@ -3,7 +3,7 @@
 ghost use Rattle.std.specs.Prelude.{◌≡◌, ◌≢◌, List, [], ◌∷◌, ◌++◌, Some, map, IfOk, IfErr};
 ghost use Rattle.std.specs.List.{AllByRecursion};
 ghost use Rattle.hist_types.specs.Entries.{is_write_of, elements_of, micro_op_of, micro_ops_of};
-ghost use Rattle.hist_types.specs.Forms.{Form, place_of, is_vector_or_list};
+ghost use Rattle.hist_types.specs.Forms.{Form, place_of};
 ghost use Rattle.hist_types.specs.Refusals.{memory_fault};
 ghost use Rattle.hist_types.specs.Tokens.{Closer};
 ghost use Rattle.edn_lex.specs.Kinds.{kind_of, item_of};
@@ -16,7 +16,7 @@ ghost use Rattle.edn_ops.specs.Outlines.{outline_of, IsTokenIn, IsOutlineIn};
 use crate::faults::fault_at;
 use crate::forms::{Member, next_member};
 use crate::members::{first_forms, pass_member};
-use crate::outline::{Outline, bytes_of};
+use crate::outline::Outline;
 use crate::types::MopShape;
 use edn_lex::lexer::Lexer;
 use edn_lex::types::{Token, TokenKind};
@@ -87,14 +87,6 @@ fn micro_op_by(text: &[u8], start: usize, forms: &[Outline]) -> Result<MopShape,
     }
 }
 
-/// Whether the token is the opener of a vector or a list.
-pub(crate) fn opens_sequence(text: &[u8], opener: Token) -> bool
-    requires { IsTokenIn text.now opener }
-    ensures { result ≡ is_vector_or_list (item_of text.now opener) }
-{
-    matches!(bytes_of(text, opener), [b'['] | [b'('])
-}
-
 /// Reads a member of a transaction, whose first token has just been given: where it begins, and the micro-operation that it
 /// is, or the fault that makes it none.
 fn read_micro_op(
@@ -107,15 +99,13 @@ fn read_micro_op(
     requires closer { kind_of member.token.kind ≢ Closer }
     ensures { (s : State) → GivesMember s member lexer.old → ReadsMop s result lexer.new }
 {
-    match Outline::of(member) {
-        Outline::Collection(opener) if opens_sequence(text, opener) => {
+    match Outline::of(member).sequence(text) {
+        Some(opener) => {
             let forms = first_forms(lexer, opener)?;
-            Ok((
-                opener.start,
-                micro_op_by(text, opener.start, forms.as_slice()),
-            ))
+            let micro_op = micro_op_by(text, opener.start, forms.as_slice());
+            Ok((opener.start, micro_op))
         }
-        _ => {
+        None => {
             let start = pass_member(lexer, member)?.place();
             Ok((start, Err(fault_at(Refusal::NotTxn, start))))
         }
