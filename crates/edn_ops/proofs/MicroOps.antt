@@ -13,7 +13,16 @@ use Rattle.edn_ops.specs.declared.types.MopShape.{MopShape}
 use Rattle.edn_ops.specs.Shapes.{mop_shape_of}
 use Rattle.edn_ops.specs.Fields.{mop_result, mops_result}
 use Rattle.edn_ops.specs.declared.outline.Outline.{Outline}
-use Rattle.edn_ops.specs.Collections.{AreFirstForms}
+use Rattle.std.specs.Prelude.{IsErrAnd}
+use Rattle.hist_types.specs.Tokens.{Opener}
+use Rattle.edn_lex.specs.declared.types.Token.{Token}
+use Rattle.edn_lex.specs.Kinds.{kind_of, item_of}
+use Rattle.edn_lex.specs.State.{State}
+use Rattle.edn_ops.specs.declared.forms.Member.{Member}
+use Rattle.edn_ops.specs.Leads.{GivesMember}
+use Rattle.edn_ops.specs.Collections.{AreFirstForms, ReadsCollection, ReadsMop, StopsBehind, StopsInside, PassesMember}
+use Rattle.edn_ops.proofs.Collected.{IsBare, bare_member, stops_bare}
+use Rattle.edn_ops.proofs.Levels.{GivesMember-shorter}
 use Rattle.edn_ops.specs.Outlines.{outline, outline_of}
 use Rattle.edn_ops.proofs.Closing.{bind_ok, bind_err, err_mops, ok_mops}
 use Rattle.edn_ops.proofs.OutlineLemmas.{place_of-outline, atom_of-outline, is_write_of-outline}
@@ -178,3 +187,53 @@ pub micro_op_is : (text : List ℕ) (mop : Result MopShape Fault) (start : ℕ) 
 micro_op_is text mop start os opener closer members is first sequence at =
     is ∙ ap (λ (fs : List Form). mop_result (micro_op_of start (Some fs))) (sym first.outlines_are)
     ∙ ap mop_result (micro_op_of-outlines start members ∙ ap (λ (n : ℕ). micro_op_of n (Some members)) at ∙ ap (micro_op_of opener.start) (sym (elements opener closer members sequence)))
+
+-- ---- calls
+
+seq_read_at : (s t u : State) (m : Member) (closer : Item) (members : List Form) (mop : Result MopShape Fault) (os : List Outline) → GivesMember s m t → m.tag ≡ None → kind_of m.token.kind ≡ Opener
+    → ReadsCollection t (item_of t.text m.token) members closer u → AreFirstForms s.text os members → is_vector_or_list (item_of s.text m.token) ≡ true
+    → mop ≡ mop_result (micro_op_of m.token.start (Some (map (outline_of s.text) os))) → ReadsMop s (Ok (m.token.start, mop)) u
+seq_read_at s t u m closer members mop os h tag kind r first sequence is = (
+  collection (item_of s.text m.token) closer (forms_of members),
+  bare_member s t u m closer members h tag kind r,
+  refl,
+  micro_op_is s.text mop m.token.start os (item_of s.text m.token) closer members is first sequence refl,
+)
+
+-- a member that is a vector or a list
+pub seq_read : (s t u : State) (text : List ℕ) (m : Member) (opener : Token) (closer : Item) (members : List Form) (mop : Result MopShape Fault) (slice os : List Outline) → GivesMember s m t → IsBare m opener → text ≡ t.text
+    → ReadsCollection t (item_of t.text opener) members closer u → AreFirstForms t.text os members → is_vector_or_list (item_of text opener) ≡ true
+    → mop ≡ mop_result (micro_op_of opener.start (Some (map (outline_of text) slice))) → slice ≡ os → ReadsMop s (Ok (opener.start, mop)) u
+seq_read s t u text m opener closer members mop slice os h b same r first sequence is is_slice =
+    let shorter = GivesMember-shorter s t m h in
+    let P : Token → Type 0 = λ token. ReadsCollection t (item_of t.text token) members closer u → is_vector_or_list (item_of text token) ≡ true
+    → mop ≡ mop_result (micro_op_of token.start (Some (map (outline_of text) slice))) → ReadsMop s (Ok (token.start, mop)) u in
+    let here : P m.token = λ r sequence is.
+    seq_read_at s t u m closer members mop os h b.tag b.kind r (subst (λ (xs : List ℕ). AreFirstForms xs os members) shorter.2 first)
+    (subst (λ (xs : List ℕ). is_vector_or_list (item_of xs m.token) ≡ true) (same ∙ shorter.2) sequence)
+    (subst (λ (xs : List ℕ). mop ≡ mop_result (micro_op_of m.token.start (Some (map (outline_of xs) os)))) (same ∙ shorter.2)
+    (subst (λ (xs : List Outline). mop ≡ mop_result (micro_op_of m.token.start (Some (map (outline_of text) xs)))) is_slice is)) in
+    subst P b.token here r sequence is
+
+-- reading stops within it
+pub seq_stops : (s t : State) (m : Member) (opener : Token) (fault : Fault) → GivesMember s m t → IsBare m opener → StopsBehind t (item_of t.text opener) fault → StopsInside s fault
+seq_stops s t m opener fault h b stops = stops_bare s t m fault h b.kind (subst (λ (token : Token). StopsBehind t (item_of t.text token) fault) (sym b.token) stops)
+
+-- any other member
+pub none_read : (s u : State) (text : List ℕ) (start : ℕ) (fault : Fault) (o other : Outline) → PassesMember s (Ok o) u → o ≡ other → text ≡ s.text → elements_of (outline_of text other) ≡ None → start ≡ place_of (outline_of s.text o)
+    → fault ≡ byte_fault NotTxn start → ReadsMop s (Ok (start, Err fault)) u
+none_read s u text start fault o other p same is_text none at is =
+    let form = p.0 in
+    let outlined : outline form ≡ outline_of s.text o = p.2.outline_is in
+    let empty : elements_of form ≡ None =
+    no_elements form (ap elements_of (outlined ∙ ap (outline_of s.text) same ∙ ap (λ (xs : List ℕ). outline_of xs other) (sym is_text)) ∙ none) in
+    let here : start ≡ place_of form = at ∙ ap place_of (sym outlined) ∙ place_of-outline form in (
+      form,
+      p.1,
+      here,
+      ap (λ (f : Fault). Err f) (is ∙ ap (byte_fault NotTxn) here) ∙ sym (ap (λ (x : Option (List Form)). mop_result (micro_op_of (place_of form) x)) empty),
+    )
+
+pub mop_fails : (s u : State) (fault : Fault) (result : Result (ℕ × Result MopShape Fault) Fault) → IsErrAnd result (λ e. e ≡ fault) → StopsInside s fault → ReadsMop s result u
+mop_fails s u fault (Ok found) h stops = absurd h
+mop_fails s u fault (Err other) h stops = subst (StopsInside s) (sym h) stops
