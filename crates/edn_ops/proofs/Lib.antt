@@ -7,6 +7,7 @@ pub mod Closing
 pub mod Collected
 pub mod ByMember
 pub mod MicroOps
+pub mod MapMembers
 pub mod LevelSteps
 pub mod MarksKept
 pub mod LastMark

@@ -20,7 +20,7 @@ use Rattle.edn_lex.specs.Kinds.{kind_of, item_of}
 use Rattle.edn_lex.specs.State.{State}
 use Rattle.edn_ops.specs.declared.forms.Member.{Member}
 use Rattle.edn_ops.specs.Leads.{GivesMember}
-use Rattle.edn_ops.specs.Collections.{AreFirstForms, ReadsCollection, ReadsMop, StopsBehind, StopsInside, PassesMember}
+use Rattle.edn_ops.specs.Collections.{AreFirstForms, ReadsMember, ReadsCollection, ReadsMop, ReadsTransaction, StopsBehind, StopsInside, PassesMember}
 use Rattle.edn_ops.proofs.Collected.{IsBare, bare_member, stops_bare}
 use Rattle.edn_ops.proofs.Levels.{GivesMember-shorter}
 use Rattle.edn_ops.specs.Outlines.{outline, outline_of}
@@ -237,3 +237,17 @@ none_read s u text start fault o other p same is_text none at is =
 pub mop_fails : (s u : State) (fault : Fault) (result : Result (ℕ × Result MopShape Fault) Fault) → IsErrAnd result (λ e. e ≡ fault) → StopsInside s fault → ReadsMop s result u
 mop_fails s u fault (Ok found) h stops = absurd h
 mop_fails s u fault (Err other) h stops = subst (StopsInside s) (sym h) stops
+
+pub transaction_fails : {V : Type 0} (items : V → List MopShape) (s u : State) (opener : Item) (fault : Fault) (result : Result (Result V Fault) Fault) → IsErrAnd result (λ e. e ≡ fault) → StopsBehind s opener fault → ReadsTransaction items s opener result u
+transaction_fails items s u opener fault (Ok found) h stops = absurd h
+transaction_fails items s u opener fault (Err other) h stops = λ memory. subst (StopsBehind s opener) (sym h) stops
+
+-- a member that was read
+pub record ReadMop (s : State) (start : ℕ) (mop : Result MopShape Fault) (u : State) : Type 0 where
+  pub form : Form
+  pub one : ReadsMember s form u
+  pub place : start ≡ place_of form
+  pub mop_is : mop ≡ mop_result (micro_op_of (place_of form) (elements_of form))
+
+pub read_mop : (s u : State) (start : ℕ) (mop : Result MopShape Fault) → ReadsMop s (Ok (start, mop)) u → ReadMop s start mop u
+read_mop s u start mop h = record { form = h.0; one = h.1; place = h.2; mop_is = h.3 }
