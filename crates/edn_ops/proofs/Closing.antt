@@ -113,11 +113,11 @@ pub bad_type : (number : ℤ) (place process start end : ℕ) (pairs : List (For
     → Ok o ≡ result_outline (the_one start (fields_named (codes ":type") pairs)) → None ≡ kind_of o → client_operation number place start end pairs ≡ Err (byte_fault BadType (place_of o))
 bad_type number place process start end pairs o is e k = typed number place process start end pairs o None is e k
 
-err_mops : (fault : Fault) (r : Result (List PlacedMop) Fault) → Err fault ≡ mops_result r → r ≡ Err fault
+pub err_mops : (fault : Fault) (r : Result (List PlacedMop) Fault) → Err fault ≡ mops_result r → r ≡ Err fault
 err_mops fault (Ok mops) e = cc
 err_mops fault (Err other) e = cc
 
-ok_mops : (shapes : List MopShape) (r : Result (List PlacedMop) Fault) → Ok shapes ≡ mops_result r → (mops : List PlacedMop) × (r ≡ Ok mops) × (shapes ≡ map mop_shape_of mops)
+pub ok_mops : (shapes : List MopShape) (r : Result (List PlacedMop) Fault) → Ok shapes ≡ mops_result r → (mops : List PlacedMop) × (r ≡ Ok mops) × (shapes ≡ map mop_shape_of mops)
 ok_mops shapes (Ok mops) e = (mops, refl, cc)
 ok_mops shapes (Err other) e = cc
 

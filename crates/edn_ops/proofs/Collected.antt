@@ -18,11 +18,12 @@ use Rattle.edn_lex.specs.State.{State, left, IsCutFrom, Rest, RestIf, GivesToken
 use Rattle.edn_lex.proofs.Exists.{Rest-exists}
 use Rattle.edn_ops.specs.declared.forms.Member.{Member}
 use Rattle.edn_ops.specs.declared.outline.Outline.{Outline}
-use Rattle.edn_ops.specs.Leads.{Leads, Stops, inside, NoPlaceIn, behind, IsBehind, is_plain_kind, is_mark_kind, GivesMember, PassesCollection, SkipsCollection}
-use Rattle.edn_ops.specs.Outlines.{outline, outline_of, IsTokenIn, IsSpelled, IsOutlineIn, tag_at}
-use Rattle.edn_ops.specs.Collections.{ReadsMember, StopsInside, HasOutline, PassesMember}
+use Rattle.edn_ops.specs.Leads.{Leads, Stops, inside, NoPlaceIn, first_place, behind, IsBehind, is_plain_kind, is_mark_kind, GivesMember, PassesCollection, SkipsCollection}
+use Rattle.edn_ops.specs.Outlines.{outline, outline_of, IsTokenIn, IsSpelled, IsOutlineIn, tag_at, untagged, outline_by, outline_for}
+use Rattle.edn_ops.specs.declared.outline.Outline.TheVariants as outlines
+use Rattle.edn_ops.specs.Collections.{ReadsMember, StopsInside, HasOutline, PassesMember, ReadsCollection, StopsBehind}
 use Rattle.edn_ops.proofs.Steps.{Leads-then, Leads-stops}
-use Rattle.edn_ops.proofs.Levels.{behind_member, Leads-plain, Leads-opener, Leads-skipped, GivesMember-shorter}
+use Rattle.edn_ops.proofs.Levels.{behind_member, Leads-plain, Leads-opener, Leads-skipped, Leads-member, GivesMember-shorter}
 
 -- ---- integers are spelled as such
 
@@ -202,3 +203,55 @@ closer_kind k = elim k as (λ k. kind_of k ≡ Closer → k ≡ kinds.Close) [ k
 pub member_fails : (s u : State) (fault : Fault) (result : Result Outline Fault) → IsErrAnd result (λ e. e ≡ fault) → PassesMember s (Err fault) u → PassesMember s result u
 member_fails s u fault (Ok o) h stops = absurd h
 member_fails s u fault (Err other) h stops = subst (λ (f : Fault). PassesMember s (Err f) u) (sym h) stops
+
+-- ---- vectors and lists
+
+untagged_is : (k : TokenKind) (token opener : Token) → untagged k token ≡ outlines.Collection opener → (k ≡ kinds.Open) × (token ≡ opener)
+untagged_is k token opener = elim k as (λ k. untagged k token ≡ outlines.Collection opener → (k ≡ kinds.Open) × (token ≡ opener)) [ kinds.Open ↦ λ e. (refl, cc) | _ ↦ λ e. cc ]
+
+-- a collection with no tag in front of it
+pub record IsBare (m : Member) (opener : Token) : Type 0 where
+  pub tag : m.tag ≡ None
+  pub token : m.token ≡ opener
+  pub kind : kind_of m.token.kind ≡ Opener
+
+bare_by : (tag : Option ℕ) (token opener : Token) → outline_by tag token ≡ outlines.Collection opener → (tag ≡ None) × (token ≡ opener) × (token.kind ≡ kinds.Open)
+bare_by None token opener e = let is = untagged_is token.kind token opener e in (refl, is.1, is.0)
+bare_by (Some place) token opener e = cc
+
+pub bare : (m : Member) (opener : Token) → outline_for m ≡ outlines.Collection opener → IsBare m opener
+bare m opener e = let is = bare_by m.tag m.token opener e in record { tag = is.0; token = is.1; kind = ap kind_of is.2 }
+
+no_tags : (tags : List Item) → None ≡ first_place tags → tags ≡ []
+no_tags [] e = refl
+no_tags (tag ∷ tags) e = cc
+
+pub bare_member : (s t u : State) (m : Member) (closer : Item) (members : List Form) → GivesMember s m t → m.tag ≡ None → kind_of m.token.kind ≡ Opener → ReadsCollection t (item_of t.text m.token) members closer u
+    → ReadsMember s (collection (item_of s.text m.token) closer (forms_of members)) u
+bare_member s t u m closer members h tag is r =
+    let i = item_of s.text m.token in
+    let f = collection i closer (forms_of members) in
+    let none : h.tags ≡ [] = no_tags h.tags (sym tag ∙ h.first) in
+    let shorter = GivesMember-shorter s t m h in
+    let low = shorter.0 in
+    let high = r.forward in
+    let same : item_of t.text m.token ≡ i = ap (λ text. item_of text m.token) shorter.2 in
+    record {
+      text = r.text ∙ shorter.2;
+      forward = omega arith;
+      leads = λ opener before around no_place.
+          let o = inside opener before h.tags around in
+          let P : Item → Type 0 = λ x. Leads t (with_opener x o) [] u (with_form (collection x closer (forms_of members)) o.marks o.collections) in
+          subst (λ (tags : List Item). Leads s (inside opener before [] around) [] u (inside opener (before ++ behind tags f ∷ []) [] around)) none
+          (Leads-member s t u m h opener closer before members around is no_place (subst P same (r.leads o (no_place before h.tags))));
+    }
+
+-- reading stops within it
+pub stops_bare : (s t : State) (m : Member) (fault : Fault) → GivesMember s m t → kind_of m.token.kind ≡ Opener → StopsBehind t (item_of t.text m.token) fault → StopsInside s fault
+stops_bare s t m fault h is stops opener members around no_place =
+    let i = item_of s.text m.token in
+    let o = inside opener members h.tags around in
+    let shorter = GivesMember-shorter s t m h in
+    let same : item_of t.text m.token ≡ i = ap (λ text. item_of text m.token) shorter.2 in
+    Leads-stops s t (inside opener members [] around) (with_opener i o) fault (Leads-opener s t m h opener members around is no_place)
+    (subst (λ (x : Item). Stops t (with_opener x o) fault) same (stops o (no_place members h.tags)))

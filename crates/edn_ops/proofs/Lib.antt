@@ -6,6 +6,8 @@ pub mod Gathering
 pub mod Closing
 pub mod Collected
 pub mod ByMember
+pub mod MicroOps
+pub mod MapMembers
 pub mod LevelSteps
 pub mod MarksKept
 pub mod LastMark

@@ -20,7 +20,8 @@ use Rattle.edn_ops.specs.declared.types.OpShape.{OpShape}
 use Rattle.edn_ops.specs.Leads.{SameDepth, Leads, ReadsAs, Stops, inside, behind, marks_among, with_marks, is_mark_kind, is_plain_kind, GivesMember, GivesNoMember}
 use Rattle.edn_ops.specs.Fields.{IsEntry}
 use Rattle.edn_ops.specs.Shapes.{IsShapeOf}
-use Rattle.edn_ops.specs.Reader.{ReadsMap, OpenWith, AreOpen, skips, Goes, EndsWith}
+use Rattle.edn_ops.specs.Collections.{ReadsMap}
+use Rattle.edn_ops.specs.Reader.{OpenWith, AreOpen, skips, Goes, EndsWith}
 use Rattle.edn_ops.proofs.Steps.{Leads-refl, Leads-append, Leads-then, Leads-stops, Leads-reads, Leads-depth, Leads-step, Stops-step, closer-depth, token-some}
 use Rattle.edn_ops.proofs.Levels.{nothing_waits, with_form-behind, step-opener, Leads-closer}
 use Rattle.edn_ops.proofs.LastMark.{plain-form}

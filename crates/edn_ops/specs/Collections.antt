@@ -1,5 +1,5 @@
 -- What calls read of the members of a collection, and of a collection as a whole.
-use Rattle.std.specs.Prelude.{◌≡◌, ◌≢◌, ◌≤◌, ◌<◌, ℕ, List, [], ◌∷◌, ◌++◌, take, map, false, Option, Some, None, Result, Ok, Err}
+use Rattle.std.specs.Prelude.{◌≡◌, ◌≢◌, ◌≤◌, ◌<◌, ℕ, List, [], ◌∷◌, ◌++◌, take, map, true, false, Option, Some, None, Result, Ok, Err}
 use Rattle.std.specs.List.{AllByRecursion}
 use Rattle.hist_types.specs.Entries.{PlacedMop, Entry, operation, skipped, micro_op_of, micro_ops_of, elements_of}
 use Rattle.hist_types.specs.Forms.{Form, collection, forms_of, Open, place_of, with_form, with_opener}
@@ -11,7 +11,7 @@ use Rattle.edn_lex.specs.State.{State}
 use Rattle.edn_ops.specs.declared.types.MopShape.{MopShape}
 use Rattle.edn_ops.specs.declared.types.OpShape.{OpShape}
 use Rattle.edn_ops.specs.declared.outline.Outline.{Outline}
-use Rattle.edn_ops.specs.Fields.{mop_result, mops_result, Gathers, AreFieldsIn}
+use Rattle.edn_ops.specs.Fields.{mop_result, mops_result, shapes_result, Gathers, AreFieldsIn, IsEntry}
 use Rattle.edn_ops.specs.declared.fields.Fields.{Fields}
 use Rattle.edn_ops.specs.Leads.{Leads, Stops, inside, NoPlaceIn}
 use Rattle.edn_ops.specs.Outlines.{outline, outline_of, IsOutlineIn}
@@ -77,7 +77,29 @@ ReadsFirstForms items s opener (Err fault) t = StopsBehind s opener fault
 
 -- ---- transactions
 
--- a call read the member, and gave the micro-operation that it is
-abbrev pub ReadsMop : State → Result (Result MopShape Fault) Fault → State → Type 0
-ReadsMop s (Ok mop) t = (form : Form) × ReadsMember s form t × (mop ≡ mop_result (micro_op_of (place_of form) (elements_of form)))
+-- a call read the member, and gave where it begins and the micro-operation that it is
+abbrev pub ReadsMop : State → Result (ℕ × Result MopShape Fault) Fault → State → Type 0
+ReadsMop s (Ok found) t = (form : Form) × ReadsMember s form t × (found.0 ≡ place_of form) × (found.1 ≡ mop_result (micro_op_of (place_of form) (elements_of form)))
 ReadsMop s (Err fault) t = StopsInside s fault
+
+-- a call read the members of a transaction
+abbrev pub ReadsTransaction : {V : Type 0} → (V → List MopShape) → State → Item → Result (Result V Fault) Fault → State → Type 0
+ReadsTransaction items s opener (Ok found) t =
+    (members : List Form) × (closer : Item) × ReadsCollection s opener members closer t × (shapes_result items found ≡ mops_result (micro_ops_of 0 members))
+ReadsTransaction items s opener (Err fault) t = UnlessMemory fault (StopsBehind s opener fault)
+
+-- ---- maps
+
+-- a call read the map of an operation, behind whose opener s is
+abbrev pub ReadsMap : State → Item → Result (Option OpShape) Fault → State → Type 0
+ReadsMap s opener (Ok found) t =
+    (entry : Entry) × (members : List Form) × (closer : Item) × IsEntry (Ok found) (Ok entry) × (t.text ≡ s.text) × (s.offset ≤ t.offset)
+    × ((o : Open) → in_operation_place o ≡ true →
+    Leads s (with_opener opener o) (entry ∷ []) t (with_form (collection opener closer (forms_of members)) o.marks o.collections))
+ReadsMap s opener (Err fault) t = UnlessMemory fault ((o : Open) → in_operation_place o ≡ true → Stops s (with_opener opener o) fault)
+
+-- a call gathered the member behind s
+abbrev pub GathersMember : State → Fields → Result (Unit {0}) Fault → Fields → State → Type 0
+GathersMember s old (Ok done) new t =
+    (form : Form) × ReadsMember s form t × AreFieldsIn s.text new × ((members : List Form) → Gathers s.text old members → Gathers s.text new (members ++ form ∷ []))
+GathersMember s old (Err fault) new t = UnlessMemory fault (StopsInside s fault)

@@ -1,9 +1,12 @@
 -- Members of an operation's map and of its transaction: what its checks ask of a form without looking into it.
-use Rattle.std.specs.Prelude.{◌≡◌, ℕ, ℤ, ◌≤◌, List, [], length, true, slice_range}
+use Rattle.std.specs.Prelude.{Option, Some, None, ◌≡◌, ℕ, ℤ, ◌≤◌, List, [], length, true, slice_range}
 use Rattle.hist_types.specs.AtomTokens.{int_value}
 use Rattle.hist_types.specs.Forms.{Form, plain, collection, tagged, no_form}
 use Rattle.hist_types.specs.Tokens.{Item, ItemKind, Tag, Int, is_int}
 use Rattle.edn_lex.specs.declared.types.Token.{Token}
+use Rattle.edn_lex.specs.declared.types.TokenKind.{TokenKind}
+use Rattle.edn_lex.specs.declared.types.TokenKind.TheVariants as kinds
+use Rattle.edn_ops.specs.declared.forms.Member.{Member}
 use Rattle.edn_lex.specs.Kinds.{kind_of, item_of}
 use Rattle.edn_ops.specs.declared.outline.Outline.{Outline}
 use Rattle.edn_ops.specs.declared.outline.Outline.TheVariants as outlines
@@ -31,6 +34,19 @@ abbrev pub IsOutlineIn : List ℕ → Outline → Type 0
 IsOutlineIn text (outlines.Plain token) = IsTokenIn text token
 IsOutlineIn text (outlines.Collection opener) = IsTokenIn text opener
 IsOutlineIn text (outlines.Tagged place) = Unit {0}
+
+-- what a token begins that has no tag in front of it
+abbrev pub untagged : TokenKind → Token → Outline
+untagged kinds.Open token = outlines.Collection token
+untagged kind token = outlines.Plain token
+
+-- the outline of the form that a member begins
+abbrev pub outline_by : Option ℕ → Token → Outline
+outline_by None token = untagged token.kind token
+outline_by (Some place) token = outlines.Tagged place
+
+abbrev pub outline_for : Member → Outline
+outline_for m = outline_by m.tag m.token
 
 -- a tag at the offset
 abbrev pub tag_at : ℕ → Item

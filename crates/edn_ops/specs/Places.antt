@@ -5,7 +5,8 @@ use Rattle.hist_types.specs.declared.types.Fault.{Fault}
 use Rattle.edn_lex.specs.State.{Rest}
 use Rattle.edn_ops.specs.declared.reader.Place.{Place}
 use Rattle.edn_ops.specs.declared.types.OpShape.{OpShape}
-use Rattle.edn_ops.specs.Reader.{UnlessMemory, skips, Goes, EndsWith}
+use Rattle.edn_ops.specs.Collections.{UnlessMemory}
+use Rattle.edn_ops.specs.Reader.{skips, Goes, EndsWith}
 use Rattle.edn_ops.specs.Shapes.{IsShapeOf}
 
 -- Some operations were skipped, and then this one was read.

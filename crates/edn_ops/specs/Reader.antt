@@ -1,8 +1,8 @@
 -- Readers of operations, and what their calls read.
-use Rattle.std.specs.Prelude.{◌≡◌, ◌≢◌, ◌⊎◌, ◌≤◌, ◌<◌, ◌+◌, ℕ, zero, suc, List, [], ◌∷◌, ◌++◌, true, false, Option, Some, None, Result, Ok, Err}
+use Rattle.std.specs.Prelude.{◌≡◌, ◌≢◌, ◌⊎◌, ◌+◌, ℕ, zero, suc, List, [], ◌∷◌, ◌++◌, true, false, Option, Some, None, Result, Ok, Err}
 use Rattle.hist_types.specs.Entries.{Entry, operation, skipped, PlacedOperation}
-use Rattle.hist_types.specs.Forms.{Form, collection, forms_of, Open, leave_out, is_vector_or_list, with_form, with_opener}
-use Rattle.hist_types.specs.Reading.{in_operation_place, nothing_open}
+use Rattle.hist_types.specs.Forms.{Form, Open, leave_out, is_vector_or_list}
+use Rattle.hist_types.specs.Reading.{nothing_open}
 use Rattle.hist_types.specs.Refusals.{memory_fault}
 use Rattle.hist_types.specs.Tokens.{Item}
 use Rattle.hist_types.specs.declared.types.Fault.{Fault}
@@ -10,23 +10,8 @@ use Rattle.edn_lex.specs.declared.types.Token.{Token}
 use Rattle.edn_lex.specs.Kinds.{item_of}
 use Rattle.edn_lex.specs.State.{State, Rest, state_at_start}
 use Rattle.edn_ops.specs.declared.types.OpShape.{OpShape}
-use Rattle.edn_ops.specs.Fields.{IsEntry}
-use Rattle.edn_ops.specs.Leads.{SameDepth, Leads, ReadsAs, Stops, inside}
+use Rattle.edn_ops.specs.Leads.{SameDepth, Leads, ReadsAs, inside}
 use Rattle.edn_ops.specs.Shapes.{IsShapeOf}
-
--- ---- maps
-
--- what holds of a fault that is not out of memory
-abbrev pub UnlessMemory : Fault → Type 0 → Type 0
-UnlessMemory fault P = fault ≢ memory_fault → P
-
--- a call read the map of an operation, behind whose opener s is
-abbrev pub ReadsMap : State → Item → Result (Option OpShape) Fault → State → Type 0
-ReadsMap s opener (Ok found) t =
-    (entry : Entry) × (members : List Form) × (closer : Item) × IsEntry (Ok found) (Ok entry) × (t.text ≡ s.text) × (s.offset ≤ t.offset)
-    × ((o : Open) → in_operation_place o ≡ true →
-    Leads s (with_opener opener o) (entry ∷ []) t (with_form (collection opener closer (forms_of members)) o.marks o.collections))
-ReadsMap s opener (Err fault) t = UnlessMemory fault ((o : Open) → in_operation_place o ≡ true → Stops s (with_opener opener o) fault)
 
 -- ---- what is open between two operations
 

@@ -1,10 +1,11 @@
 //! Members of collections in which no operation is looked for.
 
-ghost use Rattle.std.specs.Prelude.{◌≡◌, ◌≢◌};
+ghost use Rattle.std.specs.Prelude.{◌≡◌, ◌≢◌, IfOk};
 ghost use Rattle.hist_types.specs.Tokens.{Closer};
 ghost use Rattle.edn_lex.specs.Kinds.{kind_of, item_of};
 ghost use Rattle.edn_lex.specs.State.{State};
 ghost use Rattle.edn_ops.specs.Leads.{GivesMember};
+ghost use Rattle.edn_ops.specs.Outlines.{outline_for};
 ghost use Rattle.edn_ops.specs.Collections.{PassesMember, ReadsFirstForms};
 
 use crate::faults::fault_at;
@@ -18,7 +19,8 @@ use hist_types::types::{Fault, Refusal};
 /// Passes over a member, whose first token has just been given, and gives its outline.
 pub(crate) fn pass_member(lexer: &mut Lexer, member: Member) -> Result<Outline, Fault>
     requires { kind_of member.token.kind ≢ Closer }
-    ensures { (s : State) → GivesMember s member lexer.old → PassesMember s result lexer.new }
+    ensures member { (s : State) → GivesMember s member lexer.old → PassesMember s result lexer.new }
+    ensures outline { IfOk result (λ o. o ≡ outline_for member) }
 {
     match member.token.kind {
         TokenKind::Open => skip_collection(lexer, member.token)?,

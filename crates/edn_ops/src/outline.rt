@@ -1,12 +1,12 @@
 //! Members of an operation's map and of its transaction, as far as its checks look at them.
 
-ghost use Rattle.std.specs.Prelude.{◌≡◌, ◌≤◌, List, true, ℕ, length, slice_range, option_map, IfSome};
-ghost use Rattle.hist_types.specs.Entries.{is_named, is_nil as is_nil_form, int_of, atom_of, value_of};
-ghost use Rattle.hist_types.specs.Forms.{Form, Forms, plain, collection, place_of};
+ghost use Rattle.std.specs.Prelude.{◌≡◌, ◌≤◌, List, true, ℕ, length, slice_range, option_map, IfSome, IsNone, None};
+ghost use Rattle.hist_types.specs.Entries.{elements_of, is_named, is_nil as is_nil_form, int_of, atom_of, value_of};
+ghost use Rattle.hist_types.specs.Forms.{Form, Forms, plain, collection, place_of, is_vector_or_list};
 ghost use Rattle.hist_types.specs.Tokens.{Item, Opener};
 ghost use Rattle.edn_lex.specs.Kinds.{kind_of, item_of};
 ghost use Rattle.edn_ops.specs.Leads.{is_plain_kind, IsBehind};
-ghost use Rattle.edn_ops.specs.Outlines.{outline, outline_of, IsTokenIn, IsOutlineIn, IsIntIn, number_of};
+ghost use Rattle.edn_ops.specs.Outlines.{outline, outline_of, outline_for, IsTokenIn, IsOutlineIn, IsIntIn, number_of};
 ghost use Rattle.edn_ops.specs.Shapes.{span_of};
 
 use crate::atoms;
@@ -33,6 +33,14 @@ pub(crate) fn bytes_of(text: &[u8], token: Token) -> &[u8]
     &text[token.start..token.end]
 }
 
+/// Whether the token is the opener of a vector or a list.
+fn opens_sequence(text: &[u8], opener: Token) -> bool
+    requires { IsTokenIn text.now opener }
+    ensures { result ≡ is_vector_or_list (item_of text.now opener) }
+{
+    matches!(bytes_of(text, opener), [b'['] | [b'('])
+}
+
 fn span(token: Token) -> Span
     ensures { result ≡ record { start = token.start; end = token.end } }
 {
@@ -55,6 +63,7 @@ impl Outline {
         ensures plain { (text : List ℕ) (form : Form) → is_plain_kind (kind_of member.token.kind) ≡ true → IsBehind member.tag (plain (item_of text member.token)) form → outline form ≡ outline_of text result }
         ensures collection { (text : List ℕ) (closer : Item) (members : Forms) (form : Form) → kind_of member.token.kind ≡ Opener → IsBehind member.tag (collection (item_of text member.token) closer members) form → outline form ≡ outline_of text result }
         ensures within { (text : List ℕ) → IsTokenIn text member.token → IsOutlineIn text result }
+        ensures is { result ≡ outline_for member }
     {
         match member.tag {
             Some(place) => Outline::Tagged(place),
@@ -62,6 +71,19 @@ impl Outline {
                 TokenKind::Open => Outline::Collection(member.token),
                 _ => Outline::Plain(member.token),
             },
+        }
+    }
+
+    /// The opener, if it is a vector or a list.
+    pub(crate) fn sequence(self, text: &[u8]) -> Option<Token>
+        requires { IsOutlineIn text.now self }
+        ensures opens { IfSome result (λ opener. self ≡ Outline.Collection opener) }
+        ensures sequence { IfSome result (λ opener. is_vector_or_list (item_of text.now opener) ≡ true) }
+        ensures none { IsNone result → elements_of (outline_of text.now self) ≡ None }
+    {
+        match self {
+            Outline::Collection(opener) if opens_sequence(text, opener) => { Some(opener) }
+            _ => None,
         }
     }
 

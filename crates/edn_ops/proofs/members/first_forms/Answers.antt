@@ -27,7 +27,7 @@ returns-in-Close c =
 pub loop-member-smaller-then-not-is_full : goal.loop-member-smaller-then-not-is_full
 loop-member-smaller-then-not-is_full c =
     let h = next_given c.loop-member.lexer c.next_member.new.lexer c.in_ok-member.field-0 c.in-Some.member c.in-Some.is c.in_ok-member.ensures in
-    let p = passed c.loop-member.lexer c.pass_member.new.lexer c.in_ok-form.form (c.in_ok-form.ensures c.loop-member.lexer h) in
+    let p = passed c.loop-member.lexer c.pass_member.new.lexer c.in_ok-form.form (c.in_ok-form.ensures.member c.loop-member.lexer h) in
     shorter_member c.loop-member.lexer c.pass_member.new.lexer p.form p.one (member_some c.loop-member.lexer c.next_member.new.lexer c.in-Some.member h)
 
 pub loop-member-preserved-then-not-is_full : goal.loop-member-preserved-then-not-is_full
@@ -35,8 +35,7 @@ loop-member-preserved-then-not-is_full c =
     let s = c.args.lexer.now in
     let front = c.loop-member.invariant in
     let h = next_given c.loop-member.lexer c.next_member.new.lexer c.in_ok-member.field-0 c.in-Some.member c.in-Some.is c.in_ok-member.ensures in
-    let p = passed c.loop-member.lexer c.pass_member.new.lexer c.in_ok-form.form (c.in_ok-form.ensures c.loop-member.lexer h) in
-    (
+    let p = passed c.loop-member.lexer c.pass_member.new.lexer c.in_ok-form.form (c.in_ok-form.ensures.member c.loop-member.lexer h) in (
       front.0 ++ p.form ∷ [],
       one_read s c.loop-member.lexer c.pass_member.new.lexer (item_of s.text c.args.opener) front.0 p.form front.1 p.one,
       subst (λ (os : List Outline). AreFirstForms s.text os (front.0 ++ p.form ∷ [])) (sym c.push.ensures.items)
@@ -47,7 +46,7 @@ loop-member-preserved-then-not-is_full c =
 pub loop-member-smaller : goal.loop-member-smaller
 loop-member-smaller c =
     let h = next_given c.loop-member.lexer c.next_member.new.lexer c.in_ok-member.field-0 c.in-Some.member c.in-Some.is c.in_ok-member.ensures in
-    let p = passed c.loop-member.lexer c.pass_member.new.lexer c.in_ok-form.form (c.in_ok-form.ensures c.loop-member.lexer h) in
+    let p = passed c.loop-member.lexer c.pass_member.new.lexer c.in_ok-form.form (c.in_ok-form.ensures.member c.loop-member.lexer h) in
     shorter_member c.loop-member.lexer c.pass_member.new.lexer p.form p.one (member_some c.loop-member.lexer c.next_member.new.lexer c.in-Some.member h)
 
 pub loop-member-preserved : goal.loop-member-preserved
@@ -55,8 +54,7 @@ loop-member-preserved c =
     let s = c.args.lexer.now in
     let front = c.loop-member.invariant in
     let h = next_given c.loop-member.lexer c.next_member.new.lexer c.in_ok-member.field-0 c.in-Some.member c.in-Some.is c.in_ok-member.ensures in
-    let p = passed c.loop-member.lexer c.pass_member.new.lexer c.in_ok-form.form (c.in_ok-form.ensures c.loop-member.lexer h) in
-    (
+    let p = passed c.loop-member.lexer c.pass_member.new.lexer c.in_ok-form.form (c.in_ok-form.ensures.member c.loop-member.lexer h) in (
       front.0 ++ p.form ∷ [],
       one_read s c.loop-member.lexer c.pass_member.new.lexer (item_of s.text c.args.opener) front.0 p.form front.1 p.one,
       first_same s.text c.loop-member.forms.items front.0 p.form front.2 (is_filled c.is_full.result _ c.is_full.ensures.value c.if-not-is_full.false),

@@ -5,13 +5,13 @@ use Rattle.edn_ops.proofs.Collected.{IsOf, passes_plain, passes_collection, stop
 use Rattle.edn_ops.proofs.members.pass_member.Goals as goal
 use Rattle.edn_ops.proofs.members.pass_member.Goals.{in-Open+in_ok-skip_collection-in-Open, in_default}
 
-pub returns-in_err-skip_collection-in-Open : goal.returns-in_err-skip_collection-in-Open
-returns-in_err-skip_collection-in-Open c s h =
+pub returns-in_err-skip_collection-in-Open-clause-member : goal.returns-in_err-skip_collection-in-Open-clause-member
+returns-in_err-skip_collection-in-Open-clause-member c s h =
     member_fails s c.skip_collection.new.lexer _ _ c.from_residual.ensures.1
     (stops_member s c.args.lexer.now c.skip_collection.new.lexer c.args.member _ h (ap kind_of c.in-Open.is) c.in_err-skip_collection-in-Open.ensures)
 
-pub returns : goal.returns
-returns c s h =
+pub returns-clause-member : goal.returns-clause-member
+returns-clause-member c s h =
     let of : IsOf c.args.member c.of.result = record { plain_one = c.of.ensures.plain; collection_one = c.of.ensures.collection; within = c.of.ensures.within } in
     elim c.match-member.branch [
       | in-Open+in_ok-skip_collection-in-Open w ↦

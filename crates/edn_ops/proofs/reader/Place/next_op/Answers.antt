@@ -9,7 +9,8 @@ use Rattle.edn_lex.specs.Kinds.{kind_of, item_of}
 use Rattle.edn_ops.specs.declared.forms.Member.{Member}
 use Rattle.edn_ops.specs.declared.types.OpShape.{OpShape}
 use Rattle.edn_ops.specs.Leads.{NextMember, ReadsAs}
-use Rattle.edn_ops.specs.Reader.{ReadsMap, AreOpen, OpenWith}
+use Rattle.edn_ops.specs.Collections.{ReadsMap}
+use Rattle.edn_ops.specs.Reader.{AreOpen, OpenWith}
 use Rattle.edn_ops.proofs.Levels.{GivesMember-shorter, GivesMember-end}
 use Rattle.edn_ops.proofs.Places.{Passed, Passed-list, Passed-skipped, Passed-op, Passed-ends, closes_on, opens_on, op_on, skip_on, stops_with, refuses_on, member_stops, map_stops, end_reads, end_unclosed}
 use Rattle.edn_ops.proofs.reader.Place.next_op.Goals as goal
