@@ -90,9 +90,11 @@ map_read s t u m h list o opener closer members entry is kind map same leads =
     let goes : step p i ≡ Ok (goes_on (with_opener i p)) = step-opener i.kind i p kind may in
     let first : Leads h.before p [] t (with_opener i p) = Leads-step h.before t m.token p (goes_on (with_opener i p)) h.token (ap (step p) (same_item s t m h) ∙ goes) in
     let second : Leads t (with_opener i p) (entry ∷ []) u q =
-        subst (λ (j : Item). Leads t (with_opener j p) (entry ∷ []) u q) same (leads p (in_place_behind s.text list o h.tags is h.no_drop)) in
-    (q, after_form s.text list o h.tags f is h.no_drop,
-        Leads-then s h.before u o p q (entry ∷ []) (to_token s t m h list o is) (Leads-then h.before t u p (with_opener i p) q (entry ∷ []) first second))
+    subst (λ (j : Item). Leads t (with_opener j p) (entry ∷ []) u q) same (leads p (in_place_behind s.text list o h.tags is h.no_drop)) in (
+      q,
+      after_form s.text list o h.tags f is h.no_drop,
+      Leads-then s h.before u o p q (entry ∷ []) (to_token s t m h list o is) (Leads-then h.before t u p (with_opener i p) q (entry ∷ []) first second),
+    )
 
 -- a map stops
 pub map_stops :
@@ -106,7 +108,7 @@ map_stops s t m h list o opener fault is kind map same stops =
     let goes : step p i ≡ Ok (goes_on (with_opener i p)) = step-opener i.kind i p kind may in
     let first : Leads h.before p [] t (with_opener i p) = Leads-step h.before t m.token p (goes_on (with_opener i p)) h.token (ap (step p) (same_item s t m h) ∙ goes) in
     let second : Stops t (with_opener i p) fault =
-        subst (λ (j : Item). Stops t (with_opener j p) fault) same (stops p (in_place_behind s.text list o h.tags is h.no_drop)) in
+    subst (λ (j : Item). Stops t (with_opener j p) fault) same (stops p (in_place_behind s.text list o h.tags is h.no_drop)) in
     Leads-stops s h.before o p fault (to_token s t m h list o is) (Leads-stops h.before t p (with_opener i p) fault first second)
 
 may_list : (a b : Bool) → (not a || b || (true && true)) ≡ true
@@ -155,9 +157,11 @@ list_closed s t m h opener o is kind =
     let f = collection i (item_of s.text m.token) (forms_of is.0) in
     let none = given_vector (is_map i) (is_place_in around.marks around.collections) _ (vector_no_map i.bytes is.3) in
     let e : with_form f is.1 [] ≡ nothing_open = ap (λ (ks : List Item). let x : Open = record { marks = ks; collections = [] } in x) (nothing_waits is.1 is.2) in
-    let lead : Leads s (inside i is.0 [] around) [] t (with_form f is.1 []) = Leads-closer s t m h i is.0 around [] kind none in
-    (nothing_open, refl,
-        subst (λ (p : Open). Leads s p [] t nothing_open) (sym is.4) (subst (λ (q : Open). Leads s (inside i is.0 [] around) [] t q) e lead))
+    let lead : Leads s (inside i is.0 [] around) [] t (with_form f is.1 []) = Leads-closer s t m h i is.0 around [] kind none in (
+      nothing_open,
+      refl,
+      subst (λ (p : Open). Leads s p [] t nothing_open) (sym is.4) (subst (λ (q : Open). Leads s (inside i is.0 [] around) [] t q) e lead),
+    )
 
 -- ---- 27
 
@@ -198,7 +202,7 @@ not_a_map s t m h list o is closer map vector =
     let i = item_of s.text m.token in
     let p = with_marks h.tags o in
     let refused = refused_plain m.token.kind i p h.no_mark closer (in_place_behind s.text list o h.tags is h.no_drop)
-        (λ at. may_not s.text list o h.tags i is h.no_drop (map at) (vector at)) in
+    (λ at. may_not s.text list o h.tags i is h.no_drop (map at) (vector at)) in
     Leads-stops s h.before o p (byte_fault NotAMap m.token.start) (to_token s t m h list o is)
     (Stops-step h.before t m.token p (byte_fault NotAMap m.token.start) h.token (ap (step p) (same_item s t m h) ∙ refused))
 
@@ -325,10 +329,13 @@ pub op_on :
     is_map (item_of s.text m.token) ≡ true → opener ≡ item_of s.text m.token → ReadsMap t opener (Ok (Some shape)) u →
     (read : PlacedOperation) × IsShapeOf shape read × LeadsOn s list (operation read ∷ []) u list
 op_on s t u m h list opener shape kind map same reads =
-    let x = is_op reads.0 shape reads.3 in
-    (x.0, x.2, λ o is.
-      subst (λ (e : Entry). (q : Open) × OpenWith s.text list q × Leads s o (e ∷ []) u q) x.1
-      (map_read s t u m h list o opener reads.2 reads.1 reads.0 is.0 kind map same reads.6))
+    let x = is_op reads.0 shape reads.3 in (
+      x.0,
+      x.2,
+      λ o is.
+          subst (λ (e : Entry). (q : Open) × OpenWith s.text list q × Leads s o (e ∷ []) u q) x.1
+          (map_read s t u m h list o opener reads.2 reads.1 reads.0 is.0 kind map same reads.6),
+    )
 
 -- a map that is skipped
 pub skip_on :

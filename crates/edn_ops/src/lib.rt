@@ -11,4 +11,6 @@ mod members;
 mod micro_ops;
 mod outline;
 pub mod reader;
+#[cfg(test)]
+mod tests;
 pub mod types;

@@ -72,12 +72,12 @@ returns-then-not-opens_map-clause-next c =
     let i = c.loop-member.invariant in
     let closer = c.closes.ensures.no c.if-closes.false in
     let map : c.in-Some.member.token.kind ≡ kinds.Open → is_map (item_of c.loop-member.self.lexer.text c.in-Some.member.token) ≡ false =
-        λ at. subst (λ (i : Item). is_map i ≡ false) same (c.opens_map.ensures.no c.if-not-opens_map.true at) in
+    λ at. subst (λ (i : Item). is_map i ≡ false) same (c.opens_map.ensures.no c.if-not-opens_map.true at) in
     let reads = refuses_on c.loop-member.self.lexer c.next_member.new.lexer c.in-Some.member h c.loop-member.self.list closer map
-        (elim c.else-is_none.branch [
-          | else-is_none-via-then-is_none+else-opens_list w ↦ inr (λ at. subst (λ (i : Item). is_vector_or_list i ≡ false) same (w.opens_list.ensures.no w.if-opens_list.false at))
-          | else-is_none-via-else-is_none w ↦ inl (c.is_none.ensures ∙ ap not w.if-is_none.false)
-        ]) in
+    (elim c.else-is_none.branch [
+      | else-is_none-via-then-is_none+else-opens_list w ↦ inr (λ at. subst (λ (i : Item). is_vector_or_list i ≡ false) same (w.opens_list.ensures.no w.if-opens_list.false at))
+      | else-is_none-via-else-is_none w ↦ inl (c.is_none.ensures ∙ ap not w.if-is_none.false)
+    ]) in
     λ no_memory. record { more = i.more; ends = rw c.fault_at.ensures (Passed-ends _ _ _ _ _ _ i _ reads) }
 
 pub returns-in_err-shape-clause-next : goal.returns-in_err-shape-clause-next
@@ -95,7 +95,7 @@ returns-in_err-shape-clause-next c =
     rw (p.1, p.2) (λ no_memory. record {
       more = i.more;
       ends = Passed-ends _ _ _ _ _ _ i (Some fault) (stops_with c.loop-member.self.lexer c.loop-member.self.list fault
-        (λ o is. map_stops c.loop-member.self.lexer c.next_member.new.lexer c.in-Some.member h c.loop-member.self.list o _ fault is kind map same (c.in_err-shape.ensures no_memory)));
+          (λ o is. map_stops c.loop-member.self.lexer c.next_member.new.lexer c.in-Some.member h c.loop-member.self.list o _ fault is kind map same (c.in_err-shape.ensures no_memory)));
     })
 
 pub returns-in-Some-2-clause-next : goal.returns-in-Some-2-clause-next
@@ -110,7 +110,7 @@ returns-in-Some-2-clause-next c =
     let i = c.loop-member.invariant in
     let Q : Option OpShape → Type 0 = λ x. ReadsMap c.next_member.new.lexer (item_of c.text-text.result.now c.in-Some.member.token) (Ok x) c.read_map.new.lexer in
     let x = op_on c.loop-member.self.lexer c.next_member.new.lexer c.read_map.new.lexer c.in-Some.member h c.loop-member.self.list _ c.in-Some-2.shape kind map same
-        (subst Q c.in-Some-2.is c.in_ok-shape.ensures) in
+    (subst Q c.in-Some-2.is c.in_ok-shape.ensures) in
     record { more = i.more; skipped = i.count; read = x.0; shape_of = x.1; goes = Passed-op _ _ _ _ _ _ _ _ i _ x.2 }
 
 pub returns-in-Some-2-clause-few : goal.returns-in-Some-2-clause-few
@@ -162,8 +162,8 @@ returns-in-Some-list-clause-next c =
     let h = subst P c.in_default.is c.in_ok-member.ensures in
     let i = c.loop-member.invariant in
     let reads : (o : Open) → AreOpen c.loop-member.self.lexer c.loop-member.self.list o → ReadsAs c.loop-member.self.lexer o (record { entries = []; fault = Some (byte_fault Unclosed c.in-Some-list.opener.start) }) =
-        λ o is. end_unclosed c.loop-member.self.lexer c.next_member.new.lexer h c.in-Some-list.opener o
-            (subst (λ (l : Option Token). OpenWith c.loop-member.self.lexer.text l o) c.in-Some-list.is is.0) in
+    λ o is. end_unclosed c.loop-member.self.lexer c.next_member.new.lexer h c.in-Some-list.opener o
+    (subst (λ (l : Option Token). OpenWith c.loop-member.self.lexer.text l o) c.in-Some-list.is is.0) in
     λ no_memory. record { more = i.more; ends = rw c.fault_at-in-Some-list.ensures (Passed-ends _ _ _ _ _ _ i _ reads) }
 
 pub returns-in-None-clause-next : goal.returns-in-None-clause-next
@@ -172,8 +172,8 @@ returns-in-None-clause-next c =
     let h = subst P c.in_default.is c.in_ok-member.ensures in
     let i = c.loop-member.invariant in
     let reads : (o : Open) → AreOpen c.loop-member.self.lexer c.loop-member.self.list o → ReadsAs c.loop-member.self.lexer o (record { entries = []; fault = None }) =
-        λ o is. end_reads c.loop-member.self.lexer c.next_member.new.lexer h o
-            (subst (λ (l : Option Token). OpenWith c.loop-member.self.lexer.text l o) c.in-None.is is.0) in
+    λ o is. end_reads c.loop-member.self.lexer c.next_member.new.lexer h o
+    (subst (λ (l : Option Token). OpenWith c.loop-member.self.lexer.text l o) c.in-None.is is.0) in
     record { more = i.more; skipped = i.count; closed = c.in-None.is; text = h.text ∙ i.text; ends = Passed-ends _ _ _ _ _ _ i None reads; after = h.after }
 
 pub returns-in-None-clause-few : goal.returns-in-None-clause-few
