@@ -82,6 +82,13 @@ abbrev pub ReadsMop : State → Result (ℕ × Result MopShape Fault) Fault → 
 ReadsMop s (Ok found) t = (form : Form) × ReadsMember s form t × (found.0 ≡ place_of form) × (found.1 ≡ mop_result (micro_op_of (place_of form) (elements_of form)))
 ReadsMop s (Err fault) t = StopsInside s fault
 
+-- the transaction with one more member, which begins at the offset
+abbrev pub AddsMop : Result (List MopShape) Fault → ℕ → Result MopShape Fault → Result (List MopShape) Fault → Type 0
+AddsMop old start mop new =
+    (members : List Form) (form : Form) →
+    old ≡ mops_result (micro_ops_of 0 members) → start ≡ place_of form → mop ≡ mop_result (micro_op_of (place_of form) (elements_of form)) →
+    new ≡ mops_result (micro_ops_of 0 (members ++ form ∷ []))
+
 -- a call read the members of a transaction
 abbrev pub ReadsTransaction : {V : Type 0} → (V → List MopShape) → State → Item → Result (Result V Fault) Fault → State → Type 0
 ReadsTransaction items s opener (Ok found) t =
