@@ -1,10 +1,10 @@
 -- Members and collections in no operation's place, as calls read them.
-use Rattle.std.proofs.Common.{◌≡◌, ◌≢◌, ℕ, suc, ◌+◌, ◌<◌, ◌≤◌, List, [], ◌∷◌, ◌++◌, length, take, drop, map, Bool, true, false, cond, ◌==◌, inl, inr, ◌⊎◌, not, Option, Some, None, Result, Ok, Err, refl, sym, ◌∙◌, ap, arith, subst}
-use Rattle.std.specs.Prelude.{slice_range, IsErrAnd}
+use Rattle.std.proofs.Common.{◌≡◌, ◌≢◌, ℕ, suc, ◌+◌, List, [], ◌∷◌, ◌++◌, length, take, drop, Bool, true, false, cond, ◌==◌, inl, inr, ◌⊎◌, not, Option, Some, None, Result, Ok, Err, refl, sym, ◌∙◌, ap, arith, subst}
+use Rattle.std.specs.Prelude.{IsErrAnd}
 use Rattle.hist_types.specs.Bytes.{is_blank, semicolon, quote, backslash, is_opener, is_closer, hash, open_brace, underscore, line_feed}
-use Rattle.hist_types.specs.Forms.{Form, plain, Forms, collection, forms_of, Open, with_form, with_opener}
+use Rattle.hist_types.specs.Forms.{Form, plain, collection, forms_of, Open, with_form, with_opener}
 use Rattle.hist_types.specs.Reading.{nothing_open}
-use Rattle.hist_types.specs.Tokens.{Item, ItemKind, Blank, Comment, Opener, Closer, Str, Char, Drop, Tag, Nil, True, False, Int, Keyword, Symbol, Other, IsCut, BeginsWith, front, hash_front, run_kind, run_of, run_len, is_int, is_keyword, is_symbol, item_fault, first_byte, character_len, content_len, open_after}
+use Rattle.hist_types.specs.Tokens.{Item, ItemKind, Blank, Comment, Opener, Closer, Str, Char, Drop, Tag, Nil, True, False, Int, Keyword, Symbol, Other, IsCut, BeginsWith, front, hash_front, run_kind, run_of, run_len, is_int, is_keyword, is_symbol, first_byte, character_len, content_len, open_after}
 use Rattle.std.specs.Prelude.{bytes_eq, codes}
 use Rattle.std.specs.List.{prefix_len}
 use Rattle.std.specs.Option.{option_map}
@@ -14,15 +14,15 @@ use Rattle.edn_lex.specs.declared.types.Token.{Token}
 use Rattle.edn_lex.specs.declared.types.TokenKind.{TokenKind}
 use Rattle.edn_lex.specs.declared.types.TokenKind.TheVariants as kinds
 use Rattle.edn_lex.specs.Kinds.{kind_of, item_of}
-use Rattle.edn_lex.specs.State.{State, left, IsCutFrom, Rest, RestIf, GivesToken}
+use Rattle.edn_lex.specs.State.{State, left, IsCutFrom, RestIf, GivesToken}
 use Rattle.edn_lex.proofs.Exists.{Rest-exists}
 use Rattle.edn_ops.specs.declared.forms.Member.{Member}
 use Rattle.edn_ops.specs.declared.outline.Outline.{Outline}
-use Rattle.edn_ops.specs.Leads.{Leads, Stops, inside, NoPlaceIn, first_place, behind, IsBehind, is_plain_kind, is_mark_kind, GivesMember, PassesCollection, SkipsCollection}
-use Rattle.edn_ops.specs.Outlines.{outline, outline_of, IsTokenIn, IsSpelled, IsOutlineIn, tag_at, untagged, outline_by, outline_for, IsPlainOutline, IsCollectionOutline}
+use Rattle.edn_ops.specs.Leads.{Leads, Stops, inside, first_place, behind, is_plain_kind, is_mark_kind, GivesMember, PassesCollection, SkipsCollection}
+use Rattle.edn_ops.specs.Outlines.{IsTokenIn, IsSpelled, IsOutlineIn, tag_at, untagged, outline_by, outline_for, IsPlainOutline, IsCollectionOutline}
 use Rattle.edn_ops.specs.declared.outline.Outline.TheVariants as outlines
-use Rattle.edn_ops.specs.Collections.{ReadsMember, StopsInside, HasOutline, PassesMember, ReadsCollection, StopsBehind}
-use Rattle.edn_ops.proofs.Steps.{Leads-then, Leads-stops}
+use Rattle.edn_ops.specs.Collections.{ReadsMember, StopsInside, PassesMember, ReadsCollection, StopsBehind}
+use Rattle.edn_ops.proofs.Steps.{Leads-stops}
 use Rattle.edn_ops.proofs.Levels.{behind_member, Leads-plain, Leads-opener, Leads-skipped, Leads-member, GivesMember-shorter}
 
 -- ---- integers are spelled as such

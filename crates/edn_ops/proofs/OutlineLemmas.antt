@@ -1,11 +1,7 @@
 -- What an operation's checks ask of a form they can ask of its outline.
-use Rattle.std.proofs.Common.{◌≡◌, ℕ, ℤ, List, Bool, true, Option, Some, None, refl, sym, ap, ◌∙◌}
-use Rattle.std.specs.Prelude.{bytes_eq}
-use Rattle.hist_types.specs.Atoms.{Atom, Value}
-use Rattle.hist_types.specs.Entries.{is_named, is_nil, int_of, atom_of, value_of, kind_of, is_write_of, keyword_of}
+use Rattle.std.proofs.Common.{◌≡◌, ℕ, List, refl}
+use Rattle.hist_types.specs.Entries.{is_named, is_nil, int_of, atom_of, value_of, kind_of, is_write_of}
 use Rattle.hist_types.specs.Forms.{Form, plain, collection, tagged, place_of}
-use Rattle.hist_types.specs.Tokens.{Item}
-use Rattle.hist_types.specs.declared.types.OpKind.{OpKind}
 use Rattle.edn_ops.specs.Outlines.{outline}
 
 pub place_of-outline : (f : Form) → place_of (outline f) ≡ place_of f
