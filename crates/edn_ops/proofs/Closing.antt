@@ -85,10 +85,6 @@ fit number place process start end pairs is =
     ap (λ (o : Option ℕ). or_refuse o BadProcess place >>= λ process. refuse_if (nat_lt MAX_OPERATION_BYTES (end - start)) TooLong start >>= λ _. field (codes ":type") start pairs >>= by_type process start end pairs) is.process_is
     ∙ ap (λ (t : Bool). refuse_if t TooLong start >>= λ _. field (codes ":type") start pairs >>= by_type process start end pairs) is.short
 
-pub bad_process : (number : ℤ) (place start end : ℕ) (pairs : List (Form × Form)) → process_of number ≡ None → client_operation number place start end pairs ≡ Err (byte_fault BadProcess place)
-bad_process number place start end pairs e =
-    ap (λ (o : Option ℕ). or_refuse o BadProcess place >>= λ process. refuse_if (nat_lt MAX_OPERATION_BYTES (end - start)) TooLong start >>= λ _. field (codes ":type") start pairs >>= by_type process start end pairs) e
-
 pub no_type : (number : ℤ) (place process start end : ℕ) (pairs : List (Form × Form)) (fault : Fault) → IsFit number process start end
     → Err fault ≡ result_outline (the_one start (fields_named (codes ":type") pairs)) → client_operation number place start end pairs ≡ Err fault
 no_type number place process start end pairs fault is e =

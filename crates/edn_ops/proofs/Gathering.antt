@@ -183,10 +183,6 @@ pub awaited : (text : List ℕ) (key : Option Outline) (field : Field) → await
 awaited text None field e = cc
 awaited text (Some key) field e = let parts = and_parts (is_named (codes ":value") (outline_of text key)) (is_none field.value) e in (key, refl, parts.0, parts.1)
 
-pub is_none_is : (o : Option Outline) → is_none o ≡ true → o ≡ None
-is_none_is None e = refl
-is_none_is (Some x) e = cc
-
 -- two names are never one
 pub type_process : (f : Form) → is_named (codes ":type") f ≡ true → is_named (codes ":process") f ≡ false
 type_process f h = false_from_ne_true (is_named (codes ":process") f) (λ k. let e = one_name (codes ":type") (codes ":process") f h k in cc)
