@@ -1,11 +1,10 @@
 -- Collections read member by member.
-use Rattle.std.proofs.Common.{◌≡◌, ◌≢◌, ℕ, suc, ◌+◌, ◌-◌, ◌<◌, ◌≤◌, List, [], ◌∷◌, ◌++◌, length, take, drop, map, Bool, true, false, ◌==◌, inl, inr, Option, Some, None, Result, Ok, Err, refl, sym, ◌∙◌, ap, arith, subst, length-take}
+use Rattle.std.proofs.Common.{◌≡◌, ◌≢◌, ℕ, ◌-◌, ◌<◌, ◌≤◌, List, [], ◌∷◌, ◌++◌, length, take, map, Bool, true, false, ◌==◌, inl, inr, Option, Some, None, Result, Ok, Err, refl, sym, ◌∙◌, ap, arith, subst, length-take}
 use Rattle.std.specs.Prelude.{IsErrAnd}
 use Rattle.std.specs.List.{AllByRecursion}
 use Rattle.std.proofs.lemmas.Bool.{eqb-true, eq-eqb, cases_eq}
 use Rattle.std.proofs.lemmas.List.{length-map, length-append, take_all, take-append-le, map_push}
-use Rattle.hist_types.specs.Forms.{Form, plain, collection, forms_of, Open, with_form, with_opener}
-use Rattle.hist_types.specs.Reading.{in_operation_place}
+use Rattle.hist_types.specs.Forms.{Form, collection, forms_of, Open, with_form, with_opener}
 use Rattle.hist_types.specs.Tokens.{Item, Closer, byte_fault}
 use Rattle.hist_types.specs.declared.types.Fault.{Fault}
 use Rattle.hist_types.specs.declared.types.Refusal.TheVariants.{Unclosed}
@@ -15,7 +14,7 @@ use Rattle.edn_ops.specs.declared.forms.Member.{Member}
 use Rattle.edn_ops.specs.declared.outline.Outline.{Outline}
 use Rattle.edn_ops.specs.Leads.{Leads, Stops, inside, NoPlaceIn, GivesMember, GivesNoMember, NextMember}
 use Rattle.edn_ops.specs.Outlines.{outline, outline_of, IsOutlineIn}
-use Rattle.edn_ops.specs.Collections.{ReadsMember, StopsInside, HasOutline, PassesMember, ReadsMembers, ReadsCollection, StopsBehind, AreFirstForms, ReadsFirstForms}
+use Rattle.edn_ops.specs.Collections.{ReadsMember, HasOutline, PassesMember, ReadsMembers, ReadsCollection, StopsBehind, AreFirstForms, ReadsFirstForms}
 use Rattle.edn_lex.specs.declared.types.TokenKind.{TokenKind}
 use Rattle.edn_lex.specs.declared.types.TokenKind.TheVariants as kinds
 use Rattle.edn_ops.proofs.Collected.{closer_kind}

@@ -1,9 +1,9 @@
 -- What a closed map gives, step by step.
-use Rattle.std.proofs.Common.{◌≡◌, ℕ, ℤ, ◌⊎◌, inl, inr, List, [], ◌∷◌, Bool, true, false, codes, Option, Some, None, Result, Ok, Err, refl, sym, ap, subst, ◌∙◌, map, nat_lt, ◌-◌, ◌≤◌, ◌%◌, ◌==◌, length, arith}
+use Rattle.std.proofs.Common.{◌≡◌, ℕ, ℤ, ◌⊎◌, inl, inr, List, [], ◌∷◌, Bool, false, codes, Option, Some, None, Result, Ok, Err, refl, sym, ap, subst, ◌∙◌, map, nat_lt, ◌-◌, ◌≤◌, ◌%◌, ◌==◌, length, arith}
 use Rattle.std.proofs.lemmas.Bool.{le-ltb}
 use Rattle.std.specs.Prelude.{IfSome, IsErrAnd}
 use Rattle.std.specs.List.{slice_get}
-use Rattle.std.specs.Option.{option_map, is_some, is_none}
+use Rattle.std.specs.Option.{option_map, is_some}
 use Rattle.hist_types.specs.Entries.{PlacedMop, Entry, operation, skipped, ◌>>=◌, the_one, field, transaction_of, mops_of, kind_of, client_operation, or_refuse, refuse_if, int_of, entry_by, entry_of, end_of, pairs_of}
 use Rattle.hist_types.specs.Forms.{Form, place_of}
 use Rattle.hist_types.specs.AtomTokens.{process_of}
@@ -15,11 +15,10 @@ use Rattle.hist_types.specs.declared.types.OpKind.{OpKind}
 use Rattle.hist_types.specs.declared.types.OpKind.TheVariants as kinds
 use Rattle.edn_ops.specs.declared.types.MopShape.{MopShape}
 use Rattle.edn_ops.specs.declared.types.OpShape.{OpShape}
-use Rattle.edn_ops.specs.declared.outline.Outline.{Outline}
 use Rattle.edn_ops.specs.Outlines.{outline, outline_of}
-use Rattle.edn_ops.specs.Fields.{result_outline, result_outline_of, mops_result, fields_named, members_of, Gathers, IsOperation, IsEntry}
+use Rattle.edn_ops.specs.Fields.{result_outline, mops_result, fields_named, members_of, Gathers, IsOperation, IsEntry}
 use Rattle.edn_ops.specs.declared.fields.Fields.{Fields}
-use Rattle.edn_ops.specs.Shapes.{mop_shape_of, IsShapeOf}
+use Rattle.edn_ops.specs.Shapes.{mop_shape_of}
 use Rattle.edn_ops.proofs.OutlineLemmas.{kind_of-outline, place_of-outline, int_of-outline}
 
 -- ---- steps
@@ -85,10 +84,6 @@ fit : (number : ℤ) (place process start end : ℕ) (pairs : List (Form × Form
 fit number place process start end pairs is =
     ap (λ (o : Option ℕ). or_refuse o BadProcess place >>= λ process. refuse_if (nat_lt MAX_OPERATION_BYTES (end - start)) TooLong start >>= λ _. field (codes ":type") start pairs >>= by_type process start end pairs) is.process_is
     ∙ ap (λ (t : Bool). refuse_if t TooLong start >>= λ _. field (codes ":type") start pairs >>= by_type process start end pairs) is.short
-
-pub bad_process : (number : ℤ) (place start end : ℕ) (pairs : List (Form × Form)) → process_of number ≡ None → client_operation number place start end pairs ≡ Err (byte_fault BadProcess place)
-bad_process number place start end pairs e =
-    ap (λ (o : Option ℕ). or_refuse o BadProcess place >>= λ process. refuse_if (nat_lt MAX_OPERATION_BYTES (end - start)) TooLong start >>= λ _. field (codes ":type") start pairs >>= by_type process start end pairs) e
 
 pub no_type : (number : ℤ) (place process start end : ℕ) (pairs : List (Form × Form)) (fault : Fault) → IsFit number process start end
     → Err fault ≡ result_outline (the_one start (fields_named (codes ":type") pairs)) → client_operation number place start end pairs ≡ Err fault

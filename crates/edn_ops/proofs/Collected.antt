@@ -1,10 +1,10 @@
 -- Members and collections in no operation's place, as calls read them.
-use Rattle.std.proofs.Common.{◌≡◌, ◌≢◌, ℕ, suc, ◌+◌, ◌<◌, ◌≤◌, List, [], ◌∷◌, ◌++◌, length, take, drop, map, Bool, true, false, cond, ◌==◌, inl, inr, ◌⊎◌, not, Option, Some, None, Result, Ok, Err, refl, sym, ◌∙◌, ap, arith, subst}
-use Rattle.std.specs.Prelude.{slice_range, IsErrAnd}
+use Rattle.std.proofs.Common.{◌≡◌, ◌≢◌, ℕ, suc, ◌+◌, List, [], ◌∷◌, ◌++◌, length, take, drop, Bool, true, false, cond, ◌==◌, inl, inr, ◌⊎◌, not, Option, Some, None, Result, Ok, Err, refl, sym, ◌∙◌, ap, arith, subst}
+use Rattle.std.specs.Prelude.{IsErrAnd}
 use Rattle.hist_types.specs.Bytes.{is_blank, semicolon, quote, backslash, is_opener, is_closer, hash, open_brace, underscore, line_feed}
-use Rattle.hist_types.specs.Forms.{Form, plain, Forms, collection, forms_of, Open, with_form, with_opener}
+use Rattle.hist_types.specs.Forms.{Form, plain, collection, forms_of, Open, with_form, with_opener}
 use Rattle.hist_types.specs.Reading.{nothing_open}
-use Rattle.hist_types.specs.Tokens.{Item, ItemKind, Blank, Comment, Opener, Closer, Str, Char, Drop, Tag, Nil, True, False, Int, Keyword, Symbol, Other, IsCut, BeginsWith, front, hash_front, run_kind, run_of, run_len, is_int, is_keyword, is_symbol, item_fault, first_byte, character_len, content_len, open_after}
+use Rattle.hist_types.specs.Tokens.{Item, ItemKind, Blank, Comment, Opener, Closer, Str, Char, Drop, Tag, Nil, True, False, Int, Keyword, Symbol, Other, IsCut, BeginsWith, front, hash_front, run_kind, run_of, run_len, is_int, is_keyword, is_symbol, first_byte, character_len, content_len, open_after}
 use Rattle.std.specs.Prelude.{bytes_eq, codes}
 use Rattle.std.specs.List.{prefix_len}
 use Rattle.std.specs.Option.{option_map}
@@ -14,23 +14,23 @@ use Rattle.edn_lex.specs.declared.types.Token.{Token}
 use Rattle.edn_lex.specs.declared.types.TokenKind.{TokenKind}
 use Rattle.edn_lex.specs.declared.types.TokenKind.TheVariants as kinds
 use Rattle.edn_lex.specs.Kinds.{kind_of, item_of}
-use Rattle.edn_lex.specs.State.{State, left, IsCutFrom, Rest, RestIf, GivesToken}
+use Rattle.edn_lex.specs.State.{State, left, IsCutFrom, RestIf, GivesToken}
 use Rattle.edn_lex.proofs.Exists.{Rest-exists}
 use Rattle.edn_ops.specs.declared.forms.Member.{Member}
 use Rattle.edn_ops.specs.declared.outline.Outline.{Outline}
-use Rattle.edn_ops.specs.Leads.{Leads, Stops, inside, NoPlaceIn, first_place, behind, IsBehind, is_plain_kind, is_mark_kind, GivesMember, PassesCollection, SkipsCollection}
-use Rattle.edn_ops.specs.Outlines.{outline, outline_of, IsTokenIn, IsSpelled, IsOutlineIn, tag_at, untagged, outline_by, outline_for}
+use Rattle.edn_ops.specs.Leads.{Leads, Stops, inside, first_place, behind, is_plain_kind, is_mark_kind, GivesMember, PassesCollection, SkipsCollection}
+use Rattle.edn_ops.specs.Outlines.{IsTokenIn, IsSpelled, IsOutlineIn, tag_at, untagged, outline_by, outline_for, IsPlainOutline, IsCollectionOutline}
 use Rattle.edn_ops.specs.declared.outline.Outline.TheVariants as outlines
-use Rattle.edn_ops.specs.Collections.{ReadsMember, StopsInside, HasOutline, PassesMember, ReadsCollection, StopsBehind}
-use Rattle.edn_ops.proofs.Steps.{Leads-then, Leads-stops}
+use Rattle.edn_ops.specs.Collections.{ReadsMember, StopsInside, PassesMember, ReadsCollection, StopsBehind}
+use Rattle.edn_ops.proofs.Steps.{Leads-stops}
 use Rattle.edn_ops.proofs.Levels.{behind_member, Leads-plain, Leads-opener, Leads-skipped, Leads-member, GivesMember-shorter}
 
 -- ---- integers are spelled as such
 
 -- the fourth of six tests
-run_if : (nil is_true is_false int key name : Bool) → cond nil Nil (cond is_true True (cond is_false False (cond int Int (cond key Keyword (cond name Symbol Other))))) ≡ Int → int ≡ true
-run_if true is_true is_false int key name e = absurd (let x = e in cc)
-run_if false true is_false int key name e = absurd (let x = e in cc)
+run_if : (nil yes_word no_word int key name : Bool) → cond nil Nil (cond yes_word True (cond no_word False (cond int Int (cond key Keyword (cond name Symbol Other))))) ≡ Int → int ≡ true
+run_if true yes_word no_word int key name e = absurd (let x = e in cc)
+run_if false true no_word int key name e = absurd (let x = e in cc)
 run_if false false true int key name e = absurd (let x = e in cc)
 run_if false false false true key name e = refl
 run_if false false false false true name e = absurd (let x = e in cc)
@@ -155,8 +155,8 @@ plain_kind kind = elim kind as (λ k. is_mark_kind k ≡ false → k ≢ Opener 
 
 -- what is asked of the code's word for a member
 pub record IsOf (m : Member) (o : Outline) : Type 0 where
-  pub plain_one : (text : List ℕ) (form : Form) → is_plain_kind (kind_of m.token.kind) ≡ true → IsBehind m.tag (plain (item_of text m.token)) form → outline form ≡ outline_of text o
-  pub collection_one : (text : List ℕ) (closer : Item) (members : Forms) (form : Form) → kind_of m.token.kind ≡ Opener → IsBehind m.tag (collection (item_of text m.token) closer members) form → outline form ≡ outline_of text o
+  pub plain_one : IsPlainOutline m o
+  pub collection_one : IsCollectionOutline m o
   pub within : (text : List ℕ) → IsTokenIn text m.token → IsOutlineIn text o
 
 pub passes_plain : (s t : State) (m : Member) (o : Outline) → GivesMember s m t → kind_of m.token.kind ≢ Opener → kind_of m.token.kind ≢ Closer → IsOf m o → PassesMember s (Ok o) t

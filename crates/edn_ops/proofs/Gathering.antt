@@ -1,5 +1,5 @@
 -- The fields of a map grow by one member.
-use Rattle.std.proofs.Common.{◌≡◌, ℕ, List, [], ◌∷◌, ◌++◌, Bool, true, false, cond, ◌&&◌, codes, Option, Some, None, Result, refl, sym, ap, subst, ◌∙◌, filter}
+use Rattle.std.proofs.Common.{◌≡◌, ℕ, List, [], ◌∷◌, ◌++◌, Bool, true, false, cond, ◌&&◌, codes, Option, Some, None, Result, refl, sym, ap, subst, ◌∙◌}
 use Rattle.std.specs.Prelude.{bytes_eq, IfSome}
 use Rattle.std.specs.List.{slice_get}
 use Rattle.std.specs.Option.{option_map, is_none, option_map_or}
@@ -182,10 +182,6 @@ transaction_gathered text old new members key form g some grows is_value first i
 pub awaited : (text : List ℕ) (key : Option Outline) (field : Field) → awaits_by text key field ≡ true → (k : Outline) × (key ≡ Some k) × (is_named (codes ":value") (outline_of text k) ≡ true) × (is_none field.value ≡ true)
 awaited text None field e = cc
 awaited text (Some key) field e = let parts = and_parts (is_named (codes ":value") (outline_of text key)) (is_none field.value) e in (key, refl, parts.0, parts.1)
-
-pub is_none_is : (o : Option Outline) → is_none o ≡ true → o ≡ None
-is_none_is None e = refl
-is_none_is (Some x) e = cc
 
 -- two names are never one
 pub type_process : (f : Form) → is_named (codes ":type") f ≡ true → is_named (codes ":process") f ≡ false

@@ -1,5 +1,5 @@
 -- A map of an operation, read member by member.
-use Rattle.std.proofs.Common.{◌≡◌, ◌≢◌, ℕ, ◌+◌, ◌-◌, ◌<◌, ◌≤◌, List, [], ◌∷◌, ◌++◌, length, Bool, true, false, cond, ◌||◌, ◌&&◌, Option, Some, None, Result, Ok, Err, refl, sym, ◌∙◌, ap, arith, subst, drop, take}
+use Rattle.std.proofs.Common.{◌≡◌, ℕ, ◌-◌, List, [], ◌∷◌, ◌++◌, length, Bool, true, false, cond, ◌||◌, ◌&&◌, Option, Some, None, Result, Ok, Err, refl, sym, ◌∙◌, ap, arith, subst, drop}
 use Rattle.std.specs.Prelude.{IsErrAnd, slice_range, bytes_eq}
 use Rattle.std.proofs.lemmas.List.{length-take-le, length-drop}
 use Rattle.std.proofs.lemmas.Slice.Eq.{bytes_eq-Decides}
@@ -7,7 +7,6 @@ use Rattle.hist_types.specs.Bytes.{open_brace, open_square, open_round}
 use Rattle.hist_types.specs.Entries.{Entry, ◌>>=◌, or_refuse, elements_of, transaction_of, micro_ops_of, entry_of, end_of}
 use Rattle.hist_types.specs.Forms.{Form, Forms, collection, forms_of, place_of, is_map, is_vector_or_list, OpenCollection, Open, with_form, with_opener}
 use Rattle.hist_types.specs.Reading.{in_operation_place, is_place_in, given_by}
-use Rattle.hist_types.specs.Refusals.{memory_fault}
 use Rattle.hist_types.specs.Tokens.{Item, Opener, Closer, byte_fault}
 use Rattle.hist_types.specs.declared.types.Fault.{Fault}
 use Rattle.hist_types.specs.declared.types.Refusal.TheVariants.{NotTxn, Unclosed}
@@ -20,9 +19,9 @@ use Rattle.edn_ops.specs.declared.fields.Fields.{Fields}
 use Rattle.edn_ops.specs.declared.forms.Member.{Member}
 use Rattle.edn_ops.specs.declared.outline.Outline.{Outline}
 use Rattle.edn_ops.specs.Fields.{mops_result, Gathers, AreFieldsIn, IsEntry}
-use Rattle.edn_ops.specs.Leads.{Leads, Stops, inside, NoPlaceIn, IsBehind, GivesMember, GivesNoMember}
+use Rattle.edn_ops.specs.Leads.{Stops, inside, NoPlaceIn, IsBehind, GivesMember, GivesNoMember}
 use Rattle.edn_ops.specs.Outlines.{outline, outline_of, IsTokenIn}
-use Rattle.edn_ops.specs.Collections.{UnlessMemory, ReadsMember, StopsInside, HasOutline, PassesMember, ReadsMembers, ReadsCollection, StopsBehind, GathersMember, ReadsMap}
+use Rattle.edn_ops.specs.Collections.{UnlessMemory, ReadsMember, StopsInside, PassesMember, ReadsMembers, ReadsCollection, StopsBehind, GathersMember, ReadsMap}
 use Rattle.edn_ops.proofs.Collected.{IsBare, bare_member, stops_bare}
 use Rattle.edn_ops.proofs.Levels.{GivesMember-shorter, NoPlaceIn-map, Leads-closer, Stops-closer, Stops-unclosed}
 use Rattle.edn_ops.proofs.MicroOps.{no_elements, elements}

@@ -4,7 +4,7 @@ use Rattle.std.proofs.lemmas.Bool.{le-leb, lt-leb}
 use Rattle.std.proofs.lemmas.List.{length-map, map_push}
 use Rattle.hist_types.specs.Atoms.{Atom}
 use Rattle.hist_types.specs.Entries.{PlacedMop, ◌>>=◌, refuse_if, or_refuse, is_write_of, atom_of, elements_of, read_or_write, micro_op_of, micro_ops_of}
-use Rattle.hist_types.specs.Forms.{Form, Forms, no_form, form, plain, collection, tagged, place_of, forms_of, list_of, is_vector_or_list}
+use Rattle.hist_types.specs.Forms.{Form, plain, collection, tagged, place_of, forms_of, list_of, is_vector_or_list}
 use Rattle.hist_types.specs.Tokens.{Item, byte_fault}
 use Rattle.hist_types.specs.declared.limits.TheConstants.{MAX_MICRO_OPS}
 use Rattle.hist_types.specs.declared.types.Fault.{Fault}

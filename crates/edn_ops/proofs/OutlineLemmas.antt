@@ -1,11 +1,7 @@
 -- What an operation's checks ask of a form they can ask of its outline.
-use Rattle.std.proofs.Common.{◌≡◌, ℕ, ℤ, List, Bool, true, Option, Some, None, refl, sym, ap, ◌∙◌}
-use Rattle.std.specs.Prelude.{bytes_eq}
-use Rattle.hist_types.specs.Atoms.{Atom, Value}
-use Rattle.hist_types.specs.Entries.{is_named, is_nil, int_of, atom_of, value_of, kind_of, is_write_of, keyword_of}
+use Rattle.std.proofs.Common.{◌≡◌, ℕ, List, refl}
+use Rattle.hist_types.specs.Entries.{is_named, int_of, atom_of, kind_of, is_write_of}
 use Rattle.hist_types.specs.Forms.{Form, plain, collection, tagged, place_of}
-use Rattle.hist_types.specs.Tokens.{Item}
-use Rattle.hist_types.specs.declared.types.OpKind.{OpKind}
 use Rattle.edn_ops.specs.Outlines.{outline}
 
 pub place_of-outline : (f : Form) → place_of (outline f) ≡ place_of f
@@ -23,20 +19,10 @@ int_of-outline (plain t) = refl
 int_of-outline (collection opener closer members) = refl
 int_of-outline (tagged tag f) = refl
 
-pub is_nil-outline : (f : Form) → is_nil (outline f) ≡ is_nil f
-is_nil-outline (plain t) = refl
-is_nil-outline (collection opener closer members) = refl
-is_nil-outline (tagged tag f) = refl
-
 pub atom_of-outline : (f : Form) → atom_of (outline f) ≡ atom_of f
 atom_of-outline (plain t) = refl
 atom_of-outline (collection opener closer members) = refl
 atom_of-outline (tagged tag f) = refl
-
-pub value_of-outline : (f : Form) → value_of (outline f) ≡ value_of f
-value_of-outline (plain t) = refl
-value_of-outline (collection opener closer members) = refl
-value_of-outline (tagged tag f) = refl
 
 pub kind_of-outline : (f : Form) → kind_of (outline f) ≡ kind_of f
 kind_of-outline (plain t) = refl

@@ -1,7 +1,7 @@
 -- What calls read of the members of a collection, and of a collection as a whole.
-use Rattle.std.specs.Prelude.{◌≡◌, ◌≢◌, ◌≤◌, ◌<◌, ℕ, List, [], ◌∷◌, ◌++◌, take, map, true, false, Option, Some, None, Result, Ok, Err}
+use Rattle.std.specs.Prelude.{◌≡◌, ◌≢◌, ◌≤◌, ◌<◌, ℕ, List, [], ◌∷◌, ◌++◌, take, map, true, false, Option, Result, Ok, Err}
 use Rattle.std.specs.List.{AllByRecursion}
-use Rattle.hist_types.specs.Entries.{PlacedMop, Entry, operation, skipped, micro_op_of, micro_ops_of, elements_of}
+use Rattle.hist_types.specs.Entries.{Entry, micro_op_of, micro_ops_of, elements_of}
 use Rattle.hist_types.specs.Forms.{Form, collection, forms_of, Open, place_of, with_form, with_opener}
 use Rattle.hist_types.specs.Reading.{in_operation_place}
 use Rattle.hist_types.specs.Refusals.{memory_fault}
@@ -15,7 +15,6 @@ use Rattle.edn_ops.specs.Fields.{mop_result, mops_result, shapes_result, Gathers
 use Rattle.edn_ops.specs.declared.fields.Fields.{Fields}
 use Rattle.edn_ops.specs.Leads.{Leads, Stops, inside, NoPlaceIn}
 use Rattle.edn_ops.specs.Outlines.{outline, outline_of, IsOutlineIn}
-use Rattle.edn_ops.specs.Shapes.{IsShapeOf}
 
 -- what holds of a fault that is not out of memory
 abbrev pub UnlessMemory : Fault → Type 0 → Type 0
@@ -81,6 +80,13 @@ ReadsFirstForms items s opener (Err fault) t = StopsBehind s opener fault
 abbrev pub ReadsMop : State → Result (ℕ × Result MopShape Fault) Fault → State → Type 0
 ReadsMop s (Ok found) t = (form : Form) × ReadsMember s form t × (found.0 ≡ place_of form) × (found.1 ≡ mop_result (micro_op_of (place_of form) (elements_of form)))
 ReadsMop s (Err fault) t = StopsInside s fault
+
+-- the transaction with one more member, which begins at the offset
+abbrev pub AddsMop : Result (List MopShape) Fault → ℕ → Result MopShape Fault → Result (List MopShape) Fault → Type 0
+AddsMop old start mop new =
+    (members : List Form) (form : Form) →
+    old ≡ mops_result (micro_ops_of 0 members) → start ≡ place_of form → mop ≡ mop_result (micro_op_of (place_of form) (elements_of form)) →
+    new ≡ mops_result (micro_ops_of 0 (members ++ form ∷ []))
 
 -- a call read the members of a transaction
 abbrev pub ReadsTransaction : {V : Type 0} → (V → List MopShape) → State → Item → Result (Result V Fault) Fault → State → Type 0

@@ -2,14 +2,18 @@
 use Rattle.std.specs.Prelude.{◌≡◌, ℕ, List, [], ◌∷◌, ◌++◌, ◌&&◌, Bool, true, false, codes, Option, Some, None, option_map, Result, Ok, Err, IfSome, filter, map}
 use Rattle.std.specs.List.{slice_get}
 use Rattle.std.specs.Option.{is_none}
-use Rattle.hist_types.specs.Entries.{PlacedMop, Entry, operation, skipped, is_named, transaction_of}
+use Rattle.hist_types.specs.Entries.{PlacedMop, Entry, operation, skipped, is_named, the_one, transaction_of, mops_of, client_operation, entry_of, end_of}
+use Rattle.hist_types.specs.Tokens.{Item}
+use Rattle.hist_types.specs.declared.types.OpKind.{OpKind}
+use Rattle.edn_lex.specs.declared.types.Token.{Token}
 use Rattle.hist_types.specs.Forms.{Form, place_of}
 use Rattle.hist_types.specs.declared.types.Fault.{Fault}
 use Rattle.edn_ops.specs.Shapes.{mop_shape_of, IsShapeOf}
-use Rattle.edn_ops.specs.Outlines.{outline, outline_of, IsOutlineIn}
+use Rattle.edn_ops.specs.Outlines.{outline, outline_of, number_of, IsOutlineIn}
 use Rattle.edn_ops.specs.declared.types.MopShape.{MopShape}
 use Rattle.edn_ops.specs.declared.outline.Outline.{Outline}
 use Rattle.edn_ops.specs.declared.types.OpShape.{OpShape}
+use Rattle.edn_ops.specs.declared.types.Span.{Span}
 use Rattle.edn_ops.specs.declared.fields.Field.{Field}
 use Rattle.edn_ops.specs.declared.fields.Fields.{Fields}
 
@@ -37,6 +41,17 @@ pub record IsField (text : List ℕ) (field : Field) (found : List (Form × Form
 
 abbrev pub IsFieldIn : List ℕ → Field → Type 0
 IsFieldIn text field = IfSome field.value (IsOutlineIn text)
+
+-- one more field of the name, by the place of its key and the outline of its value
+abbrev pub AddsField : Field → ℕ → Outline → Field → Type 0
+AddsField old place value new =
+    (text : List ℕ) (found : List (Form × Form)) (key form : Form) →
+    IsField text old found → place_of key ≡ place → outline form ≡ outline_of text value → IsField text new (found ++ (key, form) ∷ [])
+
+-- the value of the one field of the name in a map that begins at the offset
+abbrev pub IsTheOne : Field → ℕ → Result Outline Fault → Type 0
+IsTheOne field start result =
+    (text : List ℕ) (found : List (Form × Form)) → IsField text field found → result_outline_of text result ≡ result_outline (the_one start found)
 
 -- ---- all fields
 
@@ -105,3 +120,33 @@ IsEntry (Ok None) (Ok skipped) = Unit {0}
 IsEntry (Ok found) (Err fault) = ⊥
 IsEntry (Err fault) (Ok entry) = ⊥
 IsEntry (Err fault) (Err other) = fault ≡ other
+
+-- the value of the first `:value` has been gathered, which is this as a transaction
+abbrev pub AddsTransaction : Fields → Outline → Result (List MopShape) Fault → Fields → Type 0
+AddsTransaction old value shapes new =
+    (text : List ℕ) (members : List Form) (form : Form) →
+    Gathers text old members → awaits text old ≡ true → outline form ≡ outline_of text value → shapes ≡ mops_result (transaction_of form) →
+    Gathers text new (members ++ form ∷ [])
+
+-- any other member has been gathered
+abbrev pub AddsMember : List ℕ → Fields → Outline → Fields → Type 0
+AddsMember text old member new =
+    (members : List Form) (form : Form) →
+    Gathers text old members → awaits text old ≡ false → outline form ≡ outline_of text member → Gathers text new (members ++ form ∷ [])
+
+-- what the map gives whose members have been gathered
+abbrev pub GivesEntry : List ℕ → Fields → Span → Result (Option OpShape) Fault → Type 0
+GivesEntry text fields span result =
+    (opener closer : Item) (members : List Form) →
+    Gathers text fields members → opener.start ≡ span.start → end_of closer ≡ span.end → IsEntry result (entry_of opener closer members)
+
+-- what it gives where this integer is the value of `:process`
+abbrev pub GivesOperation : List ℕ → Fields → Span → Token → Result OpShape Fault → Type 0
+GivesOperation text fields span number result =
+    (members : List Form) (g : Gathers text fields members) →
+    IsOperation result (client_operation (number_of text number) number.start span.start span.end g.pairs)
+
+-- the micro-operations of an operation of this kind, in a map that begins at the offset
+abbrev pub GivesMops : Fields → OpKind → ℕ → Result (List MopShape) Fault → Type 0
+GivesMops fields kind start shapes =
+    (text : List ℕ) (members : List Form) (g : Gathers text fields members) → shapes ≡ mops_result (mops_of kind start g.pairs)

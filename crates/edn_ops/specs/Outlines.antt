@@ -1,8 +1,9 @@
 -- Members of an operation's map and of its transaction: what its checks ask of a form without looking into it.
 use Rattle.std.specs.Prelude.{Option, Some, None, ◌≡◌, ℕ, ℤ, ◌≤◌, List, [], length, true, slice_range}
 use Rattle.hist_types.specs.AtomTokens.{int_value}
-use Rattle.hist_types.specs.Forms.{Form, plain, collection, tagged, no_form}
-use Rattle.hist_types.specs.Tokens.{Item, ItemKind, Tag, Int, is_int}
+use Rattle.hist_types.specs.Forms.{Form, Forms, plain, collection, tagged, no_form}
+use Rattle.hist_types.specs.Tokens.{Item, ItemKind, Opener, Tag, Int, is_int}
+use Rattle.edn_ops.specs.Leads.{is_plain_kind, IsBehind}
 use Rattle.edn_lex.specs.declared.types.Token.{Token}
 use Rattle.edn_lex.specs.declared.types.TokenKind.{TokenKind}
 use Rattle.edn_lex.specs.declared.types.TokenKind.TheVariants as kinds
@@ -63,3 +64,15 @@ abbrev pub outline_of : List ℕ → Outline → Form
 outline_of text (outlines.Plain token) = plain (item_of text token)
 outline_of text (outlines.Collection opener) = collection (item_of text opener) (item_of text opener) no_form
 outline_of text (outlines.Tagged place) = tagged (tag_at place) (plain (tag_at place))
+
+-- a token that is the member has this outline
+abbrev pub IsPlainOutline : Member → Outline → Type 0
+IsPlainOutline m o =
+    (text : List ℕ) (form : Form) →
+    is_plain_kind (kind_of m.token.kind) ≡ true → IsBehind m.tag (plain (item_of text m.token)) form → outline form ≡ outline_of text o
+
+-- a collection that is the member has this outline
+abbrev pub IsCollectionOutline : Member → Outline → Type 0
+IsCollectionOutline m o =
+    (text : List ℕ) (closer : Item) (members : Forms) (form : Form) →
+    kind_of m.token.kind ≡ Opener → IsBehind m.tag (collection (item_of text m.token) closer members) form → outline form ≡ outline_of text o

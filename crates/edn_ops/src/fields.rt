@@ -5,7 +5,7 @@ ghost use Rattle.hist_types.specs.Entries.{the_one, transaction_of, mops_of, ent
 ghost use Rattle.hist_types.specs.Forms.{Form, place_of};
 ghost use Rattle.hist_types.specs.Tokens.{Item};
 ghost use Rattle.edn_ops.specs.Outlines.{outline, outline_of, IsOutlineIn, IsIntIn, number_of};
-ghost use Rattle.edn_ops.specs.Fields.{IsField, IsFieldIn, result_outline, result_outline_of, shapes_result, mops_result, Gathers, AreFieldsIn, awaits, IsEntry, IsOperation};
+ghost use Rattle.edn_ops.specs.Fields.{IsField, IsFieldIn, AddsField, IsTheOne, shapes_result, Gathers, AreFieldsIn, awaits, AddsTransaction, AddsMember, GivesEntry, GivesOperation, GivesMops};
 
 use crate::atoms;
 use crate::faults::fault_at;
@@ -37,7 +37,7 @@ impl Field {
 
     /// One more field of the name, by the place of its key and by its value.
     fn add(&mut self, place: usize, value: Outline)
-        ensures field { (text : List ℕ) (found : List (Form × Form)) (key form : Form) → IsField text self.old found → place_of key ≡ place → outline form ≡ outline_of text value → IsField text self.new (found ++ (key, form) ∷ []) }
+        ensures field { AddsField self.old place value self.new }
         ensures within { (text : List ℕ) → IsFieldIn text self.old → IsOutlineIn text value → IsFieldIn text self.new }
     {
         if self.value.is_none() {
@@ -49,7 +49,7 @@ impl Field {
 
     /// The value of the one field of the name, in a map that begins at `start`.
     fn the_one(self, start: usize) -> Result<Outline, Fault>
-        ensures one { (text : List ℕ) (found : List (Form × Form)) → IsField text self found → result_outline_of text result ≡ result_outline (the_one start found) }
+        ensures one { IsTheOne self start result }
         ensures within { (text : List ℕ) → IsFieldIn text self → IfOk result (IsOutlineIn text) }
     {
         match (self.value, self.second) {
@@ -121,7 +121,7 @@ impl Fields {
         value: Outline,
         transaction: Result<SmallVec<MopShape, 4>, Fault>,
     )
-        ensures fields { (text : List ℕ) (members : List Form) (form : Form) → Gathers text self.old members → awaits text self.old ≡ true → outline form ≡ outline_of text value → shapes_result (λ v. v.items) transaction ≡ mops_result (transaction_of form) → Gathers text self.new (members ++ form ∷ []) }
+        ensures fields { AddsTransaction self.old value (shapes_result (λ v. v.items) transaction) self.new }
         ensures within { (text : List ℕ) → AreFieldsIn text self.old → IsOutlineIn text value → AreFieldsIn text self.new }
     {
         self.key = None;
@@ -133,7 +133,7 @@ impl Fields {
     pub(crate) fn add(&mut self, text: &[u8], member: Outline)
         requires fields { AreFieldsIn text.now self.old }
         requires member { IsOutlineIn text.now member }
-        ensures fields { (members : List Form) (form : Form) → Gathers text.now self.old members → awaits text.now self.old ≡ false → outline form ≡ outline_of text.now member → Gathers text.now self.new (members ++ form ∷ []) }
+        ensures fields { AddsMember text.now self.old member self.new }
         ensures within { AreFieldsIn text.now self.new }
     {
         let Some(key) = self.key else {
@@ -158,7 +158,7 @@ impl Fields {
         span: Span,
     ) -> Result<Option<OpShape>, Fault>
         requires { AreFieldsIn text.now self }
-        ensures { (opener closer : Item) (members : List Form) → Gathers text.now self members → opener.start ≡ span.start → end_of closer ≡ span.end → IsEntry result (entry_of opener closer members) }
+        ensures { GivesEntry text.now self span result }
     {
         if self.key.is_some() {
             return Err(fault_at(Refusal::OddMap, span.start));
@@ -181,7 +181,7 @@ impl Fields {
     ) -> Result<OpShape, Fault>
         requires fields { AreFieldsIn text.now self }
         requires number { IsIntIn text.now number }
-        ensures { (members : List Form) (g : Gathers text.now self members) → IsOperation result (client_entry (number_of text.now number) number.start span.start span.end g.pairs) }
+        ensures { GivesOperation text.now self span number result }
     {
         let Some(process) = atoms::process_of(bytes_of(text, number)) else {
             return Err(fault_at(Refusal::BadProcess, number.start));
@@ -204,7 +204,7 @@ impl Fields {
 
     /// The micro-operations of an operation of this kind, whose map begins at `start`.
     fn mops(self, alloc: Global, kind: OpKind, start: usize) -> Result<SmallVec<MopShape, 4>, Fault>
-        ensures { (text : List ℕ) (members : List Form) (g : Gathers text self members) → shapes_result (λ v. v.items) result ≡ mops_result (mops_of kind start g.pairs) }
+        ensures { GivesMops self kind start (shapes_result (λ v. v.items) result) }
     {
         match kind {
             OpKind::Invoke | OpKind::Ok => {

@@ -8,7 +8,7 @@ ghost use Rattle.hist_types.specs.Refusals.{memory_fault};
 ghost use Rattle.hist_types.specs.Tokens.{Closer};
 ghost use Rattle.edn_lex.specs.Kinds.{kind_of, item_of};
 ghost use Rattle.edn_lex.specs.State.{State};
-ghost use Rattle.edn_ops.specs.Collections.{ReadsMop, ReadsTransaction};
+ghost use Rattle.edn_ops.specs.Collections.{AddsMop, ReadsMop, ReadsTransaction};
 ghost use Rattle.edn_ops.specs.Fields.{mop_result, mops_result, shapes_result};
 ghost use Rattle.edn_ops.specs.Leads.{GivesMember};
 ghost use Rattle.edn_ops.specs.Outlines.{outline_of, IsTokenIn, IsOutlineIn};
@@ -50,7 +50,7 @@ fn micro_op(
     requires name { IsOutlineIn text.now name }
     requires key { IsOutlineIn text.now key }
     requires value { IsOutlineIn text.now value }
-    ensures { result ≡ mop_result (micro_op_of start (Some (outline_of text.now name ∷ outline_of text.now key ∷ outline_of text.now value ∷ []))) }
+    ensures { result ≡ mop_result (micro_op_of start (Some (map (outline_of text.now) (name ∷ key ∷ value ∷ [])))) }
 {
     let Some(is_write) = is_write(text, name) else {
         return Err(fault_at(Refusal::NotTxn, start));
@@ -118,7 +118,7 @@ fn with_micro_op(
     start: usize,
     micro_op: Result<MopShape, Fault>,
 ) -> Result<Result<SmallVec<MopShape, 4>, Fault>, Fault>
-    ensures ok { IfOk result (λ found. (members : List Form) (form : Form) → shapes_result (λ v. v.items) transaction ≡ mops_result (micro_ops_of 0 members) → start ≡ place_of form → micro_op ≡ mop_result (micro_op_of (place_of form) (elements_of form)) → shapes_result (λ v. v.items) found ≡ mops_result (micro_ops_of 0 (members ++ form ∷ []))) }
+    ensures ok { IfOk result (λ found. AddsMop (shapes_result (λ v. v.items) transaction) start micro_op (shapes_result (λ v. v.items) found)) }
     ensures err { IfErr result (λ fault. fault ≡ memory_fault) }
 {
     let mut mops = match transaction {

@@ -6,7 +6,7 @@ ghost use Rattle.hist_types.specs.Forms.{Form, Forms, plain, collection, place_o
 ghost use Rattle.hist_types.specs.Tokens.{Item, Opener};
 ghost use Rattle.edn_lex.specs.Kinds.{kind_of, item_of};
 ghost use Rattle.edn_ops.specs.Leads.{is_plain_kind, IsBehind};
-ghost use Rattle.edn_ops.specs.Outlines.{outline, outline_of, outline_for, IsTokenIn, IsOutlineIn, IsIntIn, number_of};
+ghost use Rattle.edn_ops.specs.Outlines.{outline_of, outline_for, IsPlainOutline, IsCollectionOutline, IsTokenIn, IsOutlineIn, IsIntIn, number_of};
 ghost use Rattle.edn_ops.specs.Shapes.{span_of};
 
 use crate::atoms;
@@ -60,8 +60,8 @@ impl Default for Outline {
 impl Outline {
     /// The outline of the form that begins with this member's token.
     pub(crate) fn of(member: Member) -> Outline
-        ensures plain { (text : List ℕ) (form : Form) → is_plain_kind (kind_of member.token.kind) ≡ true → IsBehind member.tag (plain (item_of text member.token)) form → outline form ≡ outline_of text result }
-        ensures collection { (text : List ℕ) (closer : Item) (members : Forms) (form : Form) → kind_of member.token.kind ≡ Opener → IsBehind member.tag (collection (item_of text member.token) closer members) form → outline form ≡ outline_of text result }
+        ensures plain { IsPlainOutline member result }
+        ensures collection { IsCollectionOutline member result }
         ensures within { (text : List ℕ) → IsTokenIn text member.token → IsOutlineIn text result }
         ensures is { result ≡ outline_for member }
     {

@@ -1,4 +1,4 @@
-use Rattle.std.proofs.Common.{◌≡◌, sym, ap, ◌∙◌, refl}
+use Rattle.std.proofs.Common.{sym, ◌∙◌, refl}
 use Rattle.edn_ops.proofs.Collected.{bare}
 use Rattle.edn_ops.proofs.Levels.{GivesMember-shorter}
 use Rattle.edn_ops.proofs.MapMembers.{gathers_fails, added, no_transaction, gathered_transaction, transaction_stops}

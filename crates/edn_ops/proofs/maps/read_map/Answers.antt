@@ -1,4 +1,4 @@
-use Rattle.std.proofs.Common.{◌≡◌, ◌++◌, ◌∷◌, refl, sym, ap, subst, ◌∙◌, [], List, ℕ}
+use Rattle.std.proofs.Common.{◌++◌, ◌∷◌, refl, sym, ap, subst, ◌∙◌, [], List, ℕ}
 use Rattle.edn_lex.specs.Kinds.{kind_of, item_of}
 use Rattle.edn_ops.specs.Leads.{inside}
 use Rattle.edn_ops.specs.Outlines.{IsTokenIn}

@@ -1,4 +1,4 @@
-use Rattle.std.proofs.Common.{◌≡◌, List, ◌-◌, length}
+use Rattle.std.proofs.Common.{List, ◌-◌, length}
 use Rattle.hist_types.specs.Forms.{Form}
 use Rattle.edn_lex.specs.Kinds.{item_of}
 use Rattle.edn_ops.specs.Collections.{ReadsMembers}

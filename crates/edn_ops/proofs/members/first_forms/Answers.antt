@@ -1,9 +1,8 @@
-use Rattle.std.proofs.Common.{◌≡◌, ◌++◌, ◌∷◌, refl, subst, sym, ap, [], List, ◌<◌, ◌≤◌, arith}
-use Rattle.hist_types.specs.Forms.{Form}
+use Rattle.std.proofs.Common.{◌++◌, ◌∷◌, subst, sym, ap, [], List}
 use Rattle.edn_lex.specs.Kinds.{kind_of, item_of}
 use Rattle.edn_ops.specs.Collections.{AreFirstForms}
 use Rattle.edn_ops.specs.declared.outline.Outline.{Outline}
-use Rattle.edn_ops.proofs.ByMember.{nothing_read, one_read, closed, next_stops, unclosed, shorter_member, first_none, first_more, first_same, next_given, next_none, member_some, not_closer, first_fails, stops_at, passed, has_room, is_filled, outline_at}
+use Rattle.edn_ops.proofs.ByMember.{nothing_read, one_read, closed, next_stops, unclosed, shorter_member, first_none, first_more, first_same, next_given, next_none, member_some, first_fails, stops_at, passed, has_room, is_filled, outline_at}
 use Rattle.edn_ops.specs.Leads.{inside}
 use Rattle.edn_ops.proofs.members.first_forms.Goals as goal
 

@@ -1,4 +1,4 @@
-use Rattle.std.proofs.Common.{◌≡◌, Ok, ap, sym, subst}
+use Rattle.std.proofs.Common.{Ok, ap, sym, subst}
 use Rattle.edn_lex.specs.Kinds.{kind_of}
 use Rattle.edn_ops.specs.Collections.{PassesMember}
 use Rattle.edn_ops.proofs.Collected.{IsOf, passes_plain, passes_collection, stops_member, member_fails, opener_kind}

@@ -1,6 +1,5 @@
-use Rattle.std.proofs.Common.{◌≡◌, List, ℕ, Err, Ok, sym, ap, ◌∙◌, subst, refl}
+use Rattle.std.proofs.Common.{List, ℕ, sym, ◌∙◌, subst, refl}
 use Rattle.std.specs.List.{AllByRecursion}
-use Rattle.edn_ops.specs.declared.outline.Outline.{Outline}
 use Rattle.edn_ops.specs.Outlines.{IsOutlineIn}
 use Rattle.edn_ops.proofs.Collected.{bare}
 use Rattle.edn_ops.proofs.Levels.{GivesMember-shorter}

@@ -1,10 +1,8 @@
-use Rattle.std.proofs.Common.{◌≡◌, ◌++◌, ◌∷◌, refl, sym, ap, subst, ◌∙◌, [], List, ℕ, Ok}
-use Rattle.hist_types.specs.Forms.{Form}
+use Rattle.std.proofs.Common.{◌++◌, ◌∷◌, sym, ap, subst, ◌∙◌, [], List, ℕ, Ok}
 use Rattle.edn_lex.specs.Kinds.{kind_of, item_of}
 use Rattle.edn_ops.specs.declared.types.MopShape.{MopShape}
 use Rattle.edn_ops.specs.Leads.{inside}
 use Rattle.edn_ops.specs.Outlines.{IsTokenIn}
-use Rattle.edn_ops.specs.Collections.{ReadsCollection}
 use Rattle.edn_ops.proofs.Collected.{member_in}
 use Rattle.edn_ops.proofs.Levels.{GivesMember-shorter}
 use Rattle.edn_ops.proofs.ByMember.{nothing_read, one_read, closed, next_stops, unclosed, shorter_member, next_given, next_none, member_some, not_closer, stops_at}

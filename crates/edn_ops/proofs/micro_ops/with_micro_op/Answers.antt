@@ -1,4 +1,4 @@
-use Rattle.std.proofs.Common.{◌≡◌, Err, Ok, Result, sym, ap, ◌∙◌, List, subst, arith, length, ◌≤◌, ◌<◌}
+use Rattle.std.proofs.Common.{Err, Ok, sym, ap, ◌∙◌, List, subst, length, ◌≤◌, ◌<◌}
 use Rattle.hist_types.specs.Tokens.{byte_fault}
 use Rattle.hist_types.specs.declared.limits.TheConstants.{MAX_MICRO_OPS}
 use Rattle.hist_types.specs.declared.types.Fault.{Fault}

@@ -1,5 +1,4 @@
-use Rattle.std.proofs.Common.{◌≡◌, codes, refl, sym, ap, ◌∙◌, ◌&&◌, false, true}
-use Rattle.std.specs.Option.{is_none}
+use Rattle.std.proofs.Common.{◌≡◌, codes, refl, sym, ◌∙◌, true}
 use Rattle.hist_types.specs.Entries.{is_named}
 use Rattle.edn_ops.specs.Outlines.{outline_of}
 use Rattle.edn_ops.proofs.Gathering.{key_gathered, value_gathered, not_grown, grown, type_process, type_value, process_value, not_awaited, no_key_is}

@@ -1,4 +1,4 @@
-use Rattle.std.proofs.Common.{◌≡◌, ℕ, List, codes, Err, Ok, Some, None, sym, ap, ◌∙◌, refl, ◌-◌, ◌≤◌}
+use Rattle.std.proofs.Common.{◌≡◌, ℕ, List, codes, Err, Some, sym, ap, ◌∙◌, refl, ◌-◌, ◌≤◌}
 use Rattle.std.specs.Prelude.{slice_range}
 use Rattle.edn_lex.specs.declared.types.Token.{Token}
 use Rattle.hist_types.specs.Forms.{place_of}

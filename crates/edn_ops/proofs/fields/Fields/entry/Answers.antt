@@ -1,10 +1,10 @@
-use Rattle.std.proofs.Common.{◌≡◌, ℕ, List, codes, Err, Ok, Some, None, sym, ap, ◌∙◌, refl}
-use Rattle.hist_types.specs.Entries.{entry_of, entry_by}
+use Rattle.std.proofs.Common.{codes, Err, Ok, Some, None, sym, ap, ◌∙◌}
+use Rattle.hist_types.specs.Entries.{entry_by}
 use Rattle.hist_types.specs.declared.types.Fault.{Fault}
 use Rattle.edn_ops.specs.Outlines.{outline_of, number_of}
 use Rattle.edn_ops.specs.Fields.{fields_named, IsOperation}
 use Rattle.hist_types.specs.Forms.{place_of}
-use Rattle.edn_ops.proofs.Closing.{IsAt, gathered, no_process, processed, entry_err, entry_skipped, entry_is, entry_fails_with, entry_fails, placed}
+use Rattle.edn_ops.proofs.Closing.{gathered, no_process, processed, entry_err, entry_skipped, entry_is, entry_fails_with, entry_fails, placed}
 use Rattle.edn_ops.proofs.fields.Fields.entry.Goals as goal
 
 pub returns-then-is_some : goal.returns-then-is_some

@@ -1,4 +1,4 @@
-use Rattle.std.proofs.Common.{◌≡◌, codes, Err, sym, ap, ◌∙◌}
+use Rattle.std.proofs.Common.{codes, sym, ap, ◌∙◌}
 use Rattle.edn_ops.specs.Fields.{fields_named, shapes_result, mops_result}
 use Rattle.edn_ops.proofs.Closing.{err_is, has_value, no_value, value_mops}
 use Rattle.edn_ops.proofs.fields.Fields.mops.Goals as goal
