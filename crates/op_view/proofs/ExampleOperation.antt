@@ -1,5 +1,5 @@
 -- A text with an operation, whose first micro-operation reads nil and whose second writes.
-use Rattle.std.proofs.Common.{ℕ, List, [], ◌∷◌, None, Some, pos, codes, true, false, refl, arith}
+use Rattle.std.proofs.Common.{ℕ, List, [], ◌∷◌, None, pos, codes, true, false, refl, arith}
 use Rattle.hist_types.specs.Atoms.{integer, keyword, string}
 use Rattle.hist_types.specs.Entries.{PlacedOperation}
 use Rattle.hist_types.specs.Operations.{read, write}
