@@ -1,8 +1,8 @@
 -- A text with an operation, whose first micro-operation reads nil and whose second writes.
 use Rattle.std.proofs.Common.{ℕ, List, [], ◌∷◌, None, pos, codes, true, false, refl, arith}
 use Rattle.hist_types.specs.Atoms.{integer, keyword, string}
-use Rattle.hist_types.specs.Entries.{PlacedOperation}
-use Rattle.hist_types.specs.Operations.{read, write}
+use Rattle.hist_types.specs.Entries.{PlacedMop, PlacedOperation}
+use Rattle.hist_types.specs.Operations.{Mop, read, write}
 use Rattle.hist_types.specs.Placed.{IsIn}
 use Rattle.hist_types.specs.Tokens.{Item, ItemKind, Keyword, Nil, Str, Int}
 use Rattle.hist_types.specs.declared.types.OpKind.TheVariants as kinds
@@ -12,6 +12,9 @@ use Rattle.edn_ops.specs.declared.types.MopShape.{MopShape}
 abbrev token : ItemKind → ℕ → List ℕ → Item
 token kind start bytes = record { kind = kind; start = start; bytes = bytes }
 
+abbrev placed : Mop → Item → Item → PlacedMop
+placed mop key value = record { mop = mop; key = key; value = value }
+
 abbrev pub example_text : List ℕ
 example_text = codes "{:type :ok, :process 3, :value [[:r :x nil] [:w \"y\" 1]]}"
 
@@ -20,8 +23,8 @@ example_operation = record {
   kind = kinds.Ok;
   process = 3;
   mops =
-      record { mop = read (keyword (codes ":x")) None; key = token Keyword 36 (codes ":x"); value = token Nil 39 (codes "nil") }
-      ∷ record { mop = write (string (codes "y")) (integer (pos 1)); key = token Str 48 (codes "\"y\""); value = token Int 52 (codes "1") }
+      placed (read (keyword (codes ":x")) None) (token Keyword 36 (codes ":x")) (token Nil 39 (codes "nil"))
+      ∷ placed (write (string (codes "y")) (integer (pos 1))) (token Str 48 (codes "\"y\"")) (token Int 52 (codes "1"))
       ∷ [];
   start = 0;
   end = 56;

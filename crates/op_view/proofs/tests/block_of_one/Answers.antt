@@ -13,8 +13,8 @@ push-requires-3 c = (
     kind = refl;
     process = c.requires;
     mops =
-      c.in_ok-push-2.ensures.ok
-      ∙ (ap (λ (ms : List MopShape). ms ++ write_shape ∷ []) c.in_ok-push.ensures.ok
-      ∙ ap (λ (ms : List MopShape). (ms ++ read_shape ∷ []) ++ write_shape ∷ []) c.new-mops.ensures.items);
+        c.in_ok-push-2.ensures.ok
+        ∙ (ap (λ (ms : List MopShape). ms ++ write_shape ∷ []) c.in_ok-push.ensures.ok
+        ∙ ap (λ (ms : List MopShape). (ms ++ read_shape ∷ []) ++ write_shape ∷ []) c.new-mops.ensures.items);
   },
 )
