@@ -7,3 +7,4 @@ pub mod OnlyToken
 pub mod Spelled
 pub mod NilTokens
 pub mod SpelledMops
+pub mod ExampleOperation

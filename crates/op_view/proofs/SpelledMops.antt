@@ -19,7 +19,7 @@ use Rattle.op_block.specs.Contents.{BlockOperation}
 use Rattle.op_block.specs.Shapes.{short_span_of, short_mop_of, IsShapeOf}
 use Rattle.op_block.specs.declared.shapes.ShapeRef.{ShapeRef}
 use Rattle.op_view.specs.AtomTexts.{IsToken, IsTokenOf, IsTextOf}
-use Rattle.op_view.specs.MopTexts.{atom_in, is_nil, value_in, IsAtom, IsValue, bytes_at, mop_at, mops_at, IsWithin, IsMopAt, AreMopsAt}
+use Rattle.op_view.specs.MopTexts.{atom_in, is_nil, value_in, IsAtom, IsValue, bytes_at, mop_at, mops_at, operation_at, IsWithin, IsMopAt, AreMopsAt}
 use Rattle.op_view.proofs.KindsByFront.{kind_told}
 use Rattle.op_view.proofs.NilTokens.{nil_text, atom_no_nil}
 
@@ -41,7 +41,12 @@ value_of_atom : (bytes : List ℕ) (atom : Atom) → IsTextOf bytes atom → val
 value_of_atom bytes atom is = rw (atom_no_nil bytes atom is) (ap Some (atom_in-is bytes atom is))
 
 -- what is read and is not nil is an atom
-pub no_nil_read : (is_write : Bool) (bytes : List ℕ) → is_write ≡ false → is_nil bytes ≡ false → IsValue is_write bytes → IsAtom bytes
+pub no_nil_read :
+    (is_write : Bool) (bytes : List ℕ)
+    → is_write ≡ false
+    → is_nil bytes ≡ false
+    → IsValue is_write bytes
+    → IsAtom bytes
 no_nil_read true bytes reads is_not h = absurd (true≢false reads)
 no_nil_read false bytes reads is_not (inl is) = absurd (true≢false (sym is ∙ is_not))
 no_nil_read false bytes reads is_not (inr atom) = atom
@@ -51,12 +56,24 @@ no_nil_read false bytes reads is_not (inr atom) = atom
 within : (text : List ℕ) (t : Item) → IsTokenIn text t → IsWithin text (short_span_of t)
 within text t here = record { ordered = omega arith; end = here.0 }
 
-text_of_token : (text : List ℕ) (t : Item) (atom : Atom) → IsTokenIn text t → IsTokenAlone t.kind t.bytes → Spells t atom → IsTextOf (bytes_at text (short_span_of t)) atom
-text_of_token text t atom here alone spells = (t.kind, subst (λ (bs : List ℕ). IsTokenOf t.kind bs atom) here.1 (alone, spells))
+text_of_token :
+    (text : List ℕ) (t : Item) (atom : Atom)
+    → IsTokenIn text t
+    → IsTokenAlone t.kind t.bytes
+    → Spells t atom
+    → IsTextOf (bytes_at text (short_span_of t)) atom
+text_of_token text t atom here alone spells =
+    (t.kind, subst (λ (bs : List ℕ). IsTokenOf t.kind bs atom) here.1 (alone, spells))
 
-nil_of_token : (text : List ℕ) (t : Item) → IsTokenIn text t → IsTokenAlone t.kind t.bytes → t.kind ≡ Nil → is_nil (bytes_at text (short_span_of t)) ≡ true
+nil_of_token :
+    (text : List ℕ) (t : Item)
+    → IsTokenIn text t
+    → IsTokenAlone t.kind t.bytes
+    → t.kind ≡ Nil
+    → is_nil (bytes_at text (short_span_of t)) ≡ true
 nil_of_token text t here alone nil =
-    subst (λ (bs : List ℕ). is_nil bs ≡ true) here.1 (nil_text t.bytes (subst (λ (k : ItemKind). IsToken k t.bytes) nil alone))
+    subst (λ (bs : List ℕ). is_nil bs ≡ true) here.1
+    (nil_text t.bytes (subst (λ (k : ItemKind). IsToken k t.bytes) nil alone))
 
 -- ---- micro-operations in a text
 
@@ -75,23 +92,29 @@ parts_there :
     → IsThere text (placed first second mop)
 parts_there text first second (read key None) f s fa sa spells =
     let k = text_of_token text first key f fa spells.0 in
+    let key_at = within text first f in
+    let value_at = within text second s in
     let bytes = bytes_at text (short_span_of second) in
     let nil = nil_of_token text second s sa spells.1 in (
-      record { key_within = within text first f; value_within = within text second s; key = is_atom _ key k; value = inl nil },
+      record { key_within = key_at; value_within = value_at; key = is_atom _ key k; value = inl nil },
       ap (λ (a : Atom). read a (value_in bytes)) (atom_in-is _ key k) ∙ ap (read key) (value_of_nil bytes nil),
     )
 parts_there text first second (read key (Some value)) f s fa sa spells =
+    let key_at = within text first f in
+    let value_at = within text second s in
     let bytes = bytes_at text (short_span_of second) in
     let k = text_of_token text first key f fa spells.0 in
     let v = text_of_token text second value s sa spells.1 in (
-      record { key_within = within text first f; value_within = within text second s; key = is_atom _ key k; value = inr (is_atom _ value v) },
+      record { key_within = key_at; value_within = value_at; key = is_atom _ key k; value = inr (is_atom _ value v) },
       ap (λ (a : Atom). read a (value_in bytes)) (atom_in-is _ key k) ∙ ap (read key) (value_of_atom bytes value v),
     )
 parts_there text first second (write key value) f s fa sa spells =
+    let key_at = within text first f in
+    let value_at = within text second s in
     let bytes = bytes_at text (short_span_of second) in
     let k = text_of_token text first key f fa spells.0 in
     let v = text_of_token text second value s sa spells.1 in (
-      record { key_within = within text first f; value_within = within text second s; key = is_atom _ key k; value = is_atom _ value v },
+      record { key_within = key_at; value_within = value_at; key = is_atom _ key k; value = is_atom _ value v },
       ap (λ (a : Atom). write a (atom_in bytes)) (atom_in-is _ key k) ∙ ap (write key) (atom_in-is bytes value v),
     )
 
@@ -99,9 +122,14 @@ mop_there : (text : List ℕ) (m : PlacedMop) → IsMopIn text m → IsMopOfToke
 mop_there text m is alone = parts_there text m.key m.value m.mop is.0 is.1 alone.0 alone.1 is.2
 
 abbrev AreThere : List ℕ → List PlacedMop → Type 0
-AreThere text ms = AreMopsAt text (map short_mop_of ms) × (mops_at text (map short_mop_of ms) ≡ map (λ (m : PlacedMop). m.mop) ms)
+AreThere text ms =
+    AreMopsAt text (map short_mop_of ms) × (mops_at text (map short_mop_of ms) ≡ map (λ (m : PlacedMop). m.mop) ms)
 
-mops_there : (text : List ℕ) (ms : List PlacedMop) → AllByRecursion (IsMopIn text) ms → AllByRecursion IsMopOfTokens ms → AreThere text ms
+mops_there :
+    (text : List ℕ) (ms : List PlacedMop)
+    → AllByRecursion (IsMopIn text) ms
+    → AllByRecursion IsMopOfTokens ms
+    → AreThere text ms
 mops_there text [] all alone = (tt, refl)
 mops_there text (m ∷ ms) all alone =
     let one = mop_there text m all.0 alone.0 in
@@ -117,27 +145,40 @@ operation_there text o is =
 
 -- ---- the operations of a block
 
--- what a view of this text and this shape says
-abbrev view_of : List ℕ → ShapeRef → Operation
-view_of text shape = record { kind = shape.kind; process = shape.process; mops = mops_at text shape.mops.now }
-
 abbrev operation : OpKind → ℕ → List Mop → Operation
 operation kind process mops = record { kind = kind; process = process; mops = mops }
 
-same_operation : (k l : OpKind) (p q : ℕ) (ms ns : List Mop) → k ≡ l → p ≡ q → ms ≡ ns → operation k p ms ≡ operation l q ns
+same_operation :
+    (k l : OpKind) (p q : ℕ) (ms ns : List Mop)
+    → k ≡ l
+    → p ≡ q
+    → ms ≡ ns
+    → operation k p ms ≡ operation l q ns
 same_operation k l p q ms ns ks ps mss =
     ap (λ (x : OpKind). operation x p ms) ks ∙ (ap (λ (x : ℕ). operation l x ms) ps ∙ ap (operation l q) mss)
 
-shape_mops : (text : List ℕ) (shape : ShapeRef) (o : BlockOperation) → text ≡ o.text → IsOperationText o.text o.placed → IsShapeOf shape o.placed → AreMopsAt text shape.mops.now
+shape_mops :
+    (text : List ℕ) (shape : ShapeRef) (o : BlockOperation)
+    → text ≡ o.text
+    → IsOperationText o.text o.placed
+    → IsShapeOf shape o.placed
+    → AreMopsAt text shape.mops.now
 shape_mops text shape o same reads is =
     subst (λ (bs : List ℕ). AreMopsAt bs shape.mops.now) (sym same)
     (subst (AreMopsAt o.text) (sym is.mops) (operation_there o.text o.placed reads).0)
 
-shape_view : (text : List ℕ) (shape : ShapeRef) (o : BlockOperation) → text ≡ o.text → IsOperationText o.text o.placed → IsShapeOf shape o.placed → view_of text shape ≡ operation_of o.placed
+shape_view :
+    (text : List ℕ) (shape : ShapeRef) (o : BlockOperation)
+    → text ≡ o.text
+    → IsOperationText o.text o.placed
+    → IsShapeOf shape o.placed
+    → operation_at text shape ≡ operation_of o.placed
 shape_view text shape o same reads is =
-    same_operation shape.kind o.placed.kind shape.process o.placed.process (mops_at text shape.mops.now) (map (λ (m : PlacedMop). m.mop) o.placed.mops)
+    let p = o.placed in
+    let there = operation_there o.text p reads in
+    same_operation shape.kind p.kind shape.process p.process (mops_at text shape.mops.now) (operation_of p).mops
     is.kind is.process
-    (ap (λ (bs : List ℕ). mops_at bs shape.mops.now) same ∙ (ap (mops_at o.text) is.mops ∙ (operation_there o.text o.placed reads).1))
+    (ap (λ (bs : List ℕ). mops_at bs shape.mops.now) same ∙ (ap (mops_at o.text) is.mops ∙ there.1))
 
 abbrev HasText : Option BlockOperation → List ℕ → Type 0
 HasText found text = IfSome found (λ o. text ≡ o.text)
@@ -151,7 +192,7 @@ HasShape found shape = IfSome found (λ o. IsShapeOf shape o.placed)
 pub found_view :
     (found : Option BlockOperation) (text : List ℕ) (shape : ShapeRef)
     → HasText found text → Reads found → HasShape found shape
-    → IfSome found (λ o. view_of text shape ≡ operation_of o.placed)
+    → IfSome found (λ o. operation_at text shape ≡ operation_of o.placed)
 found_view None text shape same reads is = tt
 found_view (Some o) text shape same reads is = shape_view text shape o same reads is
 
@@ -174,4 +215,5 @@ pub operation_mops :
     → i < length os
     → HasText (slice_get os i) text → Reads (slice_get os i) → HasShape (slice_get os i) shape
     → AreMopsAt text shape.mops.now
-operation_mops os i text shape below same reads is = found_mops (slice_get os i) text shape same reads is (is_there os i below)
+operation_mops os i text shape below same reads is =
+    found_mops (slice_get os i) text shape same reads is (is_there os i below)

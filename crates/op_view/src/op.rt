@@ -24,9 +24,9 @@ impl<'a> Model for OpView<'a> {
 
     ghost coded = { coded_operation };
 
-    ghost use Rattle.op_view.specs.MopTexts.{mops_at, AreMopsAt};
+    ghost use Rattle.op_view.specs.MopTexts.{operation_at, AreMopsAt};
 
-    ghost view = { λ v. record { kind = v.shape.kind; process = v.shape.process; mops = mops_at v.text.now v.shape.mops.now } };
+    ghost view = { λ v. operation_at v.text.now v.shape };
 
     ghost invariant = { λ v. AreMopsAt v.text.now v.shape.mops.now };
 }

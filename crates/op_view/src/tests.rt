@@ -1,5 +1,15 @@
+ghost use Rattle.std.specs.Prelude.{◌≡◌};
+
 use crate::atom::Atom;
 use crate::mops::Mop;
+use crate::op::OpView;
+use edn_ops::types::{MopShape, OpShape, Span};
+use hist_types::types::{Fault, OpKind, Process};
+use op_block::block::Block;
+use op_block::builder::BlockBuilder;
+use op_block::stamp::Stamp;
+use smallvec::SmallVec;
+use std::alloc::Global;
 use std::cmp::Ordering;
 use std::hash::{FoldHasher, Hash, Hasher};
 use std::process::Abort;
@@ -125,4 +135,49 @@ fn micro_operations_have_their_parts(rt: HostRuntime) {
         Some(b"1"),
     );
     has_parts(&rt, &Mop::w(x, one), true, b":x", Some(b"1"));
+}
+
+/// A block of one operation, which reads `:x` as nil and writes 1 to `"y"`.
+fn block_of_one(alloc: Global, process: Process) -> Result<Block, Fault>
+    requires { process ≡ 3 }
+{
+    let text = b"{:type :ok, :process 3, :value [[:r :x nil] [:w \"y\" 1]]}";
+    let mut mops = SmallVec::new(alloc);
+    mops.push(MopShape {
+        is_write: false,
+        key: Span { start: 36, end: 38 },
+        value: Span { start: 39, end: 42 },
+    })?;
+    mops.push(MopShape {
+        is_write: true,
+        key: Span { start: 48, end: 51 },
+        value: Span { start: 52, end: 53 },
+    })?;
+    let shape = OpShape {
+        span: Span { start: 0, end: 56 },
+        kind: OpKind::Ok,
+        process,
+        mops,
+    };
+    let mut builder = BlockBuilder::new(alloc);
+    builder.push(text.as_slice(), &shape)?;
+    Ok(builder.freeze(Stamp { seat: 0, call: 0 }))
+}
+
+#[test]
+fn operations_are_seen_in_their_block(rt: HostRuntime) {
+    let process = Process::new(3).expect(&rt, "a process in range");
+    let block = block_of_one(rt.alloc(), process).expect(&rt, "ample memory");
+    assert_eq!(rt; block.len(), 1);
+    let view = OpView::of(&block, 0);
+    assert!(rt; view.kind() == OpKind::Ok);
+    assert_eq!(rt; view.process().number(), 3);
+    let mut mops = view.mops();
+    assert_eq!(rt; mops.len(), 2);
+    let read = mops.next().expect(&rt, "a read");
+    has_parts(&rt, &read, false, b":x", None);
+    let write = mops.next().expect(&rt, "a write");
+    has_parts(&rt, &write, true, b"\"y\"", Some(b"1"));
+    assert_eq!(rt; mops.size_hint(), (0, Some(0)));
+    assert!(rt; mops.next().is_none());
 }

@@ -10,4 +10,5 @@ atom_of-requires-else-eq c =
     let is_not : is_nil bytes ≡ false =
     ap is_nil (sym c.slice_at-value.ensures)
     ∙ (ap (bytes_eq c.slice_at-value.result.now) (sym c.as_slice.ensures) ∙ (sym c.eq.ensures ∙ c.if-eq.false)) in
-    subst IsAtom (sym c.slice_at-value.ensures) (no_nil_read c.args.shape.is_write bytes c.if-shape.false is_not c.requires.value)
+    subst IsAtom (sym c.slice_at-value.ensures)
+    (no_nil_read c.args.shape.is_write bytes c.if-shape.false is_not c.requires.value)
