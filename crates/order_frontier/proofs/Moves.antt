@@ -2,13 +2,13 @@
 use Rattle.std.proofs.Common.{◌≡◌, ℕ, ◌<◌, Bool, true, false, not, nat_lt, ◌==◌, if◌then◌else◌, Option, Some, None, List, [], ◌∷◌, ◌++◌, filter, length, option_to_list, refl, ap, sym, subst, ◌∙◌, arith, zero-add, append-nil}
 use Rattle.std.proofs.lemmas.Bool.{eqb-true}
 use Rattle.hist_types.proofs.Members.{In}
-use Rattle.hist_types.specs.Operations.{Operation}
+use Rattle.hist_types.specs.Operations.{Mop, Operation}
 use Rattle.hist_types.specs.Transactions.{transaction_by, transactions_of}
 use Rattle.hist_types.specs.declared.types.OpKind.TheVariants as kinds
 use Rattle.order_frontier.specs.declared.types.Predecessor.{Predecessor}
 use Rattle.order_frontier.specs.declared.types.Completed.{Completed}
 use Rattle.order_frontier.specs.Completions.{AreKept}
-use Rattle.order_frontier.specs.Events.{State, done_by, state_of, event_of, IsStateOf}
+use Rattle.order_frontier.specs.Events.{State, done_by, after, state_of, event_of, IsStateOf}
 use Rattle.order_frontier.specs.Predecessors.{Before, HasThinned, NoneTwice}
 use Rattle.order_frontier.proofs.Kept.{kept-more, rising_strict}
 use Rattle.order_frontier.proofs.Apart.{apart_strict, none_twice}
@@ -16,21 +16,21 @@ use Rattle.order_frontier.proofs.Seen.{AreSeen, has_thinned}
 use Rattle.order_frontier.proofs.Timed.{timed, in-last}
 use Rattle.order_frontier.proofs.States.{state-good, state-index, state-more, state-sound, state-complete}
 
-module _ (es : List Operation) (process : ℕ) (opened : ℕ → Option ℕ) (recent : List Predecessor) (last : ℕ → Option Predecessor) (is : IsStateOf es opened recent last) where
+module _ (es : List Operation) (process : ℕ) (mops : List Mop) (opened : ℕ → Option ℕ) (recent : List Predecessor) (last : ℕ → Option Predecessor) (is : IsStateOf es opened recent last) where
   -- an invocation
   pub state-invoke : (opened' : ℕ → Option ℕ) → ((p : ℕ) → opened' p ≡ (if process == p then Some (length es) else opened p))
-      → IsStateOf (es ++ event_of kinds.Invoke process ∷ []) opened' recent last
+      → IsStateOf (es ++ event_of kinds.Invoke process mops ∷ []) opened' recent last
   state-invoke opened' says = record {
     invocations = λ p.
         says p ∙ ap (λ n. if process == p then Some n else opened p) (sym (state-index es))
         ∙ ap (λ o. if process == p then Some (state_of es).index else o) (is.invocations p)
-        ∙ ap (λ (s : State). s.opened p) (sym (state-more es (event_of kinds.Invoke process)));
-    kept = subst (λ (s : State). AreKept s.done recent last) (sym (state-more es (event_of kinds.Invoke process))) is.kept;
+        ∙ ap (λ (s : State). s.opened p) (sym (state-more es (event_of kinds.Invoke process mops)));
+    kept = subst (λ (s : State). AreKept s.done recent last) (sym (state-more es (event_of kinds.Invoke process mops))) is.kept;
   }
 
-  seen_invoked : AreSeen (transactions_of (es ++ event_of kinds.Invoke process ∷ [])) (length es) (state_of es).done
+  seen_invoked : AreSeen (transactions_of (es ++ event_of kinds.Invoke process mops ∷ [])) (length es) (state_of es).done
   seen_invoked =
-      let e = event_of kinds.Invoke process in
+      let e = event_of kinds.Invoke process mops in
       let same : (state_of (es ++ e ∷ [])).done ≡ (state_of es).done = ap (λ (s : State). s.done) (state-more es e) in
       record {
         sound = λ d i.
@@ -44,9 +44,9 @@ module _ (es : List Operation) (process : ℕ) (opened : ℕ → Option ℕ) (re
 
   pub thinned-invoke : (before : Before)
       → before ≡ record { process = process; invocation = length es; in_process = option_to_list (last process); in_realtime = recent }
-      → HasThinned (transactions_of (es ++ event_of kinds.Invoke process ∷ [])) before
+      → HasThinned (transactions_of (es ++ event_of kinds.Invoke process mops ∷ [])) before
   thinned-invoke before same =
-      let e = event_of kinds.Invoke process in
+      let e = event_of kinds.Invoke process mops in
       let u = transaction_by (length es) e None in
       let member : In u (transactions_of (es ++ e ∷ [])) = subst (λ n. In (transaction_by n e None) (transactions_of (es ++ e ∷ []))) (zero-add (length es)) (in-last 0 es e refl) in
       has_thinned (transactions_of (es ++ e ∷ [])) u (state_of es).done recent last before (timed (es ++ e ∷ [])) member seen_invoked is.kept same
@@ -64,9 +64,9 @@ module _ (es : List Operation) (process : ℕ) (opened : ℕ → Option ℕ) (re
       → recent' ≡ filter (λ p. not (nat_lt p.completion invocation)) recent ++ record { invocation = invocation; completion = length es } ∷ []
       → ((p : ℕ) → last' p ≡ (if process == p then Some (record { invocation = invocation; completion = length es }) else last p))
       → ((p : ℕ) → opened' p ≡ (if process == p then None else opened p))
-      → IsStateOf (es ++ event_of kinds.Ok process ∷ []) opened' recent' last'
+      → IsStateOf (es ++ event_of kinds.Ok process mops ∷ []) opened' recent' last'
   state-ok invocation recent' last' opened' found recents lasts opens =
-      let e = event_of kinds.Ok process in
+      let e = event_of kinds.Ok process mops in
       let s = state_of es in
       let d : Completed = record { completion = length es; invocation = invocation; process = process } in
       let good = state-good es in
@@ -88,9 +88,9 @@ module _ (es : List Operation) (process : ℕ) (opened : ℕ → Option ℕ) (re
   idle_at p true own found = sym (ap opened (sym (eqb-true process p own)) ∙ found)
   idle_at p false own found = refl
 
-  pub state-idle : opened process ≡ None → IsStateOf (es ++ event_of kinds.Ok process ∷ []) opened recent last
+  pub state-idle : opened process ≡ None → IsStateOf (es ++ event_of kinds.Ok process mops ∷ []) opened recent last
   state-idle found =
-      let e = event_of kinds.Ok process in
+      let e = event_of kinds.Ok process mops in
       let s = state_of es in
       let done : s.done ≡ s.done ++ done_by kinds.Ok process s.index (s.opened process) =
       sym (append-nil s.done) ∙ ap (λ o. s.done ++ done_by kinds.Ok process s.index o) (sym found ∙ is.invocations process) in
@@ -100,3 +100,27 @@ module _ (es : List Operation) (process : ℕ) (opened : ℕ → Option ℕ) (re
             ∙ ap (λ (s : State). s.opened p) (sym (state-more es e));
         kept = subst (λ (s : State). AreKept s.done recent last) (sym (state-more es e)) (subst (λ done. AreKept done recent last) done is.kept);
       }
+
+  state_other : (e : Operation) (opened' : ℕ → Option ℕ)
+      → ((p : ℕ) → (if process == p then None else (state_of es).opened p) ≡ (after (state_of es) e).opened p)
+      → (state_of es).done ≡ (after (state_of es) e).done
+      → ((p : ℕ) → opened' p ≡ (if process == p then None else opened p))
+      → IsStateOf (es ++ e ∷ []) opened' recent last
+  state_other e opened' closes done opens = record {
+    invocations = λ p.
+        opens p ∙ ap (λ o. if process == p then None else o) (is.invocations p) ∙ closes p
+        ∙ ap (λ (s : State). s.opened p) (sym (state-more es e));
+    kept = subst (λ (s : State). AreKept s.done recent last) (sym (state-more es e)) (subst (λ done. AreKept done recent last) done is.kept);
+  }
+
+  -- a fail
+  pub state-fail : (opened' : ℕ → Option ℕ) → ((p : ℕ) → opened' p ≡ (if process == p then None else opened p))
+      → IsStateOf (es ++ event_of kinds.Fail process mops ∷ []) opened' recent last
+  state-fail opened' opens =
+      state_other (event_of kinds.Fail process mops) opened' (λ p. refl) (sym (append-nil (state_of es).done)) opens
+
+  -- an info
+  pub state-info : (opened' : ℕ → Option ℕ) → ((p : ℕ) → opened' p ≡ (if process == p then None else opened p))
+      → IsStateOf (es ++ event_of kinds.Info process mops ∷ []) opened' recent last
+  state-info opened' opens =
+      state_other (event_of kinds.Info process mops) opened' (λ p. refl) (sym (append-nil (state_of es).done)) opens

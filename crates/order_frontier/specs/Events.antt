@@ -1,6 +1,6 @@
 -- The ok transactions of events, and what each process has open, event by event.
 use Rattle.std.specs.Prelude.{◌≡◌, ℕ, ◌+◌, List, [], ◌∷◌, ◌++◌, ◌==◌, if◌then◌else◌, Option, Some, None, fold}
-use Rattle.hist_types.specs.Operations.{Operation}
+use Rattle.hist_types.specs.Operations.{Mop, Operation}
 use Rattle.hist_types.specs.Journal.{is_invoke}
 use Rattle.hist_types.specs.declared.types.OpKind.{OpKind}
 use Rattle.hist_types.specs.declared.types.OpKind.TheVariants as kinds
@@ -36,9 +36,8 @@ start = record { index = 0; opened = λ p. None; done = [] }
 abbrev pub state_of : List Operation → State
 state_of events = fold after start events
 
--- an event without its micro-operations
-abbrev pub event_of : OpKind → ℕ → Operation
-event_of kind process = record { kind = kind; process = process; mops = [] }
+abbrev pub event_of : OpKind → (process : ℕ) → List Mop → Operation
+event_of kind process mops = record { kind = kind; process = process; mops = mops }
 
 -- what is kept is the state after the events
 pub record IsStateOf (events : List Operation) (opened : ℕ → Option ℕ) (recent : List Predecessor) (last : ℕ → Option Predecessor) : Type 0 where

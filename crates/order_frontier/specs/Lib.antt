@@ -1,5 +1,5 @@
 pub mod Predecessors
 pub mod Completions
 pub mod Events
-pub mod Views
+pub mod Summaries
 pub mod Pairs
