@@ -2,3 +2,4 @@
 #![tactic(auto)]
 
 pub mod types;
+pub mod write;

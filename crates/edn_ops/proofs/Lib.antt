@@ -1,0 +1,8 @@
+pub mod ReadsBack
+mod Tokens
+mod Fronts
+mod Decimals
+mod StringSources
+mod ValueFronts
+mod Appended
+mod MopTexts
