@@ -1,5 +1,6 @@
 //! Operations of a text (EDN as Jepsen prints it): reading them, and their canonical text.
 #![tactic(auto)]
 
+pub mod laws;
 pub mod types;
 pub mod write;
