@@ -1,5 +1,5 @@
 -- What a frontier keeps of events: in place of their list, what the events to come need of it.
-use Rattle.std.specs.Prelude.{◌≡◌, nat_eq, ℕ, List, [], ◌∷◌, ◌++◌, Option, length}
+use Rattle.std.specs.Prelude.{◌≡◌, nat_eq, ℕ, List, [], ◌∷◌, ◌++◌, length}
 use Rattle.std.specs.Map.{lookup}
 use Rattle.hist_types.specs.Operations.{Mop, Operation}
 use Rattle.hist_types.specs.Transactions.{transactions_of}
@@ -7,7 +7,7 @@ use Rattle.hist_types.specs.declared.types.OpKind.{OpKind}
 use Rattle.hist_types.specs.declared.types.OpKind.TheVariants as kinds
 use Rattle.order_frontier.specs.declared.types.Predecessor.{Predecessor}
 use Rattle.order_frontier.specs.Events.{IsStateOf, event_of}
-use Rattle.order_frontier.specs.Predecessors.{Before, HasThinned, NoneTwice}
+use Rattle.order_frontier.specs.Predecessors.{Before, HasThinned, NoneTwice, AreFrontier}
 
 pub record Summary : Type 0 where
   -- how many events there were
@@ -31,6 +31,10 @@ IsNext kind process s next =
 -- whatever the events, the same ones
 abbrev pub IsOfSame : Summary → Summary → Type 0
 IsOfSame s other = (events : List Operation) → IsSummaryOf events s → IsSummaryOf events other
+
+-- whatever the events, the ok transactions of these that none has passed
+abbrev pub AreFrontierOf : Summary → List Predecessor → Type 0
+AreFrontierOf s ps = (events : List Operation) → IsSummaryOf events s → AreFrontier (transactions_of events) ps
 
 -- whatever the events, the thinned predecessors of a transaction that the process invokes next, each once
 abbrev pub AreThinnedNext : Summary → (process : ℕ) → Before → Type 0

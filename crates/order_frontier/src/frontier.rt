@@ -1,13 +1,10 @@
 //! The moving frontier, event by event.
 
-ghost use Rattle.std.specs.Prelude.{◌≡◌, ◌<◌, ◌+◌, [], List, OnOk, IfOk, OnErr, IfErr};
-ghost use Rattle.hist_types.specs.Operations.{Operation};
+ghost use Rattle.std.specs.Prelude.{◌≡◌, ◌<◌, [], OnOk, IfOk, OnErr, IfErr};
 ghost use Rattle.hist_types.specs.Refusals.{memory_fault};
-ghost use Rattle.hist_types.specs.Transactions.{transactions_of};
 ghost use Rattle.hist_types.specs.declared.limits.TheConstants.{MAX_EVENTS};
 ghost use Rattle.hist_types.specs.declared.types.OpKind.TheVariants as kinds;
-ghost use Rattle.order_frontier.specs.Predecessors.{AreFrontier};
-ghost use Rattle.order_frontier.specs.Summaries.{IsSummaryOf, IsNext, IsOfSame, AreThinnedNext};
+ghost use Rattle.order_frontier.specs.Summaries.{IsSummaryOf, IsNext, IsOfSame, AreThinnedNext, AreFrontierOf};
 
 use crate::moving::Moving;
 use crate::types::{Completed, Predecessor, Predecessors};
@@ -57,7 +54,7 @@ impl Frontier {
     /// The ok transactions after whose completion no ok transaction was both invoked and completed, in the order of
     /// their completions.
     pub fn as_slice(&self) -> &[Predecessor]
-        ensures { (events : List Operation) → IsSummaryOf events self.now → AreFrontier (transactions_of events) result.now }
+        ensures { AreFrontierOf self.now result.now }
     {
         self.moving.frontier()
     }
