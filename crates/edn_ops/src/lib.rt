@@ -5,6 +5,7 @@ mod atoms;
 mod faults;
 mod fields;
 mod forms;
+pub mod laws;
 mod maps;
 mod marks;
 mod members;
@@ -13,6 +14,5 @@ mod outline;
 pub mod reader;
 #[cfg(test)]
 mod tests;
-pub mod laws;
 pub mod types;
 pub mod write;

@@ -1,4 +1,0 @@
-pub mod Statuses
-pub mod Endings
-pub mod Places
-pub mod Growth
