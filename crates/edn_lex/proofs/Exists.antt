@@ -7,6 +7,8 @@ use Rattle.hist_types.specs.declared.types.Fault.{Fault}
 use Rattle.hist_types.specs.Bytes.{is_blank, is_opener, is_closer, is_run_byte, quote, semicolon, backslash, hash, line_feed, open_brace, underscore}
 use Rattle.hist_types.specs.Tokens.{ItemKind, Blank, Comment, Opener, Closer, Str, Char, Drop, Tag, Item, run_of, run_len, run_kind, character_len, content_len, hash_front, front, BeginsWith, IsCut, item_fault, open_after, byte_fault, tokens_of, HasTokens}
 use Rattle.hist_types.specs.declared.types.Refusal.TheVariants.{UnclosedString}
+use Rattle.hist_types.proofs.OneCut.{one_cut}
+use Rattle.edn_lex.specs.State.{State, left, RestIf, Rest}
 use Rattle.edn_lex.proofs.Cuts.{item}
 
 -- An item within a text of n bytes, or a string that nothing closes.
@@ -116,3 +118,20 @@ pub HasTokens-exist : (text : List ℕ) → (tokens : List Item) × (ending : Op
 HasTokens-exist text =
     let found = cut_within (length text) text 0 [] (omega arith) in
     (tokens_of found.0, found.1, (found.0, found.2, refl))
+
+-- a lexer has something to give, or nothing, in one way
+pub Rest-exists : (s : State) → (tokens : List Item) × (ending : Option Fault) × Rest s tokens ending
+Rest-exists s =
+    let P : Bool → Type 0 = λ b. (tokens : List Item) × (ending : Option Fault) × RestIf b s tokens ending in
+    let found = cut_within (length (left s)) (left s) s.offset s.closers (omega arith) in
+    elim s.ended as P [ true ↦ ([], None, (refl, refl)) | false ↦ (tokens_of found.0, found.1, (found.0, found.2, refl)) ]
+
+rest_unique :
+    (b : Bool) (s : State) (ts us : List Item) (e f : Option Fault) → RestIf b s ts e → RestIf b s us f → (ts ≡ us) × (e ≡ f)
+rest_unique true s ts us e f first second = (first.0 ∙ sym second.0, first.1 ∙ sym second.1)
+rest_unique false s ts us e f first second =
+    let same = one_cut (left s) s.offset s.closers first.0 second.0 e f first.1 second.1 in
+    (first.2 ∙ ap tokens_of same.0 ∙ sym second.2, same.1)
+
+pub Rest-unique : (s : State) (ts us : List Item) (e f : Option Fault) → Rest s ts e → Rest s us f → (ts ≡ us) × (e ≡ f)
+Rest-unique s ts us e f first second = rest_unique s.ended s ts us e f first second

@@ -1,10 +1,13 @@
 -- How a lexer goes from one state to the next.
-use Rattle.std.proofs.Common.{◌≡◌, ℕ, ◌+◌, ◌-◌, ◌<◌, ◌≤◌, List, [], ◌∷◌, ◌++◌, length, drop, take, Bool, true, false, Option, Some, None, Result, Ok, Err, refl, sym, ◌∙◌, ap, arith, subst, length-take-le, length-drop, drop-drop, append_assoc}
+use Rattle.std.proofs.Common.{◌≡◌, ℕ, ◌+◌, ◌-◌, ◌<◌, ◌≤◌, List, [], ◌∷◌, ◌++◌, length, drop, take, Bool, true, false, Option, Some, None, option_map, nat_lt, Result, Ok, Err, refl, sym, ◌∙◌, ap, arith, subst, length-take-le, length-drop, drop-drop, append_assoc}
 use Rattle.std.specs.Iterator.{Yields}
 use Rattle.std.proofs.lemmas.List.{drop_all}
 use Rattle.std.proofs.lemmas.List.Elements.{filter-append}
 use Rattle.hist_types.specs.declared.types.Fault.{Fault}
-use Rattle.hist_types.specs.Tokens.{tokens_of, ItemKind, Item, BeginsWithFault, IsCut, open_after, is_token}
+use Rattle.std.specs.Bool.{if◌then◌else◌}
+use Rattle.std.specs.Str.Lossy.{utf8_valid_len}
+use Rattle.hist_types.specs.declared.types.Refusal.{Refusal}
+use Rattle.hist_types.specs.Tokens.{tokens_of, ItemKind, Blank, Comment, Opener, Closer, Str, Char, Drop, Tag, Nil, True, False, Int, Keyword, Symbol, Other, Item, BeginsWithFault, IsCut, item_fault, byte_fault, nesting_refusal, open_after, is_token}
 use Rattle.edn_lex.specs.declared.types.Token.{Token}
 use Rattle.edn_lex.specs.declared.types.TokenKind.{TokenKind}
 use Rattle.edn_lex.specs.declared.types.TokenKind.TheVariants as kinds
@@ -58,6 +61,7 @@ module _ (s : State) (kind : ItemKind) (len : ℕ) (t : State) (step : PassesOve
 pub record Gapped (s : State) (t : State) : Type 0 where
   pub text : t.text ≡ s.text
   pub ended : t.ended ≡ s.ended
+  pub closers : t.closers ≡ s.closers
   pub low : s.offset ≤ t.offset
   pub gap : List Item
   pub is_gap : tokens_of gap ≡ []
@@ -66,10 +70,30 @@ pub record Gapped (s : State) (t : State) : Type 0 where
       (items : List Item) (ending : Option Fault) → IsCutFrom s items ending →
       (later : List Item) × (items ≡ gap ++ later) × IsCutFrom t later ending
 
+-- what is no token opens and closes nothing
+gap_closers : (kind : ItemKind) (bytes closers : List ℕ) → is_token kind ≡ false → open_after kind bytes closers ≡ closers
+gap_closers kind bytes closers = elim kind as (λ k. is_token k ≡ false → open_after k bytes closers ≡ closers) [
+  | Blank ↦ λ h. refl
+  | Comment ↦ λ h. refl
+  | Opener ↦ λ h. cc
+  | Closer ↦ λ h. cc
+  | Str ↦ λ h. refl
+  | Char ↦ λ h. refl
+  | Drop ↦ λ h. refl
+  | Tag ↦ λ h. refl
+  | Nil ↦ λ h. refl
+  | True ↦ λ h. refl
+  | False ↦ λ h. refl
+  | Int ↦ λ h. refl
+  | Keyword ↦ λ h. refl
+  | Symbol ↦ λ h. refl
+  | Other ↦ λ h. refl
+]
+
 -- nothing passed over is a gap
 pub Gapped-refl : (s : State) → Gapped s s
 Gapped-refl s =
-    record { text = refl; ended = refl; low = omega arith; gap = []; is_gap = refl; cut = λ items ending cut. cut; back = λ items ending cut. (items, refl, cut) }
+    record { text = refl; ended = refl; closers = refl; low = omega arith; gap = []; is_gap = refl; cut = λ items ending cut. cut; back = λ items ending cut. (items, refl, cut) }
 
 -- the tokens of two lists after one another
 tokens_of-append : (xs ys : List Item) → tokens_of (xs ++ ys) ≡ tokens_of xs ++ tokens_of ys
@@ -91,6 +115,7 @@ Gapped-more s t u kind len g step none =
     record {
       text = ap (λ (x : State). x.text) step.after ∙ g.text;
       ended = ap (λ (x : State). x.ended) step.after ∙ g.ended;
+      closers = ap (λ (x : State). x.closers) step.after ∙ gap_closers kind (take len (left t)) t.closers none ∙ g.closers;
       low = (let at : u.offset ≡ t.offset + len = ap (λ (x : State). x.offset) step.after in let low = g.low in omega arith);
       gap = g.gap ++ (i ∷ []);
       is_gap = tokens_of-append g.gap (i ∷ []) ∙ ap (λ xs. xs ++ tokens_of (i ∷ [])) g.is_gap ∙ tokens_of-gap i [] none;
@@ -150,6 +175,19 @@ item_at-token s t token same start =
     ap (λ x. item (kind_of token.kind) x (take (token.end - token.start) (drop x t.text))) (sym start)
     ∙ ap (λ x. item (kind_of token.kind) token.start (take (token.end - token.start) (drop token.start x))) same
 
+-- a choice of faults that is none
+without_fault :
+    (b : Bool) (fault : Fault) (offset : ℕ) (o : Option Refusal) →
+    (if b then Some fault else option_map (λ refusal. byte_fault refusal offset) o) ≡ None → o ≡ None
+without_fault true fault offset o h = cc
+without_fault false fault offset None h = refl
+without_fault false fault offset (Some r) h = cc
+
+-- an item that has no fault may stand where it stands
+nests_where_it_stands :
+    (kind : ItemKind) (offset : ℕ) (bytes closers : List ℕ) → item_fault kind offset bytes closers ≡ None → nesting_refusal kind bytes closers ≡ None
+nests_where_it_stands kind offset bytes closers fine = without_fault (nat_lt (utf8_valid_len bytes) (length bytes)) _ offset _ fine
+
 -- behind a gap a token was passed over
 pub GivesToken-from :
     (s t u : State) (token : Token) → Gapped s t → t.ended ≡ false → Passes t (Ok (Some token)) u → GivesToken s token u
@@ -177,6 +215,13 @@ GivesToken-from s t u token g going passed =
       some = omega arith;
       fits = omega arith;
       next = omega arith;
+      nests =
+          (let fine = nests_where_it_stands kind t.offset (take len (left t)) t.closers step.no_fault in
+          ap (λ (x : Item). nesting_refusal kind x.bytes s.closers) (sym same) ∙ ap (λ cs. nesting_refusal kind (take len (left t)) cs) (sym g.closers) ∙ fine);
+      closers =
+          ap (λ (x : State). x.closers) step.after
+          ∙ ap (λ cs. open_after kind (take len (left t)) cs) g.closers
+          ∙ ap (λ (x : Item). open_after kind x.bytes s.closers) same;
       gap = g.gap;
       is_gap = g.is_gap;
       cut = cut_of;
@@ -228,6 +273,7 @@ GivesEnd-at_end s t g going end =
     let nothing : left t ≡ [] = drop_all t.offset t.text end in
     record {
       text = g.text;
+      low = g.low;
       rest = rest_going s [] None was_going (g.gap ++ [], g.cut [] None nothing, sym (gap_nothing g.gap g.is_gap));
       only = λ tokens ending rest.
           let split = rest_cut s tokens ending was_going rest in

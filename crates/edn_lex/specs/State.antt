@@ -3,7 +3,7 @@ use Rattle.std.specs.Prelude.{◌≡◌, ℕ, List, ◌∷◌, [], ◌++◌, tak
 use Rattle.std.specs.Iterator.{Count, at_most}
 use Rattle.std.specs.Coded.{Coded, code_by, coded×, coded_ℕ, coded_bool, coded_list}
 use Rattle.hist_types.specs.declared.types.Fault.{Fault}
-use Rattle.hist_types.specs.Tokens.{ItemKind, Item, IsCut, is_token, tokens_of, BeginsWith, BeginsWithFault, item_fault, open_after}
+use Rattle.hist_types.specs.Tokens.{ItemKind, Item, IsCut, is_token, tokens_of, BeginsWith, BeginsWithFault, item_fault, nesting_refusal, open_after}
 use Rattle.edn_lex.specs.declared.types.Token.{Token}
 use Rattle.edn_lex.specs.Kinds.{kind_of, item_of}
 
@@ -53,6 +53,8 @@ pub record GivesToken (s : State) (token : Token) (t : State) : Type 0 where
   pub some : token.start < token.end
   pub fits : token.end ≤ length s.text
   pub next : t.offset ≡ token.end
+  pub nests : nesting_refusal (kind_of token.kind) (item_of s.text token).bytes s.closers ≡ None
+  pub closers : t.closers ≡ open_after (kind_of token.kind) (item_of s.text token).bytes s.closers
   pub gap : List Item
   pub is_gap : tokens_of gap ≡ []
   pub cut : (items : List Item) (ending : Option Fault) → IsCutFrom t items ending → IsCutFrom s (gap ++ (item_of s.text token ∷ items)) ending
@@ -72,6 +74,7 @@ pub record GivesFault (s : State) (fault : Fault) (t : State) : Type 0 where
 -- a call gave nothing, nor does a later one
 pub record GivesEnd (s : State) (t : State) : Type 0 where
   pub text : t.text ≡ s.text
+  pub low : s.offset ≤ t.offset
   pub rest : Rest s [] None
   pub only : (tokens : List Item) (ending : Option Fault) → Rest s tokens ending → (tokens ≡ []) × (ending ≡ None)
   pub after : Rest t [] None

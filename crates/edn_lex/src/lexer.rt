@@ -130,6 +130,29 @@ impl<'a> Lexer<'a> {
         }
     }
 
+    /// The whole text.
+    pub fn text(&self) -> &'a [u8]
+        ensures { result.now ≡ self.now.text }
+    {
+        self.text
+    }
+
+    /// A lexer at the same place of the same text.
+    pub fn copy(&self) -> Lexer<'a>
+        ensures { result ≡ self.now }
+    {
+        let mut collections = ArrayVec::new();
+        for collection in self.collections.iter() {
+            collections.push(*collection);
+        }
+        Lexer {
+            text: self.text,
+            offset: self.offset,
+            collections,
+            ended: self.ended,
+        }
+    }
+
     /// Passes over the item at the front of what is left, which is no blank, and gives it where it is a token.
     fn pass(&mut self) -> Result<Option<Token>, Fault>
         requires left { self.old.offset < length self.old.text }

@@ -1,1 +1,9 @@
 pub mod Shapes
+pub mod Outlines
+pub mod Fields
+pub mod LevelEnds
+pub mod Leads
+pub mod Marks
+pub mod Collections
+pub mod Reader
+pub mod Places

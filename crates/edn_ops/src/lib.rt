@@ -1,4 +1,16 @@
 //! Operations of a text (EDN as Jepsen prints it): reading them, and their canonical text.
 #![tactic(auto)]
 
+mod atoms;
+mod faults;
+mod fields;
+mod forms;
+mod maps;
+mod marks;
+mod members;
+mod micro_ops;
+mod outline;
+pub mod reader;
+#[cfg(test)]
+mod tests;
 pub mod types;

@@ -1,0 +1,135 @@
+-- What a parsed integer is: the number that its spelling means.
+use Rattle.std.proofs.Common.{◌≡◌, ℕ, zero, suc, ◌+◌, ◌-◌, ◌^◌, ◌<◌, ◌≤◌, ℤ, pos, negsuc, Bool, true, false, not, cond, nat_lt, ◌==◌, ◌&&◌, ◌||◌, List, [], ◌∷◌, ◌++◌, length, get_or, take, drop, Option, Some, None, Result, Ok, Err, refl, sym, ap, subst, ◌∙◌, arith, inl, inr}
+use Rattle.std.specs.Prelude.{nat_eq, bytes_eq}
+use Rattle.std.specs.Bool.{then_some}
+use Rattle.std.specs.Char.{is_ascii_digit}
+use Rattle.std.specs.Int.{w64}
+use Rattle.std.specs.Int.RustNames.{FitsSigned}
+use Rattle.std.specs.Int.Signed.{mag}
+use Rattle.std.specs.List.{list_all, ends_with}
+use Rattle.std.specs.Result.{result_ok}
+use Rattle.std.specs.Str.{all_ascii_digits, IsUtf8, IsAscii}
+use Rattle.std.specs.Str.Parse.{IsNumeral, AllDigits, digits_value, ParsesSigned, signed_digits_value, without_leading_sign}
+use Rattle.std.proofs.lemmas.Bool.{ltb-true, lt-ltb, eqb-true, and_parts, or_cases, false_from_ne_true, ne_eqb, cond-false}
+use Rattle.std.proofs.lemmas.Fmt.{IsAscii-from_digits}
+use Rattle.std.proofs.lemmas.Str.{IsUtf8-from_ascii}
+use Rattle.std.proofs.lemmas.Str.Parse.{digit_at, IsNumeralModel, numerals_by_value, tells_all_ascii_digits}
+use Rattle.hist_types.specs.Bytes.{plus, minus, letter_n}
+use Rattle.hist_types.specs.AtomTokens.{is_64_bit, int_value}
+use Rattle.hist_types.specs.Tokens.{is_int, is_whole, is_sign, first_byte, without_sign, without_n}
+
+-- two spellings of one test
+all_is : (ds : List ℕ) → list_all is_ascii_digit ds ≡ all_ascii_digits ds
+all_is [] = refl
+all_is (d ∷ ds) = ap (λ (b : Bool). is_ascii_digit d && b) (all_is ds)
+
+own : IsNumeralModel (λ ds. all_ascii_digits ds ≡ true) (digits_value 10)
+own = numerals_by_value (λ ds. all_ascii_digits ds ≡ true) tells_all_ascii_digits
+
+-- ---- signs and the `N`
+
+-- the last byte behind a sign is the last byte
+last_behind : (b : ℕ) (rest : List ℕ) → 0 < length rest → ends_with nat_eq (b ∷ rest) (letter_n ∷ []) ≡ ends_with nat_eq rest (letter_n ∷ [])
+last_behind b [] h = absurd (omega arith)
+last_behind b (c ∷ rest) h =
+    let k : length (b ∷ c ∷ rest) - 1 ≡ suc (length (c ∷ rest) - 1) = omega arith in
+    ap (λ (n : ℕ). bytes_eq (letter_n ∷ []) (drop n (b ∷ c ∷ rest))) k
+
+cut_behind : (b : ℕ) (rest : List ℕ) → 0 < length rest → take (length (b ∷ rest) - 1) (b ∷ rest) ≡ b ∷ take (length rest - 1) rest
+cut_behind b [] h = absurd (omega arith)
+cut_behind b (c ∷ rest) h =
+    let k : length (b ∷ c ∷ rest) - 1 ≡ suc (length (c ∷ rest) - 1) = omega arith in
+    ap (λ (n : ℕ). take n (b ∷ c ∷ rest)) k
+
+cons_cond : (test : Bool) (b : ℕ) (xs ys : List ℕ) → cond test (b ∷ xs) (b ∷ ys) ≡ b ∷ cond test xs ys
+cons_cond true b xs ys = refl
+cons_cond false b xs ys = refl
+
+without_n-sign : (b : ℕ) (rest : List ℕ) → 0 < length rest → without_n (b ∷ rest) ≡ b ∷ without_n rest
+without_n-sign b rest h =
+    ap (λ (t : Bool). cond t (take (length (b ∷ rest) - 1) (b ∷ rest)) (b ∷ rest)) (last_behind b rest h)
+    ∙ ap (λ (front : List ℕ). cond (ends_with nat_eq rest (letter_n ∷ [])) front (b ∷ rest)) (cut_behind b rest h)
+    ∙ cons_cond (ends_with nat_eq rest (letter_n ∷ [])) b (take (length rest - 1) rest) rest
+
+-- ---- spellings without their `N`
+
+-- a sign or none, and digits
+pub record IsSigned (bytes : List ℕ) : Type 0 where
+  pub ascii : IsAscii bytes
+  pub numeral : IsNumeral 10 (without_leading_sign bytes)
+
+whole_numeral : (ds : List ℕ) → is_whole ds ≡ true → IsNumeral 10 ds
+whole_numeral ds h =
+    let whole = and_parts (list_all is_ascii_digit ds && nat_lt 0 (length ds)) _ h in
+    let parts = and_parts (list_all is_ascii_digit ds) (nat_lt 0 (length ds)) whole.0 in
+    (ltb-true 0 (length ds) parts.1, own.to ds (sym (all_is ds) ∙ parts.0))
+
+-- no digit is a sign
+digit_first : (ds : List ℕ) → IsNumeral 10 ds → without_leading_sign ds ≡ ds
+digit_first [] h = refl
+digit_first (d ∷ ds) h =
+    let range = digit_at (d ∷ ds) 0 h.1 (omega arith) in
+    cond-false (d == 45) ds (drop (cond (d == 43) 1 0) (d ∷ ds)) (ne_eqb d 45 (λ e. omega arith))
+    ∙ ap (λ (t : Bool). drop (cond t 1 0) (d ∷ ds)) (ne_eqb d 43 (λ e. omega arith))
+
+unsigned : (bytes : List ℕ) → is_whole bytes ≡ true → IsSigned bytes
+unsigned bytes h =
+    let n = whole_numeral bytes h in
+    record { ascii = IsAscii-from_digits bytes n.1; numeral = subst (IsNumeral 10) (sym (digit_first bytes n)) n }
+
+ascii_behind : (b : ℕ) (ds : List ℕ) → b < 128 → IsAscii ds → IsAscii (b ∷ ds)
+ascii_behind b ds h a zero = h
+ascii_behind b ds h a (suc i) = a i
+
+sign_first : (b : ℕ) (ds : List ℕ) → is_sign b ≡ true → (b < 128) × (without_leading_sign (b ∷ ds) ≡ ds)
+sign_first b ds h =
+    elim (or_cases (b == plus) (b == minus) h) [
+      | inl p ↦ let e : b ≡ 43 = eqb-true b 43 p in rw e (omega arith, refl)
+      | inr m ↦ let e : b ≡ 45 = eqb-true b 45 m in rw e (omega arith, refl)
+    ]
+
+signed : (b : ℕ) (ds : List ℕ) → is_sign b ≡ true → is_whole ds ≡ true → IsSigned (b ∷ ds)
+signed b ds h whole =
+    let n = whole_numeral ds whole in
+    let sign = sign_first b ds h in
+    record { ascii = ascii_behind b ds sign.0 (IsAscii-from_digits ds n.1); numeral = subst (IsNumeral 10) (sym sign.1) n }
+
+int_signed : (bytes : List ℕ) (sign : Bool) → is_sign (first_byte bytes) ≡ sign → is_whole (without_n (cond sign (drop 1 bytes) bytes)) ≡ true → IsSigned (without_n bytes)
+int_signed bytes false e h = unsigned (without_n bytes) h
+int_signed [] true e h = absurd (let x = e in cc)
+int_signed (b ∷ rest) true e h =
+    let n = whole_numeral (without_n rest) h in
+    subst IsSigned (sym (without_n-sign b rest (behind_n rest n.0))) (signed b (without_n rest) e h)
+  where
+    behind_n : (xs : List ℕ) → 0 < length (without_n xs) → 0 < length xs
+    behind_n [] some = some
+    behind_n (x ∷ xs) some = omega arith
+
+pub int_text : (bytes : List ℕ) → is_int bytes ≡ true → IsUtf8 (without_n bytes)
+int_text bytes h = IsUtf8-from_ascii (without_n bytes) (int_signed bytes (is_sign (first_byte bytes)) refl h).ascii
+
+-- ---- what the code's parse gives
+
+fits_is : (z : ℤ) → FitsSigned w64 z → is_64_bit z ≡ true
+fits_is (pos n) h = lt-ltb n (2 ^ 63) h.sfits
+fits_is (negsuc n) h = lt-ltb n (2 ^ 63) h.sfits
+
+is_fits : (z : ℤ) → is_64_bit z ≡ true → FitsSigned w64 z
+is_fits (pos n) h = record { sfits = ltb-true n (2 ^ 63) h }
+is_fits (negsuc n) h = record { sfits = ltb-true n (2 ^ 63) h }
+
+kept : {A : Type 0} (test : Bool) (x : A) → test ≡ true → then_some test x ≡ Some x
+kept test x h = rw h refl
+
+left_out : {A : Type 0} (test : Bool) (x : A) → test ≡ false → then_some test x ≡ None
+left_out test x h = rw h refl
+
+parse_is : {E : Type 0} (bytes : List ℕ) (r : Result ℤ E) → is_int bytes ≡ true → ParsesSigned w64 10 (without_n bytes) r → result_ok r ≡ then_some (is_64_bit (int_value bytes)) (int_value bytes)
+parse_is {E} bytes (Ok z) h p = ap (λ (v : ℤ). Some v) p.1 ∙ sym (kept (is_64_bit (int_value bytes)) (int_value bytes) (fits_is (int_value bytes) p.0.1))
+parse_is {E} bytes (Err e) h p =
+    let signs = int_signed bytes (is_sign (first_byte bytes)) refl h in
+    sym (left_out (is_64_bit (int_value bytes)) (int_value bytes)
+    (false_from_ne_true (is_64_bit (int_value bytes)) (λ t. p (signs.numeral, is_fits (int_value bytes) t))))
+
+pub parsed_int : {E : Type 0} (bytes text cut : List ℕ) (r : Result ℤ E) (o : Option ℤ) → is_int bytes ≡ true → cut ≡ without_n bytes → text ≡ cut → ParsesSigned w64 10 text r → o ≡ result_ok r → o ≡ then_some (is_64_bit (int_value bytes)) (int_value bytes)
+parsed_int {E} bytes text cut r o h is_cut is_text p was = was ∙ parse_is bytes r h (subst (λ (t : List ℕ). ParsesSigned {E = E} w64 10 t r) (is_text ∙ is_cut) p)

@@ -1,0 +1,16 @@
+pub mod Steps
+pub mod Levels
+pub mod Integers
+pub mod OutlineLemmas
+pub mod Gathering
+pub mod Closing
+pub mod Collected
+pub mod ByMember
+pub mod MicroOps
+pub mod MapMembers
+pub mod LevelSteps
+pub mod MarksKept
+pub mod LastMark
+pub mod LeftOut
+pub mod PassedOver
+pub mod Places

@@ -1,0 +1,10 @@
+use Rattle.std.proofs.Common.{subst, sym}
+use Rattle.std.specs.Str.{IsUtf8}
+use Rattle.edn_ops.proofs.Integers.{int_text, parsed_int}
+use Rattle.edn_ops.proofs.atoms.integer_of.Goals as goal
+
+pub returns-in_default : goal.returns-in_default
+returns-in_default c = absurd (c.in_default.ensures.cases.0 (subst IsUtf8 (sym c.without_n.ensures) (int_text c.args.spelling.now c.requires)))
+
+pub returns : goal.returns
+returns c = parsed_int c.args.spelling.now c.in-Ok.text.now c.without_n.result.now c.parse.result c.ok.result c.requires c.without_n.ensures c.in-Ok.ensures.cases.0 c.parse.ensures.value.0 c.ok.ensures.value

@@ -1,0 +1,24 @@
+use Rattle.std.proofs.Common.{◌≡◌, List, length, Option, refl, ◌∙◌, ap}
+use Rattle.hist_types.specs.Forms.{Open}
+use Rattle.hist_types.specs.Reading.{reading_from, reading_of, nothing_open}
+use Rattle.hist_types.specs.Tokens.{Item}
+use Rattle.hist_types.specs.declared.types.Fault.{Fault}
+use Rattle.hist_types.proofs.OneCut.{one_row_of_tokens}
+use Rattle.edn_lex.specs.State.{State}
+use Rattle.edn_lex.proofs.Exists.{Rest-exists}
+use Rattle.edn_ops.proofs.reader.OpReader.new.Goals as goal
+
+pub returns-clause-left : goal.returns-clause-left
+returns-clause-left c =
+    λ entries fault reads o is tokens ending rest.
+    let same = one_row_of_tokens c.args.text.now tokens reads.0 ending reads.1 (c.new.ensures.rest tokens ending rest) reads.2 in
+    ap (λ (p : Open). reading_from p tokens ending) is.0
+    ∙ ap (λ (ts : List Item). reading_of ts ending) same.0
+    ∙ ap (λ (e : Option Fault). reading_of reads.0 e) same.1
+    ∙ reads.3
+
+pub returns-clause-reads : goal.returns-clause-reads
+returns-clause-reads c =
+    λ entries fault ends.
+    let x = Rest-exists c.new.result in
+    (x.0, x.1, c.new.ensures.rest x.0 x.1 x.2, ends nothing_open (refl, ap (λ (s : State). length s.closers) c.new.ensures.start) x.0 x.1 x.2)

@@ -1,0 +1,217 @@
+//! The fields of an operation's map, gathered as its members come.
+
+ghost use Rattle.std.specs.Prelude.{◌≡◌, ℕ, List, [], ◌∷◌, ◌++◌, ◌-◌, ◌<◌, true, false, Option, IfOk};
+ghost use Rattle.hist_types.specs.Entries.{the_one, transaction_of, mops_of, entry_of, end_of, kind_of as kind_of_form, client_operation as client_entry};
+ghost use Rattle.hist_types.specs.Forms.{Form, place_of};
+ghost use Rattle.hist_types.specs.Tokens.{Item};
+ghost use Rattle.edn_ops.specs.Outlines.{outline, outline_of, IsOutlineIn, IsIntIn, number_of};
+ghost use Rattle.edn_ops.specs.Fields.{IsField, IsFieldIn, result_outline, result_outline_of, shapes_result, mops_result, Gathers, AreFieldsIn, awaits, IsEntry, IsOperation};
+
+use crate::atoms;
+use crate::faults::fault_at;
+use crate::outline::{Outline, bytes_of};
+use crate::types::{MopShape, OpShape, Span};
+use edn_lex::types::Token;
+use hist_types::limits::MAX_OPERATION_BYTES;
+use hist_types::types::{Fault, OpKind, Refusal};
+use smallvec::SmallVec;
+use std::alloc::Global;
+
+/// The fields of one name in a map: the value of the first, and where the key of the second begins.
+#[derive(Clone, Copy)]
+pub(crate) struct Field {
+    value: Option<Outline>,
+    second: Option<usize>,
+}
+
+impl Field {
+    const fn new() -> Field
+        ensures field { (text : List ℕ) → IsField text result [] }
+        ensures within { (text : List ℕ) → IsFieldIn text result }
+    {
+        Field {
+            value: None,
+            second: None,
+        }
+    }
+
+    /// One more field of the name, by the place of its key and by its value.
+    fn add(&mut self, place: usize, value: Outline)
+        ensures field { (text : List ℕ) (found : List (Form × Form)) (key form : Form) → IsField text self.old found → place_of key ≡ place → outline form ≡ outline_of text value → IsField text self.new (found ++ (key, form) ∷ []) }
+        ensures within { (text : List ℕ) → IsFieldIn text self.old → IsOutlineIn text value → IsFieldIn text self.new }
+    {
+        if self.value.is_none() {
+            self.value = Some(value);
+        } else if self.second.is_none() {
+            self.second = Some(place);
+        }
+    }
+
+    /// The value of the one field of the name, in a map that begins at `start`.
+    fn the_one(self, start: usize) -> Result<Outline, Fault>
+        ensures one { (text : List ℕ) (found : List (Form × Form)) → IsField text self found → result_outline_of text result ≡ result_outline (the_one start found) }
+        ensures within { (text : List ℕ) → IsFieldIn text self → IfOk result (IsOutlineIn text) }
+    {
+        match (self.value, self.second) {
+            (None, _) => Err(fault_at(Refusal::MissingField, start)),
+            (Some(_), Some(place)) => { Err(fault_at(Refusal::DuplicateField, place)) }
+            (Some(value), None) => Ok(value),
+        }
+    }
+}
+
+/// The kind of operation that the value of `:type` names.
+fn kind_of(text: &[u8], value: Outline) -> Option<OpKind>
+    requires { IsOutlineIn text.now value }
+    ensures { result ≡ kind_of_form (outline_of text.now value) }
+{
+    if value.is_named(text, b":invoke") {
+        Some(OpKind::Invoke)
+    } else if value.is_named(text, b":ok") {
+        Some(OpKind::Ok)
+    } else if value.is_named(text, b":fail") {
+        Some(OpKind::Fail)
+    } else if value.is_named(text, b":info") {
+        Some(OpKind::Info)
+    } else {
+        None
+    }
+}
+
+/// The fields of a map, as far as its members have been gathered.
+#[derive(Drop)]
+pub(crate) struct Fields {
+    /// The key that has no value yet.
+    key: Option<Outline>,
+    kind: Field,
+    process: Field,
+    value: Field,
+    /// What the first value of `:value` is as a transaction.
+    transaction: Result<SmallVec<MopShape, 4>, Fault>,
+}
+
+impl Fields {
+    pub(crate) fn new(alloc: Global) -> Fields
+        ensures fields { (text : List ℕ) → Gathers text result [] }
+        ensures within { (text : List ℕ) → AreFieldsIn text result }
+    {
+        Fields {
+            key: None,
+            kind: Field::new(),
+            process: Field::new(),
+            value: Field::new(),
+            transaction: Ok(SmallVec::new(alloc)),
+        }
+    }
+
+    /// Whether the next member is the value of the first `:value`, whose transaction is to be read.
+    pub(crate) fn awaits_transaction(&self, text: &[u8]) -> bool
+        requires { AreFieldsIn text.now self.now }
+        ensures { result ≡ awaits text.now self.now }
+    {
+        match self.key {
+            Some(key) => { key.is_named(text, b":value") && self.value.value.is_none() }
+            None => false,
+        }
+    }
+
+    /// Gathers the value of the first `:value`, with what it is as a transaction.
+    pub(crate) fn add_transaction(
+        &mut self,
+        value: Outline,
+        transaction: Result<SmallVec<MopShape, 4>, Fault>,
+    )
+        ensures fields { (text : List ℕ) (members : List Form) (form : Form) → Gathers text self.old members → awaits text self.old ≡ true → outline form ≡ outline_of text value → shapes_result (λ v. v.items) transaction ≡ mops_result (transaction_of form) → Gathers text self.new (members ++ form ∷ []) }
+        ensures within { (text : List ℕ) → AreFieldsIn text self.old → IsOutlineIn text value → AreFieldsIn text self.new }
+    {
+        self.key = None;
+        self.value.value = Some(value);
+        self.transaction = transaction;
+    }
+
+    /// Gathers any other member.
+    pub(crate) fn add(&mut self, text: &[u8], member: Outline)
+        requires fields { AreFieldsIn text.now self.old }
+        requires member { IsOutlineIn text.now member }
+        ensures fields { (members : List Form) (form : Form) → Gathers text.now self.old members → awaits text.now self.old ≡ false → outline form ≡ outline_of text.now member → Gathers text.now self.new (members ++ form ∷ []) }
+        ensures within { AreFieldsIn text.now self.new }
+    {
+        let Some(key) = self.key else {
+            self.key = Some(member);
+            return;
+        };
+        self.key = None;
+        if key.is_named(text, b":type") {
+            self.kind.add(key.place(), member);
+        } else if key.is_named(text, b":process") {
+            self.process.add(key.place(), member);
+        } else if key.is_named(text, b":value") {
+            self.value.add(key.place(), member);
+        }
+    }
+
+    /// What the map gives once it is closed: an operation, or none where it is skipped.
+    pub(crate) fn entry(
+        self,
+        alloc: Global,
+        text: &[u8],
+        span: Span,
+    ) -> Result<Option<OpShape>, Fault>
+        requires { AreFieldsIn text.now self }
+        ensures { (opener closer : Item) (members : List Form) → Gathers text.now self members → opener.start ≡ span.start → end_of closer ≡ span.end → IsEntry result (entry_of opener closer members) }
+    {
+        if self.key.is_some() {
+            return Err(fault_at(Refusal::OddMap, span.start));
+        }
+        let process = self.process.the_one(span.start)?;
+        let Some(number) = process.integer() else {
+            return Ok(None);
+        };
+        let shape = self.client_operation(alloc, text, span, number)?;
+        Ok(Some(shape))
+    }
+
+    /// The operation, by the integer that is the value of its `:process`.
+    fn client_operation(
+        self,
+        alloc: Global,
+        text: &[u8],
+        span: Span,
+        number: Token,
+    ) -> Result<OpShape, Fault>
+        requires fields { AreFieldsIn text.now self }
+        requires number { IsIntIn text.now number }
+        ensures { (members : List Form) (g : Gathers text.now self members) → IsOperation result (client_entry (number_of text.now number) number.start span.start span.end g.pairs) }
+    {
+        let Some(process) = atoms::process_of(bytes_of(text, number)) else {
+            return Err(fault_at(Refusal::BadProcess, number.start));
+        };
+        if span.end.saturating_sub(span.start) > MAX_OPERATION_BYTES {
+            return Err(fault_at(Refusal::TooLong, span.start));
+        }
+        let value = self.kind.the_one(span.start)?;
+        let Some(kind) = kind_of(text, value) else {
+            return Err(fault_at(Refusal::BadType, value.place()));
+        };
+        let mops = self.mops(alloc, kind, span.start)?;
+        Ok(OpShape {
+            span,
+            kind,
+            process,
+            mops,
+        })
+    }
+
+    /// The micro-operations of an operation of this kind, whose map begins at `start`.
+    fn mops(self, alloc: Global, kind: OpKind, start: usize) -> Result<SmallVec<MopShape, 4>, Fault>
+        ensures { (text : List ℕ) (members : List Form) (g : Gathers text self members) → shapes_result (λ v. v.items) result ≡ mops_result (mops_of kind start g.pairs) }
+    {
+        match kind {
+            OpKind::Invoke | OpKind::Ok => {
+                self.value.the_one(start)?;
+                self.transaction
+            }
+            OpKind::Fail | OpKind::Info => Ok(SmallVec::new(alloc)),
+        }
+    }
+}

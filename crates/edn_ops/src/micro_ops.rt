@@ -1,0 +1,160 @@
+//! The transaction of an operation: its micro-operations, one after the other.
+
+ghost use Rattle.std.specs.Prelude.{◌≡◌, ◌≢◌, List, [], ◌∷◌, ◌++◌, Some, map, IfOk, IfErr};
+ghost use Rattle.std.specs.List.{AllByRecursion};
+ghost use Rattle.hist_types.specs.Entries.{is_write_of, elements_of, micro_op_of, micro_ops_of};
+ghost use Rattle.hist_types.specs.Forms.{Form, place_of};
+ghost use Rattle.hist_types.specs.Refusals.{memory_fault};
+ghost use Rattle.hist_types.specs.Tokens.{Closer};
+ghost use Rattle.edn_lex.specs.Kinds.{kind_of, item_of};
+ghost use Rattle.edn_lex.specs.State.{State};
+ghost use Rattle.edn_ops.specs.Collections.{ReadsMop, ReadsTransaction};
+ghost use Rattle.edn_ops.specs.Fields.{mop_result, mops_result, shapes_result};
+ghost use Rattle.edn_ops.specs.Leads.{GivesMember};
+ghost use Rattle.edn_ops.specs.Outlines.{outline_of, IsTokenIn, IsOutlineIn};
+
+use crate::faults::fault_at;
+use crate::forms::{Member, next_member};
+use crate::members::{first_forms, pass_member};
+use crate::outline::Outline;
+use crate::types::MopShape;
+use edn_lex::lexer::Lexer;
+use edn_lex::types::{Token, TokenKind};
+use hist_types::limits::MAX_MICRO_OPS;
+use hist_types::types::{Fault, Refusal};
+use smallvec::SmallVec;
+use std::alloc::Global;
+
+/// Whether a micro-operation is a write, by its first form.
+fn is_write(text: &[u8], name: Outline) -> Option<bool>
+    requires { IsOutlineIn text.now name }
+    ensures { result ≡ is_write_of (outline_of text.now name) }
+{
+    if name.is_named(text, b":w") {
+        Some(true)
+    } else if name.is_named(text, b":r") {
+        Some(false)
+    } else {
+        None
+    }
+}
+
+/// The micro-operation with these forms; it begins at `start`.
+fn micro_op(
+    text: &[u8],
+    start: usize,
+    name: Outline,
+    key: Outline,
+    value: Outline,
+) -> Result<MopShape, Fault>
+    requires name { IsOutlineIn text.now name }
+    requires key { IsOutlineIn text.now key }
+    requires value { IsOutlineIn text.now value }
+    ensures { result ≡ mop_result (micro_op_of start (Some (outline_of text.now name ∷ outline_of text.now key ∷ outline_of text.now value ∷ []))) }
+{
+    let Some(is_write) = is_write(text, name) else {
+        return Err(fault_at(Refusal::NotTxn, start));
+    };
+    let Some(key_span) = key.atom(text) else {
+        return Err(fault_at(Refusal::BadAtom, key.place()));
+    };
+    if is_write && value.is_nil() {
+        return Err(fault_at(Refusal::NilWritten, value.place()));
+    }
+    let value_span = if is_write {
+        value.atom(text)
+    } else {
+        value.value(text)
+    };
+    match value_span {
+        Some(value_span) => Ok(MopShape {
+            is_write,
+            key: key_span,
+            value: value_span,
+        }),
+        None => Err(fault_at(Refusal::BadAtom, value.place())),
+    }
+}
+
+/// The micro-operation with the forms of which these are the first four; it begins at `start`.
+fn micro_op_by(text: &[u8], start: usize, forms: &[Outline]) -> Result<MopShape, Fault>
+    requires { AllByRecursion (IsOutlineIn text.now) forms.now }
+    ensures { result ≡ mop_result (micro_op_of start (Some (map (outline_of text.now) forms.now))) }
+{
+    match forms {
+        [name, key, value] => micro_op(text, start, *name, *key, *value),
+        _ => Err(fault_at(Refusal::NotTxn, start)),
+    }
+}
+
+/// Reads a member of a transaction, whose first token has just been given: where it begins, and the micro-operation that it
+/// is, or the fault that makes it none.
+fn read_micro_op(
+    lexer: &mut Lexer,
+    text: &[u8],
+    member: Member,
+) -> Result<(usize, Result<MopShape, Fault>), Fault>
+    requires text { text.now ≡ lexer.old.text }
+    requires token { IsTokenIn text.now member.token }
+    requires closer { kind_of member.token.kind ≢ Closer }
+    ensures { (s : State) → GivesMember s member lexer.old → ReadsMop s result lexer.new }
+{
+    match Outline::of(member).sequence(text) {
+        Some(opener) => {
+            let forms = first_forms(lexer, opener)?;
+            let micro_op = micro_op_by(text, opener.start, forms.as_slice());
+            Ok((opener.start, micro_op))
+        }
+        None => {
+            let start = pass_member(lexer, member)?.place();
+            Ok((start, Err(fault_at(Refusal::NotTxn, start))))
+        }
+    }
+}
+
+/// The transaction with one more member, which begins at `start`.
+fn with_micro_op(
+    transaction: Result<SmallVec<MopShape, 4>, Fault>,
+    start: usize,
+    micro_op: Result<MopShape, Fault>,
+) -> Result<Result<SmallVec<MopShape, 4>, Fault>, Fault>
+    ensures ok { IfOk result (λ found. (members : List Form) (form : Form) → shapes_result (λ v. v.items) transaction ≡ mops_result (micro_ops_of 0 members) → start ≡ place_of form → micro_op ≡ mop_result (micro_op_of (place_of form) (elements_of form)) → shapes_result (λ v. v.items) found ≡ mops_result (micro_ops_of 0 (members ++ form ∷ []))) }
+    ensures err { IfErr result (λ fault. fault ≡ memory_fault) }
+{
+    let mut mops = match transaction {
+        Ok(mops) => mops,
+        Err(fault) => return Ok(Err(fault)),
+    };
+    if mops.len() >= MAX_MICRO_OPS {
+        return Ok(Err(fault_at(Refusal::TooManyMicroOps, start)));
+    }
+    match micro_op {
+        Ok(shape) => {
+            mops.push(shape)?;
+            Ok(Ok(mops))
+        }
+        Err(fault) => Ok(Err(fault)),
+    }
+}
+
+/// Reads a transaction, whose opener has just been given: its micro-operations, or the first fault among its members.
+pub(crate) fn transaction(
+    alloc: Global,
+    lexer: &mut Lexer,
+    text: &[u8],
+    opener: Token,
+) -> Result<Result<SmallVec<MopShape, 4>, Fault>, Fault>
+    requires { text.now ≡ lexer.old.text }
+    ensures { ReadsTransaction (λ v. v.items) lexer.old (item_of text.now opener) result lexer.new }
+{
+    let mut transaction = Ok(SmallVec::new(alloc));
+    while let Some(member) = next_member(lexer)? {
+        match member.token.kind {
+            TokenKind::Close => return Ok(transaction),
+            _ => {}
+        }
+        let (start, micro_op) = read_micro_op(lexer, text, member)?;
+        transaction = with_micro_op(transaction, start, micro_op)?;
+    }
+    Err(fault_at(Refusal::Unclosed, opener.start))
+}

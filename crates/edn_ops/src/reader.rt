@@ -1,0 +1,181 @@
+//! The operations of a text, one after the other.
+
+ghost use Rattle.std.specs.Prelude.{◌≡◌, ◌≢◌, ◌+◌, ◌≤◌, ◌<◌, length, true, false, List, Option, IfOk, IfSome};
+ghost use Rattle.hist_types.specs.Entries.{Entry};
+ghost use Rattle.hist_types.specs.Reading.{Reads};
+ghost use Rattle.hist_types.specs.Forms.{is_map, is_vector_or_list};
+ghost use Rattle.edn_lex.specs.declared.types.TokenKind.TheVariants.{Open};
+ghost use Rattle.edn_lex.specs.Kinds.{item_of};
+ghost use Rattle.edn_ops.specs.Reader.{reader_at_start, Left, NextOf};
+ghost use Rattle.edn_ops.specs.Places.{NextOp};
+
+use crate::faults::fault_at;
+use crate::forms::next_member;
+use crate::maps::read_map;
+use crate::marks::{closes, opens};
+use crate::types::OpShape;
+use edn_lex::lexer::Lexer;
+use edn_lex::types::Token;
+use hist_types::types::{Fault, Refusal};
+use std::alloc::Global;
+use std::marker::Model;
+
+/// Where a reader is in its text, between two operations.
+#[derive(Drop)]
+pub(crate) struct Place<'a> {
+    pub(crate) lexer: Lexer<'a>,
+    /// The opener of the vector or list that is open at the top level.
+    pub(crate) list: Option<Token>,
+    /// How many operations were skipped.
+    pub(crate) skipped: u64,
+}
+
+/// Whether the token is the opener of a map.
+fn opens_map(text: &[u8], token: Token) -> bool
+    requires low { token.start < token.end }
+    requires fits { token.end ≤ length text.now }
+    ensures yes { result ≡ true → token.kind ≡ Open }
+    ensures map { result ≡ true → is_map (item_of text.now token) ≡ true }
+    ensures no { result ≡ false → token.kind ≡ Open → is_map (item_of text.now token) ≡ false }
+{
+    opens(token) && &text[token.start..token.end] == b"{".as_slice()
+}
+
+/// Whether the token is the opener of a vector or list.
+fn opens_list(text: &[u8], token: Token) -> bool
+    requires low { token.start < token.end }
+    requires fits { token.end ≤ length text.now }
+    ensures yes { result ≡ true → token.kind ≡ Open }
+    ensures list { result ≡ true → is_vector_or_list (item_of text.now token) ≡ true }
+    ensures no { result ≡ false → token.kind ≡ Open → is_vector_or_list (item_of text.now token) ≡ false }
+{
+    if !opens(token) {
+        return false;
+    }
+    let bytes = &text[token.start..token.end];
+    bytes == b"[".as_slice() || bytes == b"(".as_slice()
+}
+
+/// One more skipped operation. They are fewer than the bytes up to the end of its opener.
+fn with_one_more(skipped: u64, opener: Token) -> u64
+    requires { skipped < opener.end }
+    ensures { result ≡ skipped + 1 }
+{
+    skipped + 1
+}
+
+impl<'a> Place<'a> {
+    /// The same place.
+    fn copy(&self) -> Place<'a>
+        ensures { result ≡ self.now }
+    {
+        Place {
+            lexer: self.lexer.copy(),
+            list: self.list,
+            skipped: self.skipped,
+        }
+    }
+
+    /// The next operation, or none at the text's end. After a fault the place is of no use.
+    fn next_op(&mut self, alloc: Global) -> Result<Option<OpShape>, Fault>
+        requires { self.old.skipped ≤ self.old.lexer.offset }
+        ensures next { NextOp self.old result self.new }
+        ensures few { IfOk result (λ _. self.new.skipped ≤ self.new.lexer.offset) }
+    {
+        while let Some(member) = next_member(&mut self.lexer)? {
+            let text = self.lexer.text();
+            let token = member.token;
+            if closes(token) {
+                self.list = None;
+                continue;
+            }
+            if self.list.is_none() && opens_list(text, token) {
+                self.list = Some(token);
+                continue;
+            }
+            if !opens_map(text, token) {
+                return Err(fault_at(Refusal::NotAMap, token.start));
+            }
+            if let Some(shape) = read_map(alloc, &mut self.lexer, text, token)? {
+                return Ok(Some(shape));
+            }
+            self.skipped = with_one_more(self.skipped, token);
+        }
+        match self.list {
+            Some(opener) => Err(fault_at(Refusal::Unclosed, opener.start)),
+            None => Ok(None),
+        }
+    }
+}
+
+/// Reads the operations of a text in EDN as Jepsen prints it: maps at the top level, or directly in a vector or list there.
+///
+/// It keeps nothing of the text but the micro-operations of the operation that it is at. Operations whose process is no integer are
+/// skipped.
+#[derive(Drop)]
+pub struct OpReader<'a> {
+    alloc: Global,
+    place: Place<'a>,
+    failed: Option<Fault>,
+}
+
+impl<'a> Model for OpReader<'a> {
+    ghost use Rattle.std.specs.Prelude.{◌≤◌};
+    ghost use Rattle.edn_ops.specs.Reader.{Reader};
+
+    ghost Value = { Reader };
+
+    ghost view = { λ r. record { state = r.place.lexer; list = r.place.list; failed = r.failed; skipped = r.place.skipped } };
+
+    ghost invariant = { λ r. r.place.skipped ≤ r.place.lexer.offset };
+}
+
+impl<'a> OpReader<'a> {
+    /// A reader at the start of the text.
+    pub fn new(alloc: Global, text: &'a [u8]) -> OpReader<'a>
+        ensures start { result ≡ reader_at_start text.now }
+        ensures left { (entries : List Entry) (fault : Option Fault) → Reads text.now entries fault → Left result entries fault }
+        ensures reads { (entries : List Entry) (fault : Option Fault) → Left result entries fault → Reads text.now entries fault }
+    {
+        OpReader {
+            alloc,
+            place: Place {
+                lexer: Lexer::new(text),
+                list: None,
+                skipped: 0,
+            },
+            failed: None,
+        }
+    }
+
+    /// The next operation, or none at the text's end. A fault ends the reading, and each later call gives it again; but
+    /// where memory is refused (`Memory`) the reader is unchanged, and the call can be made again.
+    pub fn next_op(&mut self) -> Result<Option<OpShape>, Fault>
+        ensures again { IfSome self.old.failed (λ fault. (result ≡ Err fault) × (self.new ≡ self.old)) }
+        ensures next { self.old.failed ≡ None → NextOf self.old result self.new }
+    {
+        if let Some(fault) = self.failed {
+            return Err(fault);
+        }
+        let mut place = self.place.copy();
+        match place.next_op(self.alloc) {
+            Ok(found) => {
+                self.place = place;
+                Ok(found)
+            }
+            Err(fault) => {
+                if fault != Fault::memory() {
+                    self.failed = Some(fault);
+                }
+                Err(fault)
+            }
+        }
+    }
+
+    /// How many operations were skipped so far.
+    pub fn skipped(&self) -> u64
+        ensures { result ≡ self.now.skipped }
+    {
+        self.place.skipped
+    }
+}
