@@ -14,3 +14,11 @@ pub mod LastMark
 pub mod LeftOut
 pub mod PassedOver
 pub mod Places
+pub mod ReadsBack
+mod Tokens
+mod Fronts
+mod Decimals
+mod StringSources
+mod ValueFronts
+mod Appended
+mod MopTexts

@@ -7,3 +7,4 @@ pub mod Marks
 pub mod Collections
 pub mod Reader
 pub mod Places
+pub mod SourceTexts

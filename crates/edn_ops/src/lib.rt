@@ -14,3 +14,4 @@ pub mod reader;
 #[cfg(test)]
 mod tests;
 pub mod types;
+pub mod write;

@@ -1,0 +1,5 @@
+-- Canonical text reads back: lemmas.
+pub mod Chunks
+pub mod Runs
+pub mod Strings
+pub mod Lexed

@@ -1,0 +1,65 @@
+-- Source texts of atoms and micro-operations, and how they are written canonically.
+use Rattle.std.specs.Prelude.{◌≡◌, ℕ, List, [], ◌∷◌, ◌++◌, Bool, true, false, ◌==◌, ◌||◌, ◌&&◌, if◌then◌else◌, bytes_eq, drop, codes, Some, None}
+use Rattle.std.specs.Char.{is_ascii_digit}
+use Rattle.hist_types.specs.Atoms.{Atom, Value}
+use Rattle.hist_types.specs.AtomTokens.{atom_of_token}
+use Rattle.hist_types.specs.Bytes.{plus}
+use Rattle.hist_types.specs.Operations.{Mop, read, write, Operation}
+use Rattle.hist_types.specs.Placed.{IsTokenAlone}
+use Rattle.hist_types.specs.Tokens.{ItemKind, first_byte, second_byte, is_sign}
+use Rattle.hist_types.specs.declared.types.OpKind.{OpKind}
+use Rattle.edn_ops.specs.declared.write.MopText.{MopText}
+
+-- The text is one token, and that token is the atom.
+abbrev pub IsAtomText : List ℕ → Atom → Type 0
+IsAtomText text atom = (kind : ItemKind) × IsTokenAlone kind text × (atom_of_token kind text ≡ Some atom)
+
+-- the same, or nil
+abbrev pub IsValueText : List ℕ → Value → Type 0
+IsValueText text None = text ≡ codes "nil"
+IsValueText text (Some atom) = IsAtomText text atom
+
+-- the texts of a key and of a value spell the micro-operation
+abbrev pub IsMopText : MopText → Mop → Type 0
+IsMopText t (read key value) = (t.is_write ≡ false) × IsAtomText t.key.now key × IsValueText t.value.now value
+IsMopText t (write key value) = (t.is_write ≡ true) × IsAtomText t.key.now key × IsAtomText t.value.now value
+
+-- one for one, in order
+abbrev pub AreMopTexts : List MopText → List Mop → Type 0
+AreMopTexts [] [] = Unit {0}
+AreMopTexts [] (mop ∷ mops) = ⊥
+AreMopTexts (text ∷ texts) [] = ⊥
+AreMopTexts (text ∷ texts) (mop ∷ mops) = IsMopText text mop × AreMopTexts texts mops
+
+abbrev pub operation : OpKind → ℕ → List Mop → Operation
+operation kind process mops = record { kind = kind; process = process; mops = mops }
+
+-- ---- how a source text is written
+
+-- A byte of a string's source: a control byte that has an escape is written as that, every other byte as it is.
+abbrev pub source_byte_text : ℕ → List ℕ
+source_byte_text b =
+    if b == 8 then codes "\\b"
+    else (if b == 9 then codes "\\t"
+    else (if b == 10 then codes "\\n"
+    else (if b == 12 then codes "\\f"
+    else (if b == 13 then codes "\\r"
+    else b ∷ []))))
+
+-- An integer without its `N`: a plus is left out, and `-0` is `0`.
+abbrev pub decimal_spelling : List ℕ → List ℕ
+decimal_spelling number =
+    if first_byte number == plus then drop 1 number
+    else (if bytes_eq number (codes "-0") then codes "0" else number)
+
+-- a digit, or a sign and a digit
+abbrev pub begins_with_number : List ℕ → Bool
+begins_with_number text = is_ascii_digit (first_byte text) || (is_sign (first_byte text) && is_ascii_digit (second_byte text))
+
+-- what a micro-operation's text has before its key
+abbrev pub front_of_mop : (is_write : Bool) → List ℕ
+front_of_mop is_write = if is_write then codes "[:w " else codes "[:r "
+
+-- the list is the other with more behind it
+abbrev pub IsLonger : List ℕ → List ℕ → Type 0
+IsLonger longer list = (more : List ℕ) × (longer ≡ list ++ more)

@@ -1,0 +1,226 @@
+//! Canonical text of atoms and of operations, from texts that spell them.
+
+ghost use Rattle.std.specs.Prelude.{◌≡◌, ◌==◌, ◌++◌, ◌∷◌, [], true, ℤ, List, flat_map, MatchOption, OnOk, OnErr};
+ghost use Rattle.std.specs.Fmt.{signed_decimal};
+ghost use Rattle.hist_types.specs.Atoms.{Atom, Value};
+ghost use Rattle.hist_types.specs.AtomTokens.{int_value, is_64_bit};
+ghost use Rattle.hist_types.specs.Bytes.{quote};
+ghost use Rattle.hist_types.specs.Operations.{Mop};
+ghost use Rattle.hist_types.specs.Texts.{atom_text, value_text, mop_text, mops_text, kind_text as text_of_kind, value_field_text, operation_text};
+ghost use Rattle.hist_types.specs.Tokens.{is_int, first_byte, without_n as before_n};
+ghost use Rattle.edn_ops.specs.SourceTexts.{IsAtomText, IsValueText, IsMopText, AreMopTexts, operation, front_of_mop, source_byte_text, decimal_spelling, begins_with_number, IsLonger};
+
+use hist_types::types::{OpKind, Process};
+use itoa::Buffer;
+use std::alloc::AllocError;
+
+/// The texts of a micro-operation's key and value, as a source spells them. The value of a read of nil is `nil`.
+#[derive(Clone, Copy, Debug)]
+pub struct MopText<'a> {
+    pub is_write: bool,
+    pub key: &'a [u8],
+    pub value: &'a [u8],
+}
+
+/// The escape of a control byte, which a source may have in a string as it is.
+fn escape_of(byte: u8) -> Option<&'static [u8]>
+    ensures { MatchOption result (source_byte_text byte ≡ byte ∷ []) (λ escape. escape.now ≡ source_byte_text byte) }
+{
+    match byte {
+        8 => Some(b"\\b"),
+        b'\t' => Some(b"\\t"),
+        b'\n' => Some(b"\\n"),
+        12 => Some(b"\\f"),
+        b'\r' => Some(b"\\r"),
+        _ => None,
+    }
+}
+
+/// Appends a string with its quotes. Its escapes are canonical already.
+fn append_string(out: &mut Vec<u8>, text: &[u8]) -> Result<(), AllocError>
+    ensures ok { OnOk result (out.new.items ≡ out.old.items ++ flat_map source_byte_text text.now) }
+    ensures err { OnErr result (IsLonger out.new.items out.old.items) }
+{
+    for byte in text {
+        match escape_of(*byte) {
+            Some(escape) => out.extend_from_slice(escape)?,
+            None => out.push(*byte)?,
+        }
+    }
+    Ok(())
+}
+
+/// An integer may end with an `N`.
+fn without_n(text: &[u8]) -> &[u8]
+    ensures { result.now ≡ before_n text.now }
+{
+    text.strip_suffix(b"N").unwrap_or(text)
+}
+
+/// An integer in decimal, by its spelling without the `N`.
+fn without_plus(number: &[u8]) -> &[u8]
+    ensures { result.now ≡ decimal_spelling number.now }
+{
+    match number {
+        [b'+', digits @ ..] => digits,
+        b"-0" => b"0",
+        _ => number,
+    }
+}
+
+/// An integer in decimal, by its spelling.
+#[tactic(auto, using(crate::proofs::Decimals::decimal_spelled))]
+fn decimal_of(text: &[u8]) -> &[u8]
+    requires int { is_int text.now ≡ true }
+    requires fits { is_64_bit (int_value text.now) ≡ true }
+    ensures { result.now ≡ signed_decimal (int_value text.now) }
+{
+    without_plus(without_n(text))
+}
+
+fn begins_as_string(text: &[u8]) -> bool
+    ensures { result ≡ (first_byte text.now == quote) }
+{
+    matches!(text, [b'"', ..])
+}
+
+/// A digit, or a sign and a digit.
+fn begins_as_int(text: &[u8]) -> bool
+    ensures { result ≡ begins_with_number text.now }
+{
+    match text {
+        [b'+' | b'-', second, ..] => second.is_ascii_digit(),
+        [first, ..] => first.is_ascii_digit(),
+        [] => false,
+    }
+}
+
+/// Appends the canonical text of an atom or of nil.
+fn append_value(out: &mut Vec<u8>, text: &[u8]) -> Result<(), AllocError>
+    requires { (value : Value) × IsValueText text.now value }
+    ensures ok { (value : Value) → IsValueText text.now value → OnOk result (out.new.items ≡ out.old.items ++ value_text value) }
+    ensures err { OnErr result (IsLonger out.new.items out.old.items) }
+{
+    if begins_as_string(text) {
+        return append_string(out, text);
+    }
+    if begins_as_int(text) {
+        return out.extend_from_slice(decimal_of(text));
+    }
+    out.extend_from_slice(text)
+}
+
+/// What a micro-operation's text has before its key.
+fn mop_front(is_write: bool) -> &'static [u8]
+    ensures { result.now ≡ front_of_mop is_write }
+{
+    if is_write { b"[:w " } else { b"[:r " }
+}
+
+fn append_mop(out: &mut Vec<u8>, mop: MopText) -> Result<(), AllocError>
+    requires { (m : Mop) × IsMopText mop m }
+    ensures ok { (m : Mop) → IsMopText mop.entry m → OnOk result (out.new.items ≡ out.old.items ++ mop_text m) }
+    ensures err { OnErr result (IsLonger out.new.items out.old.items) }
+{
+    out.extend_from_slice(mop_front(mop.is_write))?;
+    append_value(out, mop.key)?;
+    out.extend_from_slice(b" ")?;
+    append_value(out, mop.value)?;
+    out.extend_from_slice(b"]")
+}
+
+fn append_mops(out: &mut Vec<u8>, mops: &[MopText]) -> Result<(), AllocError>
+    requires { (ms : List Mop) × AreMopTexts mops.now ms }
+    ensures ok { (ms : List Mop) → AreMopTexts mops.now ms → OnOk result (out.new.items ≡ out.old.items ++ mops_text ms) }
+    ensures err { OnErr result (IsLonger out.new.items out.old.items) }
+{
+    out.extend_from_slice(b"[")?;
+    let mut gap: &[u8] = b"";
+    for mop in mops {
+        out.extend_from_slice(gap)?;
+        append_mop(out, *mop)?;
+        gap = b" ";
+    }
+    out.extend_from_slice(b"]")
+}
+
+fn kind_text(kind: OpKind) -> &'static [u8]
+    ensures { result.now ≡ text_of_kind kind }
+{
+    match kind {
+        OpKind::Invoke => b":invoke",
+        OpKind::Ok => b":ok",
+        OpKind::Fail => b":fail",
+        OpKind::Info => b":info",
+    }
+}
+
+/// Appends what an invoke and an ok have more than a fail and an info.
+fn append_value_field(out: &mut Vec<u8>, kind: OpKind, mops: &[MopText]) -> Result<(), AllocError>
+    requires { (ms : List Mop) × AreMopTexts mops.now ms }
+    ensures ok { (ms : List Mop) → AreMopTexts mops.now ms → OnOk result (out.new.items ≡ out.old.items ++ value_field_text kind ms) }
+    ensures err { OnErr result (IsLonger out.new.items out.old.items) }
+{
+    match kind {
+        OpKind::Invoke | OpKind::Ok => {
+            out.extend_from_slice(b", :value ")?;
+            append_mops(out, mops)
+        }
+        OpKind::Fail | OpKind::Info => Ok(()),
+    }
+}
+
+fn append_op(
+    out: &mut Vec<u8>,
+    kind: OpKind,
+    process: Process,
+    mops: &[MopText],
+) -> Result<(), AllocError>
+    requires { (ms : List Mop) × AreMopTexts mops.now ms }
+    ensures ok { (ms : List Mop) → AreMopTexts mops.now ms → OnOk result (out.new.items ≡ out.old.items ++ operation_text (operation kind process ms)) }
+    ensures err { OnErr result (IsLonger out.new.items out.old.items) }
+{
+    out.extend_from_slice(b"{:type ")?;
+    out.extend_from_slice(kind_text(kind))?;
+    out.extend_from_slice(b", :process ")?;
+    out.extend_from_slice(Buffer::new().format(process.number()).as_bytes())?;
+    append_value_field(out, kind, mops)?;
+    out.extend_from_slice(b"}")
+}
+
+/// Appends the canonical text of the atom that a text spells. Out of memory leaves the Vec as it was.
+///
+/// An integer loses its `+` and its `N`, and a string has the control bytes that have an escape escaped.
+pub fn write_atom(out: &mut Vec<u8>, text: &[u8]) -> Result<(), AllocError>
+    requires { (atom : Atom) × IsAtomText text.now atom }
+    ensures ok { (atom : Atom) → IsAtomText text.now atom → OnOk result (out.new.items ≡ out.old.items ++ atom_text atom) }
+    ensures err { OnErr result (out.new.items ≡ out.old.items) }
+{
+    let len = out.len();
+    let written = append_value(out, text);
+    if written.is_err() {
+        out.truncate(len);
+    }
+    written
+}
+
+/// Appends the canonical text of an operation. Out of memory leaves the Vec as it was.
+///
+/// A fail and an info are written without micro-operations.
+pub fn write_op(
+    out: &mut Vec<u8>,
+    kind: OpKind,
+    process: Process,
+    mops: &[MopText],
+) -> Result<(), AllocError>
+    requires { (ms : List Mop) × AreMopTexts mops.now ms }
+    ensures ok { (ms : List Mop) → AreMopTexts mops.now ms → OnOk result (out.new.items ≡ out.old.items ++ operation_text (operation kind process ms)) }
+    ensures err { OnErr result (out.new.items ≡ out.old.items) }
+{
+    let len = out.len();
+    let written = append_op(out, kind, process, mops);
+    if written.is_err() {
+        out.truncate(len);
+    }
+    written
+}
