@@ -8,3 +8,4 @@ pub mod Collections
 pub mod Reader
 pub mod Places
 pub mod SourceTexts
+pub mod Canonical

@@ -13,5 +13,6 @@ mod outline;
 pub mod reader;
 #[cfg(test)]
 mod tests;
+pub mod laws;
 pub mod types;
 pub mod write;
