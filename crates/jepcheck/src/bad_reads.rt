@@ -304,10 +304,7 @@ fn reads_seen<'a>(alloc: Global, txns: &[Txn<'a>]) -> Result<Vec<Seen<'a>>, Allo
 }
 
 /// Looks each read up.
-fn judge<'s, 'a>(
-    index: &HashMap<Written<'a>, Writers>,
-    seen: &'s [Seen<'a>],
-) -> AllFound<'s, 'a>
+fn judge<'s, 'a>(index: &HashMap<Written<'a>, Writers>, seen: &'s [Seen<'a>]) -> AllFound<'s, 'a>
     ensures aborted { option_map found_of result.aborted ≡ first_some (λ s. aborted_sight (get written_eq index.now s.written) (sight_of s)) seen.now }
     ensures intermediate { option_map found_of result.intermediate ≡ first_some (λ s. intermediate_sight (get written_eq index.now s.written) (sight_of s)) seen.now }
     ensures stray { result.stray ≡ count_by (λ s. not (is_some (get written_eq index.now s.written))) seen.now }

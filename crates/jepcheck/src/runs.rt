@@ -133,12 +133,14 @@ const READING_FIRST: &[u8] = b"{:type :ok, :process 0, :value []}
 ";
 
 /// As Jepsen prints it: with an index and a time, fields that nobody asks for, tags, and lines of the nemesis.
-const AS_JEPSEN_PRINTS: &[u8] = b"#jepsen.history.Op{:index 0, :time 3291485317, :type :invoke, :process 0, :f :txn, :value [[:w :x \"a b\"]]}
+const AS_JEPSEN_PRINTS: &[u8] =
+    b"#jepsen.history.Op{:index 0, :time 3291485317, :type :invoke, :process 0, :f :txn, :value [[:w :x \"a b\"]]}
 #jepsen.history.Op{:index 1, :time 3296209422, :type :info, :process :nemesis, :f :start-partition, :value :majority}
 #jepsen.history.Op{:index 2, :time 3297340018, :type :invoke, :process 1, :f :txn, :value [[:r :x nil] [:w 8 true]]}
 ";
 
-const ABORTED_READ_AS_JEPSEN_PRINTS: &[u8] = b"#jepsen.history.Op{:index 0, :time 3291485317, :type :invoke, :process 0, :f :txn, :value [[:w :x \"a b\"]]}
+const ABORTED_READ_AS_JEPSEN_PRINTS: &[u8] =
+    b"#jepsen.history.Op{:index 0, :time 3291485317, :type :invoke, :process 0, :f :txn, :value [[:w :x \"a b\"]]}
 #jepsen.history.Op{:index 1, :time 3296209422, :type :info, :process :nemesis, :f :start-partition, :value :majority}
 #jepsen.history.Op{:index 2, :time 3297340018, :type :invoke, :process 1, :f :txn, :value [[:r :x nil]]}
 #jepsen.history.Op{:index 3, :time 3298340018, :type :fail, :process 0, :f :txn, :value [[:w :x \"a b\"]], :error [:conflict {:code 40001}]}
