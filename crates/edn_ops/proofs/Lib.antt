@@ -14,3 +14,4 @@ pub mod LastMark
 pub mod LeftOut
 pub mod PassedOver
 pub mod Places
+pub mod Reached
