@@ -6,3 +6,4 @@ mod StringSources
 mod ValueFronts
 mod Appended
 mod MopTexts
+mod LoneTokens

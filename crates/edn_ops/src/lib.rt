@@ -4,3 +4,5 @@
 pub mod laws;
 pub mod types;
 pub mod write;
+#[cfg(test)]
+mod write_tests;
