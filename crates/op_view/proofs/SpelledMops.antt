@@ -1,6 +1,6 @@
 -- The micro-operations of an operation are in the places that its shape gives.
 use Rattle.std.proofs.Common.{◌≡◌, inl, inr, ℕ, ◌<◌, pos, List, [], ◌∷◌, length, map, Bool, true, false, Option, Some, None, refl, sym, ◌∙◌, ap, subst, arith}
-use Rattle.std.specs.List.{AllByRecursion}
+use Rattle.std.specs.List.{All, AllByRecursion}
 use Rattle.std.specs.Option.{unwrap_or, IfSome}
 use Rattle.std.specs.List.{slice_get}
 use Rattle.std.proofs.lemmas.Bool.{true≢false}
@@ -8,12 +8,12 @@ use Rattle.std.proofs.lemmas.Option.{none-some, slice_get_cases}
 use Rattle.std.proofs.lemmas.List.Elements.{recursion_from_All}
 use Rattle.hist_types.specs.Atoms.{Atom, integer}
 use Rattle.hist_types.specs.AtomTokens.{atom_of_token}
-use Rattle.hist_types.specs.Entries.{PlacedMop, PlacedOperation, operation_of}
+use Rattle.hist_types.specs.Entries.{PlacedMop, PlacedOperation, operation as entry, operation_of}
 use Rattle.hist_types.specs.Operations.{Mop, Operation, read, write}
 use Rattle.hist_types.specs.Placed.{IsTextOf as IsOperationText, IsTokenIn, IsTokenAlone, Spells, SpellsParts, IsMopIn, IsMopOfTokens}
 use Rattle.hist_types.specs.Tokens.{Item, ItemKind, Nil}
 use Rattle.hist_types.proofs.SpelledParts.{parts_spelled}
-use Rattle.hist_types.proofs.SingleTokens.{operation_alone}
+use Rattle.hist_types.proofs.SingleTokens.{mops_alone_in}
 use Rattle.hist_types.specs.declared.types.OpKind.{OpKind}
 use Rattle.op_block.specs.Contents.{BlockOperation}
 use Rattle.op_block.specs.Shapes.{short_span_of, short_mop_of, IsShapeOf}
@@ -22,6 +22,10 @@ use Rattle.op_view.specs.AtomTexts.{IsToken, IsTokenOf, IsTextOf}
 use Rattle.op_view.specs.MopTexts.{atom_in, is_nil, value_in, IsAtom, IsValue, bytes_at, mop_at, mops_at, operation_at, IsWithin, IsMopAt, AreMopsAt}
 use Rattle.op_view.proofs.KindsByFront.{kind_told}
 use Rattle.op_view.proofs.NilTokens.{nil_text, atom_no_nil}
+
+-- each of an operation's keys and values is a token of its own
+operation_alone : (text : List ℕ) (o : PlacedOperation) → IsOperationText text o → All IsMopOfTokens o.mops
+operation_alone text o is = mops_alone_in text (entry o ∷ []) None o is.2 (0, omega arith, refl)
 
 -- ---- atoms and values by their bytes
 
