@@ -16,7 +16,6 @@ pub mod PassedOver
 pub mod Places
 pub mod ReadsBack
 mod Tokens
-mod Fronts
 mod Decimals
 mod StringSources
 mod ValueFronts

@@ -43,6 +43,20 @@ impl<'a> OpView<'a> {
         }
     }
 
+    /// The same operation.
+    pub fn copy(&self) -> OpView<'a>
+        ensures { result ≡ self.now }
+    {
+        OpView {
+            text: self.text,
+            shape: ShapeRef {
+                kind: self.shape.kind,
+                process: self.shape.process,
+                mops: self.shape.mops,
+            },
+        }
+    }
+
     pub fn kind(&self) -> OpKind
         ensures { result ≡ self.now.kind }
     {
