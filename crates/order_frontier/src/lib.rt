@@ -16,8 +16,8 @@ pub mod types;
 
 use crate::types::Order;
 use hist_types::types::Fault;
-use simple_txns::types::Txns;
 use std::alloc::Global;
+use txn_pairs::types::Txns;
 
 /// All predecessors of each transaction in its process and in real time, as if every transaction were a node.
 ///

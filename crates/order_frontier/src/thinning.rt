@@ -2,15 +2,14 @@
 
 ghost use Rattle.std.specs.Prelude.{◌≡◌, ◌<◌, ◌≤◌, ℕ, List, map, take, ◌++◌, length, nat_eq, All, IfOk, slice_index_or};
 ghost use Rattle.std.specs.HashMap.{get};
-ghost use Rattle.simple_txns.specs.Txns.{transaction_of_txn};
 ghost use Rattle.order_frontier.specs.Completions.{AreKept, AreRising, AreTimely};
 ghost use Rattle.order_frontier.specs.Predecessors.{AreOfEvents, HasThinned, NoneTwice, name_of, names};
 
 use crate::completions::completions;
 use crate::moving::Moving;
 use crate::types::{Completed, Predecessors};
-use simple_txns::types::Txn;
 use std::alloc::{AllocError, Global};
+use txn_pairs::types::Txn;
 
 /// Takes the first of the ok transactions, those that completed before the index, and answers how many these are.
 fn advance(moving: &mut Moving, done: &[Completed], index: u64) -> Result<usize, AllocError>
@@ -30,18 +29,19 @@ fn advance(moving: &mut Moving, done: &[Completed], index: u64) -> Result<usize,
 
 /// The thinned predecessors of each transaction.
 pub fn thinned(alloc: Global, txns: &[Txn<'_>]) -> Result<Vec<Predecessors>, AllocError>
-    requires { AreOfEvents (map transaction_of_txn txns.now) }
-    ensures thinned { IfOk result (λ order. All (HasThinned (map transaction_of_txn txns.now)) order.items) }
+    requires { AreOfEvents txns.now }
+    ensures thinned { IfOk result (λ order. All (HasThinned txns.now) order.items) }
     ensures once { IfOk result (λ order. All NoneTwice order.items) }
-    ensures names { IfOk result (λ order. names order.items ≡ map name_of (map transaction_of_txn txns.now)) }
+    ensures names { IfOk result (λ order. names order.items ≡ map name_of txns.now) }
 {
     let done = completions(alloc, txns)?;
     let mut moving = Moving::new(alloc);
     let mut order = Vec::new(alloc);
     let mut taken = 0;
     for txn in txns {
-        taken += advance(&mut moving, &done[taken..], txn.invocation)?;
-        let before = moving.before(alloc, txn.process, txn.invocation)?;
+        let invocation = txn.invocation();
+        taken += advance(&mut moving, &done[taken..], invocation)?;
+        let before = moving.before(alloc, txn.process(), invocation)?;
         order.push(before)?;
     }
     Ok(order)

@@ -1,4 +1,4 @@
-use Rattle.std.proofs.Common.{◌≡◌, [], ◌∷◌, ◌++◌, ◌+◌, ◌==◌, ◌∙◌, ap, sym, subst, filter, not, nat_lt, length, length-append, Some, None, nat_eq, if◌then◌else◌, arith}
+use Rattle.std.proofs.Common.{◌≡◌, [], ◌∷◌, ◌++◌, ◌+◌, ◌==◌, ◌∙◌, ap, sym, subst, filter, not, nat_lt, length-append, Some, None, nat_eq, if◌then◌else◌, arith}
 use Rattle.std.specs.HashMap.{get}
 use Rattle.std.specs.Option.{option_copied}
 use Rattle.hist_types.specs.declared.types.OpKind.TheVariants as kinds

@@ -1,4 +1,4 @@
-use Rattle.std.proofs.Common.{◌≡◌, [], ◌∷◌, ◌++◌, ◌==◌, ◌∙◌, ap, sym, subst, length, length-append, Some, nat_eq, if◌then◌else◌, option_to_list, arith}
+use Rattle.std.proofs.Common.{◌≡◌, [], ◌∷◌, ◌==◌, ◌∙◌, ap, sym, subst, length, length-append, Some, nat_eq, if◌then◌else◌, option_to_list, arith}
 use Rattle.std.specs.HashMap.{get}
 use Rattle.hist_types.specs.declared.types.OpKind.TheVariants as kinds
 use Rattle.order_frontier.specs.Events.{event_of}
