@@ -8,6 +8,8 @@ pub mod Processes
 pub mod Externals
 pub mod OrderEdges
 pub mod EdgeOrder
+pub mod VersionMembers
+pub mod DependencyEdges
 pub mod PrintedEdges
 pub mod OneCut
 pub mod EachCut

@@ -17,7 +17,7 @@ ghost use Rattle.hist_types.specs.Refusals.{number_of, name_of};
 ghost use Rattle.hist_types.specs.Texts.{in_order};
 ghost use Rattle.hist_types.specs.Tokens.{IsCut, HasTokens, run_of, run_len, Item, ItemKind, is_token, item_fault, BeginsWith};
 ghost use Rattle.hist_types.specs.Thinning.{AreInvokedInOrder, CompletesLater, CompletesBefore, IncludesAllOk, order_edges_between, thinned_edges_between, HasEdge, HasPath, HasOver, SameCounts, WalksCarryOver, HasReturn, HasWitness, open_at, most_open, predecessors};
-ghost use Rattle.hist_types.specs.Transactions.{Transaction, Indexed, completion_in, transactions_of, Read, read_eq, external_reads, external_writes, nodes};
+ghost use Rattle.hist_types.specs.Transactions.{Transaction, Indexed, completion_in, transactions_of, Version, version_eq, external_reads, external_writes, nodes};
 ghost use Rattle.hist_types.specs.declared.limits.TheConstants.{MAX_PROCESS, MAX_MICRO_OPS, MAX_OPERATION_BYTES, MAX_OPEN_COLLECTIONS, MAX_BLOCK_OPERATIONS, MAX_BLOCK_BYTES, MAX_CELLS, MAX_EVENTS, MAX_LINE_BYTES, MAX_WORKERS};
 ghost use Rattle.hist_types.specs.declared.types.Fault.{Fault};
 ghost use Rattle.hist_types.specs.declared.types.Level.{Level};
@@ -55,12 +55,12 @@ pub fn levels_in_order(a: Level, b: Level) -> Ordering
     a.cmp(&b)
 }
 
-/// The tests of equality pass equal things, and nothing else: for atoms, for what reads return, for writes and for reads.
+/// The tests of equality pass equal things, and nothing else: for atoms, for what reads return, for writes and for versions.
 pub fn equality_decided()
     ensures atoms { (a b : Atom) → IsTrue (atom_eq a b) ↔ (a ≡ b) }
     ensures values { (v w : Value) → IsTrue (value_eq v w) ↔ (v ≡ w) }
     ensures writes { (a b : Write) → IsTrue (write_eq a b) ↔ (a ≡ b) }
-    ensures reads { (a b : Read) → IsTrue (read_eq a b) ↔ (a ≡ b) }
+    ensures versions { (v w : Version) → IsTrue (version_eq v w) ↔ (v ≡ w) }
 {}
 
 /// A journal grows block by block, and operations keep its rules where each part of them does behind what is before it.
@@ -77,7 +77,7 @@ pub fn events_of_a_process()
 
 /// An external read has no write of its key before it in its transaction, and an external write none after it.
 pub fn external_reads_and_writes()
-    ensures reads { (t : Transaction) → (r : Read) → Contains (external_reads t) r ↔ ReadsFirst t.mops r }
+    ensures reads { (t : Transaction) → (v : Version) → Contains (external_reads t) v ↔ ReadsFirst t.mops v }
     ensures writes { (t : Transaction) → (w : Write) → Contains (external_writes t) w ↔ WritesLast t.mops w }
 {}
 
