@@ -64,7 +64,7 @@ write_eq-decides = decides write_eq write_eq-same write_eq-itself
 abbrev the_version : Atom → Value → Version
 the_version key value = record { key = key; value = value }
 
-same_version : (v w : Version) → v.key ≡ w.key → v.value ≡ w.value → v ≡ w
+pub same_version : (v w : Version) → v.key ≡ w.key → v.value ≡ w.value → v ≡ w
 same_version v w k e = ap (λ key. the_version key v.value) k ∙ ap (the_version w.key) e
 
 pub version_eq-same : (v w : Version) → version_eq v w ≡ true → v ≡ w

@@ -35,7 +35,7 @@ comes_from ts f e i =
     let rest = different_ends t u (t.invocation == u.invocation) e (map (edge t u) (f t u)) second.2 in
     (t, u, first.1, second.1, rest.0, rest.1)
 
-goes_to : (ts : List Transaction) (f : Labels) (e : Edge) → Comes ts f e → In e (between_each ts f)
+pub goes_to : (ts : List Transaction) (f : Labels) (e : Edge) → Comes ts f e → In e (between_each ts f)
 goes_to ts f e c =
     let t : Transaction = c.0 in
     let u : Transaction = c.1 in

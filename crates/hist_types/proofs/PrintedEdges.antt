@@ -16,7 +16,7 @@ use Rattle.hist_types.specs.Transactions.{Transaction, Indexed, Version, version
 use Rattle.hist_types.specs.Versions.{VersionPair, pair, version_pairs}
 use Rattle.hist_types.proofs.DependencyEdges.{label_depends}
 use Rattle.hist_types.proofs.EdgeOrder.{in_order-among, in_order-places}
-use Rattle.hist_types.proofs.Equality.{atom_eq-itself}
+use Rattle.hist_types.proofs.Equality.{atom_eq-itself, same_version}
 use Rattle.hist_types.proofs.Members.{In, in_from_Contains, in_map, in_filter}
 use Rattle.hist_types.proofs.OrderEdges.{Comes, comes_from}
 use Rattle.hist_types.proofs.VersionMembers.{in_from_has, pair_of_one_key}
@@ -80,16 +80,10 @@ one_write v w (u ∷ ws) i j same =
 
 -- ---- a dependency label's later version is installed by the second transaction
 
-same_parts : (v w : Version) → v.key ≡ w.key → v.value ≡ w.value → v ≡ w
-same_parts v w k e = ap (λ key. the_version key v.value) k ∙ ap (the_version w.key) e
-  where
-    the_version : Atom → Value → Version
-    the_version key value = record { key = key; value = value }
-
 version_cmp-equal : (v w : Version) → version_cmp v w ≡ Equal → v ≡ w
 version_cmp-equal v w e =
     let both = both_equal (atom_cmp v.key w.key) (value_cmp v.value w.value) e in
-    same_parts v w (atom_cmp-equal v.key w.key both.0) (value_cmp-equal v.value w.value both.1)
+    same_version v w (atom_cmp-equal v.key w.key both.0) (value_cmp-equal v.value w.value both.1)
 
 -- a transaction installs one version of a key
 pub one_version : (t : Transaction) (v w : Version) → In v (installed_by t) → In w (installed_by t) → v.key ≡ w.key → v ≡ w

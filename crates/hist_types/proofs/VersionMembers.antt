@@ -6,7 +6,7 @@ use Rattle.hist_types.specs.Atoms.{Atom, Value, atom_eq, value_eq}
 use Rattle.hist_types.specs.Dependencies.{IsFirst, IsUpdate, IsVersionPair}
 use Rattle.hist_types.specs.Transactions.{Transaction, Version, version_eq, version_of, has_version, is_ok, nodes, external_reads, installed_by, reads, installs}
 use Rattle.hist_types.specs.Versions.{VersionPair, pair, nil_of, nil_before, is_change, each_with_each, first_pairs, update_pairs, version_pairs}
-use Rattle.hist_types.proofs.Equality.{atom_eq-same, atom_eq-itself, value_eq-same, value_eq-itself, version_eq-same, version_eq-itself}
+use Rattle.hist_types.proofs.Equality.{atom_eq-same, atom_eq-itself, value_eq-same, value_eq-itself, version_eq-same, version_eq-itself, same_version}
 use Rattle.hist_types.proofs.Members.{In, in_from_Contains, Contains_from_in, in_front, in_back, in_append, in_each, in_some, in_mapped, in_map, in_filter, in_filtered, passes_filter}
 
 -- ---- versions in lists
@@ -77,3 +77,34 @@ pair_of_one_key ts p i = elim (in_append p (first_pairs ts) (flat_map update_pai
   | inl j ↦ ap (λ (v : Version). v.key) (first_from ts p j).0
   | inr j ↦ (update_from ts p j).0
 ]
+
+update_to : (ts : List Transaction) (p : VersionPair) → IsUpdate ts p → In p (flat_map update_pairs (filter is_ok ts))
+update_to ts p (same, differ, t, among, read, installed) =
+    let parts = and_parts (is_ok t) (has_version (external_reads t) p.earlier) read in
+    let all : List VersionPair = each_with_each (external_reads t) (installed_by t) in
+    let member : In p all =
+    each_to (external_reads t) (installed_by t) p.earlier p.later (in_from_has p.earlier (external_reads t) parts.1) (in_from_has p.later (installed_by t) installed) in
+    let apart : value_eq p.earlier.value p.later.value ≡ false =
+    elim (cases_Bool (value_eq p.earlier.value p.later.value)) [
+      | inl one ↦ elim (differ (same_version p.earlier p.later same (value_eq-same p.earlier.value p.later.value one))) [ ]
+      | inr e ↦ e
+    ] in
+    let change : is_change p ≡ true =
+    and_from (atom_eq p.earlier.key p.later.key) (not (value_eq p.earlier.value p.later.value))
+    (subst (λ k. atom_eq p.earlier.key k ≡ true) same (atom_eq-itself p.earlier.key)) (ap not apart) in
+    in_each update_pairs p t (filter is_ok ts) (in_filtered is_ok t ts (in_from_Contains t ts among) parts.0)
+    (in_filtered is_change p all member change)
+
+-- ---- the law
+
+pub pairs_by_membership : (ts : List Transaction) (p : VersionPair) → Contains (version_pairs ts) p ↔ IsVersionPair ts p
+pairs_by_membership ts p = (
+  λ c. elim (in_append p (first_pairs ts) (flat_map update_pairs (filter is_ok ts)) (in_from_Contains p (version_pairs ts) c)) [
+    | inl i ↦ inl (first_from ts p i)
+    | inr i ↦ inr (update_from ts p i)
+  ],
+  λ c. Contains_from_in p (version_pairs ts) (elim c [
+    | inl first ↦ in_front p (first_pairs ts) (flat_map update_pairs (filter is_ok ts)) (first_to ts p first)
+    | inr update ↦ in_back p (first_pairs ts) (flat_map update_pairs (filter is_ok ts)) (update_to ts p update)
+  ]),
+)

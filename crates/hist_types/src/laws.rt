@@ -4,10 +4,11 @@ ghost use Rattle.std.specs.Prelude.{◌≡◌, ◌↔◌, ◌<◌, ◌≤◌, �
 ghost use Rattle.std.specs.Ordering.{nat_cmp};
 ghost use Rattle.hist_types.specs.Bytes.{is_run_byte};
 ghost use Rattle.hist_types.specs.Atoms.{Atom, Value, atom_eq, value_eq};
-ghost use Rattle.hist_types.specs.Edges.{Label, Edge, edge, dependency_edges, edges_at, order_labels, all_order_edges, order_edges};
+ghost use Rattle.hist_types.specs.Edges.{Label, Edge, edge, dependency_labels, dependency_edges, edges_at, order_labels, all_order_edges, order_edges};
 ghost use Rattle.hist_types.specs.Frontier.{all_thinned_edges, thinned_edges};
 ghost use Rattle.hist_types.specs.Journal.{Write, write_eq, is_invoke, last_event, first_broken, events_after, events_of};
 ghost use Rattle.hist_types.specs.Laws.{HasOne, RunEndsAt, IsNextOf, IsLastOf, ReadsFirst, WritesLast, LeavesOne, LeadsToOne, HasRealtimeTwin, Rise, HasOneAtItsPlace};
+ghost use Rattle.hist_types.specs.Dependencies.{IsVersionPair, Depends, IsDependency};
 ghost use Rattle.hist_types.specs.Operations.{Operation};
 ghost use Rattle.hist_types.specs.Entries.{PlacedOperation, Entry, operation};
 ghost use Rattle.hist_types.specs.Phenomena.{height, makes, Has};
@@ -18,6 +19,7 @@ ghost use Rattle.hist_types.specs.Texts.{in_order};
 ghost use Rattle.hist_types.specs.Tokens.{IsCut, HasTokens, run_of, run_len, Item, ItemKind, is_token, item_fault, BeginsWith};
 ghost use Rattle.hist_types.specs.Thinning.{AreInvokedInOrder, CompletesLater, CompletesBefore, IncludesAllOk, order_edges_between, thinned_edges_between, HasEdge, HasPath, HasOver, SameCounts, WalksCarryOver, HasReturn, HasWitness, open_at, most_open, predecessors};
 ghost use Rattle.hist_types.specs.Transactions.{Transaction, Indexed, completion_in, transactions_of, Version, version_eq, external_reads, external_writes, nodes};
+ghost use Rattle.hist_types.specs.Versions.{VersionPair, version_pairs};
 ghost use Rattle.hist_types.specs.declared.limits.TheConstants.{MAX_PROCESS, MAX_MICRO_OPS, MAX_OPERATION_BYTES, MAX_OPEN_COLLECTIONS, MAX_BLOCK_OPERATIONS, MAX_BLOCK_BYTES, MAX_CELLS, MAX_EVENTS, MAX_LINE_BYTES, MAX_WORKERS};
 ghost use Rattle.hist_types.specs.declared.types.Fault.{Fault};
 ghost use Rattle.hist_types.specs.declared.types.Level.{Level};
@@ -198,4 +200,17 @@ pub fn edges_in_order()
     ensures places { (es : List Edge) → (e : Edge) → Contains es e → HasOneAtItsPlace (in_order es) e }
     ensures rising { (es : List Edge) → Rise (in_order es) }
     ensures dependencies { (events : List Operation) → (e : Edge) → Contains (dependency_edges (transactions_of events)) e → Contains (in_order (dependency_edges (transactions_of events))) e }
+{}
+
+/// A pair of versions is known exactly where the earlier version is nil and a node installs the later one, or where one transaction
+/// reads the one and installs the other.
+pub fn versions_by_membership()
+    ensures { (ts : List Transaction) → (p : VersionPair) → Contains (version_pairs ts) p ↔ IsVersionPair ts p }
+{}
+
+/// A dependency edge joins two different nodes exactly where they install and read the versions of its label: for a ww or an rw, a
+/// pair that is known.
+pub fn edges_by_versions()
+    ensures labels { (ts : List Transaction) → (t u : Transaction) → (label : Label) → Contains (dependency_labels (version_pairs ts) t u) label ↔ Depends ts t u label }
+    ensures edges { (ts : List Transaction) → (e : Edge) → Contains (dependency_edges ts) e ↔ IsDependency ts e }
 {}
