@@ -47,15 +47,15 @@ value_eq-decides = decides value_eq value_eq-same value_eq-itself
 abbrev the_write : Atom → Atom → Write
 the_write key value = record { key = key; value = value }
 
-same_write : (a b : Write) → a.key ≡ b.key → a.value ≡ b.value → a ≡ b
+pub same_write : (a b : Write) → a.key ≡ b.key → a.value ≡ b.value → a ≡ b
 same_write a b k v = ap (λ key. the_write key a.value) k ∙ ap (the_write b.key) v
 
-write_eq-same : (a b : Write) → write_eq a b ≡ true → a ≡ b
+pub write_eq-same : (a b : Write) → write_eq a b ≡ true → a ≡ b
 write_eq-same a b e =
     let parts = and_parts (atom_eq a.key b.key) (atom_eq a.value b.value) e in
     same_write a b (atom_eq-same a.key b.key parts.0) (atom_eq-same a.value b.value parts.1)
 
-write_eq-itself : (a : Write) → write_eq a a ≡ true
+pub write_eq-itself : (a : Write) → write_eq a a ≡ true
 write_eq-itself a = and_from (atom_eq a.key a.key) (atom_eq a.value a.value) (atom_eq-itself a.key) (atom_eq-itself a.value)
 
 pub write_eq-decides : (a b : Write) → IsTrue (write_eq a b) ↔ (a ≡ b)

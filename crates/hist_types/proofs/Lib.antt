@@ -11,6 +11,8 @@ pub mod EdgeOrder
 pub mod VersionMembers
 pub mod DependencyEdges
 pub mod PrintedEdges
+pub mod WrittenOnce
+pub mod BadReads
 pub mod OneCut
 pub mod EachCut
 pub mod OneReading

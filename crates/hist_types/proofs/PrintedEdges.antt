@@ -1,5 +1,5 @@
 -- No two dependency edges of a history stand at one place, so each is among those in order.
-use Rattle.std.proofs.Common.{◌≡◌, ◌⊎◌, inl, inr, ℕ, ◌+◌, ◌≤◌, List, [], ◌∷◌, Bool, true, false, ◌||◌, if◌then◌else◌, Option, Some, None, Contains, refl, sym, ◌∙◌, ap, subst, arith}
+use Rattle.std.proofs.Common.{◌≡◌, ◌⊎◌, inl, inr, ℕ, ◌+◌, ◌≤◌, List, [], ◌∷◌, Bool, true, false, ◌||◌, if◌then◌else◌, Option, Some, None, Contains, IsTrue, refl, sym, ◌∙◌, ap, subst, arith}
 use Rattle.std.specs.Bool.{⊤}
 use Rattle.std.specs.Ordering.{nat_cmp, is_eq, ordering_then}
 use Rattle.std.specs.declared.cmp.Ordering.{Ordering}
@@ -12,7 +12,7 @@ use Rattle.hist_types.specs.Journal.{Write, writes_of, is_invoke}
 use Rattle.hist_types.specs.Dependencies.{Depends}
 use Rattle.hist_types.specs.Operations.{Operation}
 use Rattle.hist_types.specs.Texts.{version_cmp, label_cmp, edge_cmp, in_order}
-use Rattle.hist_types.specs.Transactions.{Transaction, Indexed, Version, version_of, completion_in, transaction_by, transactions_from, transactions_of, is_node, nodes, has_key, last_writes, external_writes, installed_by}
+use Rattle.hist_types.specs.Transactions.{Transaction, Indexed, Version, version_of, completion_in, transaction_by, transactions_from, transactions_of, is_node, nodes, has_key, last_writes, external_writes, installed_by, installs}
 use Rattle.hist_types.specs.Versions.{VersionPair, pair, version_pairs}
 use Rattle.hist_types.proofs.DependencyEdges.{label_depends}
 use Rattle.hist_types.proofs.EdgeOrder.{in_order-among, in_order-places}
@@ -86,12 +86,15 @@ version_cmp-equal v w e =
     same_version v w (atom_cmp-equal v.key w.key both.0) (value_cmp-equal v.value w.value both.1)
 
 -- a transaction installs one version of a key
-pub one_version : (t : Transaction) (v w : Version) → In v (installed_by t) → In w (installed_by t) → v.key ≡ w.key → v ≡ w
+one_version : (t : Transaction) (v w : Version) → In v (installed_by t) → In w (installed_by t) → v.key ≡ w.key → v ≡ w
 one_version t v w i j same =
     let a = in_map version_of v (external_writes t) i in
     let b = in_map version_of w (external_writes t) j in
     let key : a.0.key ≡ b.0.key = ap (λ (x : Version). x.key) a.2 ∙ (same ∙ sym (ap (λ (x : Version). x.key) b.2)) in
     sym a.2 ∙ (ap version_of (one_write a.0 b.0 (writes_of t.mops) a.1 b.1 key) ∙ b.2)
+
+pub one_installed : (t : Transaction) (v w : Version) → IsTrue (installs t v) → IsTrue (installs t w) → v.key ≡ w.key → v ≡ w
+one_installed t v w i j same = one_version t v w (in_from_has v (installed_by t) i) (in_from_has w (installed_by t) j) same
 
 -- what makes two labels at one place the same
 abbrev IsInstalled : Transaction → Label → Type 0
