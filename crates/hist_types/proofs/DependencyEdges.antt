@@ -1,5 +1,5 @@
 -- Dependency edges by the versions that their ends read and install.
-use Rattle.std.proofs.Common.{◌≡◌, ◌↔◌, ◌⊎◌, inl, inr, List, [], ◌∷◌, ◌++◌, Bool, true, false, ◌&&◌, ◌==◌, filter, map, Contains, IsTrue, refl, sym, ◌∙◌, ap, subst}
+use Rattle.std.proofs.Common.{◌↔◌, inl, inr, List, ◌++◌, Bool, ◌&&◌, filter, map, Contains, IsTrue, sym, ◌∙◌, ap, subst}
 use Rattle.std.proofs.lemmas.Bool.{and_parts, and_from, eqb-false}
 use Rattle.hist_types.specs.Edges.{Label, ww, wr, rw, process, realtime, Edge, edge, ww_labels, wr_labels, rw_labels, dependency_labels, dependency_edges}
 use Rattle.hist_types.specs.Dependencies.{Depends, IsDependency}

@@ -7,6 +7,7 @@ pub mod Realtime
 pub mod Thinning
 pub mod Nodes
 pub mod Reads
+pub mod Versions
 pub mod Refused
 pub mod Order
 pub mod Cutting

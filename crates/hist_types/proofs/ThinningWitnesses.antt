@@ -1,11 +1,11 @@
 -- What is shown has a witness: a way back is made simple, order edges side by side become one, and the walk is turned to begin at
 -- its least transaction.
-use Rattle.std.proofs.Common.{◌≡◌, ◌↔◌, inl, inr, ℕ, ◌≤◌, List, [], ◌∷◌, ◌++◌, Bool, true, false, not, ◌&&◌, ◌||◌, ◌==◌, nat_eq, nat_le, count_by, map, filter, if◌then◌else◌, Some, None, refl, sym, ◌∙◌, ap, subst, arith}
+use Rattle.std.proofs.Common.{◌≡◌, ◌↔◌, inl, inr, ℕ, ◌≤◌, List, [], ◌∷◌, ◌++◌, Bool, true, false, not, ◌&&◌, ◌||◌, ◌==◌, nat_eq, nat_le, count_by, filter, refl, sym, ◌∙◌, ap, subst, arith}
 use Rattle.std.specs.List.{AllByRecursion, list_any, list_all}
 use Rattle.std.proofs.lemmas.Bool.{false≢true, and_parts, and_from, or_cases, or_right, or_parts, or_from, and_right, cases_Bool, cases_lt, eqb-true, eqb-false, ne_eqb, le-leb, not-true, not_from_false, not_from_true}
 use Rattle.std.proofs.lemmas.List.{map-append}
 use Rattle.hist_types.specs.Operations.{Operation}
-use Rattle.hist_types.specs.Transactions.{Transaction, is_ok, nodes, transactions_of, installed_by, reads, installs}
+use Rattle.hist_types.specs.Transactions.{Transaction, nodes, transactions_of, installed_by, reads, installs}
 use Rattle.hist_types.specs.Versions.{VersionPair, version_pairs}
 use Rattle.hist_types.specs.Edges.{Label, Edge, dependency_edges, dependency_labels, ww_labels, wr_labels, rw_labels, edges_at, order_edges}
 use Rattle.hist_types.specs.Phenomena.{Leads, IsClosedWalk, is_ww_label, is_wr_label, is_rw_label, is_ww, is_wr, is_rw, is_order, makes, Has}

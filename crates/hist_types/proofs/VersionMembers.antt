@@ -1,11 +1,10 @@
 -- The pairs of versions by what transactions read and install.
-use Rattle.std.proofs.Common.{◌≡◌, ◌↔◌, ◌⊎◌, inl, inr, List, [], ◌∷◌, ◌++◌, Bool, true, false, not, ◌&&◌, ◌||◌, filter, map, flat_map, Contains, IsTrue, refl, sym, ◌∙◌, ap, subst}
-use Rattle.std.specs.List.{list_any}
-use Rattle.std.proofs.lemmas.Bool.{false≢true, and_parts, and_from, or_cases, or_right, cases_Bool, not_from_false, not-true}
-use Rattle.hist_types.specs.Atoms.{Atom, Value, atom_eq, value_eq}
+use Rattle.std.proofs.Common.{◌≡◌, ◌↔◌, inl, inr, List, [], ◌∷◌, true, false, not, ◌||◌, filter, map, flat_map, Contains, refl, sym, ◌∙◌, ap, subst}
+use Rattle.std.proofs.lemmas.Bool.{false≢true, and_parts, and_from, or_cases, or_right, cases_Bool, not-true}
+use Rattle.hist_types.specs.Atoms.{atom_eq, value_eq}
 use Rattle.hist_types.specs.Dependencies.{IsFirst, IsUpdate, IsVersionPair}
-use Rattle.hist_types.specs.Transactions.{Transaction, Version, version_eq, version_of, has_version, is_ok, nodes, external_reads, installed_by, reads, installs}
-use Rattle.hist_types.specs.Versions.{VersionPair, pair, nil_of, nil_before, is_change, each_with_each, first_pairs, update_pairs, version_pairs}
+use Rattle.hist_types.specs.Transactions.{Transaction, Version, version_eq, has_version, is_ok, nodes, external_reads, installed_by}
+use Rattle.hist_types.specs.Versions.{VersionPair, pair, nil_before, is_change, each_with_each, first_pairs, update_pairs, version_pairs}
 use Rattle.hist_types.proofs.Equality.{atom_eq-same, atom_eq-itself, value_eq-same, value_eq-itself, version_eq-same, version_eq-itself, same_version}
 use Rattle.hist_types.proofs.Members.{In, in_from_Contains, Contains_from_in, in_front, in_back, in_append, in_each, in_some, in_mapped, in_map, in_filter, in_filtered, passes_filter}
 

@@ -1,25 +1,25 @@
 -- No version is written twice: the journal takes no write again, and a completion repeats its invocation's writes.
-use Rattle.std.proofs.Common.{◌≡◌, ◌↔◌, ◌⊎◌, inl, inr, ℕ, ◌+◌, List, [], ◌∷◌, ◌++◌, length, Bool, true, false, ◌&&◌, ◌||◌, ◌==◌, if◌then◌else◌, Option, Some, None, map, flat_map, All, Contains, IsTrue, IsFalse, is_some, option_map, option_and_then, nat_le, ◌≤◌, arith, append-nil, append_assoc, refl, sym, ◌∙◌, ap, subst}
+use Rattle.std.proofs.Common.{◌≡◌, ◌↔◌, ◌⊎◌, inl, inr, ℕ, ◌+◌, List, [], ◌∷◌, ◌++◌, length, Bool, true, false, ◌||◌, if◌then◌else◌, Option, Some, None, map, flat_map, All, Contains, IsTrue, IsFalse, is_some, option_map, option_and_then, nat_le, ◌≤◌, arith, append-nil, append_assoc, refl, sym, ◌∙◌, ap, subst}
 use Rattle.std.specs.Bool.{⊤}
 use Rattle.std.specs.List.{list_any}
 use Rattle.std.specs.Option.{option_or}
 use Rattle.std.specs.Cmp.Lexicographic.{pointwise}
 use Rattle.std.proofs.lemmas.Bool.{false≢true, and_parts, cases_Bool}
 use Rattle.std.proofs.lemmas.Option.{none-some, same_Some}
-use Rattle.hist_types.specs.Atoms.{Atom, atom_eq}
+use Rattle.hist_types.specs.Atoms.{atom_eq}
 use Rattle.hist_types.specs.Dependencies.{NoneTwice, writes_of_all}
 use Rattle.hist_types.specs.Journal.{Write, write_eq, writes_of, written, rewrites, is_invoke, same_mop, completion_refusal, invocation_refusal, broken, first_broken, open_invocation, is_retired, KeepsRules}
 use Rattle.hist_types.specs.Laws.{IsOfAnother}
 use Rattle.hist_types.specs.Operations.{Mop, read, write, Operation}
-use Rattle.hist_types.specs.Transactions.{Transaction, Indexed, Version, version_of, has_version, completion_in, status_by, mops_by, transaction_by, transactions_from, transactions_of, has_key, last_writes, overwritten, external_writes, intermediate_writes, installed_by, installs, writes, writes_over}
+use Rattle.hist_types.specs.Transactions.{Transaction, Indexed, Version, version_of, has_version, completion_in, status_by, mops_by, transaction_by, transactions_from, transactions_of, has_key, last_writes, overwritten, external_writes, intermediate_writes, installs, writes, writes_over}
 use Rattle.hist_types.specs.declared.limits.TheConstants.{MAX_EVENTS}
 use Rattle.hist_types.specs.declared.types.OpKind.{OpKind}
 use Rattle.hist_types.specs.declared.types.OpKind.TheVariants as kinds
 use Rattle.hist_types.specs.declared.types.Refusal.{Refusal}
 use Rattle.hist_types.specs.declared.types.Refusal.TheVariants.{Busy, Retired, Rewritten, Mismatch, TooManyEvents}
 use Rattle.hist_types.proofs.Blocks.{kept_by_both}
-use Rattle.hist_types.proofs.Equality.{atom_eq-same, write_eq-same, write_eq-itself, same_write}
-use Rattle.hist_types.proofs.Members.{In, in_from_Contains, Contains_from_in, in_append, in_front, in_back, in_mapped, in_map, in_some, in_each}
+use Rattle.hist_types.proofs.Equality.{atom_eq-same, write_eq-itself, same_write}
+use Rattle.hist_types.proofs.Members.{In, in_from_Contains, in_append, in_front, in_back, in_mapped, in_map, in_each}
 use Rattle.hist_types.proofs.Processes.{completion_in-next, last_event-last}
 use Rattle.hist_types.proofs.ThinningTimes.{timed_from, invocation_by}
 use Rattle.hist_types.proofs.VersionMembers.{in_from_has, has_from_in}

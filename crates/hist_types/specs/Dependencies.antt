@@ -28,7 +28,7 @@ IsVersionPair ts p = IsFirst ts p ⊎ IsUpdate ts p
 
 -- ---- edges
 
--- the second transaction depends on the first one as the label says, or the other way round for an rw
+-- the second transaction depends on the first one as the label says (in Adya's words it anti-depends on it by an rw)
 abbrev pub Depends : List Transaction → Transaction → Transaction → Label → Type 0
 Depends ts t u (ww earlier later) = Contains (version_pairs ts) (pair earlier later) × IsTrue (installs t earlier) × IsTrue (installs u later)
 Depends ts t u (wr version) = IsTrue (installs t version) × IsTrue (reads u version)

@@ -144,6 +144,11 @@ fn laws_return() {
     laws::process_order_in_realtime();
     laws::thinned_among_order_edges();
     laws::edges_in_order();
+    laws::versions_by_membership();
+    laws::edges_by_versions();
+    laws::versions_written_once();
+    laws::bad_reads_by_writer();
+    laws::writer_decides();
 }
 
 #[test]

@@ -5,7 +5,7 @@ use Rattle.std.specs.List.{list_any, sum_by}
 use Rattle.std.proofs.lemmas.List.Concat.{length-flat_map}
 use Rattle.hist_types.specs.Atoms.{Atom, atom_eq}
 use Rattle.hist_types.specs.Operations.{Mop, read, write}
-use Rattle.hist_types.specs.Journal.{Write, writes_of}
+use Rattle.hist_types.specs.Journal.{writes_of}
 use Rattle.hist_types.specs.Transactions.{Transaction, Version, version_of, reads_after, external_reads, has_key, is_ok}
 use Rattle.hist_types.specs.Phenomena.{first_of, g1a, g1b, stray}
 use Rattle.hist_types.specs.Phenomena as phenomena

@@ -1,12 +1,12 @@
 -- Versions that are read, by the writes that made them.
-use Rattle.std.proofs.Common.{◌≡◌, List, [], ◌∷◌, ◌++◌, Bool, true, false, not, ◌&&◌, ◌||◌, ◌==◌, Some, None, refl, sym, ◌∙◌, ap, cond, map}
+use Rattle.std.proofs.Common.{◌≡◌, List, [], ◌∷◌, Bool, true, false, not, ◌&&◌, ◌||◌, ◌==◌, Some, None, refl, sym, ◌∙◌, ap, cond, map}
 use Rattle.std.specs.Prelude.{flat_map, filter}
 use Rattle.std.specs.List.{list_any}
 use Rattle.std.proofs.lemmas.Bool.{and_right}
 use Rattle.hist_types.specs.Atoms.{Atom, Value, atom_eq}
 use Rattle.hist_types.specs.Journal.{Write, write_eq, writes_of}
 use Rattle.hist_types.specs.Transactions.{Transaction, Version, version_of, has_version, is_ok, is_failed, external_reads, intermediate_writes, writes}
-use Rattle.hist_types.specs.Phenomena.{BadRead, bad_read, for_each_read, aborted_writers, aborted_reads, intermediate_writers, intermediate_reads, is_stray, stray_reads}
+use Rattle.hist_types.specs.Phenomena.{bad_read, for_each_read, aborted_writers, aborted_reads, intermediate_writers, intermediate_reads, is_stray, stray_reads}
 use Rattle.hist_types.specs.Versions.{nil_of}
 use Rattle.jepcheck.specs.Writers.{sight, seen_value, bad_sight}
 use Rattle.jepcheck.proofs.Lists.{append-nil-right, flat_map-same}
