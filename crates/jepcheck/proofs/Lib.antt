@@ -3,7 +3,9 @@ pub mod Lookups
 pub mod Noting
 pub mod Sights
 pub mod Pieces
-pub mod OneByOne
+pub mod Moved
+pub mod Readings
+pub mod Judging
 pub mod OneAnswer
 pub mod SomeAnswer
 pub mod Words

@@ -43,6 +43,16 @@ impl<'a> OpView<'a> {
         }
     }
 
+    /// The same operation.
+    pub fn copy(&self) -> OpView<'a>
+        ensures { result ≡ self.now }
+    {
+        OpView {
+            text: self.text,
+            shape: self.shape,
+        }
+    }
+
     pub fn kind(&self) -> OpKind
         ensures { result ≡ self.now.kind }
     {

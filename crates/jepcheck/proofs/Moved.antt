@@ -1,0 +1,29 @@
+-- Operations that are taken out of their text.
+use Rattle.std.proofs.Common.{◌≡◌, ℕ, ◌+◌, ◌≤◌, ◌-◌, List, [], ◌∷◌, length, refl, sym, ◌∙◌, ap, map, take, drop, arith, min}
+use Rattle.std.proofs.lemmas.List.{length-drop, length-take}
+use Rattle.hist_types.specs.Entries.{PlacedMop, PlacedOperation, operation_of}
+use Rattle.hist_types.specs.Operations.{Mop}
+use Rattle.hist_types.specs.Placed.{IsIn, IsTextOf, KeepsLimits, between, from_its_start, mop_from}
+use Rattle.edn_ops.specs.Shapes.{IsShapeOf}
+use Rattle.edn_ops.specs.declared.types.OpShape.{OpShape}
+use Rattle.op_block.specs.Contents.{HasRoomFor, length_of}
+
+mops_moved : (offset : ℕ) (ms : List PlacedMop) → map (λ (m : PlacedMop). m.mop) (map (mop_from offset) ms) ≡ map (λ (m : PlacedMop). m.mop) ms
+mops_moved offset [] = refl
+mops_moved offset (m ∷ ms) = ap (λ (rest : List Mop). m.mop ∷ rest) (mops_moved offset ms)
+
+-- an operation is the same wherever it stands
+pub operation_moved : (o : PlacedOperation) → operation_of (from_its_start o) ≡ operation_of o
+operation_moved o = ap (λ (ms : List Mop). record { kind = o.kind; process = o.process; mops = ms }) (mops_moved o.start o.mops)
+
+length_between : (text : List ℕ) (start end : ℕ) → end ≤ length text → length (between text start end) ≡ end - start
+length_between text start end fits = omega (arith, length-take (end - start) (drop start text), length-drop start text)
+
+-- an operation fits into an empty block
+pub room_in_empty : (text : List ℕ) (o : PlacedOperation) (shape : OpShape) → ((t : List ℕ) → (p : PlacedOperation) → IsTextOf t p → KeepsLimits t p) →
+    IsIn text o → IsShapeOf shape o → HasRoomFor (length_of shape) []
+room_in_empty text o shape limits is_in is_shape =
+    let few = (limits (between text o.start o.end) (from_its_start o) is_in.2).0 in
+    let long = length_between text o.start o.end is_in.1 in
+    let span : length_of shape ≡ o.end - o.start = rw is_shape.span refl in
+    record { operations = omega arith; bytes = omega arith }

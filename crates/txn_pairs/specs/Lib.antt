@@ -1,0 +1,4 @@
+pub mod Statuses
+pub mod Endings
+pub mod Places
+pub mod Growth

@@ -1,0 +1,165 @@
+//! Transactions, whose micro-operations stay in the journal's blocks.
+
+ghost use Rattle.std.specs.Prelude.{◌≡◌, ◌<◌, Some, None};
+ghost use Rattle.hist_types.specs.Transactions.{transaction_by};
+ghost use Rattle.hist_types.specs.declared.limits.TheConstants.{MAX_EVENTS};
+ghost use Rattle.txn_pairs.specs.Endings.{outcome_by};
+ghost use Rattle.txn_pairs.specs.Places.{completed};
+ghost use Rattle.txn_pairs.specs.Statuses.{status_of};
+
+use hist_types::types::Outcome;
+use op_view::mops::Mops;
+use op_view::op::OpView;
+use std::marker::Model;
+
+/// How a transaction ended, as far as the journal says.
+#[derive(Clone, Copy, Debug, PartialEq, Eq)]
+pub enum Status {
+    Ok,
+    Fail,
+    Info,
+    /// It has no completion.
+    Open,
+}
+
+/// How a transaction ended, with the index of its completion.
+#[derive(Clone, Copy, Debug)]
+enum Ending {
+    Open,
+    Ok(u32),
+    Fail(u32),
+    Info(u32),
+}
+
+/// A transaction, named by the index of its invocation. It borrows the block that its micro-operations are in.
+#[derive(Drop)]
+pub struct Txn<'a> {
+    /// The operation that has its micro-operations: an ok if that completed it, else its invocation.
+    op: OpView<'a>,
+    process: u32,
+    invocation: u32,
+    ending: Ending,
+}
+
+impl<'a> Model for Txn<'a> {
+    ghost use Rattle.hist_types.specs.Transactions.{Transaction};
+    ghost use Rattle.hist_types.specs.Stored.{coded_transaction};
+
+    ghost Value = { Transaction };
+
+    ghost coded = { coded_transaction };
+
+    ghost use Rattle.txn_pairs.specs.Endings.{ending_index, ending_status};
+
+    ghost view = { λ t. record { process = t.process; invocation = t.invocation; completion = ending_index t.ending; status = ending_status t.ending; mops = t.op.mops } };
+}
+
+impl<'a> Txn<'a> {
+    /// The open transaction of an invocation with this index.
+    pub(crate) fn open(index: u64, op: OpView<'a>) -> Self
+        requires { index < MAX_EVENTS }
+        ensures { result ≡ transaction_by index op.entry None }
+    {
+        let process = op.process().number() as u32;
+        Txn {
+            op,
+            process,
+            invocation: index as u32,
+            ending: Ending::Open,
+        }
+    }
+
+    /// Completes the open transaction by an event with this index.
+    pub(crate) fn complete(&mut self, index: u64, outcome: Outcome, op: OpView<'a>)
+        requires index { index < MAX_EVENTS }
+        requires outcome { outcome_by op.kind ≡ Some outcome }
+        ensures { self.new ≡ completed self.old index op.entry }
+    {
+        let index = index as u32;
+        match outcome {
+            Outcome::Ok => {
+                self.op = op;
+                self.ending = Ending::Ok(index);
+            }
+            Outcome::Fail => self.ending = Ending::Fail(index),
+            Outcome::Info => self.ending = Ending::Info(index),
+        }
+    }
+
+    /// The number of its process.
+    pub fn process(&self) -> u64
+        ensures { result ≡ self.now.process }
+    {
+        u64::from(self.process)
+    }
+
+    /// The index of its invocation.
+    pub fn invocation(&self) -> u64
+        ensures { result ≡ self.now.invocation }
+    {
+        u64::from(self.invocation)
+    }
+
+    /// The index of its completion, if it has one.
+    pub fn completion(&self) -> Option<u64>
+        ensures { result ≡ self.now.completion }
+    {
+        match self.ending {
+            Ending::Open => None,
+            Ending::Ok(index) | Ending::Fail(index) | Ending::Info(index) => Some(u64::from(index)),
+        }
+    }
+
+    pub fn status(&self) -> Status
+        ensures { status_of result ≡ self.now.status }
+    {
+        match self.ending {
+            Ending::Open => Status::Open,
+            Ending::Ok(_) => Status::Ok,
+            Ending::Fail(_) => Status::Fail,
+            Ending::Info(_) => Status::Info,
+        }
+    }
+
+    /// The completion's micro-operations if that is an ok, else the invocation's.
+    pub fn mops(&self) -> Mops<'a>
+        ensures { result ≡ self.now.mops }
+    {
+        self.op.mops()
+    }
+}
+
+/// The transactions of a journal, in the order of their invocations.
+#[derive(Drop)]
+pub struct Txns<'a> {
+    list: Vec<Txn<'a>>,
+}
+
+impl<'a> Model for Txns<'a> {
+    ghost use Rattle.std.specs.Prelude.{List};
+    ghost use Rattle.std.specs.Coded.{coded_list};
+    ghost use Rattle.hist_types.specs.Transactions.{Transaction};
+    ghost use Rattle.hist_types.specs.Stored.{coded_transaction};
+
+    ghost Value = { List Transaction };
+
+    ghost coded = { coded_list coded_transaction };
+
+    ghost view = { λ txns. txns.list.items };
+}
+
+impl<'a> Txns<'a> {
+    pub(crate) fn new(list: Vec<Txn<'a>>) -> Self
+        ensures { result ≡ list.entry.items }
+    {
+        Txns { list }
+    }
+
+    pub fn as_slice(&self) -> &[Txn<'a>]
+        ensures { result.now ≡ self.now }
+    {
+        &self.list
+    }
+}
+
+const _: () = prove!(size_of::<Txn>() <= 64);
