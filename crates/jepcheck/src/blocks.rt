@@ -76,7 +76,7 @@ impl Blocks {
 
     /// The blocks. Only memory can be refused.
     pub fn finish(mut self) -> Result<Vec<Block>, Fault>
-        ensures ok { IfOk result (λ blocks. operations_in blocks.items ≡ self.entry) }
+        ensures ok { IfOk result (λ blocks. operations_in blocks.items ≡ self) }
         ensures err { IfErr result (λ fault. fault ≡ memory_fault) }
     {
         close(self.alloc, &mut self.full, &mut self.last)?;
