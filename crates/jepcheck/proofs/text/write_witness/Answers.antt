@@ -5,12 +5,18 @@ use Rattle.std.specs.Fmt.{decimal}
 use Rattle.hist_types.specs.Texts.{atom_text, indented}
 use Rattle.jepcheck.proofs.text.write_witness.Goals as goal
 
+parts_joined : (out two t reader read key blank value of writer end : List ℕ)
+    → out ++ ((two ++ t) ++ (reader ++ read)) ++ key ++ blank ++ value ++ ((of ++ t) ++ (writer ++ end))
+    ≡ out ++ (two ++ ((t ++ reader) ++ read ++ key ++ blank ++ value ++ of ++ (t ++ writer)) ++ end)
+parts_joined out two t reader read key blank value of writer end = simp append_assoc
+
 -- The parts of a bad read's line, appended one after the other.
 line_of_parts : (out reader key value writer a b d e all : List ℕ)
     → a ≡ out ++ (codes "  T" ++ (reader ++ codes " read ")) → b ≡ a ++ key → d ≡ b ++ codes " " → e ≡ d ++ value → all ≡ e ++ (codes " of T" ++ (writer ++ codes "\n"))
-    → all ≡ out ++ indented (codes "T" ++ (reader ++ (codes " read " ++ (key ++ (codes " " ++ (value ++ (codes " of " ++ (codes "T" ++ writer))))))))
+    → all ≡ out ++ indented ((codes "T" ++ reader) ++ codes " read " ++ key ++ codes " " ++ value ++ codes " of " ++ (codes "T" ++ writer))
 line_of_parts out reader key value writer a b d e all is_a is_b is_d is_e is_all =
-    rw (is_all, is_e, is_d, is_b, is_a) (simp append_assoc)
+    rw (is_all, is_e, is_d, is_b, is_a)
+    (parts_joined out (codes "  ") (codes "T") reader (codes " read ") key (codes " ") value (codes " of ") writer (codes "\n"))
 
 -- what is appended unless memory is refused
 appended : {T E : Type 0} (result : Result T E) (old more new : List ℕ) → new ≡ cond (is_ok result) (old ++ more) old → OnOk result (new ≡ old ++ more)
@@ -36,4 +42,4 @@ returns c =
     on_ok_weaker c.extend_from_slice-3.result
     (λ (all : c.extend_from_slice-3.new.self.items ≡ c.write_atom-2.new.out.items ++ c.as_bytes-2.result.now). line_of_parts out (decimal c.args.read.now.reader) (atom_text key) (atom_text value) (decimal c.args.read.now.writer) _ _ _ _ _
         before key_behind c.in_ok-extend_from_slice-2.ensures.items value_behind (all ∙ ap (λ text. c.write_atom-2.new.out.items ++ text) writer_is))
-    (appended c.extend_from_slice-3.result _ _ _ c.extend_from_slice-3.ensures.items)
+    (appended c.extend_from_slice-3.result c.write_atom-2.new.out.items c.as_bytes-2.result.now _ c.extend_from_slice-3.ensures.items)
