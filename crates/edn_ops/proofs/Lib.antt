@@ -17,7 +17,6 @@ pub mod Places
 pub mod Reached
 pub mod ReadsBack
 mod Tokens
-mod Fronts
 mod Decimals
 mod StringSources
 mod ValueFronts

@@ -9,12 +9,12 @@ use Rattle.hist_types.specs.AtomTokens.{int_value, is_64_bit, atom_of_token, dec
 use Rattle.hist_types.specs.Bytes.{quote, colon, hash, dot}
 use Rattle.hist_types.specs.Placed.{IsTokenAlone}
 use Rattle.hist_types.specs.Texts.{atom_text, value_text}
-use Rattle.hist_types.specs.Tokens.{ItemKind, Int, Keyword, Symbol, Str, first_byte, second_byte, is_sign, is_symbol, is_int}
-use Rattle.edn_ops.specs.SourceTexts.{begins_with_number, source_byte_text, IsValueText}
+use Rattle.hist_types.specs.Tokens.{ItemKind, Int, Keyword, Symbol, Str, first_byte, second_byte, is_sign, is_symbol, is_int, begins_with_number}
+use Rattle.edn_ops.specs.SourceTexts.{source_byte_text, IsValueText}
 use Rattle.edn_ops.proofs.Tokens.{token_begins}
 use Rattle.edn_ops.proofs.ReadsBack.Lexed.{mapped_some}
 use Rattle.edn_ops.proofs.StringSources.{string_kept}
-use Rattle.edn_ops.proofs.Fronts.{word_is, str_begins, int_begins}
+use Rattle.hist_types.proofs.Fronts.{word_is, str_begins, int_begins}
 
 neither : (a b : Bool) → (a || b) ≡ false → (a ≡ false) × (b ≡ false)
 neither true b h = absurd (true≢false h)

@@ -1,12 +1,11 @@
 -- Source texts of atoms and micro-operations, and how they are written canonically.
-use Rattle.std.specs.Prelude.{◌≡◌, ℕ, List, [], ◌∷◌, ◌++◌, Bool, true, false, ◌==◌, ◌||◌, ◌&&◌, if◌then◌else◌, bytes_eq, drop, codes, Some, None}
-use Rattle.std.specs.Char.{is_ascii_digit}
+use Rattle.std.specs.Prelude.{◌≡◌, ℕ, List, [], ◌∷◌, ◌++◌, Bool, true, false, ◌==◌, if◌then◌else◌, bytes_eq, drop, codes, Some, None}
 use Rattle.hist_types.specs.Atoms.{Atom, Value}
 use Rattle.hist_types.specs.AtomTokens.{atom_of_token}
 use Rattle.hist_types.specs.Bytes.{plus}
 use Rattle.hist_types.specs.Operations.{Mop, read, write, Operation}
 use Rattle.hist_types.specs.Placed.{IsTokenAlone}
-use Rattle.hist_types.specs.Tokens.{ItemKind, first_byte, second_byte, is_sign}
+use Rattle.hist_types.specs.Tokens.{ItemKind, first_byte}
 use Rattle.hist_types.specs.declared.types.OpKind.{OpKind}
 use Rattle.edn_ops.specs.declared.write.MopText.{MopText}
 
@@ -51,10 +50,6 @@ abbrev pub decimal_spelling : List ℕ → List ℕ
 decimal_spelling number =
     if first_byte number == plus then drop 1 number
     else (if bytes_eq number (codes "-0") then codes "0" else number)
-
--- a digit, or a sign and a digit
-abbrev pub begins_with_number : List ℕ → Bool
-begins_with_number text = is_ascii_digit (first_byte text) || (is_sign (first_byte text) && is_ascii_digit (second_byte text))
 
 -- what a micro-operation's text has before its key
 abbrev pub front_of_mop : (is_write : Bool) → List ℕ

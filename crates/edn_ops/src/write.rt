@@ -7,8 +7,8 @@ ghost use Rattle.hist_types.specs.AtomTokens.{int_value, is_64_bit};
 ghost use Rattle.hist_types.specs.Bytes.{quote};
 ghost use Rattle.hist_types.specs.Operations.{Mop};
 ghost use Rattle.hist_types.specs.Texts.{atom_text, value_text, mop_text, mops_text, kind_text as text_of_kind, value_field_text, operation_text};
-ghost use Rattle.hist_types.specs.Tokens.{is_int, first_byte, without_n as before_n};
-ghost use Rattle.edn_ops.specs.SourceTexts.{IsAtomText, IsValueText, IsMopText, AreMopTexts, operation, front_of_mop, source_byte_text, decimal_spelling, begins_with_number, IsLonger};
+ghost use Rattle.hist_types.specs.Tokens.{is_int, first_byte, begins_with_number, without_n as before_n};
+ghost use Rattle.edn_ops.specs.SourceTexts.{IsAtomText, IsValueText, IsMopText, AreMopTexts, operation, front_of_mop, source_byte_text, decimal_spelling, IsLonger};
 
 use hist_types::types::{OpKind, Process};
 use itoa::Buffer;

@@ -11,6 +11,7 @@ pub mod EdgeOrder
 pub mod PrintedEdges
 pub mod OneCut
 pub mod EachCut
+pub mod Fronts
 pub mod OneReading
 pub mod PartCuts
 pub mod Checks

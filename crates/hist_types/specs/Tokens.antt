@@ -58,6 +58,10 @@ second_byte text = get_or text 1 0
 abbrev pub is_sign : ℕ → Bool
 is_sign b = (b == plus) || (b == minus)
 
+-- a digit, or a sign and a digit
+abbrev pub begins_with_number : List ℕ → Bool
+begins_with_number text = is_ascii_digit (first_byte text) || (is_sign (first_byte text) && is_ascii_digit (second_byte text))
+
 abbrev pub without_sign : List ℕ → List ℕ
 without_sign run = if is_sign (first_byte run) then drop 1 run else run
 

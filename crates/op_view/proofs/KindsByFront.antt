@@ -5,11 +5,11 @@ use Rattle.std.specs.Char.{is_ascii_digit}
 use Rattle.std.proofs.lemmas.Bool.{true≢false, and_parts, cases_Bool, eqb-true}
 use Rattle.hist_types.specs.Atoms.{Atom}
 use Rattle.hist_types.specs.Bytes.{colon, hash, dot}
-use Rattle.hist_types.specs.Tokens.{ItemKind, Int, Keyword, Symbol, Str, first_byte, second_byte, is_sign, is_symbol}
+use Rattle.hist_types.specs.Tokens.{ItemKind, Int, Keyword, Symbol, Str, first_byte, second_byte, is_sign, is_symbol, begins_with_number}
 use Rattle.op_view.specs.AtomTexts.{IsTokenOf}
-use Rattle.op_view.specs.Fronts.{begins_with_number, kind_by_front}
+use Rattle.op_view.specs.Fronts.{kind_by_front}
 use Rattle.op_view.proofs.Tokens.{token_begins}
-use Rattle.op_view.proofs.Fronts.{word_is, str_begins, int_begins}
+use Rattle.hist_types.proofs.Fronts.{word_is, str_begins, int_begins}
 
 neither : (a b : Bool) → (a || b) ≡ false → (a ≡ false) × (b ≡ false)
 neither true b h = absurd (true≢false h)

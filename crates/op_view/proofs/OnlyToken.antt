@@ -8,7 +8,8 @@ use Rattle.hist_types.specs.Tokens.{Item, ItemKind, HasTokens}
 use Rattle.edn_lex.specs.declared.types.Token.{Token}
 use Rattle.edn_lex.specs.Kinds.{kind_of, item_of}
 use Rattle.edn_lex.specs.State.{State, state_at_start, Rest, RestIf, Gives, GivesToken, GivesFault, GivesEnd}
-use Rattle.op_view.specs.AtomTexts.{whole_token, IsToken}
+use Rattle.hist_types.specs.Placed.{IsTokenAlone}
+use Rattle.op_view.specs.AtomTexts.{whole_token}
 
 -- a lexer of the text, before its first call
 pub record IsAtStart (text : List ℕ) (s : State) : Type 0 where
@@ -23,7 +24,7 @@ nothing_left t going end =
 abbrev the_item : ItemKind → ℕ → List ℕ → Item
 the_item kind start bytes = record { kind = kind; start = start; bytes = bytes }
 
-pub whole_from_token : (text : List ℕ) (s t : State) (token : Token) → IsAtStart text s → GivesToken s token t → token.start ≡ 0 → token.end ≡ length text → IsToken (kind_of token.kind) text
+pub whole_from_token : (text : List ℕ) (s t : State) (token : Token) → IsAtStart text s → GivesToken s token t → token.start ≡ 0 → token.end ≡ length text → IsTokenAlone (kind_of token.kind) text
 whole_from_token text s t token at given first last =
     let same : s.text ≡ text = ap (λ (x : State). x.text) at.start in
     let kept : t.text ≡ text = given.text ∙ same in
@@ -46,7 +47,7 @@ pub record IsWhole (text : List ℕ) (token : Token) : Type 0 where
   pub start : token.start ≡ 0
   pub end : token.end ≡ length text
 
-pub token_from_whole : (text : List ℕ) (s t : State) (token : Token) (kind : ItemKind) → IsAtStart text s → GivesToken s token t → IsToken kind text → IsWhole text token
+pub token_from_whole : (text : List ℕ) (s t : State) (token : Token) (kind : ItemKind) → IsAtStart text s → GivesToken s token t → IsTokenAlone kind text → IsWhole text token
 token_from_whole text s t token kind at given whole =
     let only = given.only (whole_token kind text ∷ []) None (at.all _ _ whole) in
     let item : whole_token kind text ≡ item_of s.text token = same_first _ _ [] only.0 only.1 in
@@ -56,10 +57,10 @@ token_from_whole text s t token kind at given whole =
     let within : token.end - 0 ≤ length s.text = omega (arith, given.fits) in
     record { start = start; end = omega (arith, size, length-take-le (token.end - 0) s.text within) }
 
-pub no_token_at_end : (text : List ℕ) (s t : State) (kind : ItemKind) → IsAtStart text s → GivesEnd s t → IsToken kind text → ⊥
+pub no_token_at_end : (text : List ℕ) (s t : State) (kind : ItemKind) → IsAtStart text s → GivesEnd s t → IsTokenAlone kind text → ⊥
 no_token_at_end text s t kind at given whole = no_items _ _ (given.only (whole_token kind text ∷ []) None (at.all _ _ whole)).0
 
-pub no_token_at_fault : (text : List ℕ) (s t : State) (fault : Fault) (kind : ItemKind) → IsAtStart text s → GivesFault s fault t → IsToken kind text → ⊥
+pub no_token_at_fault : (text : List ℕ) (s t : State) (fault : Fault) (kind : ItemKind) → IsAtStart text s → GivesFault s fault t → IsTokenAlone kind text → ⊥
 no_token_at_fault text s t fault kind at given whole = no_items _ _ (given.only (whole_token kind text ∷ []) None (at.all _ _ whole)).0
 
 no_value : {A : Type 0} (x : A) → None ≡ Some x → ⊥
@@ -70,7 +71,7 @@ same_value x y e = cc
 
 pub no_token_at_error :
     (text : List ℕ) (s t : State) (first : Result Token Fault) (kind : ItemKind) → IsAtStart text s → Gives s (Some first) t
-    → None ≡ result_ok first → IsToken kind text → ⊥
+    → None ≡ result_ok first → IsTokenAlone kind text → ⊥
 no_token_at_error text s t (Err fault) kind at given none whole = no_token_at_fault text s t fault kind at given whole
 no_token_at_error text s t (Ok token) kind at given none whole = no_value token none
 

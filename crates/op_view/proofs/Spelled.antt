@@ -5,7 +5,9 @@ use Rattle.hist_types.specs.Atoms.{Atom}
 use Rattle.hist_types.specs.AtomTokens.{atom_of_token}
 use Rattle.hist_types.specs.Tokens.{ItemKind}
 use Rattle.op_view.specs.declared.spelling.Spelling.{Spelling}
-use Rattle.op_view.specs.AtomTexts.{IsToken, IsTokenOf, IsTextOf}
+use Rattle.hist_types.specs.Placed.{IsTokenAlone}
+use Rattle.edn_ops.specs.SourceTexts.{IsAtomText}
+use Rattle.op_view.specs.AtomTexts.{IsTokenOf}
 use Rattle.op_view.specs.Spellings.{IsSpelled, kind_spelled, atom_spelled}
 use Rattle.op_view.proofs.Tokens.{one_kind}
 
@@ -23,11 +25,11 @@ has_spelling kind text atom None is none = absurd (no_atom atom (sym none ∙ is
 has_spelling kind text atom (Some spelling) is spelled = refl
 
 -- what is spelled so is the atom that is known
-pub spelled_token : (kind : ItemKind) (text : List ℕ) (spelling : Spelling) → IsToken kind text → IsSpelled kind text spelling → IsTokenOf (kind_spelled spelling) text (atom_spelled spelling text)
+pub spelled_token : (kind : ItemKind) (text : List ℕ) (spelling : Spelling) → IsTokenAlone kind text → IsSpelled kind text spelling → IsTokenOf (kind_spelled spelling) text (atom_spelled spelling text)
 spelled_token kind text spelling token spelled =
     subst (λ (k : ItemKind). IsTokenOf k text (atom_spelled spelling text)) (sym spelled.of_kind) (token, spelled.atom)
 
-pub spelled_atom : (kind : ItemKind) (text : List ℕ) (spelling : Spelling) (atom : Atom) → IsToken kind text → IsSpelled kind text spelling → IsTextOf text atom → atom_spelled spelling text ≡ atom
+pub spelled_atom : (kind : ItemKind) (text : List ℕ) (spelling : Spelling) (atom : Atom) → IsTokenAlone kind text → IsSpelled kind text spelling → IsAtomText text atom → atom_spelled spelling text ≡ atom
 spelled_atom kind text spelling atom token spelled h =
-    let same = one_kind text h.0 kind h.1.0 token in
-    same_atom (atom_spelled spelling text) atom (sym spelled.atom ∙ subst (λ (k : ItemKind). atom_of_token k text ≡ Some atom) same h.1.1)
+    let same = one_kind text h.0 kind h.1 token in
+    same_atom (atom_spelled spelling text) atom (sym spelled.atom ∙ subst (λ (k : ItemKind). atom_of_token k text ≡ Some atom) same h.2)

@@ -10,7 +10,7 @@ use Rattle.hist_types.specs.Atoms.{Atom, integer}
 use Rattle.hist_types.specs.AtomTokens.{atom_of_token}
 use Rattle.hist_types.specs.Entries.{PlacedMop, PlacedOperation, operation as entry, operation_of}
 use Rattle.hist_types.specs.Operations.{Mop, Operation, read, write}
-use Rattle.hist_types.specs.Placed.{IsTextOf as IsOperationText, IsTokenIn, IsTokenAlone, Spells, SpellsParts, IsMopIn, IsMopOfTokens}
+use Rattle.hist_types.specs.Placed.{IsTextOf, IsTokenIn, IsTokenAlone, Spells, SpellsParts, IsMopIn, IsMopOfTokens}
 use Rattle.hist_types.specs.Tokens.{Item, ItemKind, Nil}
 use Rattle.hist_types.proofs.SpelledParts.{parts_spelled}
 use Rattle.hist_types.proofs.SingleTokens.{mops_alone_in}
@@ -18,30 +18,31 @@ use Rattle.hist_types.specs.declared.types.OpKind.{OpKind}
 use Rattle.op_block.specs.Contents.{BlockOperation}
 use Rattle.op_block.specs.Shapes.{short_span_of, short_mop_of, IsShapeOf}
 use Rattle.op_block.specs.declared.shapes.ShapeRef.{ShapeRef}
-use Rattle.op_view.specs.AtomTexts.{IsToken, IsTokenOf, IsTextOf}
+use Rattle.edn_ops.specs.SourceTexts.{IsAtomText}
+use Rattle.op_view.specs.AtomTexts.{IsTokenOf}
 use Rattle.op_view.specs.MopTexts.{atom_in, is_nil, value_in, IsAtom, IsValue, bytes_at, mop_at, mops_at, operation_at, IsWithin, IsMopAt, AreMopsAt}
 use Rattle.op_view.proofs.KindsByFront.{kind_told}
 use Rattle.op_view.proofs.NilTokens.{nil_text, atom_no_nil}
 
 -- each of an operation's keys and values is a token of its own
-operation_alone : (text : List ℕ) (o : PlacedOperation) → IsOperationText text o → All IsMopOfTokens o.mops
+operation_alone : (text : List ℕ) (o : PlacedOperation) → IsTextOf text o → All IsMopOfTokens o.mops
 operation_alone text o is = mops_alone_in text (entry o ∷ []) None o is.2 (0, omega arith, refl)
 
 -- ---- atoms and values by their bytes
 
-pub atom_in-is : (bytes : List ℕ) (atom : Atom) → IsTextOf bytes atom → atom_in bytes ≡ atom
+pub atom_in-is : (bytes : List ℕ) (atom : Atom) → IsAtomText bytes atom → atom_in bytes ≡ atom
 unfolding atom_in
-atom_in-is bytes atom (kind, is) =
-    ap (λ (k : ItemKind). unwrap_or (atom_of_token k bytes) (integer (pos 0))) (kind_told kind bytes atom is)
-    ∙ ap (λ (a : Option Atom). unwrap_or a (integer (pos 0))) is.1
+atom_in-is bytes atom (kind, token, means) =
+    ap (λ (k : ItemKind). unwrap_or (atom_of_token k bytes) (integer (pos 0))) (kind_told kind bytes atom (token, means))
+    ∙ ap (λ (a : Option Atom). unwrap_or a (integer (pos 0))) means
 
-is_atom : (bytes : List ℕ) (atom : Atom) → IsTextOf bytes atom → IsAtom bytes
-is_atom bytes atom is = subst (IsTextOf bytes) (sym (atom_in-is bytes atom is)) is
+is_atom : (bytes : List ℕ) (atom : Atom) → IsAtomText bytes atom → IsAtom bytes
+is_atom bytes atom is = subst (IsAtomText bytes) (sym (atom_in-is bytes atom is)) is
 
 value_of_nil : (bytes : List ℕ) → is_nil bytes ≡ true → value_in bytes ≡ None
 value_of_nil bytes is = rw is refl
 
-value_of_atom : (bytes : List ℕ) (atom : Atom) → IsTextOf bytes atom → value_in bytes ≡ Some atom
+value_of_atom : (bytes : List ℕ) (atom : Atom) → IsAtomText bytes atom → value_in bytes ≡ Some atom
 value_of_atom bytes atom is = rw (atom_no_nil bytes atom is) (ap Some (atom_in-is bytes atom is))
 
 -- what is read and is not nil is an atom
@@ -65,9 +66,10 @@ text_of_token :
     → IsTokenIn text t
     → IsTokenAlone t.kind t.bytes
     → Spells t atom
-    → IsTextOf (bytes_at text (short_span_of t)) atom
+    → IsAtomText (bytes_at text (short_span_of t)) atom
 text_of_token text t atom here alone spells =
-    (t.kind, subst (λ (bs : List ℕ). IsTokenOf t.kind bs atom) here.1 (alone, spells))
+    let is = subst (λ (bs : List ℕ). IsTokenOf t.kind bs atom) here.1 (alone, spells) in
+    (t.kind, is.0, is.1)
 
 nil_of_token :
     (text : List ℕ) (t : Item)
@@ -77,7 +79,7 @@ nil_of_token :
     → is_nil (bytes_at text (short_span_of t)) ≡ true
 nil_of_token text t here alone nil =
     subst (λ (bs : List ℕ). is_nil bs ≡ true) here.1
-    (nil_text t.bytes (subst (λ (k : ItemKind). IsToken k t.bytes) nil alone))
+    (nil_text t.bytes (subst (λ (k : ItemKind). IsTokenAlone k t.bytes) nil alone))
 
 -- ---- micro-operations in a text
 
@@ -142,7 +144,7 @@ mops_there text (m ∷ ms) all alone =
       ap (λ (n : Mop). n ∷ mops_at text (map short_mop_of ms)) one.1 ∙ ap (λ (ns : List Mop). m.mop ∷ ns) others.1,
     )
 
-operation_there : (text : List ℕ) (o : PlacedOperation) → IsOperationText text o → AreThere text o.mops
+operation_there : (text : List ℕ) (o : PlacedOperation) → IsTextOf text o → AreThere text o.mops
 operation_there text o is =
     mops_there text o.mops (recursion_from_All (IsMopIn text) o.mops (parts_spelled text o is))
     (recursion_from_All IsMopOfTokens o.mops (operation_alone text o is))
@@ -164,7 +166,7 @@ same_operation k l p q ms ns ks ps mss =
 shape_mops :
     (text : List ℕ) (shape : ShapeRef) (o : BlockOperation)
     → text ≡ o.text
-    → IsOperationText o.text o.placed
+    → IsTextOf o.text o.placed
     → IsShapeOf shape o.placed
     → AreMopsAt text shape.mops.now
 shape_mops text shape o same reads is =
@@ -174,7 +176,7 @@ shape_mops text shape o same reads is =
 shape_view :
     (text : List ℕ) (shape : ShapeRef) (o : BlockOperation)
     → text ≡ o.text
-    → IsOperationText o.text o.placed
+    → IsTextOf o.text o.placed
     → IsShapeOf shape o.placed
     → operation_at text shape ≡ operation_of o.placed
 shape_view text shape o same reads is =
@@ -188,7 +190,7 @@ abbrev HasText : Option BlockOperation → List ℕ → Type 0
 HasText found text = IfSome found (λ o. text ≡ o.text)
 
 abbrev Reads : Option BlockOperation → Type 0
-Reads found = IfSome found (λ o. IsOperationText o.text o.placed)
+Reads found = IfSome found (λ o. IsTextOf o.text o.placed)
 
 abbrev HasShape : Option BlockOperation → ShapeRef → Type 0
 HasShape found shape = IfSome found (λ o. IsShapeOf shape o.placed)

@@ -6,7 +6,8 @@ use Rattle.hist_types.specs.declared.types.Fault.{Fault}
 use Rattle.hist_types.specs.Bytes.{is_blank, is_opener, is_closer, quote, semicolon, backslash, hash, open_brace, underscore}
 use Rattle.hist_types.specs.Tokens.{ItemKind, Str, Item, first_byte, content_len, hash_front, front, BeginsWith, IsCut, is_token, tokens_of}
 use Rattle.edn_lex.proofs.Cuts.{BeginsWith-unique}
-use Rattle.op_view.specs.AtomTexts.{whole_token, IsToken}
+use Rattle.hist_types.specs.Placed.{IsTokenAlone}
+use Rattle.op_view.specs.AtomTexts.{whole_token}
 
 -- ---- items have bytes
 
@@ -78,9 +79,9 @@ token_item text (i ∷ items) ending t cut e at = elim (cases_Bool (is_token i.k
       absurd (omega (arith, some, later, at)))
 ]
 
-pub token_begins : (kind : ItemKind) (text : List ℕ) → IsToken kind text → BeginsWith text kind text
+pub token_begins : (kind : ItemKind) (text : List ℕ) → IsTokenAlone kind text → BeginsWith text kind text
 token_begins kind text h = token_item text h.0 None (whole_token kind text) h.1 (sym h.2) refl
 
 -- a text is one token of one kind
-pub one_kind : (text : List ℕ) (kind other : ItemKind) → IsToken kind text → IsToken other text → kind ≡ other
+pub one_kind : (text : List ℕ) (kind other : ItemKind) → IsTokenAlone kind text → IsTokenAlone other text → kind ≡ other
 one_kind text kind other is is_other = (BeginsWith-unique text kind other text text (token_begins kind text is) (token_begins other text is_other)).0

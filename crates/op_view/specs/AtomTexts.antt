@@ -1,24 +1,17 @@
 -- Texts that are one atom.
-use Rattle.std.specs.Prelude.{◌≡◌, ℕ, ℤ, List, [], ◌∷◌, Option, Some, None}
+use Rattle.std.specs.Prelude.{◌≡◌, ℕ, ℤ, List, Option, Some, None}
 use Rattle.hist_types.specs.Atoms.{Atom, integer}
 use Rattle.hist_types.specs.AtomTokens.{atom_of_token}
-use Rattle.hist_types.specs.Tokens.{Item, ItemKind, HasTokens}
+use Rattle.hist_types.specs.Tokens.{Item, ItemKind}
+use Rattle.hist_types.specs.Placed.{IsTokenAlone}
 
 -- the token that takes up a whole text
 abbrev pub whole_token : ItemKind → List ℕ → Item
 whole_token kind text = record { kind = kind; start = 0; bytes = text }
 
--- The text is one token of this kind, with nothing before or after it.
-abbrev pub IsToken : ItemKind → List ℕ → Type 0
-IsToken kind text = HasTokens text (whole_token kind text ∷ []) None
-
 -- The text is one token of this kind, and that token is the atom.
 abbrev pub IsTokenOf : ItemKind → List ℕ → Atom → Type 0
-IsTokenOf kind text atom = IsToken kind text × (atom_of_token kind text ≡ Some atom)
-
--- The text is one token, and that token is the atom.
-abbrev pub IsTextOf : List ℕ → Atom → Type 0
-IsTextOf text atom = (kind : ItemKind) × IsTokenOf kind text atom
+IsTokenOf kind text atom = IsTokenAlone kind text × (atom_of_token kind text ≡ Some atom)
 
 -- the number of an atom that is an integer
 abbrev pub number_of : Atom → Option ℤ

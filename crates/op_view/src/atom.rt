@@ -2,7 +2,9 @@
 
 ghost use Rattle.std.specs.Prelude.{◌≡◌, MatchOption, Some, refl};
 ghost use Rattle.hist_types.specs.Atoms.{Atom as AnAtom, atom_eq, atom_cmp};
-ghost use Rattle.op_view.specs.AtomTexts.{IsToken, IsTextOf, number_of};
+ghost use Rattle.hist_types.specs.Placed.{IsTokenAlone};
+ghost use Rattle.edn_ops.specs.SourceTexts.{IsAtomText};
+ghost use Rattle.op_view.specs.AtomTexts.{number_of};
 ghost use Rattle.hist_types.specs.Tokens.{ItemKind};
 ghost use Rattle.edn_lex.specs.Kinds.{kind_of};
 ghost use Rattle.std.specs.Cmp.{partial_equiv_from_equiv, po};
@@ -46,7 +48,7 @@ impl<'a> Model for Atom<'a> {
 
 /// The kind of the token that takes up the whole text, if one does.
 fn only_token(text: &[u8]) -> Option<TokenKind>
-    ensures { MatchOption result ((kind : ItemKind) → ¬ (IsToken kind text.now)) (λ kind. IsToken (kind_of kind) text.now) }
+    ensures { MatchOption result ((kind : ItemKind) → ¬ (IsTokenAlone kind text.now)) (λ kind. IsTokenAlone (kind_of kind) text.now) }
 {
     let first = Lexer::new(text).next()?;
     let token = first.ok()?;
@@ -60,7 +62,7 @@ fn only_token(text: &[u8]) -> Option<TokenKind>
 impl<'a> Atom<'a> {
     /// The atom that the text is; none where the text is anything but one token that is an atom.
     pub fn read(text: &'a [u8]) -> Option<Atom<'a>>
-        ensures { MatchOption result ((atom : AnAtom) → ¬ (IsTextOf text.now atom)) (IsTextOf text.now) }
+        ensures { MatchOption result ((atom : AnAtom) → ¬ (IsAtomText text.now atom)) (IsAtomText text.now) }
     {
         let kind = only_token(text)?;
         let spelling = spelling_of(kind, text)?;
@@ -69,8 +71,8 @@ impl<'a> Atom<'a> {
 
     /// The atom of a text that is known to be one. The text is not cut into tokens again.
     pub fn of(text: &'a [u8]) -> Atom<'a>
-        requires { (atom : AnAtom) × IsTextOf text.now atom }
-        ensures { (atom : AnAtom) → IsTextOf text.now atom → result ≡ atom }
+        requires { (atom : AnAtom) × IsAtomText text.now atom }
+        ensures { (atom : AnAtom) → IsAtomText text.now atom → result ≡ atom }
     {
         let spelling = spelling_of(token_kind(text), text).unwrap();
         Atom { text, spelling }
@@ -88,7 +90,7 @@ impl<'a> Atom<'a> {
 
     /// The atom's text, as it is in the source.
     pub fn text(&self) -> &'a [u8]
-        ensures { IsTextOf result.now self.now }
+        ensures { IsAtomText result.now self.now }
     {
         self.text
     }

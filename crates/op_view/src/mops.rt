@@ -5,10 +5,12 @@ ghost use Rattle.std.specs.Iterator.{YieldsFirst, item_count, at_most, UpTo};
 ghost use Rattle.std.specs.Iterator.SizeHint.{IsWithinCount};
 ghost use Rattle.hist_types.specs.Operations.{read, write};
 ghost use Rattle.edn_ops.specs.Shapes.{is_write};
+ghost use Rattle.edn_ops.specs.SourceTexts.{IsMopText};
 ghost use Rattle.op_view.specs.MopTexts.{bytes_at, atom_in, mop_at as mop_of_text, mops_at, IsAtom, IsWithin, IsMopAt, AreMopsAt};
 ghost use Rattle.op_view.specs.Mops.{key_of, value_of};
 
 use crate::atom::Atom;
+use edn_ops::write::MopText;
 use op_block::shapes::{ShortMop, ShortSpan};
 use std::iter::ExactSizeIterator;
 use std::marker::Model;
@@ -81,6 +83,29 @@ impl<'a> Mop<'a> {
         match &self.parts {
             Parts::Read(_, None) => None,
             Parts::Read(_, Some(value)) | Parts::Write(_, value) => Some(value.copy()),
+        }
+    }
+
+    /// The texts of the key and of the value, as the source spells them, for canonical text.
+    pub fn text(&self) -> MopText<'a>
+        ensures { IsMopText result self.now }
+    {
+        match &self.parts {
+            Parts::Read(key, None) => MopText {
+                is_write: false,
+                key: key.text(),
+                value: b"nil",
+            },
+            Parts::Read(key, Some(value)) => MopText {
+                is_write: false,
+                key: key.text(),
+                value: value.text(),
+            },
+            Parts::Write(key, value) => MopText {
+                is_write: true,
+                key: key.text(),
+                value: value.text(),
+            },
         }
     }
 }

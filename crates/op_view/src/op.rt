@@ -49,7 +49,11 @@ impl<'a> OpView<'a> {
     {
         OpView {
             text: self.text,
-            shape: self.shape,
+            shape: ShapeRef {
+                kind: self.shape.kind,
+                process: self.shape.process,
+                mops: self.shape.mops,
+            },
         }
     }
 

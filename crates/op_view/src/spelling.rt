@@ -3,11 +3,11 @@
 ghost use Rattle.std.specs.Prelude.{◌≡◌, true, None, cond, Some, Option, MatchOption, false, ℕ, List};
 ghost use Rattle.hist_types.specs.Atoms.{rank as rank_of_atom};
 ghost use Rattle.hist_types.specs.AtomTokens.{int_value, is_64_bit, atom_of_token, between_quotes as bytes_between_quotes};
-ghost use Rattle.hist_types.specs.Tokens.{without_n as before_n, is_int, Str};
+ghost use Rattle.hist_types.specs.Tokens.{without_n as before_n, is_int, Str, begins_with_number};
 ghost use Rattle.edn_lex.specs.Kinds.{kind_of};
-ghost use Rattle.op_view.specs.AtomTexts.{IsToken};
+ghost use Rattle.hist_types.specs.Placed.{IsTokenAlone};
 ghost use Rattle.op_view.specs.Decoding.{has_content};
-ghost use Rattle.op_view.specs.Fronts.{begins_with_number, kind_by_front};
+ghost use Rattle.op_view.specs.Fronts.{kind_by_front};
 ghost use Rattle.op_view.specs.Spellings.{IsSpelled, atom_spelled};
 
 use crate::content::{between_quotes, is_content};
@@ -74,7 +74,7 @@ fn string_spelling(text: &[u8]) -> Option<Spelling>
 
 /// How a text that is one token of this kind spells an atom, if it does.
 pub(crate) fn spelling_of(kind: TokenKind, text: &[u8]) -> Option<Spelling>
-    requires { IsToken (kind_of kind) text.now }
+    requires { IsTokenAlone (kind_of kind) text.now }
     ensures { MatchOption result (atom_of_token (kind_of kind) text.now ≡ None) (IsSpelled (kind_of kind) text.now) }
 {
     match kind {

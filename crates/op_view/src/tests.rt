@@ -169,7 +169,7 @@ fn operations_are_seen_in_their_block(rt: HostRuntime) {
     let process = Process::new(3).expect(&rt, "a process in range");
     let block = block_of_one(rt.alloc(), process).expect(&rt, "ample memory");
     assert_eq!(rt; block.len(), 1);
-    let view = OpView::of(&block, 0);
+    let view = OpView::of(&block, 0).copy();
     assert!(rt; view.kind() == OpKind::Ok);
     assert_eq!(rt; view.process().number(), 3);
     let mut mops = view.mops();
@@ -178,6 +178,10 @@ fn operations_are_seen_in_their_block(rt: HostRuntime) {
     has_parts(&rt, &read, false, b":x", None);
     let write = mops.next().expect(&rt, "a write");
     has_parts(&rt, &write, true, b"\"y\"", Some(b"1"));
+    let texts = write.text();
+    assert!(rt; texts.is_write);
+    assert!(rt; texts.key == b"\"y\"".as_slice());
+    assert!(rt; texts.value == b"1".as_slice());
     assert_eq!(rt; mops.size_hint(), (0, Some(0)));
     assert!(rt; mops.next().is_none());
 }

@@ -1,5 +1,5 @@
-use Rattle.edn_lex.proofs.Exists.{HasTokens-exist}
+use Rattle.hist_types.proofs.EachCut.{each_row_of_tokens}
 use Rattle.edn_lex.proofs.laws.tokens_exist.Goals as goal
 
 pub returns : goal.returns
-returns c = HasTokens-exist
+returns c = each_row_of_tokens

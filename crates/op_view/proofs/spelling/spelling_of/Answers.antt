@@ -2,12 +2,12 @@ use Rattle.std.proofs.Common.{refl, subst}
 use Rattle.hist_types.specs.Tokens.{Int}
 use Rattle.edn_lex.specs.Kinds.{kind_of}
 use Rattle.edn_lex.specs.declared.types.TokenKind.{TokenKind}
-use Rattle.op_view.specs.AtomTexts.{IsToken}
+use Rattle.hist_types.specs.Placed.{IsTokenAlone}
 use Rattle.op_view.proofs.Tokens.{token_begins}
-use Rattle.op_view.proofs.Fronts.{word_is}
+use Rattle.hist_types.proofs.Fronts.{word_is}
 use Rattle.op_view.proofs.spelling.spelling_of.Goals as goal
 
 pub number_of-requires : goal.number_of-requires
 number_of-requires c =
-    let token = subst (λ (kind : TokenKind). IsToken (kind_of kind) c.args.text.now) c.in-Int.is c.requires in
+    let token = subst (λ (kind : TokenKind). IsTokenAlone (kind_of kind) c.args.text.now) c.in-Int.is c.requires in
     (word_is Int c.args.text.now refl (token_begins Int c.args.text.now token)).passed

@@ -7,8 +7,7 @@ use lib.Pointwise.{pointwise}
 use Rattle.std.proofs.lemmas.Bool.{true≢false, and_parts, cases_Bool}
 use Rattle.std.proofs.lemmas.List.{take_all}
 use Rattle.hist_types.specs.Bytes.{is_blank, is_opener, is_closer, quote, semicolon, backslash, hash, line_feed, open_brace, underscore, letter_n}
-use Rattle.hist_types.specs.Tokens.{ItemKind, Blank, Comment, Opener, Closer, Str, Char, Drop, Tag, Nil, True, False, Int, Keyword, Symbol, Other, run_of, run_len, run_kind, is_int, is_keyword, is_symbol, is_sign, is_whole, without_n, first_byte, character_len, content_len, hash_front, BeginsWith}
-use Rattle.op_view.specs.Fronts.{begins_with_number}
+use Rattle.hist_types.specs.Tokens.{ItemKind, Blank, Comment, Opener, Closer, Str, Char, Drop, Tag, Nil, True, False, Int, Keyword, Symbol, Other, run_of, run_len, run_kind, is_int, is_keyword, is_symbol, is_sign, is_whole, without_n, first_byte, character_len, content_len, hash_front, BeginsWith, begins_with_number}
 
 -- ---- the run that a word is
 
