@@ -1,4 +1,4 @@
-use Rattle.std.proofs.Common.{◌∙◌, ap, not, is_some, map}
+use Rattle.std.proofs.Common.{◌∙◌, ap, not, is_some}
 use Rattle.std.specs.Prelude.{count_by}
 use Rattle.std.specs.HashMap.{get}
 use Rattle.jepcheck.specs.Writers.{written_eq, sight_of, aborted_sight, intermediate_sight, first_some}

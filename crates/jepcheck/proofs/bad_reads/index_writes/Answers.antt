@@ -1,4 +1,4 @@
-use Rattle.std.proofs.Common.{◌+◌, drop, map, ap, sym, ◌∙◌}
+use Rattle.std.proofs.Common.{◌+◌, drop, ap, sym, ◌∙◌}
 use Rattle.std.specs.HashMap.{get}
 use Rattle.jepcheck.specs.Writers.{notes, notes_of, after_notes, write_of, written_eq}
 use Rattle.jepcheck.proofs.Lists.{drop_item}

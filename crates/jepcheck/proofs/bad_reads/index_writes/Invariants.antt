@@ -1,4 +1,4 @@
-use Rattle.std.proofs.Common.{◌≡◌, map, drop, None}
+use Rattle.std.proofs.Common.{◌≡◌, drop, None}
 use Rattle.std.specs.HashMap.{get}
 use Rattle.jepcheck.specs.declared.bad_reads.Written.{Written}
 use Rattle.jepcheck.specs.Writers.{notes, after_notes, write_of, written_eq}

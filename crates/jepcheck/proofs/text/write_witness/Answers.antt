@@ -24,10 +24,10 @@ appended (Ok _) old more new e = e
 appended (Err _) old more new e = tt
 
 pub write_atom-requires : goal.write_atom-requires
-write_atom-requires c = (c.args.read.now.key, (c.text.ensures.0, c.text.ensures.1.0, c.text.ensures.1.1))
+write_atom-requires c = (c.args.read.now.key, c.text.ensures)
 
 pub write_atom-requires-2 : goal.write_atom-requires-2
-write_atom-requires-2 c = (c.args.read.now.value, (c.text-2.ensures.0, c.text-2.ensures.1.0, c.text-2.ensures.1.1))
+write_atom-requires-2 c = (c.args.read.now.value, c.text-2.ensures)
 
 pub returns : goal.returns
 returns c =
@@ -37,8 +37,8 @@ returns c =
     let reader_is = c.as_bytes.ensures.value ∙ c.in_ok-reader.ensures.ok in
     let writer_is = c.as_bytes-2.ensures.value ∙ c.in_ok-writer.ensures.ok in
     let before = c.in_ok-extend_from_slice.ensures.items ∙ ap (λ text. out ++ text) reader_is in
-    let key_behind = c.in_ok-write_atom.ensures.ok key (c.text.ensures.0, c.text.ensures.1.0, c.text.ensures.1.1) in
-    let value_behind = c.in_ok-write_atom-2.ensures.ok value (c.text-2.ensures.0, c.text-2.ensures.1.0, c.text-2.ensures.1.1) in
+    let key_behind = c.in_ok-write_atom.ensures.ok key c.text.ensures in
+    let value_behind = c.in_ok-write_atom-2.ensures.ok value c.text-2.ensures in
     on_ok_weaker c.extend_from_slice-3.result
     (λ (all : c.extend_from_slice-3.new.self.items ≡ c.write_atom-2.new.out.items ++ c.as_bytes-2.result.now). line_of_parts out (decimal c.args.read.now.reader) (atom_text key) (atom_text value) (decimal c.args.read.now.writer) _ _ _ _ _
         before key_behind c.in_ok-extend_from_slice-2.ensures.items value_behind (all ∙ ap (λ text. c.write_atom-2.new.out.items ++ text) writer_is))

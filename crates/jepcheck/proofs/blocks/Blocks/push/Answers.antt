@@ -1,6 +1,6 @@
-use Rattle.std.proofs.Common.{◌≡◌, ◌∷◌, [], ◌++◌, ◌∙◌, sym, ap, refl}
+use Rattle.std.proofs.Common.{◌≡◌, [], ◌++◌, ◌∙◌, refl}
 use Rattle.std.proofs.lemmas.Result.{on_ok_weaker}
-use Rattle.op_block.specs.Contents.{HasRoomFor, length_of, taken_out}
+use Rattle.op_block.specs.Contents.{HasRoomFor, length_of}
 use Rattle.jepcheck.specs.Blocks.{operations_in, operations_pushed}
 use Rattle.jepcheck.proofs.Lists.{append-nil-right}
 use Rattle.jepcheck.proofs.Moved.{room_in_empty, pushed_behind}
