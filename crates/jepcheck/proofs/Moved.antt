@@ -1,5 +1,5 @@
 -- Operations that are taken out of their text.
-use Rattle.std.proofs.Common.{◌≡◌, ℕ, ◌+◌, ◌≤◌, ◌-◌, List, [], ◌∷◌, ◌++◌, length, append_assoc, refl, sym, ◌∙◌, ap, map, take, drop, arith, min}
+use Rattle.std.proofs.Common.{◌≡◌, ℕ, ◌≤◌, ◌-◌, List, [], ◌∷◌, ◌++◌, length, append_assoc, refl, sym, ◌∙◌, ap, map, drop, arith}
 use Rattle.std.proofs.lemmas.List.{length-drop, length-take, map-append}
 use Rattle.hist_types.specs.Entries.{PlacedMop, PlacedOperation, operation_of}
 use Rattle.hist_types.specs.Operations.{Mop, Operation}

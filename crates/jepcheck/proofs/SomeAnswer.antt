@@ -11,8 +11,7 @@ use Rattle.hist_types.specs.Refusals.{event_fault}
 use Rattle.hist_types.specs.Texts.{reads_text, has_bad_read, refusal_line}
 use Rattle.hist_types.specs.declared.types.Fault.{Fault}
 use Rattle.hist_types.specs.declared.types.Refusal.{Refusal}
-use Rattle.jepcheck.specs.Answers.{GivesOperations, GivesFault, GivesEvents, IsRefused, IsReport, IsAnswer, HasAnswer}
-use Rattle.jepcheck.specs.Statuses.{status_by}
+use Rattle.jepcheck.specs.Answers.{GivesOperations, GivesEvents, IsRefused, HasAnswer}
 use Rattle.jepcheck.specs.declared.answer.Status.{Status}
 use Rattle.jepcheck.specs.declared.answer.Status.TheVariants as statuses
 use Rattle.jepcheck.specs.declared.run.Command.TheVariants.{Reads as the_command}

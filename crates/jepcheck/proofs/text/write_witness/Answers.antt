@@ -41,5 +41,5 @@ returns c =
     let value_behind = c.in_ok-write_atom-2.ensures.ok value c.text-2.ensures in
     on_ok_weaker c.extend_from_slice-3.result
     (λ (all : c.extend_from_slice-3.new.self.items ≡ c.write_atom-2.new.out.items ++ c.as_bytes-2.result.now). line_of_parts out (decimal c.args.read.now.reader) (atom_text key) (atom_text value) (decimal c.args.read.now.writer) _ _ _ _ _
-        before key_behind c.in_ok-extend_from_slice-2.ensures.items value_behind (all ∙ ap (λ text. c.write_atom-2.new.out.items ++ text) writer_is))
+    before key_behind c.in_ok-extend_from_slice-2.ensures.items value_behind (all ∙ ap (λ text. c.write_atom-2.new.out.items ++ text) writer_is))
     (appended c.extend_from_slice-3.result c.write_atom-2.new.out.items c.as_bytes-2.result.now _ c.extend_from_slice-3.ensures.items)
