@@ -1,6 +1,6 @@
 //! Blocks that are filled with the operations of a text.
 
-ghost use Rattle.std.specs.Prelude.{◌≡◌, [], ◌∷◌, ◌++◌, OnOk, IfOk, IfErr};
+ghost use Rattle.std.specs.Prelude.{◌≡◌, [], ◌∷◌, ◌++◌, OnOk, OnErr, IfOk, IfErr};
 ghost use Rattle.hist_types.specs.Entries.{PlacedOperation, operation_of};
 ghost use Rattle.hist_types.specs.Placed.{IsIn};
 ghost use Rattle.hist_types.specs.Refusals.{memory_fault};
@@ -35,17 +35,19 @@ impl Model for Blocks {
     ghost view = { λ b. operations_in b.full.items ++ operations_pushed b.last };
 }
 
-/// Puts the last block behind the full ones, and begins another.
+/// Puts the last block behind the full ones, and begins another. Out of memory leaves both as they were.
 fn close(alloc: Global, full: &mut Vec<Block>, last: &mut BlockBuilder) -> Result<(), AllocError>
     ensures full { OnOk result (operations_in full.new.items ≡ operations_in full.old.items ++ operations_pushed last.old) }
     ensures last { OnOk result (last.new ≡ []) }
+    ensures err { OnErr result ((full.new.items ≡ full.old.items) × (last.new ≡ last.old)) }
 {
+    full.try_reserve(1)?;
     let stamp = Stamp {
         seat: 0,
         call: full.len() as u64,
     };
     let filled = mem::replace(last, BlockBuilder::new(alloc));
-    full.push(filled.freeze(stamp))?;
+    full.push_reserved(filled.freeze(stamp));
     Ok(())
 }
 
@@ -60,11 +62,12 @@ impl Blocks {
         }
     }
 
-    /// Appends the operation that has this shape in the text. Only memory can be refused.
+    /// Appends the operation that has this shape in the text. Only memory can be refused, and nothing changes then.
     pub fn push(&mut self, text: &[u8], shape: &OpShape) -> Result<(), Fault>
         requires { IsShapeIn text.now shape.now }
         ensures ok { (o : PlacedOperation) → IsIn text.now o → IsShapeOf shape.now o → OnOk result (self.new ≡ self.old ++ operation_of o ∷ []) }
         ensures err { IfErr result (λ fault. fault ≡ memory_fault) }
+        ensures unchanged { OnErr result (self.new ≡ self.old) }
     {
         operations_spell_their_parts();
         let len = shape.span.end - shape.span.start;

@@ -152,6 +152,33 @@ const IN_A_VECTOR: &[u8] = b"[{:process 0, :value ((:w x +1N)) :type :invoke} ; 
 #_ {:type :invoke, :process 0, :value []}
 {:type :ok :process 0 :value [[:w x 1]]},,,]";
 
+/// Two operations, laid out more loosely than a printer does it.
+const LOOSE: &[u8] =
+    b"#jepsen.history.Op{:type :invoke, :f :txn, :process 0, :value [[:w :x 1]], :error [:odd 0.5 #_ 5 \"a;b\"]} ; first
+{:type :info, :process :nemesis, :f :kill, :value nil}
+";
+
+/// The same in one vector.
+const LOOSE_IN_A_VECTOR: &[u8] =
+    b"[#jepsen.history.Op{:type :invoke, :f :txn, :process 0, :value [[:w :x 1]], :error [:odd 0.5 #_ 5 \"a;b\"]} ; first
+{:type :info, :process :nemesis, :f :kill, :value nil}]";
+
+const WITHOUT_TAGS: &[u8] =
+    b"{:index 0, :time 5, :type :invoke, :process 0, :f :txn, :value [[:w :x 1]]}
+{:index 1, :time 6, :type :info, :process :nemesis, :f :kill, :value nil}
+";
+
+const WITH_TAGS: &[u8] =
+    b"#jepsen.history.Op{:index 0, :time 5, :type :invoke, :process 0, :f :txn, :value [[:w :x 1]]}
+#jepsen.history.Op{:index 1, :time 6, :type :info, :process :nemesis, :f :kill, :value nil}
+";
+
+/// One invocation, and nothing found.
+const ONE_INVOCATION_OUT: &[u8] = b"prefix 1\ntxns 1\nG1a none\nG1b none\nstray 0\n";
+
+/// One collection more is open than may be.
+const TOO_DEEP: &[u8] = b"{:error [[[[[[[[[[[[[[[[[[[[[[[[[[[[[[[[[[[[[[[[[[[[[[[[[[[[[[[[[[[[[[[[";
+
 /// A source of a few bytes a call, which may fail at one of its calls.
 #[derive(Drop)]
 struct Dripping<'a> {
@@ -332,6 +359,40 @@ fn histories_as_jepsen_prints_them(rt: HostRuntime) -> Result<(), Fail> {
         0,
         b"prefix 2\ntxns 1\nG1a none\nG1b none\nstray 0\n",
     );
+    for history in [LOOSE, LOOSE_IN_A_VECTOR, WITHOUT_TAGS, WITH_TAGS] {
+        answers(&rt, history, 0, ONE_INVOCATION_OUT);
+    }
+    Ok(())
+}
+
+#[test]
+fn faults_of_reading(rt: HostRuntime) -> Result<(), Fail> {
+    let faults: [(&[u8], &[u8]); 6] = [
+        (
+            b"{:type :invoke, :process 0, :value [[:w :x 1]",
+            b"refused 24 Unclosed byte 35\n",
+        ),
+        (
+            b"{:type :invoke, :process 2147483648, :value []}",
+            b"refused 31 BadProcess byte 25\n",
+        ),
+        (
+            b"{:type :invoke, :process 0, :value [[:w \"\\q\" 1]]}",
+            b"refused 33 BadAtom byte 40\n",
+        ),
+        (
+            b"{:type :invoke, :process 0, :value [[:w :x nil]]}",
+            b"refused 34 NilWritten byte 43\n",
+        ),
+        (
+            b"{:type :invoke, :process 0)",
+            b"refused 22 StrayCloser byte 26\n",
+        ),
+        (TOO_DEEP, b"refused 23 TooDeep byte 71\n"),
+    ];
+    for (text, line) in faults {
+        answers(&rt, text, 2, line);
+    }
     Ok(())
 }
 
