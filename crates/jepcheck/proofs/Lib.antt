@@ -4,7 +4,9 @@ pub mod Noting
 pub mod Values
 pub mod Sights
 pub mod Pieces
-pub mod OneByOne
+pub mod Moved
+pub mod Readings
+pub mod Judging
 pub mod OneAnswer
 pub mod SomeAnswer
 pub mod Words

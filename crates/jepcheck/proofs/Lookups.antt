@@ -1,68 +1,26 @@
 -- Look-ups in the index of writers.
-use Rattle.std.proofs.Common.{◌≡◌, List, [], ◌∷◌, Bool, true, false, ◌&&◌, ◌||◌, Some, refl, sym, ◌∙◌, ap, cond, map, unwrap_or}
-use Rattle.std.specs.Cmp.{IsEquivalence, int_eq_equiv, on_equiv, and_equiv}
-use Rattle.std.specs.Cmp.Lexicographic.{nat_list_eq_equiv}
+use Rattle.std.proofs.Common.{◌≡◌, ℕ, List, [], ◌∷◌, ◌++◌, Bool, true, false, ◌||◌, Some, None, refl, sym, ◌∙◌, ap, cond, map, unwrap_or}
+use Rattle.std.proofs.lemmas.Option.{none-some, same_Some}
+use Rattle.std.specs.Cmp.{IsEquivalence, on_equiv, and_equiv}
 use Rattle.std.specs.Map.{lookup}
 use Rattle.std.specs.List.{list_any}
-use Rattle.std.proofs.lemmas.Bool.{false≢true}
-use Rattle.hist_types.specs.Atoms.{Atom, integer, keyword, string, symbol, atom_eq}
+use Rattle.hist_types.specs.Atoms.{Atom, atom_eq}
+use Rattle.hist_types.specs.Operations.{Mop, read, write}
+use Rattle.hist_types.specs.Phenomena.{seen_value}
 use Rattle.hist_types.specs.Journal.{Write, write_eq, writes_of}
 use Rattle.hist_types.specs.Transactions.{has_key}
-use Rattle.simple_ops.specs.Owned.{atom_of_owned, mop_of_owned}
-use Rattle.simple_ops.specs.declared.types.OwnedAtom.{OwnedAtom}
-use Rattle.simple_ops.specs.declared.types.OwnedAtom.TheVariants.{Int, Keyword}
-use Rattle.simple_ops.specs.declared.types.OwnedMop.{OwnedMop}
-use Rattle.simple_ops.specs.declared.types.OwnedMop.TheVariants as owned
-use Rattle.simple_ops.specs.contracts.types.OwnedAtomPartialEq.TheImpl as atom_impl
+use Rattle.op_view.specs.AtomLaws.{atom_eq_equiv}
 use Rattle.jepcheck.specs.declared.bad_reads.Written.{Written}
 use Rattle.jepcheck.specs.declared.bad_reads.Writers.{Writers}
-use Rattle.jepcheck.specs.Writers.{write_of, written_eq, Note, add, nobody, after_note}
-
--- `==` of owned atoms is that of the atoms
-pub owned_eq-is : (a b : OwnedAtom) → (atom_impl.ghosts).eq a b ≡ atom_eq (atom_of_owned a) (atom_of_owned b)
-owned_eq-is (Int m) (Int n) = refl
-owned_eq-is (Int m) (Keyword b) = refl
-owned_eq-is (Keyword a) (Int n) = refl
-owned_eq-is (Keyword a) (Keyword b) = refl
+use Rattle.jepcheck.specs.Writers.{write_of, written_eq, write_in, seen_in, Note, notes_of_mops, add, nobody, after_note, sight, sights_behind}
 
 -- two keys of the index are the same where their writes are
 pub written_eq-is : (a b : Written) → written_eq a b ≡ write_eq (write_of a) (write_of b)
-written_eq-is a b = ap (λ x. x && (atom_impl.ghosts).eq a.value.now b.value.now) (owned_eq-is a.key.now b.key.now) ∙ ap (λ x. atom_eq (atom_of_owned a.key.now) (atom_of_owned b.key.now) && x) (owned_eq-is a.value.now b.value.now)
-
--- each atom is equal to itself
-atom_refl : (a : Atom) → atom_eq a a ≡ true
-atom_refl (integer i) = int_eq_equiv.refl i
-atom_refl (keyword s) = nat_list_eq_equiv.refl s
-atom_refl (string s) = nat_list_eq_equiv.refl s
-atom_refl (symbol s) = nat_list_eq_equiv.refl s
-
--- `==` of atoms goes both ways
-atom_symm : (a b : Atom) → atom_eq a b ≡ atom_eq b a
-atom_symm (integer i) (integer j) = int_eq_equiv.symm i j
-atom_symm (keyword s) (keyword t) = nat_list_eq_equiv.symm s t
-atom_symm (string s) (string t) = nat_list_eq_equiv.symm s t
-atom_symm (symbol s) (symbol t) = nat_list_eq_equiv.symm s t
-atom_symm a b = refl
-
--- equal atoms are equal to the same atoms
-atom_congr : (a b c : Atom) → atom_eq a b ≡ true → atom_eq a c ≡ atom_eq b c
-atom_congr (integer i) (integer j) (integer k) e = int_eq_equiv.congr i j k e
-atom_congr (integer i) (integer j) c e = refl
-atom_congr (keyword s) (keyword t) (keyword u) e = nat_list_eq_equiv.congr s t u e
-atom_congr (keyword s) (keyword t) c e = refl
-atom_congr (string s) (string t) (string u) e = nat_list_eq_equiv.congr s t u e
-atom_congr (string s) (string t) c e = refl
-atom_congr (symbol s) (symbol t) (symbol u) e = nat_list_eq_equiv.congr s t u e
-atom_congr (symbol s) (symbol t) c e = refl
-atom_congr a b c e = absurd (false≢true e)
-
--- the laws of `==` of atoms
-pub atom_laws : IsEquivalence atom_eq
-atom_laws = record { refl = atom_refl; symm = atom_symm; congr = atom_congr }
+written_eq-is a b = refl
 
 -- the laws of `==` of writes
 pub write_laws : IsEquivalence write_eq
-write_laws = and_equiv (on_equiv (λ (w : Write). w.key) atom_laws) (on_equiv (λ (w : Write). w.value) atom_laws)
+write_laws = and_equiv (on_equiv (λ (w : Write). w.key) atom_eq_equiv) (on_equiv (λ (w : Write). w.value) atom_eq_equiv)
 
 -- the laws of `==` of the index's keys
 pub written_laws : IsEquivalence written_eq
@@ -98,9 +56,46 @@ or-false-or true b = refl
 or-false-or false b = refl
 
 -- whether a list of micro-operations writes a key, one by one
-pub has_key-map : (key : Atom) (mops : List OwnedMop) → list_any (λ m. has_key key (writes_of (mop_of_owned m ∷ []))) mops ≡ has_key key (writes_of (map mop_of_owned mops))
+pub has_key-map : (key : Atom) (mops : List Mop) → list_any (λ m. has_key key (writes_of (m ∷ []))) mops ≡ has_key key (writes_of mops)
 has_key-map key [] = refl
-has_key-map key (owned.Read k v ∷ mops) = has_key-map key mops
-has_key-map key (owned.Write k v ∷ mops) =
-    or-false-or (atom_eq key (atom_of_owned k)) (list_any (λ m. has_key key (writes_of (mop_of_owned m ∷ []))) mops)
-    ∙ ap (λ b. atom_eq key (atom_of_owned k) || b) (has_key-map key mops)
+has_key-map key (read k v ∷ mops) = has_key-map key mops
+has_key-map key (write k v ∷ mops) =
+    or-false-or (atom_eq key k) (list_any (λ m. has_key key (writes_of (m ∷ []))) mops)
+    ∙ ap (λ b. atom_eq key k || b) (has_key-map key mops)
+
+-- ---- one micro-operation more
+
+-- a micro-operation writes nothing
+pub notes_behind_none : (writer : ℕ) (failed : Bool) (mop : Mop) (mops : List Mop) → write_in mop ≡ None
+    → notes_of_mops writer failed (mop ∷ mops) ≡ notes_of_mops writer failed mops
+notes_behind_none writer failed (read key value) mops e = refl
+notes_behind_none writer failed (write key value) mops e = absurd (none-some _ (sym e))
+
+-- a micro-operation writes this
+pub notes_behind : (writer : ℕ) (failed : Bool) (mop : Mop) (mops : List Mop) (w : Write) → write_in mop ≡ Some w
+    → notes_of_mops writer failed (mop ∷ mops)
+    ≡ record { write = w; writer = writer; failed = failed; over = has_key w.key (writes_of mops) } ∷ notes_of_mops writer failed mops
+notes_behind writer failed (read key value) mops w e = absurd (none-some _ e)
+notes_behind writer failed (write key value) mops w e =
+    ap (λ (v : Write). record { write = v; writer = writer; failed = failed; over = has_key v.key (writes_of mops) } ∷ notes_of_mops writer failed mops) (same_Some _ w e)
+
+-- a micro-operation read nothing, or nil
+pub sights_behind-none : (reader : ℕ) (before : List Mop) (mop : Mop) (mops : List Mop) → seen_in mop ≡ None
+    → sights_behind reader before (mop ∷ mops) ≡ sights_behind reader (before ++ mop ∷ []) mops
+sights_behind-none reader before (read key None) mops e = by_test (has_key key (writes_of before))
+  where
+    by_test : (b : Bool) → cond b [] (map (sight reader) (seen_value key None)) ++ sights_behind reader (before ++ read key None ∷ []) mops
+        ≡ sights_behind reader (before ++ read key None ∷ []) mops
+    by_test true = refl
+    by_test false = refl
+sights_behind-none reader before (read key (Some value)) mops e = absurd (none-some _ (sym e))
+sights_behind-none reader before (write key value) mops e = refl
+
+-- a micro-operation read this
+pub sights_behind-some : (reader : ℕ) (before : List Mop) (mop : Mop) (mops : List Mop) (w : Write) → seen_in mop ≡ Some w
+    → sights_behind reader before (mop ∷ mops)
+    ≡ cond (has_key w.key (writes_of before)) [] (sight reader w ∷ []) ++ sights_behind reader (before ++ mop ∷ []) mops
+sights_behind-some reader before (read key None) mops w e = absurd (none-some _ e)
+sights_behind-some reader before (read key (Some value)) mops w e =
+    ap (λ (v : Write). cond (has_key v.key (writes_of before)) [] (sight reader v ∷ []) ++ sights_behind reader (before ++ read key (Some value) ∷ []) mops) (same_Some _ w e)
+sights_behind-some reader before (write key value) mops w e = absurd (none-some _ e)

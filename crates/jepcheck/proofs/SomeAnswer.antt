@@ -1,18 +1,17 @@
 -- A text has an answer.
-use Rattle.std.proofs.Common.{◌≡◌, ℕ, ◌-◌, List, [], ◌∷◌, length, map, Bool, true, false, Option, Some, None, inl, inr, refl, ap, sym, ◌∙◌, arith}
+use Rattle.std.proofs.Common.{◌≡◌, ℕ, List, [], Bool, true, false, Option, Some, None, inl, inr, refl, ap, sym, ◌∙◌}
 use Rattle.std.specs.Prelude.{◌≢◌, option_map}
 use Rattle.std.proofs.lemmas.Bool.{false≢true}
 use Rattle.hist_types.specs.Operations.{Operation}
 use Rattle.hist_types.specs.Journal.{first_broken}
-use Rattle.hist_types.specs.LineReading.{operation, Reads}
+use Rattle.hist_types.specs.Entries.{Entry, operations_of}
+use Rattle.hist_types.specs.Laws.{HasOne}
+use Rattle.hist_types.specs.Reading.{Reads}
 use Rattle.hist_types.specs.Refusals.{event_fault}
 use Rattle.hist_types.specs.Texts.{reads_text, has_bad_read, refusal_line}
 use Rattle.hist_types.specs.declared.types.Fault.{Fault}
 use Rattle.hist_types.specs.declared.types.Refusal.{Refusal}
-use Rattle.simple_ops.specs.Reader.{not_a_map}
-use Rattle.simple_ops.specs.SimpleLines.{HasSimpleLines, BeginsWithLines, BeginsWithNoLine, AreSimpleLines}
-use Rattle.jepcheck.specs.Answers.{GivesOperations, GivesFault, GivesEvents, IsRefused, IsReport, IsAnswer, HasAnswer}
-use Rattle.jepcheck.specs.Statuses.{status_by}
+use Rattle.jepcheck.specs.Answers.{GivesOperations, GivesEvents, IsRefused, HasAnswer}
 use Rattle.jepcheck.specs.declared.answer.Status.{Status}
 use Rattle.jepcheck.specs.declared.answer.Status.TheVariants as statuses
 use Rattle.jepcheck.specs.declared.run.Command.TheVariants.{Reads as the_command}
@@ -43,16 +42,12 @@ judged text operations given = by_rules (first_broken [] operations) refl
     by_rules None e = reported text operations (record { given = given; kept = e })
     by_rules (Some rule) e = refused text (event_fault rule) (inr (operations, given, ap (option_map event_fault) e))
 
-by_rest : (text : List ℕ) → ((ops : List Operation) → AreSimpleLines text ops → Reads text (map operation ops) None) → (ops : List Operation) (rest : List ℕ) → BeginsWithLines text ops rest → BeginsWithNoLine rest → HasAnswer the_command text
-by_rest text gives ops [] lines stops = judged text ops (record { lines = lines; read = gives ops lines })
-by_rest text gives ops (b ∷ bytes) lines stops =
-    refused text (not_a_map (length text - length (b ∷ bytes)))
-    (inl (record { before = ops; rest = b ∷ bytes; lines = lines; not_ended = λ e. not_none b bytes e; not_simple = stops; fault_is = refl }))
-  where
-    not_none : (b : ℕ) (bytes : List ℕ) → (b ∷ bytes) ≢ []
-    not_none b bytes e = let none : length (b ∷ bytes) ≡ 0 = ap length e in omega (arith, none)
+by_reading : (text : List ℕ) → (entries : List Entry) (ending : Option Fault) → Reads text entries ending → HasAnswer the_command text
+by_reading text entries None read = judged text (operations_of entries) (record { entries = entries; read = read; given = refl })
+by_reading text entries (Some fault) read = refused text fault (inl (record { entries = entries; read = read }))
 
-pub some_answer : ((text : List ℕ) → HasSimpleLines text) → ((text : List ℕ) (ops : List Operation) → AreSimpleLines text ops → Reads text (map operation ops) None) → (text : List ℕ) → HasAnswer the_command text
-some_answer lines gives text =
-    let has = lines text in
-    by_rest text (gives text) has.0 has.1 has.2 has.3
+-- a text that has a reading has an answer
+pub some_answer : ((text : List ℕ) → HasOne (Reads text)) → (text : List ℕ) → HasAnswer the_command text
+some_answer one_reading text =
+    let has = (one_reading text).0 in
+    by_reading text has.0 has.1 has.2

@@ -1,33 +1,28 @@
 -- What the program answers to a text.
-use Rattle.std.specs.Prelude.{◌≡◌, ◌≢◌, ◌⊎◌, ℕ, ◌-◌, List, [], length, map, Option, Some, None, option_map}
+use Rattle.std.specs.Prelude.{◌≡◌, ◌≢◌, ◌⊎◌, ℕ, List, [], Option, Some, None, option_map}
 use Rattle.hist_types.specs.Operations.{Operation}
-use Rattle.hist_types.specs.LineReading.{operation, Reads}
+use Rattle.hist_types.specs.Entries.{Entry, operations_of}
+use Rattle.hist_types.specs.Reading.{Reads}
 use Rattle.hist_types.specs.Journal.{first_broken}
 use Rattle.hist_types.specs.Refusals.{event_fault, memory_fault}
 use Rattle.hist_types.specs.Texts.{reads_text, has_bad_read, refusal_line}
 use Rattle.hist_types.specs.declared.types.Fault.{Fault}
-use Rattle.simple_ops.specs.Reader.{not_a_map}
-use Rattle.simple_ops.specs.SimpleLines.{BeginsWithLines, BeginsWithNoLine, AreSimpleLines}
 use Rattle.jepcheck.specs.Statuses.{status_by}
 use Rattle.jepcheck.specs.declared.answer.Status.{Status}
 use Rattle.jepcheck.specs.declared.answer.Status.TheVariants as statuses
 use Rattle.jepcheck.specs.declared.run.Command.{Command}
 use Rattle.jepcheck.specs.declared.run.Command.TheVariants as commands
 
--- While only simple lines are read: the text is simple lines of these operations, and by the definition of reading it gives
--- them and nothing else.
+-- the text reads as these operations, up to its end
 pub record GivesOperations (text : List ℕ) (operations : List Operation) : Type 0 where
-  pub lines : AreSimpleLines text operations
-  pub read : Reads text (map operation operations) None
+  pub entries : List Entry
+  pub read : Reads text entries None
+  pub given : operations_of entries ≡ operations
 
--- While only simple lines are read: the first other line is refused, at its first byte.
+-- the text's reading ends with this fault
 pub record GivesFault (text : List ℕ) (fault : Fault) : Type 0 where
-  pub before : List Operation
-  pub rest : List ℕ
-  pub lines : BeginsWithLines text before rest
-  pub not_ended : rest ≢ []
-  pub not_simple : BeginsWithNoLine rest
-  pub fault_is : fault ≡ not_a_map (length text - length rest)
+  pub entries : List Entry
+  pub read : Reads text entries (Some fault)
 
 -- the first rule that the operations break, one after the other
 abbrev pub journal_fault : List Operation → Option Fault

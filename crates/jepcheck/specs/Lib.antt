@@ -1,4 +1,5 @@
 pub mod Answers
+pub mod Blocks
 pub mod Pieces
 pub mod Writers
 pub mod Statuses

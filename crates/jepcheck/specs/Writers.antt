@@ -7,12 +7,12 @@ use Rattle.hist_types.specs.Journal.{Write, write_eq, writes_of}
 use Rattle.hist_types.specs.Atoms.{Atom, Value}
 use Rattle.hist_types.specs.Transactions.{Transaction, version_of, has_key, is_ok, is_failed}
 use Rattle.hist_types.specs.Phenomena as phenomena
-use Rattle.simple_ops.specs.Owned.{atom_of_owned}
 use Rattle.jepcheck.specs.declared.bad_reads.Written.{Written}
 use Rattle.jepcheck.specs.declared.bad_reads.Writers.{Writers}
 use Rattle.jepcheck.specs.declared.bad_reads.Noted.{Noted}
 use Rattle.jepcheck.specs.declared.bad_reads.Seen.{Seen}
 use Rattle.jepcheck.specs.declared.bad_reads.BadRead.{BadRead}
+use Rattle.jepcheck.specs.declared.bad_reads.Found.{Found}
 use Rattle.jepcheck.specs.contracts.bad_reads.WrittenPartialEq.TheImpl as written_impl
 
 -- when two keys of the index are the same
@@ -21,7 +21,17 @@ written_eq = (written_impl.ghosts).eq
 
 -- the write that a key of the index stands for
 abbrev pub write_of : Written → Write
-write_of w = record { key = atom_of_owned w.key.now; value = atom_of_owned w.value.now }
+write_of w = record { key = w.key; value = w.value }
+
+-- what a micro-operation writes, and the atom that it read
+abbrev pub write_in : Mop → Option Write
+write_in (read key value) = None
+write_in (write key value) = Some (record { key = key; value = value })
+
+abbrev pub seen_in : Mop → Option Write
+seen_in (read key None) = None
+seen_in (read key (Some value)) = Some (record { key = key; value = value })
+seen_in (write key value) = None
 
 -- that a transaction wrote a value, whether it failed, and whether it wrote the key again
 pub record Note : Type 0 where
@@ -103,11 +113,13 @@ abbrev pub sights : List Transaction → List Sight
 sights ts = flat_map sights_of (filter is_ok ts)
 
 abbrev pub bad_read_of : BadRead → phenomena.BadRead
-bad_read_of r =
-    record { reader = r.reader; version = record { key = atom_of_owned r.key.now; value = Some (atom_of_owned r.value.now) }; writer = r.writer }
+bad_read_of r = record { reader = r.reader; version = record { key = r.key; value = Some r.value }; writer = r.writer }
 
 abbrev pub bad_sight : Sight → ℕ → phenomena.BadRead
 bad_sight s writer = record { reader = s.reader; version = version_of s.write; writer = writer }
+
+abbrev pub found_of : Found → phenomena.BadRead
+found_of f = bad_sight (sight_of f.read.now) f.writer
 
 -- whether there is a number, and it is this one
 abbrev pub option_is : ℕ → Option ℕ → Bool

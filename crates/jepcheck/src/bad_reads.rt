@@ -5,27 +5,27 @@ ghost use Rattle.std.specs.HashMap.{get};
 ghost use Rattle.hist_types.specs.Transactions.{has_key, is_fail_status, is_ok_status};
 ghost use Rattle.hist_types.specs.Journal.{writes_of};
 ghost use Rattle.hist_types.specs.Phenomena.{g1a, g1b, stray};
-ghost use Rattle.simple_ops.specs.Owned.{atom_of_owned, mop_of_owned};
-ghost use Rattle.simple_txns.specs.Txns.{transaction_of_txn, status_of};
+ghost use Rattle.txn_pairs.specs.Statuses.{status_of};
 ghost use Rattle.jepcheck.specs.declared.bad_reads.Written.{Written};
-ghost use Rattle.jepcheck.specs.Writers.{first_some, aborted_sight, intermediate_sight, add, note_of, notes, notes_of, after_note, after_notes, write_of, written_eq, sight_of, sights_of, sights, bad_read_of, bad_sight, over_apart, nobody};
+ghost use Rattle.jepcheck.specs.Writers.{first_some, aborted_sight, intermediate_sight, add, note_of, notes, notes_of, notes_of_mops, after_note, after_notes, write_of, write_in, seen_in, written_eq, sight_of, sights_of, sights, bad_read_of, found_of, bad_sight, over_apart, nobody};
 
-use simple_ops::types::{OwnedAtom, OwnedMop};
-use simple_txns::types::{Status, Txn};
+use op_view::atom::Atom;
+use op_view::mops::Mop;
 use std::alloc::{AllocError, Global};
 use std::collections::HashMap;
+use txn_pairs::types::{Status, Txn};
 
 /// A read of an ok transaction, and the transaction that wrote its value, each by the index of its invocation.
-#[derive(Clone, Copy)]
+#[derive(Drop)]
 pub struct BadRead<'a> {
     pub reader: u64,
-    pub key: &'a OwnedAtom,
-    pub value: &'a OwnedAtom,
+    pub key: Atom<'a>,
+    pub value: Atom<'a>,
     pub writer: u64,
 }
 
 /// The first aborted read, the first intermediate read, and how many reads return what nobody wrote.
-#[derive(Clone, Copy)]
+#[derive(Drop)]
 pub struct BadReads<'a> {
     pub aborted: Option<BadRead<'a>>,
     pub intermediate: Option<BadRead<'a>>,
@@ -33,10 +33,10 @@ pub struct BadReads<'a> {
 }
 
 /// A value that is written to a key.
-#[derive(Clone, Copy, PartialEq, Eq, Hash)]
+#[derive(PartialEq, Eq, Hash, Drop)]
 pub struct Written<'a> {
-    key: &'a OwnedAtom,
-    value: &'a OwnedAtom,
+    key: Atom<'a>,
+    value: Atom<'a>,
 }
 
 /// Who wrote a value to a key, each by the index of its invocation.
@@ -51,7 +51,7 @@ pub struct Writers {
 }
 
 /// That a transaction wrote a value.
-#[derive(Clone, Copy)]
+#[derive(Drop)]
 pub struct Noted<'a> {
     written: Written<'a>,
     writer: u64,
@@ -61,10 +61,25 @@ pub struct Noted<'a> {
 }
 
 /// A value that an ok transaction read externally.
-#[derive(Clone, Copy)]
+#[derive(Drop)]
 pub struct Seen<'a> {
     reader: u64,
     written: Written<'a>,
+}
+
+/// A read of an ok transaction, and the transaction that wrote its value.
+#[derive(Clone, Copy)]
+pub struct Found<'s, 'a> {
+    read: &'s Seen<'a>,
+    writer: u64,
+}
+
+/// What was found first, and how many reads return what nobody wrote.
+#[derive(Clone, Copy)]
+pub struct AllFound<'s, 'a> {
+    aborted: Option<Found<'s, 'a>>,
+    intermediate: Option<Found<'s, 'a>>,
+    stray: u64,
 }
 
 impl Writers {
@@ -79,8 +94,8 @@ impl Writers {
     }
 
     /// The writers with one more note.
-    fn and(self, noted: Noted<'_>) -> Writers
-        ensures { result ≡ add self (note_of noted.entry) }
+    fn and(self, noted: &Noted<'_>) -> Writers
+        ensures { result ≡ add self (note_of noted.now) }
     {
         let writer = noted.writer;
         let is_another = self.over.is_some_and(|first| writer != first);
@@ -104,31 +119,36 @@ impl Writers {
 
 impl<'a> Seen<'a> {
     /// The read with its writer, if there is one.
-    fn of(self, writer: Option<u64>) -> Option<BadRead<'a>>
-        ensures { option_map bad_read_of result ≡ option_map (bad_sight (sight_of self.entry)) writer }
+    fn of<'s>(&'s self, writer: Option<u64>) -> Option<Found<'s, 'a>>
+        ensures { option_map found_of result ≡ option_map (bad_sight (sight_of self.now)) writer }
     {
         let writer = writer?;
-        Some(BadRead {
-            reader: self.reader,
-            key: self.written.key,
-            value: self.written.value,
-            writer,
-        })
+        Some(Found { read: self, writer })
     }
 }
 
-fn writes(mop: &OwnedMop, key: &OwnedAtom) -> bool
-    ensures { result ≡ has_key (atom_of_owned key.now) (writes_of (mop_of_owned mop.now ∷ [])) }
+/// The bad read that was found, if one was.
+fn bad_read<'a>(found: Option<Found<'_, 'a>>) -> Option<BadRead<'a>>
+    ensures { option_map bad_read_of result ≡ option_map found_of found.entry }
 {
-    match mop {
-        OwnedMop::Write { key: written, .. } => key == written,
-        OwnedMop::Read { .. } => false,
-    }
+    let found = found?;
+    Some(BadRead {
+        reader: found.read.reader,
+        key: found.read.written.key.copy(),
+        value: found.read.written.value.copy(),
+        writer: found.writer,
+    })
+}
+
+fn writes(mop: &Mop<'_>, key: &Atom<'_>) -> bool
+    ensures { result ≡ has_key key.now (writes_of (mop.now ∷ [])) }
+{
+    mop.is_write() && *key == mop.key()
 }
 
 /// Whether one of the micro-operations writes the key.
-fn any_writes(mops: &[OwnedMop], key: &OwnedAtom) -> bool
-    ensures { result ≡ has_key (atom_of_owned key.now) (writes_of (map mop_of_owned mops.now)) }
+fn any_writes(mops: &[Mop<'_>], key: &Atom<'_>) -> bool
+    ensures { result ≡ has_key key.now (writes_of mops.now) }
 {
     mops.iter().any(|mop| writes(mop, key))
 }
@@ -138,35 +158,85 @@ fn note<'a>(index: &mut HashMap<Written<'a>, Writers>, noted: Noted<'a>) -> Resu
     ensures { OnOk result ((q : Written) → get written_eq index.new q ≡ after_note (write_of q) (get written_eq index.old q) (note_of noted.entry)) }
 {
     let known = index.get(&noted.written).copied();
-    let writers = known.unwrap_or(Writers::nobody()).and(noted);
+    let writers = known.unwrap_or(Writers::nobody()).and(&noted);
     index.insert(noted.written, writers)?;
     Ok(())
+}
+
+/// The micro-operations of a transaction, as slices of the journal's texts.
+fn mops_of<'a>(alloc: Global, txn: &Txn<'a>) -> Result<Vec<Mop<'a>>, AllocError>
+    ensures { IfOk result (λ mops. mops.items ≡ txn.now.mops) }
+{
+    txn.mops().collect(alloc)
+}
+
+/// What a micro-operation writes.
+fn written_by<'a>(mop: &Mop<'a>) -> Option<Written<'a>>
+    ensures { option_map write_of result ≡ write_in mop.now }
+{
+    if !mop.is_write() {
+        return None;
+    }
+    let value = mop.value()?;
+    Some(Written {
+        key: mop.key(),
+        value,
+    })
+}
+
+/// What a micro-operation read, unless that is nil.
+fn read_by<'a>(mop: &Mop<'a>) -> Option<Written<'a>>
+    ensures { option_map write_of result ≡ seen_in mop.now }
+{
+    if mop.is_write() {
+        return None;
+    }
+    let value = mop.value()?;
+    Some(Written {
+        key: mop.key(),
+        value,
+    })
+}
+
+/// Notes what a micro-operation writes, if it does, with the transaction's later micro-operations.
+#[tactic(auto, using(crate::proofs::Lookups::notes_behind, crate::proofs::Lookups::notes_behind_none))]
+fn note_write<'a>(
+    index: &mut HashMap<Written<'a>, Writers>,
+    mop: &Mop<'a>,
+    later: &[Mop<'a>],
+    writer: u64,
+    failed: bool,
+) -> Result<(), AllocError>
+    ensures { OnOk result ((q : Written) → after_notes (write_of q) (get written_eq index.new q) (notes_of_mops writer failed later.now) ≡ after_notes (write_of q) (get written_eq index.old q) (notes_of_mops writer failed (mop.now ∷ later.now))) }
+{
+    let Some(written) = written_by(mop) else {
+        return Ok(());
+    };
+    let over = any_writes(later, &written.key);
+    note(
+        index,
+        Noted {
+            written,
+            writer,
+            failed,
+            over,
+        },
+    )
 }
 
 /// Notes the writes of a transaction.
 fn note_writes<'a>(
     index: &mut HashMap<Written<'a>, Writers>,
     txn: &Txn<'a>,
+    mops: &[Mop<'a>],
 ) -> Result<(), AllocError>
-    ensures { OnOk result ((q : Written) → get written_eq index.new q ≡ after_notes (write_of q) (get written_eq index.old q) (notes_of (transaction_of_txn txn.now))) }
+    requires { mops.now ≡ txn.now.mops }
+    ensures { OnOk result ((q : Written) → get written_eq index.new q ≡ after_notes (write_of q) (get written_eq index.old q) (notes_of txn.now)) }
 {
-    let failed = is_failed(txn.status);
-    let mut rest = txn.mops;
-    while let Some((mop, later)) = rest.split_first() {
-        if let OwnedMop::Write { key, value } = mop {
-            let over = any_writes(later, key);
-            let written = Written { key, value };
-            note(
-                index,
-                Noted {
-                    written,
-                    writer: txn.invocation,
-                    failed,
-                    over,
-                },
-            )?;
-        }
-        rest = later;
+    let failed = is_failed(txn.status());
+    let writer = txn.invocation();
+    for (place, mop) in mops.iter().enumerate() {
+        note_write(index, mop, &mops[place + 1..], writer, failed)?;
     }
     Ok(())
 }
@@ -188,33 +258,32 @@ fn index_writes<'a>(
     alloc: Global,
     txns: &[Txn<'a>],
 ) -> Result<HashMap<Written<'a>, Writers>, AllocError>
-    ensures { IfOk result (λ index. (q : Written) → get written_eq index q ≡ after_notes (write_of q) None (notes (map transaction_of_txn txns.now))) }
+    ensures { IfOk result (λ index. (q : Written) → get written_eq index q ≡ after_notes (write_of q) None (notes txns.now)) }
 {
     let mut index = HashMap::new(alloc);
     for txn in txns {
-        note_writes(&mut index, txn)?;
+        let mops = mops_of(alloc, txn)?;
+        note_writes(&mut index, txn, &mops)?;
     }
     Ok(index)
 }
 
 /// Adds the external reads of a transaction that didn't return nil.
-fn note_reads<'a>(seen: &mut Vec<Seen<'a>>, txn: &Txn<'a>) -> Result<(), AllocError>
-    ensures { OnOk result (map sight_of seen.new.items ≡ map sight_of seen.old.items ++ sights_of (transaction_of_txn txn.now)) }
+fn note_reads<'a>(
+    seen: &mut Vec<Seen<'a>>,
+    txn: &Txn<'a>,
+    mops: &[Mop<'a>],
+) -> Result<(), AllocError>
+    requires { mops.now ≡ txn.now.mops }
+    ensures { OnOk result (map sight_of seen.new.items ≡ map sight_of seen.old.items ++ sights_of txn.now) }
 {
-    for (place, mop) in txn.mops.iter().enumerate() {
-        let OwnedMop::Read {
-            key,
-            value: Some(value),
-        } = mop
-        else {
+    let reader = txn.invocation();
+    for (place, mop) in mops.iter().enumerate() {
+        let Some(written) = read_by(mop) else {
             continue;
         };
-        if !any_writes(&txn.mops[..place], key) {
-            let written = Written { key, value };
-            seen.push(Seen {
-                reader: txn.invocation,
-                written,
-            })?;
+        if !any_writes(&mops[..place], &written.key) {
+            seen.push(Seen { reader, written })?;
         }
     }
     Ok(())
@@ -222,24 +291,25 @@ fn note_reads<'a>(seen: &mut Vec<Seen<'a>>, txn: &Txn<'a>) -> Result<(), AllocEr
 
 /// The external reads of the ok transactions that didn't return nil, in order.
 fn reads_seen<'a>(alloc: Global, txns: &[Txn<'a>]) -> Result<Vec<Seen<'a>>, AllocError>
-    ensures { IfOk result (λ seen. map sight_of seen.items ≡ sights (map transaction_of_txn txns.now)) }
+    ensures { IfOk result (λ seen. map sight_of seen.items ≡ sights txns.now) }
 {
     let mut seen = Vec::new(alloc);
     for txn in txns {
-        if is_ok(txn.status) {
-            note_reads(&mut seen, txn)?;
+        if is_ok(txn.status()) {
+            let mops = mops_of(alloc, txn)?;
+            note_reads(&mut seen, txn, &mops)?;
         }
     }
     Ok(seen)
 }
 
 /// Looks each read up.
-fn judge<'a>(index: &HashMap<Written<'a>, Writers>, seen: &[Seen<'a>]) -> BadReads<'a>
-    ensures aborted { option_map bad_read_of result.aborted ≡ first_some (λ s. aborted_sight (get written_eq index.now s.written) (sight_of s)) seen.now }
-    ensures intermediate { option_map bad_read_of result.intermediate ≡ first_some (λ s. intermediate_sight (get written_eq index.now s.written) (sight_of s)) seen.now }
+fn judge<'s, 'a>(index: &HashMap<Written<'a>, Writers>, seen: &'s [Seen<'a>]) -> AllFound<'s, 'a>
+    ensures aborted { option_map found_of result.aborted ≡ first_some (λ s. aborted_sight (get written_eq index.now s.written) (sight_of s)) seen.now }
+    ensures intermediate { option_map found_of result.intermediate ≡ first_some (λ s. intermediate_sight (get written_eq index.now s.written) (sight_of s)) seen.now }
     ensures stray { result.stray ≡ count_by (λ s. not (is_some (get written_eq index.now s.written))) seen.now }
 {
-    let mut found = BadReads {
+    let mut found = AllFound {
         aborted: None,
         intermediate: None,
         stray: 0,
@@ -259,11 +329,18 @@ fn judge<'a>(index: &HashMap<Written<'a>, Writers>, seen: &[Seen<'a>]) -> BadRea
 /// What the reads of the transactions show. It takes memory for the index of all writes and for the list of all
 /// external reads.
 pub fn bad_reads<'a>(alloc: Global, txns: &[Txn<'a>]) -> Result<BadReads<'a>, AllocError>
-    ensures aborted { IfOk result (λ found. option_map bad_read_of found.aborted ≡ g1a (map transaction_of_txn txns.now)) }
-    ensures intermediate { IfOk result (λ found. option_map bad_read_of found.intermediate ≡ g1b (map transaction_of_txn txns.now)) }
-    ensures stray { IfOk result (λ found. found.stray ≡ stray (map transaction_of_txn txns.now)) }
+    ensures aborted { IfOk result (λ found. option_map bad_read_of found.aborted ≡ g1a txns.now) }
+    ensures intermediate { IfOk result (λ found. option_map bad_read_of found.intermediate ≡ g1b txns.now) }
+    ensures stray { IfOk result (λ found. found.stray ≡ stray txns.now) }
 {
     let index = index_writes(alloc, txns)?;
     let seen = reads_seen(alloc, txns)?;
-    Ok(judge(&index, &seen))
+    let found = judge(&index, &seen);
+    let aborted = bad_read(found.aborted);
+    let intermediate = bad_read(found.intermediate);
+    Ok(BadReads {
+        aborted,
+        intermediate,
+        stray: found.stray,
+    })
 }

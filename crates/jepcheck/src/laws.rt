@@ -8,22 +8,21 @@ ghost use Rattle.jepcheck.specs.declared.answer.Status.TheVariants.{Memory};
 ghost use Rattle.jepcheck.specs.declared.command_line.Asked.TheVariants.{Run};
 ghost use Rattle.jepcheck.specs.declared.run.Command.TheVariants.{Reads};
 
-use simple_ops::laws::{simple_lines_end_at_one_place, simple_lines_read};
+use hist_types::laws::texts_have_one_reading;
 
 /// A text has one answer of `reads` at most, beside the one that is out of memory: one status, and one output with it.
 pub fn one_answer_to_a_text()
     ensures { (text : List ℕ) (status other : Status) (printed others : List ℕ) → status ≢ Memory → other ≢ Memory
         → IsAnswer Reads text status printed → IsAnswer Reads text other others → (status ≡ other) × (printed ≡ others) }
 {
-    simple_lines_end_at_one_place();
+    texts_have_one_reading();
 }
 
 /// Each text has an answer of `reads` other than the one that is out of memory.
 pub fn an_answer_to_each_text()
     ensures { (text : List ℕ) → HasAnswer Reads text }
 {
-    simple_lines_end_at_one_place();
-    simple_lines_read();
+    texts_have_one_reading();
 }
 
 /// The program's name, whatever it is, and the word `reads` ask for `reads`.

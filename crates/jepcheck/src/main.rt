@@ -3,6 +3,7 @@
 
 mod answer;
 mod bad_reads;
+mod blocks;
 mod command_line;
 mod devices;
 mod dispatch;

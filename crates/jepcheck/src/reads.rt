@@ -10,9 +10,9 @@ use crate::answer::{Answer, Status};
 use crate::bad_reads::{BadReads, bad_reads};
 use crate::text::write_reads;
 use hist_types::types::Fault;
-use simple_journal::types::Core;
-use simple_txns::pair;
+use journal_core::prefix::Prefix;
 use std::alloc::Global;
+use txn_pairs::pair;
 
 fn status_of(found: &BadReads<'_>) -> Status
     ensures { result ≡ status_by (is_some found.now.aborted || is_some found.now.intermediate) }
@@ -25,17 +25,17 @@ fn status_of(found: &BadReads<'_>) -> Status
 }
 
 /// What `reads` prints of a journal. It fails only where it is out of memory.
-pub fn report(alloc: Global, core: &Core) -> Result<Answer, Fault>
-    ensures ok { IfOk result (λ answer. Reports Reads core.now answer.status answer.printed.items) }
+pub fn report(alloc: Global, events: &Prefix<'_>) -> Result<Answer, Fault>
+    ensures ok { IfOk result (λ answer. Reports Reads events.now answer.status answer.printed.items) }
     ensures err { IfErr result (λ fault. fault ≡ memory_fault) }
 {
-    let txns = pair(alloc, core)?;
+    let txns = pair(alloc, events)?;
     let found = bad_reads(alloc, txns.as_slice())?;
     let mut printed = Vec::new(alloc);
     write_reads(
         alloc,
         &mut printed,
-        core.events(),
+        events.events(),
         txns.as_slice().len() as u64,
         &found,
     )?;

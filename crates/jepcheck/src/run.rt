@@ -10,7 +10,7 @@ ghost use Rattle.jepcheck.specs.Statuses.{code_of};
 
 use crate::answer::{Answer, Status, refuse};
 use crate::devices::{ReadFault, read_all, write_all};
-use crate::inputs::read_journal;
+use crate::inputs::{journal_of, read_blocks};
 use crate::reads;
 use hist_types::device::{Failed, Sink, Source};
 use hist_types::types::{Fault, Refusal};
@@ -28,9 +28,10 @@ fn judge(alloc: Global, command: Command, text: &[u8]) -> Result<Answer, Fault>
     ensures ok { IfOk result (λ answer. IsAnswer command text.now answer.status answer.printed.items) }
     ensures err { IfErr result (λ fault. (fault ≡ memory_fault) ⊎ IsRefused text.now fault) }
 {
-    let core = read_journal(alloc, text)?;
+    let blocks = read_blocks(alloc, text)?;
+    let events = journal_of(alloc, &blocks)?;
     match command {
-        Command::Reads => reads::report(alloc, &core),
+        Command::Reads => reads::report(alloc, &events),
     }
 }
 

@@ -8,6 +8,7 @@ use crate::dispatch::dispatch;
 use crate::run::{Command, run};
 use arrayvec::ArrayVec;
 use hist_types::device::{Failed, MemorySource, Sink, Source};
+use std::alloc::{AllocError, Global};
 use std::process::Abort;
 use std::test::Fail;
 
@@ -120,7 +121,8 @@ const REWRITTEN: &[u8] = b"{:type :invoke, :process 0, :value [[:w :x 1]]}
 {:type :invoke, :process 0, :value [[:w :x 1]]}
 ";
 
-const NOT_SIMPLE: &[u8] = b"{:type :invoke, :process 0, :value [[:w :x 1]]}
+/// The value is the one that was written before, whatever its source text.
+const REWRITTEN_WITH_A_SIGN: &[u8] = b"{:type :invoke, :process 0, :value [[:w :x 1]]}
 {:type :fail, :process 0}
 {:type :invoke, :process 0, :value [[:w :x +1]]}
 ";
@@ -130,10 +132,52 @@ const READING_FIRST: &[u8] = b"{:type :ok, :process 0, :value []}
 5
 ";
 
-/// An empty line is no simple line.
-const EMPTY_LINE: &[u8] = b"{:type :ok, :process 0, :value []}
-
+/// As Jepsen prints it: with an index and a time, fields that nobody asks for, tags, and lines of the nemesis.
+const AS_JEPSEN_PRINTS: &[u8] =
+    b"#jepsen.history.Op{:index 0, :time 3291485317, :type :invoke, :process 0, :f :txn, :value [[:w :x \"a b\"]]}
+#jepsen.history.Op{:index 1, :time 3296209422, :type :info, :process :nemesis, :f :start-partition, :value :majority}
+#jepsen.history.Op{:index 2, :time 3297340018, :type :invoke, :process 1, :f :txn, :value [[:r :x nil] [:w 8 true]]}
 ";
+
+const ABORTED_READ_AS_JEPSEN_PRINTS: &[u8] =
+    b"#jepsen.history.Op{:index 0, :time 3291485317, :type :invoke, :process 0, :f :txn, :value [[:w :x \"a b\"]]}
+#jepsen.history.Op{:index 1, :time 3296209422, :type :info, :process :nemesis, :f :start-partition, :value :majority}
+#jepsen.history.Op{:index 2, :time 3297340018, :type :invoke, :process 1, :f :txn, :value [[:r :x nil]]}
+#jepsen.history.Op{:index 3, :time 3298340018, :type :fail, :process 0, :f :txn, :value [[:w :x \"a b\"]], :error [:conflict {:code 40001}]}
+#jepsen.history.Op{:index 4, :time 3299340018, :type :ok, :process 1, :f :txn, :value [[:r :x \"a b\"]]}
+";
+
+/// A whole history in one vector, with a comment and an operation that is left out.
+const IN_A_VECTOR: &[u8] = b"[{:process 0, :value ((:w x +1N)) :type :invoke} ; a comment
+#_ {:type :invoke, :process 0, :value []}
+{:type :ok :process 0 :value [[:w x 1]]},,,]";
+
+/// Two operations, laid out more loosely than a printer does it.
+const LOOSE: &[u8] =
+    b"#jepsen.history.Op{:type :invoke, :f :txn, :process 0, :value [[:w :x 1]], :error [:odd 0.5 #_ 5 \"a;b\"]} ; first
+{:type :info, :process :nemesis, :f :kill, :value nil}
+";
+
+/// The same in one vector.
+const LOOSE_IN_A_VECTOR: &[u8] =
+    b"[#jepsen.history.Op{:type :invoke, :f :txn, :process 0, :value [[:w :x 1]], :error [:odd 0.5 #_ 5 \"a;b\"]} ; first
+{:type :info, :process :nemesis, :f :kill, :value nil}]";
+
+const WITHOUT_TAGS: &[u8] =
+    b"{:index 0, :time 5, :type :invoke, :process 0, :f :txn, :value [[:w :x 1]]}
+{:index 1, :time 6, :type :info, :process :nemesis, :f :kill, :value nil}
+";
+
+const WITH_TAGS: &[u8] =
+    b"#jepsen.history.Op{:index 0, :time 5, :type :invoke, :process 0, :f :txn, :value [[:w :x 1]]}
+#jepsen.history.Op{:index 1, :time 6, :type :info, :process :nemesis, :f :kill, :value nil}
+";
+
+/// One invocation, and nothing found.
+const ONE_INVOCATION_OUT: &[u8] = b"prefix 1\ntxns 1\nG1a none\nG1b none\nstray 0\n";
+
+/// One collection more is open than may be.
+const TOO_DEEP: &[u8] = b"{:error [[[[[[[[[[[[[[[[[[[[[[[[[[[[[[[[[[[[[[[[[[[[[[[[[[[[[[[[[[[[[[[[";
 
 /// A source of a few bytes a call, which may fail at one of its calls.
 #[derive(Drop)]
@@ -290,9 +334,99 @@ fn refusals(rt: HostRuntime) -> Result<(), Fail> {
         b"refused 5 Idle event 0\n",
     );
     answers(&rt, MISMATCH, 2, b"refused 6 Mismatch event 1\n");
-    answers(&rt, NOT_SIMPLE, 2, b"refused 27 NotAMap byte 74\n");
+    answers(
+        &rt,
+        REWRITTEN_WITH_A_SIGN,
+        2,
+        b"refused 3 Rewritten event 2\n",
+    );
     answers(&rt, READING_FIRST, 2, b"refused 27 NotAMap byte 35\n");
-    answers(&rt, EMPTY_LINE, 2, b"refused 27 NotAMap byte 35\n");
+    answers(&rt, AS_JEPSEN_PRINTS, 2, b"refused 33 BadAtom byte 334\n");
+    Ok(())
+}
+
+#[test]
+fn histories_as_jepsen_prints_them(rt: HostRuntime) -> Result<(), Fail> {
+    answers(
+        &rt,
+        ABORTED_READ_AS_JEPSEN_PRINTS,
+        1,
+        b"prefix 4\ntxns 2\nG1a yes\n  T1 read :x \"a b\" of T0\nG1b none\nstray 0\n",
+    );
+    answers(
+        &rt,
+        IN_A_VECTOR,
+        0,
+        b"prefix 2\ntxns 1\nG1a none\nG1b none\nstray 0\n",
+    );
+    for history in [LOOSE, LOOSE_IN_A_VECTOR, WITHOUT_TAGS, WITH_TAGS] {
+        answers(&rt, history, 0, ONE_INVOCATION_OUT);
+    }
+    Ok(())
+}
+
+#[test]
+fn faults_of_reading(rt: HostRuntime) -> Result<(), Fail> {
+    let faults: [(&[u8], &[u8]); 6] = [
+        (
+            b"{:type :invoke, :process 0, :value [[:w :x 1]",
+            b"refused 24 Unclosed byte 35\n",
+        ),
+        (
+            b"{:type :invoke, :process 2147483648, :value []}",
+            b"refused 31 BadProcess byte 25\n",
+        ),
+        (
+            b"{:type :invoke, :process 0, :value [[:w \"\\q\" 1]]}",
+            b"refused 33 BadAtom byte 40\n",
+        ),
+        (
+            b"{:type :invoke, :process 0, :value [[:w :x nil]]}",
+            b"refused 34 NilWritten byte 43\n",
+        ),
+        (
+            b"{:type :invoke, :process 0)",
+            b"refused 22 StrayCloser byte 26\n",
+        ),
+        (TOO_DEEP, b"refused 23 TooDeep byte 71\n"),
+    ];
+    for (text, line) in faults {
+        answers(&rt, text, 2, line);
+    }
+    Ok(())
+}
+
+/// So many invocations, each of a process of its own.
+fn invocations(alloc: Global, count: u64) -> Result<Vec<u8>, AllocError> {
+    let mut text = Vec::new(alloc);
+    for process in 0..count {
+        let line = format!(in alloc; "{{:type :invoke, :process {process}, :value []}}\n")?;
+        text.extend_from_slice(line.as_bytes())?;
+    }
+    Ok(text)
+}
+
+#[test]
+fn more_operations_than_a_block_holds(rt: HostRuntime) -> Result<(), Fail> {
+    let text = invocations(rt.alloc(), 1025).or_else(|_| invocations(rt.alloc(), 1025))?;
+    answers(
+        &rt,
+        &text,
+        0,
+        b"prefix 1025\ntxns 1025\nG1a none\nG1b none\nstray 0\n",
+    );
+    Ok(())
+}
+
+#[test]
+fn a_rule_across_a_blocks_end(rt: HostRuntime) -> Result<(), Fail> {
+    let busy = || -> Result<Vec<u8>, AllocError> {
+        let mut text = invocations(rt.alloc(), 1024)?;
+        text.extend_from_slice(b"{:type :invoke, :process 7, :value []}")?;
+        Ok(text)
+    };
+    let text = busy().or_else(|_| busy())?;
+    answers(&rt, &text, 2, b"refused 1 Busy event 1024\n");
     Ok(())
 }
 

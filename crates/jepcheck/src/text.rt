@@ -5,6 +5,7 @@ ghost use Rattle.hist_types.specs.Texts.{number_line, bad_read_lines, reads_line
 ghost use Rattle.jepcheck.specs.Writers.{bad_read_of};
 
 use crate::bad_reads::{BadRead, BadReads};
+use edn_ops::write::write_atom;
 use hist_types::types::Fault;
 use std::alloc::{AllocError, Global};
 
@@ -22,9 +23,9 @@ fn write_witness(alloc: Global, out: &mut Vec<u8>, read: &BadRead<'_>) -> Result
 {
     let reader = format!(in alloc; "  T{} read ", read.reader)?;
     out.extend_from_slice(reader.as_bytes())?;
-    read.key.write(out)?;
+    write_atom(out, read.key.text())?;
     out.extend_from_slice(b" ")?;
-    read.value.write(out)?;
+    write_atom(out, read.value.text())?;
     let writer = format!(in alloc; " of T{}\n", read.writer)?;
     out.extend_from_slice(writer.as_bytes())
 }

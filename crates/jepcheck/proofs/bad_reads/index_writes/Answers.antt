@@ -1,6 +1,5 @@
-use Rattle.std.proofs.Common.{◌+◌, drop, map, ap, sym, ◌∙◌}
+use Rattle.std.proofs.Common.{◌+◌, drop, ap, sym, ◌∙◌}
 use Rattle.std.specs.HashMap.{get}
-use Rattle.simple_txns.specs.Txns.{transaction_of_txn}
 use Rattle.jepcheck.specs.Writers.{notes, notes_of, after_notes, write_of, written_eq}
 use Rattle.jepcheck.proofs.Lists.{drop_item}
 use Rattle.jepcheck.proofs.Noting.{after_notes-append}
@@ -12,8 +11,8 @@ loop-txn-preserved c = λ q.
     let known = get written_eq c.loop-txn.index q in
     let txn = c.txn-item.result in
     let txns = c.args.txns.now in
-    let rest = notes (map transaction_of_txn (drop (c.loop-txn.txn-index + 1) txns)) in
+    let rest = notes (drop (c.loop-txn.txn-index + 1) txns) in
     ap (λ o. after_notes w o rest) (c.in_ok-note_writes.ensures q)
-    ∙ (sym (after_notes-append w known (notes_of (transaction_of_txn txn)) rest)
-    ∙ (ap (λ ts. after_notes w known (notes (map transaction_of_txn ts))) (sym (drop_item txns c.loop-txn.txn-index txn c.loop-txn-test.true c.txn-item.is))
+    ∙ (sym (after_notes-append w known (notes_of txn) rest)
+    ∙ (ap (λ ts. after_notes w known (notes (ts))) (sym (drop_item txns c.loop-txn.txn-index txn c.loop-txn-test.true c.txn-item.is))
     ∙ c.loop-txn.invariant q))

@@ -2,4 +2,4 @@ use Rattle.jepcheck.proofs.SomeAnswer.{some_answer}
 use Rattle.jepcheck.proofs.laws.an_answer_to_each_text.Goals as goal
 
 pub returns : goal.returns
-returns c = some_answer c.simple_lines_end_at_one_place.ensures.lines c.simple_lines_read.ensures.gives
+returns c = some_answer c.texts_have_one_reading.ensures.reading

@@ -2,4 +2,4 @@ use Rattle.jepcheck.proofs.OneAnswer.{one_answer}
 use Rattle.jepcheck.proofs.laws.one_answer_to_a_text.Goals as goal
 
 pub returns : goal.returns
-returns c = one_answer c.simple_lines_end_at_one_place.ensures.place c.simple_lines_end_at_one_place.ensures.end
+returns c = one_answer c.texts_have_one_reading.ensures.reading
