@@ -6,13 +6,12 @@ use Rattle.std.specs.Map.{lookup}
 use Rattle.std.specs.List.{list_any}
 use Rattle.hist_types.specs.Atoms.{Atom, atom_eq}
 use Rattle.hist_types.specs.Operations.{Mop, read, write}
-use Rattle.hist_types.specs.Phenomena.{seen_value}
 use Rattle.hist_types.specs.Journal.{Write, write_eq, writes_of}
 use Rattle.hist_types.specs.Transactions.{has_key}
 use Rattle.op_view.specs.AtomLaws.{atom_eq_equiv}
 use Rattle.jepcheck.specs.declared.bad_reads.Written.{Written}
 use Rattle.jepcheck.specs.declared.bad_reads.Writers.{Writers}
-use Rattle.jepcheck.specs.Writers.{write_of, written_eq, write_in, seen_in, Note, notes_of_mops, add, nobody, after_note, sight, sights_behind}
+use Rattle.jepcheck.specs.Writers.{write_of, written_eq, write_in, seen_in, Note, notes_of_mops, add, nobody, after_note, sight, seen_value, sights_behind}
 
 -- two keys of the index are the same where their writes are
 pub written_eq-is : (a b : Written) → written_eq a b ≡ write_eq (write_of a) (write_of b)

@@ -1,5 +1,5 @@
 -- The index of writers, by key and value, and the reads that are looked up in it.
-use Rattle.std.specs.Prelude.{ℕ, List, [], ◌∷◌, ◌++◌, Bool, false, not, ◌&&◌, ◌==◌, if◌then◌else◌, Option, Some, None, option_map, option_and_then, map, flat_map, filter, unwrap_or}
+use Rattle.std.specs.Prelude.{ℕ, List, [], ◌∷◌, ◌++◌, Bool, false, not, ◌&&◌, ◌==◌, if◌then◌else◌, Option, Some, None, option_map, option_and_then, is_some, map, flat_map, filter, unwrap_or}
 use Rattle.std.specs.Bool.{then_some}
 use Rattle.std.specs.Option.{option_or}
 use Rattle.hist_types.specs.Operations.{Mop, read, write}
@@ -141,3 +141,13 @@ intermediate_sight known s = option_map (bad_sight s) (option_and_then (over_apa
 abbrev pub first_some : {A B : Type 0} → (A → Option B) → List A → Option B
 first_some f [] = None
 first_some f (x ∷ xs) = option_or (f x) (first_some f xs)
+
+-- what is known of the value that a read returned says of the read
+unfoldable pub aborted_in : (Written → Option Writers) → Seen → Option phenomena.BadRead
+aborted_in known s = aborted_sight (known s.written) (sight_of s)
+
+unfoldable pub intermediate_in : (Written → Option Writers) → Seen → Option phenomena.BadRead
+intermediate_in known s = intermediate_sight (known s.written) (sight_of s)
+
+unfoldable pub is_stray_in : (Written → Option Writers) → Seen → Bool
+is_stray_in known s = not (is_some (known s.written))

@@ -1,13 +1,14 @@
 //! Reads of values that should not have been seen.
 
-ghost use Rattle.std.specs.Prelude.{◌≡◌, [], ◌∷◌, ◌++◌, not, OnOk, IfOk, None, map, is_some, option_map, count_by};
+ghost use Rattle.std.specs.Prelude.{◌≡◌, [], ◌∷◌, ◌++◌, ◌+◌, ◌-◌, ◌<◌, ◌^◌, OnOk, IfOk, None, map, cond, option_map, count_by};
 ghost use Rattle.std.specs.HashMap.{get};
+ghost use Rattle.std.specs.Option.{option_or};
 ghost use Rattle.hist_types.specs.Transactions.{has_key, is_fail_status, is_ok_status};
 ghost use Rattle.hist_types.specs.Journal.{writes_of};
 ghost use Rattle.hist_types.specs.Phenomena.{g1a, g1b, stray};
 ghost use Rattle.txn_pairs.specs.Statuses.{status_of};
 ghost use Rattle.jepcheck.specs.declared.bad_reads.Written.{Written};
-ghost use Rattle.jepcheck.specs.Writers.{first_some, aborted_sight, intermediate_sight, add, note_of, notes, notes_of, notes_of_mops, after_note, after_notes, write_of, write_in, seen_in, written_eq, sight_of, sights_of, sights, bad_read_of, found_of, bad_sight, over_apart, nobody};
+ghost use Rattle.jepcheck.specs.Writers.{first_some, aborted_in, intermediate_in, is_stray_in, add, note_of, notes, notes_of, notes_of_mops, after_note, after_notes, write_of, write_in, seen_in, written_eq, sight_of, sights_of, sights, bad_read_of, found_of, bad_sight, over_apart, nobody};
 
 use op_view::atom::Atom;
 use op_view::mops::Mop;
@@ -124,6 +125,30 @@ impl<'a> Seen<'a> {
     {
         let writer = writer?;
         Some(Found { read: self, writer })
+    }
+}
+
+impl<'s, 'a> AllFound<'s, 'a> {
+    /// The same with one more read, which is looked up.
+    #[tactic(auto, unfolding(crate::specs::Writers::aborted_in, crate::specs::Writers::intermediate_in, crate::specs::Writers::is_stray_in))]
+    fn and(self, index: &HashMap<Written<'a>, Writers>, read: &'s Seen<'a>) -> Self
+        requires { self.stray < 2 ^ 64 - 1 }
+        ensures aborted { option_map found_of result.aborted ≡ option_or (option_map found_of self.entry.aborted) (aborted_in (get written_eq index.now) read.now) }
+        ensures intermediate { option_map found_of result.intermediate ≡ option_or (option_map found_of self.entry.intermediate) (intermediate_in (get written_eq index.now) read.now) }
+        ensures stray { result.stray ≡ self.entry.stray + cond (is_stray_in (get written_eq index.now) read.now) 1 0 }
+    {
+        let Some(writers) = index.get(&read.written).copied() else {
+            return AllFound {
+                stray: self.stray + 1,
+                ..self
+            };
+        };
+        let overwriter = writers.over_apart_from(read.reader);
+        AllFound {
+            aborted: self.aborted.or(read.of(writers.aborted)),
+            intermediate: self.intermediate.or(read.of(overwriter)),
+            stray: self.stray,
+        }
     }
 }
 
@@ -305,9 +330,9 @@ fn reads_seen<'a>(alloc: Global, txns: &[Txn<'a>]) -> Result<Vec<Seen<'a>>, Allo
 
 /// Looks each read up.
 fn judge<'s, 'a>(index: &HashMap<Written<'a>, Writers>, seen: &'s [Seen<'a>]) -> AllFound<'s, 'a>
-    ensures aborted { option_map found_of result.aborted ≡ first_some (λ s. aborted_sight (get written_eq index.now s.written) (sight_of s)) seen.now }
-    ensures intermediate { option_map found_of result.intermediate ≡ first_some (λ s. intermediate_sight (get written_eq index.now s.written) (sight_of s)) seen.now }
-    ensures stray { result.stray ≡ count_by (λ s. not (is_some (get written_eq index.now s.written))) seen.now }
+    ensures aborted { option_map found_of result.aborted ≡ first_some (aborted_in (get written_eq index.now)) seen.now }
+    ensures intermediate { option_map found_of result.intermediate ≡ first_some (intermediate_in (get written_eq index.now)) seen.now }
+    ensures stray { result.stray ≡ count_by (is_stray_in (get written_eq index.now)) seen.now }
 {
     let mut found = AllFound {
         aborted: None,
@@ -315,13 +340,7 @@ fn judge<'s, 'a>(index: &HashMap<Written<'a>, Writers>, seen: &'s [Seen<'a>]) ->
         stray: 0,
     };
     for read in seen {
-        let Some(writers) = index.get(&read.written).copied() else {
-            found.stray += 1;
-            continue;
-        };
-        found.aborted = found.aborted.or(read.of(writers.aborted));
-        let overwriter = writers.over_apart_from(read.reader);
-        found.intermediate = found.intermediate.or(read.of(overwriter));
+        found = found.and(index, read);
     }
     found
 }

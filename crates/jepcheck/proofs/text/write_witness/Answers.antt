@@ -7,13 +7,13 @@ use Rattle.jepcheck.proofs.text.write_witness.Goals as goal
 
 parts_joined : (out two t reader read key blank value of writer end : List ℕ)
     → out ++ ((two ++ t) ++ (reader ++ read)) ++ key ++ blank ++ value ++ ((of ++ t) ++ (writer ++ end))
-    ≡ out ++ (two ++ ((t ++ reader) ++ read ++ key ++ blank ++ value ++ of ++ (t ++ writer)) ++ end)
+    ≡ out ++ (two ++ ((t ++ reader) ++ read ++ (key ++ blank ++ value) ++ of ++ (t ++ writer)) ++ end)
 parts_joined out two t reader read key blank value of writer end = simp append_assoc
 
 -- The parts of a bad read's line, appended one after the other.
 line_of_parts : (out reader key value writer a b d e all : List ℕ)
     → a ≡ out ++ (codes "  T" ++ (reader ++ codes " read ")) → b ≡ a ++ key → d ≡ b ++ codes " " → e ≡ d ++ value → all ≡ e ++ (codes " of T" ++ (writer ++ codes "\n"))
-    → all ≡ out ++ indented ((codes "T" ++ reader) ++ codes " read " ++ key ++ codes " " ++ value ++ codes " of " ++ (codes "T" ++ writer))
+    → all ≡ out ++ indented ((codes "T" ++ reader) ++ codes " read " ++ (key ++ codes " " ++ value) ++ codes " of " ++ (codes "T" ++ writer))
 line_of_parts out reader key value writer a b d e all is_a is_b is_d is_e is_all =
     rw (is_all, is_e, is_d, is_b, is_a)
     (parts_joined out (codes "  ") (codes "T") reader (codes " read ") key (codes " ") value (codes " of ") writer (codes "\n"))
