@@ -2,7 +2,6 @@
 use Rattle.std.proofs.Common.{◌≡◌, inl, inr, ℕ, ◌+◌, List, [], ◌∷◌, length, take, drop, Option, Some, None, refl, sym, ◌∙◌, ap, subst, arith}
 use Rattle.std.proofs.lemmas.Option.{none-some, same_Some}
 use Rattle.hist_types.specs.Tokens.{Item, ItemKind, front, item_fault, open_after, BeginsWith, BeginsWithFault, tokens_of, IsCut, HasTokens}
-use Rattle.hist_types.specs.LineReading.{Entry, Reading, reading_of, Reads}
 use Rattle.hist_types.specs.declared.types.Fault.{Fault}
 
 abbrev pub the_item : ItemKind → ℕ → List ℕ → Item
@@ -95,14 +94,3 @@ pub one_row_of_tokens : (text : List ℕ) (ts us : List Item) (e d : Option Faul
 one_row_of_tokens text ts us e d first second =
     let same = one_cut text 0 [] first.0 second.0 e d first.1 second.1 in
     (first.2 ∙ (ap tokens_of same.0 ∙ sym second.2), same.1)
-
-pub one_reading :
-    (text : List ℕ) (entries others : List Entry) (fault other : Option Fault)
-    → Reads text entries fault
-    → Reads text others other
-    → (entries ≡ others) × (fault ≡ other)
-one_reading text entries others fault other first second =
-    let same = one_row_of_tokens text first.0 second.0 first.1 second.1 first.2 second.2 in
-    let read : record { entries = entries; fault = fault } ≡ record { entries = others; fault = other } =
-    sym first.3 ∙ (ap (λ (ts : List Item). reading_of ts first.1) same.0 ∙ (ap (reading_of second.0) same.1 ∙ second.3)) in
-    (ap (λ (r : Reading). r.entries) read, ap (λ (r : Reading). r.fault) read)

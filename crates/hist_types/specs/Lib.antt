@@ -7,7 +7,6 @@ pub mod Forms
 pub mod Entries
 pub mod Reading
 pub mod Placed
-pub mod LineReading
 pub mod Journal
 pub mod Transactions
 pub mod Versions

@@ -1,5 +1,0 @@
-pub mod Owned
-pub mod Canonical
-pub mod SimpleLines
-pub mod Reader
-pub mod Scan
