@@ -107,7 +107,7 @@ impl Components {
         let Some(mut frame) = self.path.pop() else {
             return Ok(false);
         };
-        if frame.followed == graph.out_degree(frame.vertex) {
+        if frame.followed >= graph.out_degree(frame.vertex) {
             self.leave(frame);
             return Ok(true);
         }
