@@ -1,2 +1,5 @@
 pub mod Walks
 pub mod Marked
+pub mod Reaching
+pub mod Opening
+pub mod WaysBack

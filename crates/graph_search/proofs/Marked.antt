@@ -1,5 +1,5 @@
 -- Marks by rounds.
-use Rattle.std.proofs.Common.{◌≡◌, ℕ, ◌+◌, ◌<◌, List, [], ◌∷◌, length, All, map, replicate, eqb, false, true, refl, arith, sym, ap, ◌∙◌, set, length-map}
+use Rattle.std.proofs.Common.{◌≡◌, ℕ, ◌+◌, ◌<◌, List, [], ◌∷◌, length, All, map, replicate, eqb, false, true, refl, zero, suc, arith, sym, ap, ◌∙◌, set}
 use Rattle.std.proofs.lemmas.Bool.Decides.{nat_tests}
 use Rattle.std.proofs.lemmas.List.{map-set}
 use Rattle.std.proofs.lemmas.List.Elements.{All-head, All-tail}
@@ -17,3 +17,7 @@ pub marked : (r i : ℕ) (xs : List ℕ) → map (λ x. eqb x r) (set xs i r) �
 marked r i xs =
     let e : eqb r r ≡ true = grind (arith, nat_tests) in
     map-set (λ x. eqb x r) xs i r ∙ ap (λ b. set (map (λ x. eqb x r) xs) i b) e
+
+pub unmarked_start : (n : ℕ) → map (λ x. eqb x 1) (replicate n 0) ≡ replicate n false
+unmarked_start zero = refl
+unmarked_start (suc n) = ap (λ rest. false ∷ rest) (unmarked_start n)
