@@ -1,5 +1,5 @@
 -- The arcs of one vertex, one after another.
-use Rattle.std.proofs.Common.{◌≡◌, ℕ, ◌+◌, ◌<◌, List, [], ◌∷◌, ◌++◌, length, Bool, true, false, get_or, set, subst, sym, ap, refl, ◌∙◌, inl, inr, arith, IsTrue, below_more, length-set}
+use Rattle.std.proofs.Common.{◌≡◌, ℕ, ◌+◌, ◌<◌, List, [], ◌∷◌, ◌++◌, length, Bool, true, false, get_or, set, subst, sym, ap, ◌∙◌, inl, inr, arith, IsTrue, below_more}
 use Rattle.std.proofs.lemmas.List.{get_or_default, set-get_or}
 use Rattle.std.proofs.lemmas.Bool.{false≢true}
 use Rattle.graph_search.specs.Graphs.{Graph, VertexSet, HasArcInto}

@@ -1,5 +1,5 @@
 -- Ranks along walks.
-use Rattle.std.proofs.Common.{◌≡◌, ℕ, ◌+◌, ◌-◌, ◌<◌, ◌≤◌, List, length, All, get_or, suc, zero, subst, sym, ap, ◌∙◌, arith}
+use Rattle.std.proofs.Common.{◌≡◌, ℕ, ◌+◌, ◌-◌, ◌<◌, ◌≤◌, List, length, All, get_or, suc, zero, subst, ap, ◌∙◌, arith}
 use Rattle.std.proofs.lemmas.List.{get_or_default}
 use Rattle.graph_search.specs.Graphs.{Graph, HasArc, AreRanks, IsWalk}
 
@@ -14,7 +14,7 @@ rises g ranks walk from to are is j (suc n) h =
     let e : j + n + 1 ≡ j + suc n = omega arith in
     let before : get_or ranks (get_or walk j 0) 0 ≤ get_or ranks (get_or walk (j + n) 0) 0 = rises g ranks walk from to are is j n (omega arith) in
     let next : get_or ranks (get_or walk (j + n) 0) 0 ≤ get_or ranks (get_or walk (j + n + 1) 0) 0 =
-        are.rising (get_or walk (j + n) 0) (get_or walk (j + n + 1) 0) (is.joined (j + n) (omega arith)) in
+    are.rising (get_or walk (j + n) 0) (get_or walk (j + n + 1) 0) (is.joined (j + n) (omega arith)) in
     let both : get_or ranks (get_or walk j 0) 0 ≤ get_or ranks (get_or walk (j + n + 1) 0) 0 = omega (arith, before, next) in
     subst (λ m. get_or ranks (get_or walk j 0) 0 ≤ get_or ranks (get_or walk m 0) 0) e both
 
@@ -30,7 +30,7 @@ pub to_last : (g : Graph) (ranks walk : List ℕ) (from to : ℕ) → AreRanks g
 to_last g ranks walk from to are is k h =
     let e : k + (length walk - 1 - k) ≡ length walk - 1 = omega arith in
     let up : get_or ranks (get_or walk k 0) 0 ≤ get_or ranks (get_or walk (k + (length walk - 1 - k)) 0) 0 =
-        rises g ranks walk from to are is k (length walk - 1 - k) (omega arith) in
+    rises g ranks walk from to are is k (length walk - 1 - k) (omega arith) in
     subst (λ v. get_or ranks (get_or walk k 0) 0 ≤ get_or ranks v 0) (ap (λ m. get_or walk m 0) e ∙ is.ends) up
 
 pub raise : (g : Graph) (ranks walk : List ℕ) (from to : ℕ) → AreRanks g ranks → IsWalk (HasArc g) from to walk

@@ -270,7 +270,10 @@ fn random_graphs(rt: HostRuntime) {
                     rank: ranks.rank(w),
                 };
                 let found = search.walk(rt.alloc(), &graph, &of_rank, v, w);
-                assert_eq!(rt; found.expect(&rt, "memory").is_some(), in_cycle || leads_into(&arcs, &reachable, v, w));
+                assert_eq!(rt;
+                    found.expect(&rt, "memory").is_some(),
+                    in_cycle || leads_into(&arcs, &reachable, v, w)
+                );
                 let found = search.walk(rt.alloc(), &graph, &all, v, w);
                 assert_eq!(rt; found.expect(&rt, "memory").is_some(), reachable[v][w]);
             }
