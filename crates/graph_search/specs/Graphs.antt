@@ -3,7 +3,7 @@
 -- The vertices of a graph are the numbers below its count. A walk is a list of vertices, at least one, each of which leads to
 -- the next; a vertex alone is a walk from itself to itself. Ranks are numbers that don't fall along any arc, as those of the
 -- strongly connected components in a topological order.
-use Rattle.std.specs.Prelude.{◌≡◌, ℕ, ◌+◌, ◌-◌, ◌<◌, ◌≤◌, List, length, slice_index, Contains, Bool, IsTrue}
+use Rattle.std.specs.Prelude.{◌≡◌, ℕ, ◌+◌, ◌-◌, ◌<◌, ◌≤◌, List, length, slice_index, Contains, Bool, ◌==◌, IsTrue}
 
 pub record Graph : Type 0 where
   pub count : ℕ
@@ -17,6 +17,10 @@ HasArc g v w = (v < g.count) × Contains (g.successors v) w
 pub record VertexSet : Type 0 where
   pub count : ℕ
   pub has : ℕ → Bool
+
+-- the vertices of one rank
+abbrev pub of_rank : List ℕ → ℕ → VertexSet
+of_rank ranks rank = record { count = length ranks; has = λ v. slice_index ranks v == rank }
 
 -- an arc into a set of vertices
 abbrev pub HasArcInto : Graph → VertexSet → ℕ → ℕ → Type 0

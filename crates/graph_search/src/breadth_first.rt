@@ -125,8 +125,7 @@ impl Search {
         Ok(Search { reached })
     }
 
-    /// A walk from one vertex to another along arcs into allowed vertices, if there is one, and then with no more arcs than any
-    /// other. A vertex alone is a walk to itself.
+    /// A walk from one vertex to another along arcs into allowed vertices, if there is one. A vertex alone is a walk to itself.
     pub fn walk<G: Arcs, S: Vertices>(
         &mut self,
         alloc: Global,

@@ -1,7 +1,7 @@
 //! Ranks of vertices, which don't fall along any arc.
 
 ghost use Rattle.std.specs.Prelude.{◌≡◌, ◌↔◌, ℕ, ◌<◌, ◌≤◌, List, length, slice_index, IfOk, IsTrue};
-ghost use Rattle.graph_search.specs.Graphs.{AreRanks, HasArc};
+ghost use Rattle.graph_search.specs.Graphs.{AreRanks, HasArc, of_rank};
 
 use crate::arcs::{Arcs, Vertices};
 use crate::components::component_ranks;
@@ -87,9 +87,7 @@ pub struct OfRank<'a> {
 }
 
 impl Vertices for OfRank<'_> {
-    ghost use Rattle.std.specs.Prelude.{◌==◌};
-
-    ghost members = { λ set. record { count = length set.ranks.now; has = λ vertex. slice_index set.ranks.now vertex == set.rank } };
+    ghost members = { λ set. of_rank set.ranks.now set.rank };
 
     fn contains(&self, vertex: usize) -> bool {
         self.ranks.rank(vertex) == self.rank
