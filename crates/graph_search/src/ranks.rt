@@ -21,10 +21,12 @@ impl Model for Ranks {
 }
 
 impl Ranks {
-    /// Ranks that don't fall along any arc, and that are the same only in one strongly connected component.
+    /// Ranks that don't fall along any arc, and that are the same only in one strongly connected
+    /// component.
     ///
-    /// The first of these two promises is checked here, on all arcs, and is part of the contract. The second one is that of a
-    /// search for the components which isn't proved: were its ranks ever to fall, all ranks would be 0.
+    /// The first of these two promises is checked here, on all arcs, and is part of the contract.
+    /// The second one is that of a search for the components which isn't proved: were its ranks
+    /// ever to fall, all ranks would be 0.
     pub fn of<G: Arcs>(alloc: Global, graph: &G) -> Result<Ranks, AllocError>
         ensures { IfOk result (AreRanks (G.graph graph.now)) }
     {

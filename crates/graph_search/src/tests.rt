@@ -98,7 +98,8 @@ fn a_graph_without_arcs(rt: HostRuntime) {
 
 #[test]
 fn vertices_of_one_component_have_one_rank(rt: HostRuntime) {
-    // Two cycles that share a vertex, a cycle that leads to them, an arc to itself, and a vertex between.
+    // Two cycles that share a vertex, a cycle that leads to them, an arc to itself, and a vertex
+    // between.
     let arcs = [
         (0, 1),
         (1, 2),
