@@ -81,6 +81,11 @@ abbrev pub ReadsMop : State → Result (ℕ × Result MopShape Fault) Fault → 
 ReadsMop s (Ok found) t = (form : Form) × ReadsMember s form t × (found.0 ≡ place_of form) × (found.1 ≡ mop_result (micro_op_of (place_of form) (elements_of form)))
 ReadsMop s (Err fault) t = StopsInside s fault
 
+-- a call read members, which are these of a transaction
+abbrev pub ReadsFlat : State → Result (Unit {0}) Fault → Result (List MopShape) Fault → State → Type 0
+ReadsFlat s (Ok done) shapes t = (members : List Form) × ((opener : Item) → ReadsMembers s opener members t) × (shapes ≡ mops_result (micro_ops_of 0 members))
+ReadsFlat s (Err fault) shapes t = fault ≡ memory_fault
+
 -- the transaction with one more member, which begins at the offset
 abbrev pub AddsMop : Result (List MopShape) Fault → ℕ → Result MopShape Fault → Result (List MopShape) Fault → Type 0
 AddsMop old start mop new =
