@@ -16,7 +16,7 @@ ghost use Rattle.edn_ops.specs.Outlines.{outline_of, IsTokenIn, IsOutlineIn};
 use crate::faults::fault_at;
 use crate::forms::{Member, next_member};
 use crate::members::{first_forms, pass_member};
-use crate::outline::Outline;
+use crate::outline::{Outline, bytes_of};
 use crate::types::MopShape;
 use edn_lex::lexer::Lexer;
 use edn_lex::types::{Token, TokenKind};
@@ -30,16 +30,20 @@ fn is_write(text: &[u8], name: Outline) -> Option<bool>
     requires { IsOutlineIn text.now name }
     ensures { result ≡ is_write_of (outline_of text.now name) }
 {
-    if name.is_named(text, b":w") {
-        Some(true)
-    } else if name.is_named(text, b":r") {
-        Some(false)
-    } else {
-        None
+    match name {
+        Outline::Plain(token) if token.kind == TokenKind::Keyword => {
+            match bytes_of(text, token) {
+                [b':', b'w'] => Some(true),
+                [b':', b'r'] => Some(false),
+                _ => None,
+            }
+        }
+        _ => None,
     }
 }
 
 /// The micro-operation with these forms; it begins at `start`.
+#[inline(always)]
 fn micro_op(
     text: &[u8],
     start: usize,
@@ -113,6 +117,7 @@ fn read_micro_op(
 }
 
 /// Adds a member, which begins at `start`, to a transaction.
+#[inline(always)]
 fn add_micro_op(
     transaction: &mut Result<SmallVec<MopShape, 4>, Fault>,
     start: usize,
@@ -166,6 +171,7 @@ fn flat_micro_ops(
 }
 
 /// Reads a transaction, whose opener has just been given: its micro-operations, or the first fault among its members.
+#[inline(always)]
 pub(crate) fn transaction(
     alloc: Global,
     lexer: &mut Lexer,
