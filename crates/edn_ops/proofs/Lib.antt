@@ -16,6 +16,7 @@ pub mod PassedOver
 pub mod Places
 pub mod Reached
 pub mod Triples
+pub mod Ahead
 pub mod ReadsBack
 mod Tokens
 mod Fronts

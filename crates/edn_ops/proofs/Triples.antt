@@ -35,7 +35,7 @@ lone_is kind = elim kind as (λ k. is_lone k ≡ true → (is_mark_kind k ≡ fa
   | _ ↦ λ h. (refl, (λ e. cc), (λ e. cc))
 ]
 
-abbrev bare_token : Token → Member
+abbrev pub bare_token : Token → Member
 bare_token token = record { token = token; tag = None }
 
 pub lone_member : (s t : State) (token : Token) → HasGivenLone s token t → GivesMember s (bare_token token) t

@@ -114,3 +114,12 @@ abbrev pub GathersMember : State → Fields → Result (Unit {0}) Fault → Fiel
 GathersMember s old (Ok done) new t =
     (form : Form) × ReadsMember s form t × AreFieldsIn s.text new × ((members : List Form) → Gathers s.text old members → Gathers s.text new (members ++ form ∷ []))
 GathersMember s old (Err fault) new t = UnlessMemory fault (StopsInside s fault)
+
+-- a call gathered members from s on
+pub record GathersAhead (text : List ℕ) (s : State) (old : Fields) (new : Fields) (t : State) : Type 0 where
+  pub members : List Form
+  pub same : t.text ≡ s.text
+  pub forward : s.offset ≤ t.offset
+  pub reads : (start : State) (opener : Item) (before : List Form) → ReadsMembers start opener before s → ReadsMembers start opener (before ++ members) t
+  pub within : AreFieldsIn text new
+  pub more : (before : List Form) → Gathers text old before → Gathers text new (before ++ members)
