@@ -6,3 +6,4 @@ pub mod Exists
 pub mod Steps
 pub mod Passing
 pub mod RunKinds
+pub mod LookAhead

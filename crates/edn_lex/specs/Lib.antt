@@ -3,3 +3,4 @@ pub mod Flags
 pub mod Pieces
 pub mod Collections
 pub mod State
+pub mod Ahead

@@ -1,13 +1,15 @@
 //! The lexer: an iterator over the tokens of a text.
 
-ghost use Rattle.std.specs.Prelude.{◌≡◌, ◌<◌, length, get_or, false, List, Option, IsNone};
+ghost use Rattle.std.specs.Prelude.{◌≡◌, ◌<◌, length, get_or, false, List, Option, IsNone, MatchOption};
 ghost use Rattle.hist_types.specs.Bytes.{is_blank as is_blank_byte};
 ghost use Rattle.hist_types.specs.Tokens.{nesting_refusal, open_after, closer_of, byte_fault, Item, HasTokens};
 ghost use Rattle.hist_types.specs.declared.types.Fault.{Fault};
 ghost use Rattle.edn_lex.specs.Pieces.{kind_of_piece};
 ghost use Rattle.edn_lex.specs.Collections.{closer_byte, closers_of};
 ghost use Rattle.edn_lex.specs.State.{state_at_start, Rest, Passes};
+ghost use Rattle.edn_lex.specs.Ahead.{HasGivenLone, GivesTriple};
 
+use crate::ahead::{Triple, lone_token, vector_closer, vector_opener};
 use crate::pieces::{PieceKind, first_piece};
 use crate::scan::{is_blank, utf8_end};
 use crate::types::{Token, TokenKind};
@@ -151,6 +153,43 @@ impl<'a> Lexer<'a> {
             collections,
             ended: self.ended,
         }
+    }
+
+    /// The next token, if it is a form by itself that needs no closer look: a run of ASCII behind blanks. Else nothing changes.
+    #[inline(always)]
+    pub fn next_lone(&mut self) -> Option<Token>
+        ensures { MatchOption result (self.new ≡ self.old) (λ token. HasGivenLone self.old token self.new) }
+    {
+        if self.ended {
+            return None;
+        }
+        let token = lone_token(self.text, self.offset)?;
+        self.offset = token.end;
+        Some(token)
+    }
+
+    /// The next five tokens, if they are a vector of three such tokens. Else nothing changes.
+    #[inline(always)]
+    pub fn next_triple(&mut self) -> Option<Triple>
+        ensures { MatchOption result (self.new ≡ self.old) (λ triple. GivesTriple self.old triple self.new) }
+    {
+        if self.ended || self.collections.is_full() {
+            return None;
+        }
+        let text = self.text;
+        let opener = vector_opener(text, self.offset)?;
+        let first = lone_token(text, opener.end)?;
+        let second = lone_token(text, first.end)?;
+        let third = lone_token(text, second.end)?;
+        let closer = vector_closer(text, third.end)?;
+        self.offset = closer.end;
+        Some(Triple {
+            opener,
+            first,
+            second,
+            third,
+            closer,
+        })
     }
 
     /// Passes over the item at the front of what is left, which is no blank, and gives it where it is a token.

@@ -1,6 +1,7 @@
 //! The tokens of a text, with their spans.
 #![tactic(auto)]
 
+pub mod ahead;
 pub mod laws;
 pub mod lexer;
 mod pieces;

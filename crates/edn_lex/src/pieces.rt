@@ -54,7 +54,7 @@ const fn token(kind: TokenKind, len: usize, ascii: bool) -> Piece
 
 /// The run at the front of a text that begins with a byte of a run.
 #[tactic(auto, using(crate::proofs::Flags::IsAscii_from_low))]
-fn run_piece(text: &[u8]) -> Piece
+pub(crate) fn run_piece(text: &[u8]) -> Piece
     requires { 0 < run_len text.now }
     ensures front { front_of_piece result ≡ (kind_of_run (run_of text.now), Some (run_len text.now)) }
     ensures len { result.len ≡ run_len text.now }

@@ -1,6 +1,6 @@
 -- What a parsed integer is: the number that its spelling means.
-use Rattle.std.proofs.Common.{◌≡◌, ℕ, zero, suc, ◌-◌, ◌^◌, ◌<◌, ℤ, pos, negsuc, Bool, true, false, cond, nat_lt, ◌==◌, ◌&&◌, List, [], ◌∷◌, length, take, drop, Option, Some, None, Result, Ok, Err, refl, sym, ap, subst, ◌∙◌, arith, inl, inr}
-use Rattle.std.specs.Prelude.{nat_eq, bytes_eq}
+use Rattle.std.proofs.Common.{◌≡◌, ℕ, zero, suc, ◌-◌, ◌^◌, ◌<◌, ℤ, pos, negsuc, Bool, true, false, cond, nat_lt, ◌==◌, ◌&&◌, List, [], ◌∷◌, length, take, drop, Option, Some, None, Result, Ok, Err, refl, sym, ap, subst, ◌∙◌, arith, inl, inr, lit<}
+use Rattle.std.specs.Prelude.{◌≤◌, nat_eq, bytes_eq, slice_index, neg_ℤ}
 use Rattle.std.specs.Bool.{then_some}
 use Rattle.std.specs.Char.{is_ascii_digit}
 use Rattle.std.specs.Int.{w64}
@@ -8,13 +8,22 @@ use Rattle.std.specs.Int.RustNames.{FitsSigned}
 use Rattle.std.specs.List.{list_all, ends_with}
 use Rattle.std.specs.Result.{result_ok}
 use Rattle.std.specs.Str.{all_ascii_digits, IsUtf8, IsAscii}
-use Rattle.std.specs.Str.Parse.{IsNumeral, digits_value, ParsesSigned, without_leading_sign}
+use Rattle.std.specs.Str.Parse.{IsNumeral, digits_value, ParsesSigned, without_leading_sign, without_leading_plus, starts_with_minus}
 use Rattle.std.proofs.lemmas.Bool.{ltb-true, lt-ltb, eqb-true, and_parts, or_cases, false_from_ne_true, ne_eqb, cond-false}
+use Rattle.std.proofs.Math.Nat.{pow-le-pow_right}
+use Rattle.std.proofs.lemmas.Int.Digits.{digits_value-lt}
+use Rattle.std.proofs.lemmas.List.{length-drop, length-take}
 use Rattle.std.proofs.lemmas.Fmt.{IsAscii-from_digits}
 use Rattle.std.proofs.lemmas.Str.{IsUtf8-from_ascii}
 use Rattle.std.proofs.lemmas.Str.Parse.{digit_at, IsNumeralModel, numerals_by_value, tells_all_ascii_digits}
 use Rattle.hist_types.specs.Bytes.{plus, minus, letter_n}
-use Rattle.hist_types.specs.AtomTokens.{is_64_bit, int_value}
+use Rattle.std.specs.Option.{is_some}
+use Rattle.hist_types.specs.Atoms.{Atom, integer}
+use Rattle.hist_types.specs.AtomTokens.{is_64_bit, int_value, atom_of_token}
+use Rattle.edn_lex.specs.Kinds.{kind_of}
+use Rattle.edn_lex.specs.declared.types.TokenKind.{TokenKind}
+use Rattle.edn_lex.specs.declared.types.TokenKind.TheVariants as kinds
+use Rattle.edn_ops.specs.Outlines.{IsSpelled}
 use Rattle.hist_types.specs.Tokens.{is_int, is_whole, is_sign, first_byte, without_n}
 
 -- two spellings of one test
@@ -132,3 +141,43 @@ parse_is {E} bytes (Err e) h p =
 
 pub parsed_int : {E : Type 0} (bytes text cut : List ℕ) (r : Result ℤ E) (o : Option ℤ) → is_int bytes ≡ true → cut ≡ without_n bytes → text ≡ cut → ParsesSigned w64 10 text r → o ≡ result_ok r → o ≡ then_some (is_64_bit (int_value bytes)) (int_value bytes)
 parsed_int {E} bytes text cut r o h is_cut is_text p was = was ∙ parse_is bytes r h (subst (λ (t : List ℕ). ParsesSigned {E = E} w64 10 t r) (is_text ∙ is_cut) p)
+
+-- ---- short spellings
+
+within_either : (b : Bool) (xs ys : List ℕ) (n : ℕ) → length xs ≤ n → length ys ≤ n → length (cond b xs ys) ≤ n
+within_either true xs ys n x y = x
+within_either false xs ys n x y = y
+
+no_longer : (bytes : List ℕ) → length (without_leading_sign (without_n bytes)) ≤ length bytes
+no_longer bytes =
+    let n = without_n bytes in
+    let cut : length n ≤ length bytes = within_either (ends_with nat_eq bytes (letter_n ∷ [])) (take (length bytes - 1) bytes) bytes (length bytes) (omega (arith, length-take (length bytes - 1) bytes)) (omega arith) in
+    within_either (starts_with_minus n) (drop 1 n) (without_leading_plus n) (length bytes) (omega (arith, length-drop 1 n))
+    (let plus = slice_index n 0 == 43 in omega (arith, length-drop (cond plus 1 0) n))
+
+few_bits : (negative : Bool) (n : ℕ) → n < 2 ^ 63 → is_64_bit (cond negative (neg_ℤ (pos n)) (pos n)) ≡ true
+few_bits false n h = lt-ltb n (2 ^ 63) h
+few_bits true zero h = refl
+few_bits true (suc n) h = lt-ltb n (2 ^ 63) (omega arith)
+
+-- at most 18 digits have 64 bits
+pub short_int : (bytes : List ℕ) → is_int bytes ≡ true → length bytes < 19 → is_64_bit (int_value bytes) ≡ true
+short_int bytes h short =
+    let signs = int_signed bytes (is_sign (first_byte bytes)) refl h in
+    let ds = without_leading_sign (without_n bytes) in
+    let few = no_longer bytes in
+    let below : digits_value 10 ds < 10 ^ length ds = digits_value-lt 10 ds signs.numeral.1 in
+    let most : 10 ^ length ds ≤ 10 ^ 18 = pow-le-pow_right {n = 10} (omega arith) {i = length ds} {j = 18} (omega arith) in
+    let fits : 10 ^ 18 < 2 ^ 63 = lit< tt in
+    few_bits (starts_with_minus (without_n bytes)) (digits_value 10 ds) (omega arith)
+
+known_atom : (fits : Bool) (a : Atom) → fits ≡ true → is_some (cond fits (Some a) None) ≡ true
+known_atom true a h = refl
+known_atom false a h = h
+
+-- such an integer is an atom
+pub short_atom :
+    (kind : TokenKind) (bytes : List ℕ) → kind ≡ kinds.Int → IsSpelled (kind_of kind) bytes → length bytes < 19 → nat_lt (length bytes) 19 ≡ is_some (atom_of_token (kind_of kind) bytes)
+short_atom kind bytes e spelled short =
+    let P : TokenKind → Type 0 = λ k. IsSpelled (kind_of k) bytes → nat_lt (length bytes) 19 ≡ is_some (atom_of_token (kind_of k) bytes) in
+    subst P (sym e) (λ h. lt-ltb (length bytes) 19 short ∙ sym (known_atom (is_64_bit (int_value bytes)) (integer (int_value bytes)) (short_int bytes h short))) spelled

@@ -15,6 +15,8 @@ pub mod LeftOut
 pub mod PassedOver
 pub mod Places
 pub mod Reached
+pub mod Triples
+pub mod Ahead
 pub mod ReadsBack
 mod Tokens
 mod Decimals

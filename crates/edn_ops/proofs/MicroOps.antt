@@ -190,7 +190,7 @@ micro_op_is text mop start os opener closer members is first sequence at =
 
 -- ---- calls
 
-seq_read_at : (s t u : State) (m : Member) (closer : Item) (members : List Form) (mop : Result MopShape Fault) (os : List Outline) → GivesMember s m t → m.tag ≡ None → kind_of m.token.kind ≡ Opener
+pub seq_read_at : (s t u : State) (m : Member) (closer : Item) (members : List Form) (mop : Result MopShape Fault) (os : List Outline) → GivesMember s m t → m.tag ≡ None → kind_of m.token.kind ≡ Opener
     → ReadsCollection t (item_of t.text m.token) members closer u → AreFirstForms s.text os members → is_vector_or_list (item_of s.text m.token) ≡ true
     → mop ≡ mop_result (micro_op_of m.token.start (Some (map (outline_of s.text) os))) → ReadsMop s (Ok (m.token.start, mop)) u
 seq_read_at s t u m closer members mop os h tag kind r first sequence is = (

@@ -53,13 +53,17 @@ fn has_known_escapes(content: &[u8]) -> bool
     !taken
 }
 
+/// An integer of fewer bytes has 64 bits.
+const LONG_INTEGER: usize = 19;
+
 /// Whether a token is an atom: a key, or a value that is not nil.
+#[inline(always)]
 pub(crate) fn is_atom(kind: TokenKind, bytes: &[u8]) -> bool
     requires { IsSpelled (kind_of kind) bytes.now }
     ensures { result ≡ is_some (atom_of_token (kind_of kind) bytes.now) }
 {
     match kind {
-        TokenKind::Int => integer_of(bytes).is_some(),
+        TokenKind::Int => bytes.len() < LONG_INTEGER || integer_of(bytes).is_some(),
         TokenKind::Keyword | TokenKind::Symbol => true,
         TokenKind::Str => match bytes {
             [_, content @ .., _] => has_known_escapes(content),

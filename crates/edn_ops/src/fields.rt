@@ -25,6 +25,7 @@ pub(crate) struct Field {
 }
 
 impl Field {
+    #[inline(always)]
     const fn new() -> Field
         ensures field { (text : List ℕ) → IsField text result [] }
         ensures within { (text : List ℕ) → IsFieldIn text result }
@@ -36,6 +37,7 @@ impl Field {
     }
 
     /// One more field of the name, by the place of its key and by its value.
+    #[inline(always)]
     fn add(&mut self, place: usize, value: Outline)
         ensures field { AddsField self.old place value self.new }
         ensures within { (text : List ℕ) → IsFieldIn text self.old → IsOutlineIn text value → IsFieldIn text self.new }
@@ -48,6 +50,7 @@ impl Field {
     }
 
     /// The value of the one field of the name, in a map that begins at `start`.
+    #[inline(always)]
     fn the_one(self, start: usize) -> Result<Outline, Fault>
         ensures one { IsTheOne self start result }
         ensures within { (text : List ℕ) → IsFieldIn text self → IfOk result (IsOutlineIn text) }
@@ -91,6 +94,7 @@ pub(crate) struct Fields {
 }
 
 impl Fields {
+    #[inline(always)]
     pub(crate) fn new(alloc: Global) -> Fields
         ensures fields { (text : List ℕ) → Gathers text result [] }
         ensures within { (text : List ℕ) → AreFieldsIn text result }
@@ -105,6 +109,7 @@ impl Fields {
     }
 
     /// Whether the next member is the value of the first `:value`, whose transaction is to be read.
+    #[inline(always)]
     pub(crate) fn awaits_transaction(&self, text: &[u8]) -> bool
         requires { AreFieldsIn text.now self.now }
         ensures { result ≡ awaits text.now self.now }
@@ -116,6 +121,7 @@ impl Fields {
     }
 
     /// Gathers the value of the first `:value`, with what it is as a transaction.
+    #[inline(always)]
     pub(crate) fn add_transaction(
         &mut self,
         value: Outline,
@@ -130,6 +136,7 @@ impl Fields {
     }
 
     /// Gathers any other member.
+    #[inline(always)]
     pub(crate) fn add(&mut self, text: &[u8], member: Outline)
         requires fields { AreFieldsIn text.now self.old }
         requires member { IsOutlineIn text.now member }
@@ -151,6 +158,7 @@ impl Fields {
     }
 
     /// What the map gives once it is closed: an operation, or none where it is skipped.
+    #[inline(always)]
     pub(crate) fn entry(
         self,
         alloc: Global,
@@ -172,6 +180,7 @@ impl Fields {
     }
 
     /// The operation, by the integer that is the value of its `:process`.
+    #[inline(always)]
     fn client_operation(
         self,
         alloc: Global,
@@ -203,6 +212,7 @@ impl Fields {
     }
 
     /// The micro-operations of an operation of this kind, whose map begins at `start`.
+    #[inline(always)]
     fn mops(self, alloc: Global, kind: OpKind, start: usize) -> Result<SmallVec<MopShape, 4>, Fault>
         ensures { GivesMops self kind start (shapes_result (λ v. v.items) result) }
     {

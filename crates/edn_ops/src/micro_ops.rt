@@ -8,7 +8,7 @@ ghost use Rattle.hist_types.specs.Refusals.{memory_fault};
 ghost use Rattle.hist_types.specs.Tokens.{Closer};
 ghost use Rattle.edn_lex.specs.Kinds.{kind_of, item_of};
 ghost use Rattle.edn_lex.specs.State.{State};
-ghost use Rattle.edn_ops.specs.Collections.{AddsMop, ReadsMop, ReadsTransaction};
+ghost use Rattle.edn_ops.specs.Collections.{AddsMop, ReadsMop, ReadsFlat, ReadsTransaction};
 ghost use Rattle.edn_ops.specs.Fields.{mop_result, mops_result, shapes_result};
 ghost use Rattle.edn_ops.specs.Leads.{GivesMember};
 ghost use Rattle.edn_ops.specs.Outlines.{outline_of, IsTokenIn, IsOutlineIn};
@@ -16,7 +16,7 @@ ghost use Rattle.edn_ops.specs.Outlines.{outline_of, IsTokenIn, IsOutlineIn};
 use crate::faults::fault_at;
 use crate::forms::{Member, next_member};
 use crate::members::{first_forms, pass_member};
-use crate::outline::Outline;
+use crate::outline::{Outline, bytes_of};
 use crate::types::MopShape;
 use edn_lex::lexer::Lexer;
 use edn_lex::types::{Token, TokenKind};
@@ -30,16 +30,20 @@ fn is_write(text: &[u8], name: Outline) -> Option<bool>
     requires { IsOutlineIn text.now name }
     ensures { result ≡ is_write_of (outline_of text.now name) }
 {
-    if name.is_named(text, b":w") {
-        Some(true)
-    } else if name.is_named(text, b":r") {
-        Some(false)
-    } else {
-        None
+    match name {
+        Outline::Plain(token) if token.kind == TokenKind::Keyword => {
+            match bytes_of(text, token) {
+                [b':', b'w'] => Some(true),
+                [b':', b'r'] => Some(false),
+                _ => None,
+            }
+        }
+        _ => None,
     }
 }
 
 /// The micro-operation with these forms; it begins at `start`.
+#[inline(always)]
 fn micro_op(
     text: &[u8],
     start: usize,
@@ -112,32 +116,62 @@ fn read_micro_op(
     }
 }
 
-/// The transaction with one more member, which begins at `start`.
-fn with_micro_op(
-    transaction: Result<SmallVec<MopShape, 4>, Fault>,
+/// Adds a member, which begins at `start`, to a transaction.
+#[inline(always)]
+fn add_micro_op(
+    transaction: &mut Result<SmallVec<MopShape, 4>, Fault>,
     start: usize,
     micro_op: Result<MopShape, Fault>,
-) -> Result<Result<SmallVec<MopShape, 4>, Fault>, Fault>
-    ensures ok { IfOk result (λ found. AddsMop (shapes_result (λ v. v.items) transaction) start micro_op (shapes_result (λ v. v.items) found)) }
+) -> Result<(), Fault>
+    ensures ok { IfOk result (λ done. AddsMop (shapes_result (λ v. v.items) transaction.old) start micro_op (shapes_result (λ v. v.items) transaction.new)) }
     ensures err { IfErr result (λ fault. fault ≡ memory_fault) }
 {
-    let mut mops = match transaction {
+    let mops = match transaction {
         Ok(mops) => mops,
-        Err(fault) => return Ok(Err(fault)),
+        Err(_) => return Ok(()),
     };
     if mops.len() >= MAX_MICRO_OPS {
-        return Ok(Err(fault_at(Refusal::TooManyMicroOps, start)));
+        *transaction = Err(fault_at(Refusal::TooManyMicroOps, start));
+        return Ok(());
     }
     match micro_op {
         Ok(shape) => {
             mops.push(shape)?;
-            Ok(Ok(mops))
+            Ok(())
         }
-        Err(fault) => Ok(Err(fault)),
+        Err(fault) => {
+            *transaction = Err(fault);
+            Ok(())
+        }
     }
 }
 
+/// Reads the first members of a transaction, as long as they are vectors of three tokens as printers write them.
+fn flat_micro_ops(
+    lexer: &mut Lexer,
+    text: &[u8],
+    transaction: &mut Result<SmallVec<MopShape, 4>, Fault>,
+) -> Result<(), Fault>
+    requires text { text.now ≡ lexer.old.text }
+    requires empty { shapes_result (λ v. v.items) transaction.old ≡ Ok [] }
+    ensures { ReadsFlat lexer.old result (shapes_result (λ v. v.items) transaction.new) lexer.new }
+{
+    while let Some(triple) = lexer.next_triple() {
+        let start = triple.opener.start;
+        let micro_op = micro_op(
+            text,
+            start,
+            Outline::Plain(triple.first),
+            Outline::Plain(triple.second),
+            Outline::Plain(triple.third),
+        );
+        add_micro_op(transaction, start, micro_op)?;
+    }
+    Ok(())
+}
+
 /// Reads a transaction, whose opener has just been given: its micro-operations, or the first fault among its members.
+#[inline(always)]
 pub(crate) fn transaction(
     alloc: Global,
     lexer: &mut Lexer,
@@ -148,13 +182,14 @@ pub(crate) fn transaction(
     ensures { ReadsTransaction (λ v. v.items) lexer.old (item_of text.now opener) result lexer.new }
 {
     let mut transaction = Ok(SmallVec::new(alloc));
+    flat_micro_ops(lexer, text, &mut transaction)?;
     while let Some(member) = next_member(lexer)? {
         match member.token.kind {
             TokenKind::Close => return Ok(transaction),
             _ => {}
         }
         let (start, micro_op) = read_micro_op(lexer, text, member)?;
-        transaction = with_micro_op(transaction, start, micro_op)?;
+        add_micro_op(&mut transaction, start, micro_op)?;
     }
     Err(fault_at(Refusal::Unclosed, opener.start))
 }

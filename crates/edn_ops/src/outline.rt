@@ -59,6 +59,7 @@ impl Default for Outline {
 
 impl Outline {
     /// The outline of the form that begins with this member's token.
+    #[inline(always)]
     pub(crate) fn of(member: Member) -> Outline
         ensures plain { IsPlainOutline member result }
         ensures collection { IsCollectionOutline member result }
@@ -75,6 +76,7 @@ impl Outline {
     }
 
     /// The opener, if it is a vector or a list.
+    #[inline(always)]
     pub(crate) fn sequence(self, text: &[u8]) -> Option<Token>
         requires { IsOutlineIn text.now self }
         ensures opens { IfSome result (λ opener. self ≡ Outline.Collection opener) }
@@ -88,6 +90,7 @@ impl Outline {
     }
 
     /// Where it begins.
+    #[inline(always)]
     pub(crate) fn place(self) -> usize
         ensures { (text : List ℕ) → result ≡ place_of (outline_of text self) }
     {
@@ -98,6 +101,7 @@ impl Outline {
     }
 
     /// Whether it is the keyword with this spelling.
+    #[inline(always)]
     pub(crate) fn is_named(self, text: &[u8], name: &[u8]) -> bool
         requires { IsOutlineIn text.now self }
         ensures { result ≡ is_named name.now (outline_of text.now self) }
@@ -110,6 +114,7 @@ impl Outline {
         }
     }
 
+    #[inline(always)]
     pub(crate) fn is_nil(self) -> bool
         ensures { (text : List ℕ) → result ≡ is_nil_form (outline_of text self) }
     {
@@ -120,6 +125,7 @@ impl Outline {
     }
 
     /// Where the atom is, if it is one.
+    #[inline(always)]
     pub(crate) fn atom(self, text: &[u8]) -> Option<Span>
         requires { IsOutlineIn text.now self }
         ensures { result ≡ option_map (λ a. span_of a.0) (atom_of (outline_of text.now self)) }
@@ -133,6 +139,7 @@ impl Outline {
     }
 
     /// Where the atom or nil is, if it is one.
+    #[inline(always)]
     pub(crate) fn value(self, text: &[u8]) -> Option<Span>
         requires { IsOutlineIn text.now self }
         ensures { result ≡ option_map (λ a. span_of a.0) (value_of (outline_of text.now self)) }
@@ -144,6 +151,7 @@ impl Outline {
     }
 
     /// The token, if it is an integer.
+    #[inline(always)]
     pub(crate) fn integer(self) -> Option<Token>
         ensures number { (text : List ℕ) → int_of (outline_of text self) ≡ option_map (number_of text) result }
         ensures within { (text : List ℕ) → IsOutlineIn text self → IfSome result (IsIntIn text) }

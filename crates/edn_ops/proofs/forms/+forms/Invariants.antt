@@ -10,13 +10,16 @@ abbrev bytes_left : State → ℕ
 bytes_left s = length s.text - s.offset
 
 abbrev pub decreases-member_behind : goal.decreases-member_behind
-decreases-member_behind l = 2 * bytes_left l.lexer.now + 1
+decreases-member_behind l = 3 * bytes_left l.lexer.now + 2
 
 abbrev pub decreases-next_member : goal.decreases-next_member
-decreases-next_member l = 2 * bytes_left l.lexer.now
+decreases-next_member l = 3 * bytes_left l.lexer.now + 1
+
+abbrev pub decreases-any_member : goal.decreases-any_member
+decreases-any_member l = 3 * bytes_left l.lexer.now
 
 abbrev pub decreases-skip_collection : goal.decreases-skip_collection
-decreases-skip_collection l = 2 * bytes_left l.lexer.now + 1
+decreases-skip_collection l = 3 * bytes_left l.lexer.now + 2
 
 abbrev pub invariant-member_behind-loop-given : goal.invariant-member_behind-loop-given
 invariant-member_behind-loop-given l =

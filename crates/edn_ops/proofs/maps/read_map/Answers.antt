@@ -1,4 +1,4 @@
-use Rattle.std.proofs.Common.{◌++◌, ◌∷◌, refl, sym, ap, subst, ◌∙◌, [], List, ℕ}
+use Rattle.std.proofs.Common.{◌++◌, ◌∷◌, refl, sym, ap, subst, ◌∙◌, [], List, ℕ, length, ◌≡◌, arith}
 use Rattle.edn_lex.specs.Kinds.{kind_of, item_of}
 use Rattle.edn_ops.specs.Leads.{inside}
 use Rattle.edn_ops.specs.Outlines.{IsTokenIn}
@@ -9,7 +9,12 @@ use Rattle.edn_ops.proofs.MapMembers.{map_stops, map_fails, map_unclosed, member
 use Rattle.edn_ops.proofs.maps.read_map.Goals as goal
 
 pub loop-fields-init : goal.loop-fields-init
-loop-fields-init c = ([], nothing_read c.args.lexer.now _, c.new-fields.ensures.fields c.args.text.now, c.new-fields.ensures.within c.args.text.now)
+loop-fields-init c =
+    let text = c.args.text.now in
+    let s = c.args.lexer.now in
+    let i = item_of text c.args.opener in
+    let ahead = c.gather_ahead.ensures in
+    ([] ++ ahead.members, ahead.reads s i [] (nothing_read s i), ahead.more [] (c.new-fields.ensures.fields text), ahead.within)
 
 pub returns-in_err-member : goal.returns-in_err-member
 returns-in_err-member c =
@@ -44,24 +49,35 @@ add_member-requires c =
       closer = not_closer m.token.kind c.in_default-kind.not-Close;
     }
 
+pub gather_ahead-requires-clause-fields : goal.gather_ahead-requires-clause-fields
+gather_ahead-requires-clause-fields c = c.new-fields.ensures.within c.args.text.now
+
 pub loop-fields-smaller : goal.loop-fields-smaller
 loop-fields-smaller c =
     let m = c.in-Some.member in
     let front = c.loop-fields.invariant in
     let h = next_given c.loop-fields.lexer c.next_member.new.lexer c.in_ok-member.field-0 m c.in-Some.is c.in_ok-member.ensures in
     let one = gathered_one c.loop-fields.lexer c.add_member.new.lexer c.args.text.now c.loop-fields.fields c.add_member.new.fields c.in_ok-add_member.field-0 (front.1.text ∙ sym c.requires.text) (c.in_ok-add_member.ensures c.loop-fields.lexer h) in
-    shorter_member c.loop-fields.lexer c.add_member.new.lexer one.form one.one (member_some c.loop-fields.lexer c.next_member.new.lexer m h)
+    let shorter = shorter_member c.loop-fields.lexer c.add_member.new.lexer one.form one.one (member_some c.loop-fields.lexer c.next_member.new.lexer m h) in
+    let ahead = c.gather_ahead-in-Some.ensures in
+    let forward = ahead.forward in
+    let same : length c.gather_ahead-in-Some.new.lexer.text ≡ length c.add_member.new.lexer.text = ap length ahead.same in
+    omega arith
 
 pub loop-fields-preserved : goal.loop-fields-preserved
 loop-fields-preserved c =
+    let s = c.args.lexer.now in
+    let i = item_of c.args.text.now c.args.opener in
     let m = c.in-Some.member in
     let front = c.loop-fields.invariant in
     let h = next_given c.loop-fields.lexer c.next_member.new.lexer c.in_ok-member.field-0 m c.in-Some.is c.in_ok-member.ensures in
-    let one = gathered_one c.loop-fields.lexer c.add_member.new.lexer c.args.text.now c.loop-fields.fields c.add_member.new.fields c.in_ok-add_member.field-0 (front.1.text ∙ sym c.requires.text) (c.in_ok-add_member.ensures c.loop-fields.lexer h) in (
-      front.0 ++ one.form ∷ [],
-      one_read c.args.lexer.now c.loop-fields.lexer c.add_member.new.lexer (item_of c.args.text.now c.args.opener) front.0 one.form front.1 one.one,
-      one.more front.0 front.2,
-      one.within,
+    let one = gathered_one c.loop-fields.lexer c.add_member.new.lexer c.args.text.now c.loop-fields.fields c.add_member.new.fields c.in_ok-add_member.field-0 (front.1.text ∙ sym c.requires.text) (c.in_ok-add_member.ensures c.loop-fields.lexer h) in
+    let members = front.0 ++ one.form ∷ [] in
+    let ahead = c.gather_ahead-in-Some.ensures in (
+      members ++ ahead.members,
+      ahead.reads s i members (one_read s c.loop-fields.lexer c.add_member.new.lexer i front.0 one.form front.1 one.one),
+      ahead.more members (one.more front.0 front.2),
+      ahead.within,
     )
 
 pub returns-in_err-add_member : goal.returns-in_err-add_member

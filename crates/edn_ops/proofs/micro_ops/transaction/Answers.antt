@@ -1,22 +1,23 @@
-use Rattle.std.proofs.Common.{◌++◌, ◌∷◌, sym, ap, subst, ◌∙◌, [], List, ℕ, Ok}
+use Rattle.std.proofs.Common.{◌++◌, ◌∷◌, sym, ap, subst, ◌∙◌, [], List, ℕ}
 use Rattle.edn_lex.specs.Kinds.{kind_of, item_of}
-use Rattle.edn_ops.specs.declared.types.MopShape.{MopShape}
 use Rattle.edn_ops.specs.Leads.{inside}
 use Rattle.edn_ops.specs.Outlines.{IsTokenIn}
 use Rattle.edn_ops.proofs.Collected.{member_in}
 use Rattle.edn_ops.proofs.Levels.{GivesMember-shorter}
-use Rattle.edn_ops.proofs.ByMember.{nothing_read, one_read, closed, next_stops, unclosed, shorter_member, next_given, next_none, member_some, not_closer, stops_at}
+use Rattle.edn_ops.proofs.ByMember.{one_read, closed, next_stops, unclosed, shorter_member, next_given, next_none, member_some, not_closer, stops_at}
 use Rattle.edn_ops.proofs.MicroOps.{transaction_fails, read_mop}
 use Rattle.edn_ops.proofs.micro_ops.transaction.Goals as goal
 
 pub loop-transaction-init : goal.loop-transaction-init
-loop-transaction-init c = ([], nothing_read c.args.lexer.now _, ap (λ (shapes : List MopShape). Ok shapes) c.new.ensures.items)
+loop-transaction-init c =
+    let flat = c.in_ok-flat_micro_ops.ensures in
+    (flat.0, flat.1 (item_of c.args.text.now c.args.opener), flat.2)
 
 pub returns-in_err-member : goal.returns-in_err-member
 returns-in_err-member c =
     let i = item_of c.args.text.now c.args.opener in
     let front = c.loop-transaction.invariant in
-    transaction_fails _ c.args.lexer.now c.next_member.new.lexer i _ _ c.from_residual.ensures.1
+    transaction_fails _ c.args.lexer.now c.next_member.new.lexer i _ _ c.from_residual-in_err-member.ensures.1
     (next_stops c.args.lexer.now c.loop-transaction.lexer i front.0 _ front.1 (λ o no_place. c.in_err-member.ensures (inside i front.0 [] o)))
 
 pub returns-in-Close : goal.returns-in-Close
@@ -50,7 +51,7 @@ loop-transaction-preserved c =
     let one = read_mop c.loop-transaction.lexer c.read_micro_op.new.lexer c.in_ok-start.start c.in_ok-start.micro_op (c.in_ok-start.ensures c.loop-transaction.lexer h) in (
       front.0 ++ one.form ∷ [],
       one_read c.args.lexer.now c.loop-transaction.lexer c.read_micro_op.new.lexer (item_of c.args.text.now c.args.opener) front.0 one.form front.1 one.one,
-      c.in_ok-transaction.ensures.ok front.0 one.form front.2 one.place one.mop_is,
+      c.in_ok-add_micro_op.ensures.ok front.0 one.form front.2 one.place one.mop_is,
     )
 
 pub returns : goal.returns

@@ -6,10 +6,11 @@ use Rattle.hist_types.specs.declared.types.Refusal.TheVariants.{TooManyMicroOps}
 use Rattle.edn_ops.specs.declared.types.MopShape.{MopShape}
 use Rattle.edn_ops.specs.Fields.{shapes_result}
 use Rattle.edn_ops.proofs.MicroOps.{still_fails, too_many, no_micro_op, one_micro_op}
-use Rattle.edn_ops.proofs.micro_ops.with_micro_op.Goals as goal
+use Rattle.edn_ops.proofs.micro_ops.add_micro_op.Goals as goal
 
 pub returns-in-Err-clause-ok : goal.returns-in-Err-clause-ok
-returns-in-Err-clause-ok c members form e place mop = still_fails c.in-Err.fault members form (sym (ap (shapes_result (λ v. v.items)) c.in-Err.is) ∙ e)
+returns-in-Err-clause-ok c members form e place mop =
+    ap (shapes_result (λ v. v.items)) c.in-Err.is ∙ still_fails c.in-Err.field-0 members form (sym (ap (shapes_result (λ v. v.items)) c.in-Err.is) ∙ e)
 
 pub returns-then-len-ge-MAX_MICRO_OPS-clause-ok : goal.returns-then-len-ge-MAX_MICRO_OPS-clause-ok
 returns-then-len-ge-MAX_MICRO_OPS-clause-ok c members form e place mop =

@@ -1,0 +1,157 @@
+-- Tokens that are found by looking ahead are those that calls give.
+use Rattle.std.proofs.Common.{◌≡◌, ℕ, zero, suc, ◌+◌, ◌-◌, ◌<◌, ◌≤◌, List, [], ◌∷◌, length, drop, take, get_or, Bool, true, false, cond, nat_le, Option, Some, None, Ok, refl, sym, ◌∙◌, ap, arith, subst, length-drop, IfSome, MatchOption, lit<}
+use Rattle.std.specs.Prelude.{bytes_eq, codes}
+use Rattle.std.specs.Str.{IsAscii}
+use Rattle.std.specs.Str.Lossy.{utf8_valid_len}
+use Rattle.std.proofs.lemmas.Bool.Decides.{nat_tests}
+use Rattle.std.proofs.lemmas.Bool.{and_from}
+use Rattle.std.proofs.lemmas.List.{get_or-drop}
+use Rattle.std.proofs.lemmas.Str.{utf8_valid_len-IsUtf8, IsUtf8-from_ascii}
+use Rattle.hist_types.specs.Bytes.{is_blank, open_square, close_square}
+use Rattle.hist_types.specs.Tokens.{ItemKind, Blank, Opener, Closer, Nil, True, False, Int, Keyword, Symbol, Other, first_byte, closer_of, front, is_token, is_int, is_keyword, is_symbol, run_kind, nesting_refusal, open_after}
+use Rattle.hist_types.specs.declared.limits.TheConstants.{MAX_OPEN_COLLECTIONS}
+use Rattle.hist_types.specs.declared.types.Refusal.TheVariants.{TooDeep, StrayCloser}
+use Rattle.edn_lex.specs.declared.types.Token.{Token}
+use Rattle.edn_lex.specs.declared.types.TokenKind.TheVariants as kinds
+use Rattle.edn_lex.specs.Ahead.{is_lone, going_at, GivesLone, HasGivenLone, GivesOpener, GivesCloser}
+use Rattle.edn_lex.specs.Kinds.{kind_of, is_low}
+use Rattle.edn_lex.specs.State.{State, GivesToken, Passes}
+use Rattle.edn_lex.proofs.Flags.{IsAscii_from_low}
+use Rattle.edn_lex.proofs.Passing.{passes, passes_blank}
+use Rattle.edn_lex.proofs.Steps.{Gapped, Gapped-refl, Gapped-more, GivesToken-from}
+
+-- ---- blanks
+
+-- blanks are a gap
+gapped_by : (n : ℕ) (text closers : List ℕ) (offset : ℕ) → offset + n ≤ length text → ((k : ℕ) → offset ≤ k → k < offset + n → is_blank (get_or text k 0) ≡ true) → Gapped (going_at text offset closers) (going_at text (offset + n) closers)
+gapped_by zero text closers offset fits blanks =
+    subst (λ (k : ℕ). Gapped (going_at text offset closers) (going_at text k closers)) (let e : offset ≡ offset + 0 = omega arith in e) (Gapped-refl (going_at text offset closers))
+gapped_by (suc n) text closers offset fits blanks =
+    let t = going_at text (offset + n) closers in
+    let front = gapped_by n text closers offset (omega arith) (λ k low high. blanks k low (omega arith)) in
+    subst (λ (k : ℕ). Gapped (going_at text offset closers) (going_at text k closers)) (let e : offset + n + 1 ≡ offset + suc n = omega arith in e)
+    (Gapped-more (going_at text offset closers) t (going_at text (offset + n + 1) closers) Blank 1 front (passes_blank t (omega arith) (blanks (offset + n) (omega arith) (omega arith))) refl)
+
+gapped : (text closers : List ℕ) (offset start : ℕ) → offset ≤ start → start ≤ length text → ((k : ℕ) → offset ≤ k → k < start → is_blank (get_or text k 0) ≡ true) → Gapped (going_at text offset closers) (going_at text start closers)
+gapped text closers offset start low fits blanks =
+    let e : offset + (start - offset) ≡ start = omega arith in
+    subst (λ (k : ℕ). Gapped (going_at text offset closers) (going_at text k closers)) e (gapped_by (start - offset) text closers offset (omega arith) (λ k below high. blanks k below (omega arith)))
+
+-- ---- an item behind them
+
+-- the item at `start` is this token, where these collections are open before and after it
+given_at :
+    (text : List ℕ) (offset start : ℕ) (xs : List ℕ) (kind : ItemKind) (len : ℕ) (t : Token) (closers after : List ℕ) →
+    Gapped (going_at text offset closers) (going_at text start closers) → xs ≡ drop start text → start ≤ length text → 0 < len → len ≤ length xs →
+    front (first_byte xs) (drop 1 xs) ≡ (kind, Some len) → IsAscii (take len xs) → None ≡ nesting_refusal kind (take len xs) closers → after ≡ open_after kind (take len xs) closers →
+    (kind_of t.kind ≡ kind) × (t.start ≡ start) × (t.end ≡ start + len) → GivesToken (going_at text offset closers) t (going_at text t.end after)
+given_at text offset start xs kind len t closers after gap same within some fits found ascii fine opens is =
+    let s = going_at text start closers in
+    let valid : utf8_valid_len (take len xs) ≡ length (take len xs) = utf8_valid_len-IsUtf8 (take len xs) (IsUtf8-from_ascii (take len xs) ascii) in
+    let passed : Passes s (Ok (Some t)) (going_at text (start + len) after) = passes s xs kind len same (omega arith) fits found after (Some t) within some valid fine opens is in
+    GivesToken-from (going_at text offset closers) s (going_at text t.end after) t gap refl (subst (λ (k : ℕ). Passes s (Ok (Some t)) (going_at text k after)) (sym is.2) passed)
+
+-- ---- runs
+
+run_by : (nil yes_word no_word int key name : Bool) → is_lone (cond nil Nil (cond yes_word True (cond no_word False (cond int Int (cond key Keyword (cond name Symbol Other)))))) ≡ true
+run_by true yes_word no_word int key name = refl
+run_by false true no_word int key name = refl
+run_by false false true int key name = refl
+run_by false false false true key name = refl
+run_by false false false false true name = refl
+run_by false false false false false true = refl
+run_by false false false false false false = refl
+
+-- a run is a form by itself
+lone_run : (run : List ℕ) → is_lone (run_kind run) ≡ true
+lone_run run = run_by (bytes_eq run (codes "nil")) (bytes_eq run (codes "true")) (bytes_eq run (codes "false")) (is_int run) (is_keyword run) (is_symbol run)
+
+-- such a token may be anywhere, and leaves open what was
+lone_nests : (kind : ItemKind) (bytes closers : List ℕ) → is_lone kind ≡ true → (None ≡ nesting_refusal kind bytes closers) × (closers ≡ open_after kind bytes closers)
+lone_nests kind bytes closers = elim kind as (λ k. is_lone k ≡ true → (None ≡ nesting_refusal k bytes closers) × (closers ≡ open_after k bytes closers)) [
+  | Opener ↦ λ h. cc
+  | Closer ↦ λ h. cc
+  | _ ↦ λ h. (refl, refl)
+]
+
+pub lone_given :
+    (text : List ℕ) (offset start : ℕ) (xs run : List ℕ) (len : ℕ) (t : Token) → offset ≤ start → start ≤ length text → ((k : ℕ) → offset ≤ k → k < start → is_blank (get_or text k 0) ≡ true) →
+    xs ≡ drop start text → 0 < len → len ≤ length xs → front (first_byte xs) (drop 1 xs) ≡ (run_kind run, Some len) → IsAscii (take len xs) →
+    (kind_of t.kind ≡ run_kind run) × (t.start ≡ start) × (t.end ≡ start + len) → GivesLone text offset t
+lone_given text offset start xs run len t low within blanks same some fits found ascii is =
+    let lone : is_lone (run_kind run) ≡ true = lone_run run in
+    record {
+      lone = ap is_lone is.0 ∙ lone;
+      gives = λ closers.
+          let nests = lone_nests (run_kind run) (take len xs) closers lone in
+          given_at text offset start xs (run_kind run) len t closers closers (gapped text closers offset start low within blanks) same within some fits found ascii nests.0 nests.1 is;
+    }
+
+pub lone_found :
+    (o : Option Token) (text : List ℕ) (offset start : ℕ) (xs run : List ℕ) (kind : ItemKind) (len : ℕ) → offset ≤ start → start ≤ length text →
+    ((k : ℕ) → offset ≤ k → k < start → is_blank (get_or text k 0) ≡ true) →
+    xs ≡ drop start text → 0 < len → len ≤ length xs → front (first_byte xs) (drop 1 xs) ≡ (run_kind run, Some len) → IsAscii (take len xs) → kind ≡ run_kind run →
+    MatchOption o (is_token kind ≡ false) (λ t. (kind_of t.kind ≡ kind) × (t.start ≡ start) × (t.end ≡ start + len)) → IfSome o (GivesLone text offset)
+lone_found None text offset start xs run kind len low within blanks same some fits found ascii kind_is is = tt
+lone_found (Some t) text offset start xs run kind len low within blanks same some fits found ascii kind_is is =
+    lone_given text offset start xs run len t low within blanks same some fits found ascii (is.0 ∙ kind_is, is.1, is.2)
+
+-- what a call gives
+pub lone_call : (s : State) (token : Token) → s.ended ≡ false → GivesLone s.text s.offset token → HasGivenLone s token (record s { offset = token.end })
+lone_call s token going g =
+    let P : Bool → Type 0 = λ b. HasGivenLone (record s { ended = b }) token (record s { offset = token.end; ended = b }) in
+    subst P (sym going) (record { lone = g.lone; gives = g.gives s.closers })
+
+-- ---- square brackets
+
+-- a text that begins with this byte
+opens_square : (xs : List ℕ) → 0 < length xs → first_byte xs ≡ open_square → (front (first_byte xs) (drop 1 xs) ≡ (Opener, Some 1)) × (take 1 xs ≡ open_square ∷ [])
+opens_square [] some e = absurd (omega arith)
+opens_square (b ∷ rest) some e = (ap (λ x. front x rest) e, ap (λ x. x ∷ []) e)
+
+closes_square : (xs : List ℕ) → 0 < length xs → first_byte xs ≡ close_square → (front (first_byte xs) (drop 1 xs) ≡ (Closer, Some 1)) × (take 1 xs ≡ close_square ∷ [])
+closes_square [] some e = absurd (omega arith)
+closes_square (b ∷ rest) some e = (ap (λ x. front x rest) e, ap (λ x. x ∷ []) e)
+
+first_at : (text : List ℕ) (start b : ℕ) → get_or text start 0 ≡ b → first_byte (drop start text) ≡ b
+first_at text start b e = get_or-drop start text 0 0 ∙ ap (λ n. get_or text n 0) (omega arith) ∙ e
+
+room_is : (n : ℕ) → n < MAX_OPEN_COLLECTIONS → nat_le MAX_OPEN_COLLECTIONS n ≡ false
+room_is n h = grind (arith, nat_tests)
+
+ascii_byte : (b : ℕ) → b < 128 → IsAscii (b ∷ [])
+ascii_byte b low = IsAscii_from_low (b ∷ []) (and_from (is_low b) true (grind (arith, nat_tests)) refl)
+
+pub opener_given :
+    (text : List ℕ) (offset start : ℕ) → offset ≤ start → start < length text → ((k : ℕ) → offset ≤ k → k < start → is_blank (get_or text k 0) ≡ true) →
+    get_or text start 0 ≡ open_square → GivesOpener text offset (record { kind = kinds.Open; start = start; end = start + 1 })
+opener_given text offset start low within blanks e =
+    let t : Token = record { kind = kinds.Open; start = start; end = start + 1 } in
+    let xs = drop start text in
+    let some : 0 < length xs = omega (arith, length-drop start text) in
+    let found = opens_square xs some (first_at text start open_square e) in
+    let one : start + 1 - start ≡ 1 = omega arith in
+    record {
+      kind = refl;
+      square = ap (λ n. take n xs) one ∙ found.1;
+      gives = λ closers room.
+          given_at text offset start xs Opener 1 t closers (close_square ∷ closers) (gapped text closers offset start low (omega arith) blanks) refl (omega arith) (omega arith) (omega arith) found.0
+          (subst IsAscii (sym found.1) (ascii_byte open_square (lit< tt)))
+          (sym (ap (λ b. cond b (Some TooDeep) None) (room_is (length closers) room))) (sym (ap (λ bytes. closer_of bytes ∷ closers) found.1)) (refl, refl, refl);
+    }
+
+pub closer_given :
+    (text : List ℕ) (offset start : ℕ) → offset ≤ start → start < length text → ((k : ℕ) → offset ≤ k → k < start → is_blank (get_or text k 0) ≡ true) →
+    get_or text start 0 ≡ close_square → GivesCloser text offset (record { kind = kinds.Close; start = start; end = start + 1 })
+closer_given text offset start low within blanks e =
+    let t : Token = record { kind = kinds.Close; start = start; end = start + 1 } in
+    let xs = drop start text in
+    let some : 0 < length xs = omega (arith, length-drop start text) in
+    let found = closes_square xs some (first_at text start close_square e) in
+    record {
+      kind = refl;
+      gives = λ closers.
+          given_at text offset start xs Closer 1 t (close_square ∷ closers) closers (gapped text (close_square ∷ closers) offset start low (omega arith) blanks) refl (omega arith) (omega arith) (omega arith) found.0
+          (subst IsAscii (sym found.1) (ascii_byte close_square (lit< tt)))
+          (sym (ap (λ bytes. cond (bytes_eq bytes (take 1 (close_square ∷ closers))) None (Some StrayCloser)) found.1)) refl (refl, refl, refl);
+    }
