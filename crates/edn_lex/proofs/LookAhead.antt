@@ -1,19 +1,22 @@
 -- Tokens that are found by looking ahead are those that calls give.
-use Rattle.std.proofs.Common.{◌≡◌, ℕ, zero, suc, ◌+◌, ◌-◌, ◌<◌, ◌≤◌, List, [], ◌∷◌, length, drop, take, get_or, Bool, true, false, cond, nat_le, Option, Some, None, Ok, refl, sym, ◌∙◌, ap, arith, subst, length-drop, IfSome, MatchOption, lit<}
+use Rattle.std.proofs.Common.{◌≡◌, ℕ, zero, suc, ◌+◌, ◌-◌, ◌<◌, ◌≤◌, List, [], ◌∷◌, length, drop, take, get_or, Bool, true, false, cond, nat_le, Option, Some, None, Ok, refl, sym, ◌∙◌, ap, arith, subst, length-drop, IfSome, MatchOption, lit<, ◌++◌, map}
 use Rattle.std.specs.Prelude.{bytes_eq, codes}
 use Rattle.std.specs.Str.{IsAscii}
 use Rattle.std.specs.Str.Lossy.{utf8_valid_len}
 use Rattle.std.proofs.lemmas.Bool.Decides.{nat_tests}
 use Rattle.std.proofs.lemmas.Bool.{and_from}
-use Rattle.std.proofs.lemmas.List.{get_or-drop}
+use Rattle.std.specs.List.{slice_get}
+use Rattle.std.proofs.lemmas.List.{get_or-drop, reverse-append, length-reverse, length-map}
 use Rattle.std.proofs.lemmas.Str.{utf8_valid_len-IsUtf8, IsUtf8-from_ascii}
-use Rattle.hist_types.specs.Bytes.{is_blank, open_square, close_square}
+use Rattle.hist_types.specs.Bytes.{is_blank, open_square, close_square, close_brace}
 use Rattle.hist_types.specs.Tokens.{ItemKind, Blank, Opener, Closer, Nil, True, False, Int, Keyword, Symbol, Other, first_byte, closer_of, front, is_token, is_int, is_keyword, is_symbol, run_kind, nesting_refusal, open_after}
 use Rattle.hist_types.specs.declared.limits.TheConstants.{MAX_OPEN_COLLECTIONS}
-use Rattle.hist_types.specs.declared.types.Refusal.TheVariants.{TooDeep, StrayCloser}
+use Rattle.hist_types.specs.declared.types.Refusal.TheVariants.{TooDeep}
 use Rattle.edn_lex.specs.declared.types.Token.{Token}
 use Rattle.edn_lex.specs.declared.types.TokenKind.TheVariants as kinds
 use Rattle.edn_lex.specs.Ahead.{is_lone, going_at, GivesLone, HasGivenLone, GivesOpener, GivesCloser}
+use Rattle.edn_lex.specs.Collections.{closer_byte, closers_of}
+use Rattle.edn_lex.specs.declared.lexer.Collection.{Collection}
 use Rattle.edn_lex.specs.Kinds.{kind_of, is_low}
 use Rattle.edn_lex.specs.State.{State, GivesToken, Passes}
 use Rattle.edn_lex.proofs.Flags.{IsAscii_from_low}
@@ -140,18 +143,51 @@ opener_given text offset start low within blanks e =
           (sym (ap (λ b. cond b (Some TooDeep) None) (room_is (length closers) room))) (sym (ap (λ bytes. closer_of bytes ∷ closers) found.1)) (refl, refl, refl);
     }
 
-pub closer_given :
-    (text : List ℕ) (offset start : ℕ) → offset ≤ start → start < length text → ((k : ℕ) → offset ≤ k → k < start → is_blank (get_or text k 0) ≡ true) →
-    get_or text start 0 ≡ close_square → GivesCloser text offset (record { kind = kinds.Close; start = start; end = start + 1 })
-closer_given text offset start low within blanks e =
+-- the token of one byte that closes what waits for it
+closes_by :
+    (text : List ℕ) (offset start byte : ℕ) → offset ≤ start → start < length text → ((k : ℕ) → offset ≤ k → k < start → is_blank (get_or text k 0) ≡ true) → byte < 128 →
+    (front (first_byte (drop start text)) (drop 1 (drop start text)) ≡ (Closer, Some 1)) × (take 1 (drop start text) ≡ byte ∷ []) →
+    ((closers : List ℕ) → None ≡ nesting_refusal Closer (byte ∷ []) (byte ∷ closers)) → GivesCloser text offset byte (record { kind = kinds.Close; start = start; end = start + 1 })
+closes_by text offset start byte low within blanks ascii found fits =
     let t : Token = record { kind = kinds.Close; start = start; end = start + 1 } in
     let xs = drop start text in
-    let some : 0 < length xs = omega (arith, length-drop start text) in
-    let found = closes_square xs some (first_at text start close_square e) in
     record {
       kind = refl;
       gives = λ closers.
-          given_at text offset start xs Closer 1 t (close_square ∷ closers) closers (gapped text (close_square ∷ closers) offset start low (omega arith) blanks) refl (omega arith) (omega arith) (omega arith) found.0
-          (subst IsAscii (sym found.1) (ascii_byte close_square (lit< tt)))
-          (sym (ap (λ bytes. cond (bytes_eq bytes (take 1 (close_square ∷ closers))) None (Some StrayCloser)) found.1)) refl (refl, refl, refl);
+          given_at text offset start xs Closer 1 t (byte ∷ closers) closers (gapped text (byte ∷ closers) offset start low (omega arith) blanks) refl (omega arith) (omega arith) (omega (arith, length-drop start text)) found.0
+          (subst IsAscii (sym found.1) (ascii_byte byte ascii))
+          (fits closers ∙ sym (ap (λ bytes. nesting_refusal Closer bytes (byte ∷ closers)) found.1)) refl (refl, refl, refl);
     }
+
+pub closer_given :
+    (text : List ℕ) (offset start : ℕ) → offset ≤ start → start < length text → ((k : ℕ) → offset ≤ k → k < start → is_blank (get_or text k 0) ≡ true) →
+    get_or text start 0 ≡ close_square → GivesCloser text offset close_square (record { kind = kinds.Close; start = start; end = start + 1 })
+closer_given text offset start low within blanks e =
+    let some : 0 < length (drop start text) = omega (arith, length-drop start text) in
+    closes_by text offset start close_square low within blanks (lit< tt) (closes_square (drop start text) some (first_at text start close_square e)) (λ closers. refl)
+
+closes_brace : (xs : List ℕ) → 0 < length xs → first_byte xs ≡ close_brace → (front (first_byte xs) (drop 1 xs) ≡ (Closer, Some 1)) × (take 1 xs ≡ close_brace ∷ [])
+closes_brace [] some e = absurd (omega arith)
+closes_brace (b ∷ rest) some e = (ap (λ x. front x rest) e, ap (λ x. x ∷ []) e)
+
+pub map_closer_given :
+    (text : List ℕ) (offset start : ℕ) → offset ≤ start → start < length text → ((k : ℕ) → offset ≤ k → k < start → is_blank (get_or text k 0) ≡ true) →
+    get_or text start 0 ≡ close_brace → GivesCloser text offset close_brace (record { kind = kinds.Close; start = start; end = start + 1 })
+map_closer_given text offset start low within blanks e =
+    let some : 0 < length (drop start text) = omega (arith, length-drop start text) in
+    closes_by text offset start close_brace low within blanks (lit< tt) (closes_brace (drop start text) some (first_at text start close_brace e)) (λ closers. refl)
+
+-- ---- the innermost collection
+
+-- the last of the open collections waits for the first closer
+pub closers_last : (open_ones : List Collection) (c : Collection) → slice_get open_ones (length open_ones - 1) ≡ Some c → (outer : List ℕ) × (closers_of open_ones ≡ closer_byte c ∷ outer)
+closers_last [] c e = cc
+closers_last (x ∷ []) c e = let same : x ≡ c = cc in ([], ap (λ (y : Collection). closer_byte y ∷ []) same)
+closers_last (x ∷ y ∷ rest) c e =
+    let at : length (x ∷ y ∷ rest) - 1 ≡ suc (length (y ∷ rest) - 1) = omega arith in
+    let later : slice_get (y ∷ rest) (length (y ∷ rest) - 1) ≡ Some c = sym (ap (slice_get (x ∷ y ∷ rest)) at) ∙ e in
+    let last = closers_last (y ∷ rest) c later in
+    (last.0 ++ closer_byte x ∷ [], reverse-append (closer_byte x ∷ []) (map closer_byte (y ∷ rest)) ∙ ap (λ (cs : List ℕ). cs ++ closer_byte x ∷ []) last.1)
+
+pub closers_count : (open_ones : List Collection) → length (closers_of open_ones) ≡ length open_ones
+closers_count open_ones = length-reverse (map closer_byte open_ones) ∙ length-map open_ones closer_byte

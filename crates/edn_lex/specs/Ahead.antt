@@ -1,6 +1,6 @@
 -- Tokens that are found by looking ahead.
-use Rattle.std.specs.Prelude.{◌≡◌, ℕ, ◌<◌, List, [], ◌∷◌, length, Bool, true, false}
-use Rattle.hist_types.specs.Bytes.{open_square, close_square}
+use Rattle.std.specs.Prelude.{◌≡◌, ℕ, ◌<◌, ◌+◌, ◌≤◌, List, [], ◌∷◌, length, Bool, true, false}
+use Rattle.hist_types.specs.Bytes.{open_square, close_square, close_brace}
 use Rattle.hist_types.specs.Tokens.{ItemKind, Blank, Comment, Opener, Closer, Drop, Tag}
 use Rattle.hist_types.specs.declared.limits.TheConstants.{MAX_OPEN_COLLECTIONS}
 use Rattle.edn_lex.specs.declared.ahead.Triple.{Triple}
@@ -40,18 +40,30 @@ pub record GivesOpener (text : List ℕ) (offset : ℕ) (token : Token) : Type 0
       (closers : List ℕ) → length closers < MAX_OPEN_COLLECTIONS →
       GivesToken (going_at text offset closers) token (going_at text token.end (close_square ∷ closers))
 
--- the token that is given from the offset on closes a vector
-pub record GivesCloser (text : List ℕ) (offset : ℕ) (token : Token) : Type 0 where
+-- the token that is given from the offset on closes a collection that waits for this byte
+pub record GivesCloser (text : List ℕ) (offset : ℕ) (byte : ℕ) (token : Token) : Type 0 where
   pub kind : kind_of token.kind ≡ Closer
-  pub gives : (closers : List ℕ) → GivesToken (going_at text offset (close_square ∷ closers)) token (going_at text token.end closers)
+  pub gives : (closers : List ℕ) → GivesToken (going_at text offset (byte ∷ closers)) token (going_at text token.end closers)
 
--- so many calls gave a vector of three tokens that are forms
-pub record GivesTriple (s : State) (triple : Triple) (t : State) : Type 0 where
+-- the five tokens that are given from the offset on are a vector of three forms by themselves
+pub record GivesTriple (text : List ℕ) (offset : ℕ) (triple : Triple) : Type 0 where
+  pub opener : GivesOpener text offset triple.opener
+  pub first : GivesLone text triple.opener.end triple.first
+  pub second : GivesLone text triple.first.end triple.second
+  pub third : GivesLone text triple.second.end triple.third
+  pub closer : GivesCloser text triple.third.end close_square triple.closer
+
+-- calls gave such a vector
+pub record HasGivenTriple (s : State) (triple : Triple) (t : State) : Type 0 where
   pub room : length s.closers < MAX_OPEN_COLLECTIONS
   pub going : s ≡ going_at s.text s.offset s.closers
-  pub opener : GivesOpener s.text s.offset triple.opener
-  pub first : GivesLone s.text triple.opener.end triple.first
-  pub second : GivesLone s.text triple.first.end triple.second
-  pub third : GivesLone s.text triple.second.end triple.third
-  pub closer : GivesCloser s.text triple.third.end triple.closer
+  pub gives : GivesTriple s.text s.offset triple
   pub after : t ≡ going_at s.text triple.closer.end s.closers
+
+-- a lexer goes on from the offset in a map or a set, and two more collections may be opened
+pub record LooksAhead (s : State) (offset : ℕ) : Type 0 where
+  pub going : s ≡ going_at s.text offset s.closers
+  pub outer : List ℕ
+  pub in_map : s.closers ≡ close_brace ∷ outer
+  pub room : length s.closers + 2 ≤ MAX_OPEN_COLLECTIONS
+  pub within : offset ≤ length s.text

@@ -1,8 +1,8 @@
 //! Tokens by looking ahead, as printers write most of them: runs of ASCII and square brackets, behind blanks alone.
 
 ghost use Rattle.std.specs.Prelude.{◌≡◌, ℕ, ◌≤◌, ◌<◌, length, get_or, true, IfSome};
-ghost use Rattle.hist_types.specs.Bytes.{is_blank as is_blank_byte};
-ghost use Rattle.edn_lex.specs.Ahead.{GivesLone, GivesOpener, GivesCloser};
+ghost use Rattle.hist_types.specs.Bytes.{is_blank as is_blank_byte, close_square, close_brace};
+ghost use Rattle.edn_lex.specs.Ahead.{GivesLone, GivesOpener, GivesCloser, GivesTriple};
 
 use crate::pieces::run_piece;
 use crate::scan::{begins_run, is_blank};
@@ -35,7 +35,7 @@ fn behind_blanks(text: &[u8], offset: usize) -> usize
 
 /// The next token, if it is a run of ASCII.
 #[inline(always)]
-pub(crate) fn lone_token(text: &[u8], offset: usize) -> Option<Token>
+pub fn lone_token(text: &[u8], offset: usize) -> Option<Token>
     requires { offset ≤ length text.now }
     ensures gives { IfSome result (GivesLone text.now offset) }
     ensures fits { IfSome result (λ token. token.end ≤ length text.now) }
@@ -54,7 +54,7 @@ pub(crate) fn lone_token(text: &[u8], offset: usize) -> Option<Token>
 
 /// The next token, if it opens a vector.
 #[inline(always)]
-pub(crate) fn vector_opener(text: &[u8], offset: usize) -> Option<Token>
+pub fn vector_opener(text: &[u8], offset: usize) -> Option<Token>
     requires { offset ≤ length text.now }
     ensures gives { IfSome result (GivesOpener text.now offset) }
     ensures fits { IfSome result (λ token. token.end ≤ length text.now) }
@@ -73,9 +73,9 @@ pub(crate) fn vector_opener(text: &[u8], offset: usize) -> Option<Token>
 
 /// The next token, if it closes a vector.
 #[inline(always)]
-pub(crate) fn vector_closer(text: &[u8], offset: usize) -> Option<Token>
+pub fn vector_closer(text: &[u8], offset: usize) -> Option<Token>
     requires { offset ≤ length text.now }
-    ensures gives { IfSome result (GivesCloser text.now offset) }
+    ensures gives { IfSome result (GivesCloser text.now offset close_square) }
     ensures fits { IfSome result (λ token. token.end ≤ length text.now) }
 {
     let start = behind_blanks(text, offset);
@@ -88,4 +88,44 @@ pub(crate) fn vector_closer(text: &[u8], offset: usize) -> Option<Token>
     } else {
         None
     }
+}
+
+/// The next token, if it closes a map or a set.
+#[inline(always)]
+pub fn map_closer(text: &[u8], offset: usize) -> Option<Token>
+    requires { offset ≤ length text.now }
+    ensures gives { IfSome result (GivesCloser text.now offset close_brace) }
+    ensures fits { IfSome result (λ token. token.end ≤ length text.now) }
+{
+    let start = behind_blanks(text, offset);
+    if start < text.len() && text[start] == b'}' {
+        Some(Token {
+            kind: TokenKind::Close,
+            start,
+            end: start + 1,
+        })
+    } else {
+        None
+    }
+}
+
+/// The next five tokens, if they are a vector of three runs of ASCII.
+#[inline(always)]
+pub fn three_tokens(text: &[u8], offset: usize) -> Option<Triple>
+    requires { offset ≤ length text.now }
+    ensures gives { IfSome result (GivesTriple text.now offset) }
+    ensures fits { IfSome result (λ triple. triple.closer.end ≤ length text.now) }
+{
+    let opener = vector_opener(text, offset)?;
+    let first = lone_token(text, opener.end)?;
+    let second = lone_token(text, first.end)?;
+    let third = lone_token(text, second.end)?;
+    let closer = vector_closer(text, third.end)?;
+    Some(Triple {
+        opener,
+        first,
+        second,
+        third,
+        closer,
+    })
 }

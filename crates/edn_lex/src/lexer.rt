@@ -1,15 +1,15 @@
 //! The lexer: an iterator over the tokens of a text.
 
-ghost use Rattle.std.specs.Prelude.{◌≡◌, ◌<◌, length, get_or, false, List, Option, IsNone, MatchOption};
+ghost use Rattle.std.specs.Prelude.{◌≡◌, ◌<◌, length, drop, get_or, false, List, Option, IsNone, IfSome, MatchOption, ◌≤◌};
 ghost use Rattle.hist_types.specs.Bytes.{is_blank as is_blank_byte};
 ghost use Rattle.hist_types.specs.Tokens.{nesting_refusal, open_after, closer_of, byte_fault, Item, HasTokens};
 ghost use Rattle.hist_types.specs.declared.types.Fault.{Fault};
 ghost use Rattle.edn_lex.specs.Pieces.{kind_of_piece};
 ghost use Rattle.edn_lex.specs.Collections.{closer_byte, closers_of};
 ghost use Rattle.edn_lex.specs.State.{state_at_start, Rest, Passes};
-ghost use Rattle.edn_lex.specs.Ahead.{HasGivenLone, GivesTriple};
+ghost use Rattle.edn_lex.specs.Ahead.{HasGivenLone, HasGivenTriple, LooksAhead};
 
-use crate::ahead::{Triple, lone_token, vector_closer, vector_opener};
+use crate::ahead::{Triple, lone_token, three_tokens};
 use crate::pieces::{PieceKind, first_piece};
 use crate::scan::{is_blank, utf8_end};
 use crate::types::{Token, TokenKind};
@@ -171,25 +171,39 @@ impl<'a> Lexer<'a> {
     /// The next five tokens, if they are a vector of three such tokens. Else nothing changes.
     #[inline(always)]
     pub fn next_triple(&mut self) -> Option<Triple>
-        ensures { MatchOption result (self.new ≡ self.old) (λ triple. GivesTriple self.old triple self.new) }
+        ensures { MatchOption result (self.new ≡ self.old) (λ triple. HasGivenTriple self.old triple self.new) }
     {
         if self.ended || self.collections.is_full() {
             return None;
         }
-        let text = self.text;
-        let opener = vector_opener(text, self.offset)?;
-        let first = lone_token(text, opener.end)?;
-        let second = lone_token(text, first.end)?;
-        let third = lone_token(text, second.end)?;
-        let closer = vector_closer(text, third.end)?;
-        self.offset = closer.end;
-        Some(Triple {
-            opener,
-            first,
-            second,
-            third,
-            closer,
-        })
+        let triple = three_tokens(self.text, self.offset)?;
+        self.offset = triple.closer.end;
+        Some(triple)
+    }
+
+    /// The offset from which the rest of a map can be looked for ahead: none after a fault, where the innermost open collection
+    /// is no map or set, or where fewer than two more may be opened.
+    #[inline(always)]
+    pub fn ahead_in_map(&self) -> Option<usize>
+        ensures { IfSome result (LooksAhead self.now) }
+    {
+        if self.ended || self.collections.len() + 2 > MAX_OPEN_COLLECTIONS {
+            return None;
+        }
+        match self.collections.as_slice().last() {
+            Some(Collection::Brace) => Some(self.offset),
+            _ => None,
+        }
+    }
+
+    /// Goes on from this offset, behind the innermost open collection.
+    #[inline(always)]
+    pub fn leave(&mut self, offset: usize)
+        requires { offset ≤ length self.old.text }
+        ensures { self.new ≡ record self.old { offset = offset; closers = drop 1 self.old.closers } }
+    {
+        self.collections.pop();
+        self.offset = offset;
     }
 
     /// Passes over the item at the front of what is left, which is no blank, and gives it where it is a token.

@@ -1,7 +1,6 @@
 -- Members of a map that are gathered by looking ahead.
-use Rattle.std.proofs.Common.{◌≡◌, ℕ, List, [], ◌∷◌, ◌++◌, Ok, refl, sym, ◌∙◌, ap, arith, subst, length, ◌-◌, ◌<◌, append_assoc, append-nil, false}
+use Rattle.std.proofs.Common.{◌≡◌, ℕ, List, [], ◌∷◌, ◌++◌, refl, sym, ◌∙◌, ap, arith, subst, length, ◌-◌, ◌<◌, append_assoc, append-nil, false}
 use Rattle.hist_types.specs.Forms.{Form}
-use Rattle.hist_types.specs.Tokens.{Item}
 use Rattle.edn_lex.specs.Ahead.{HasGivenLone}
 use Rattle.edn_lex.specs.State.{State}
 use Rattle.edn_lex.specs.declared.types.Token.{Token}

@@ -147,7 +147,7 @@ is_short length start end e h = le-ltb MAX_OPERATION_BYTES (end - start) (subst 
 -- ---- a closed map
 
 -- what is left to check once the value of `:process` is known
-abbrev by_process : (start end : ℕ) → List (Form × Form) → Form → Result Entry Fault
+abbrev pub by_process : (start end : ℕ) → List (Form × Form) → Form → Result Entry Fault
 by_process start end pairs process = entry_by (int_of process) (place_of process) start end pairs
 
 all_pairs : (pairs : List (Form × Form)) (pending : Option Form) → pairs_of (members_of pairs pending) ≡ pairs
@@ -168,7 +168,7 @@ pub record IsAt (opener closer : Item) (start end : ℕ) : Type 0 where
   pub start_is : opener.start ≡ start
   pub end_is : end_of closer ≡ end
 
-entry_from : (opener closer : Item) (start end : ℕ) (pairs : List (Form × Form)) (pending : Option Form) → IsAt opener closer start end
+pub entry_from : (opener closer : Item) (start end : ℕ) (pairs : List (Form × Form)) (pending : Option Form) → IsAt opener closer start end
     → entry_of opener closer (members_of pairs pending) ≡ (refuse_if (is_some pending) OddMap start >>= λ _. field (codes ":process") start pairs >>= by_process start end pairs)
 entry_from opener closer start end pairs pending at =
     ap (λ (odd : Bool). refuse_if odd OddMap opener.start >>= λ _. field (codes ":process") opener.start (pairs_of (members_of pairs pending)) >>= by_process opener.start (end_of closer) (pairs_of (members_of pairs pending))) (is_odd pairs pending)

@@ -20,19 +20,19 @@ use Rattle.edn_ops.proofs.OutlineLemmas.{is_named-outline, place_of-outline}
 
 -- ---- members and fields
 
-key_more : (pairs : List (Form × Form)) (key : Form) → members_of pairs None ++ key ∷ [] ≡ members_of pairs (Some key)
+pub key_more : (pairs : List (Form × Form)) (key : Form) → members_of pairs None ++ key ∷ [] ≡ members_of pairs (Some key)
 key_more [] key = refl
 key_more (pair ∷ pairs) key = ap (λ (fs : List Form). pair.0 ∷ pair.1 ∷ fs) (key_more pairs key)
 
-pair_more : (pairs : List (Form × Form)) (key value : Form) → members_of pairs (Some key) ++ value ∷ [] ≡ members_of (pairs ++ (key, value) ∷ []) None
+pub pair_more : (pairs : List (Form × Form)) (key value : Form) → members_of pairs (Some key) ++ value ∷ [] ≡ members_of (pairs ++ (key, value) ∷ []) None
 pair_more [] key value = refl
 pair_more (pair ∷ pairs) key value = ap (λ (fs : List Form). pair.0 ∷ pair.1 ∷ fs) (pair_more pairs key value)
 
 -- a field where its key has the name
-abbrev if_named : Bool → Form → Form → List (Form × Form)
+abbrev pub if_named : Bool → Form → Form → List (Form × Form)
 if_named test key value = cond test ((key, value) ∷ []) []
 
-named_more : (name : List ℕ) (pairs : List (Form × Form)) (key value : Form) → fields_named name (pairs ++ (key, value) ∷ []) ≡ fields_named name pairs ++ if_named (is_named name key) key value
+pub named_more : (name : List ℕ) (pairs : List (Form × Form)) (key value : Form) → fields_named name (pairs ++ (key, value) ∷ []) ≡ fields_named name pairs ++ if_named (is_named name key) key value
 named_more name pairs key value = filter-append (λ pair. is_named name pair.0) pairs ((key, value) ∷ [])
 
 -- ---- names

@@ -17,6 +17,7 @@ pub mod Places
 pub mod Reached
 pub mod Triples
 pub mod Ahead
+pub mod FlatMaps
 pub mod ReadsBack
 mod Tokens
 mod Decimals

@@ -9,3 +9,4 @@ pub mod Reader
 pub mod Places
 pub mod SourceTexts
 pub mod Canonical
+pub mod Flat

@@ -64,7 +64,7 @@ impl Field {
 }
 
 /// The kind of operation that the value of `:type` names.
-fn kind_of(text: &[u8], value: Outline) -> Option<OpKind>
+pub(crate) fn kind_of(text: &[u8], value: Outline) -> Option<OpKind>
     requires { IsOutlineIn text.now value }
     ensures { result ≡ kind_of_form (outline_of text.now value) }
 {

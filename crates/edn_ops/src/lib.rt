@@ -4,6 +4,7 @@
 mod atoms;
 mod faults;
 mod fields;
+mod flat;
 mod forms;
 pub mod laws;
 mod maps;

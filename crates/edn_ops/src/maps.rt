@@ -12,6 +12,7 @@ ghost use Rattle.edn_ops.specs.Outlines.{IsTokenIn};
 
 use crate::faults::fault_at;
 use crate::fields::Fields;
+use crate::flat::flat_operation;
 use crate::forms::{Member, next_member};
 use crate::members::pass_member;
 use crate::micro_ops::transaction;
@@ -74,6 +75,25 @@ fn gather_ahead(lexer: &mut Lexer, text: &[u8], fields: &mut Fields)
 /// Reads the map of an operation, whose opener has just been given, up to behind its closer: the operation, or none where it
 /// is skipped.
 pub(crate) fn read_map(
+    alloc: Global,
+    lexer: &mut Lexer,
+    text: &[u8],
+    opener: Token,
+) -> Result<Option<OpShape>, Fault>
+    requires text { text.now ≡ lexer.old.text }
+    requires map { is_map (item_of text.now opener) ≡ true }
+    ensures { ReadsMap lexer.old (item_of text.now opener) result lexer.new }
+{
+    match flat_operation(alloc, lexer, text, opener) {
+        Ok(Some(shape)) => Ok(Some(shape)),
+        Ok(None) => read_any_map(alloc, lexer, text, opener),
+        Err(fault) => Err(fault),
+    }
+}
+
+/// The same, whatever its members are.
+#[inline(never)]
+fn read_any_map(
     alloc: Global,
     lexer: &mut Lexer,
     text: &[u8],

@@ -44,7 +44,7 @@ fn is_write(text: &[u8], name: Outline) -> Option<bool>
 
 /// The micro-operation with these forms; it begins at `start`.
 #[inline(always)]
-fn micro_op(
+pub(crate) fn micro_op(
     text: &[u8],
     start: usize,
     name: Outline,

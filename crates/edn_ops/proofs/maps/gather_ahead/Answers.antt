@@ -1,6 +1,4 @@
-use Rattle.std.proofs.Common.{◌∙◌, sym, subst}
-use Rattle.edn_ops.specs.Collections.{GathersAhead}
-use Rattle.edn_lex.specs.State.{State}
+use Rattle.std.proofs.Common.{◌∙◌, sym}
 use Rattle.edn_ops.proofs.Ahead.{nothing_ahead, one_ahead, ahead_in, ahead_shorter}
 use Rattle.edn_ops.proofs.maps.gather_ahead.Goals as goal
 

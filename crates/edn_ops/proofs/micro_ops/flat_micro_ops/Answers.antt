@@ -1,5 +1,5 @@
 use Rattle.std.proofs.Common.{◌≡◌, List, [], ◌∷◌, ◌++◌, Some, ℕ, map, sym, ◌∙◌, subst, refl}
-use Rattle.edn_lex.specs.Ahead.{GivesTriple}
+use Rattle.edn_lex.specs.Ahead.{HasGivenTriple}
 use Rattle.edn_lex.specs.State.{State}
 use Rattle.hist_types.specs.Entries.{micro_op_of}
 use Rattle.edn_ops.specs.Collections.{ReadsMembers}
@@ -16,9 +16,9 @@ loop-triple-init c = ([], (λ opener. nothing_read c.args.lexer.now opener), c.r
 pub micro_op-micro_op-requires : goal.micro_op-micro_op-requires
 micro_op-micro_op-requires c =
     let s = c.loop-triple.lexer in
-    let given : GivesTriple s c.in-Some.triple c.next_triple.new.self = c.in-Some.ensures in
+    let given : HasGivenTriple s c.in-Some.triple c.next_triple.new.self = c.in-Some.ensures in
     let is = c.requires.text ∙ sym c.loop-triple.invariant.3 in
-    let found = triple_in s c.next_triple.new.self c.in-Some.triple given in
+    let found = triple_in s.text s.offset c.in-Some.triple given.gives in
     record {
       name = subst (λ (text : List ℕ). IsTokenIn text c.in-Some.triple.first) (sym is) found.0;
       key = subst (λ (text : List ℕ). IsTokenIn text c.in-Some.triple.second) (sym is) found.1;

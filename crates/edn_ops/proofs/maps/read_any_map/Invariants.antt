@@ -3,7 +3,7 @@ use Rattle.hist_types.specs.Forms.{Form}
 use Rattle.edn_lex.specs.Kinds.{item_of}
 use Rattle.edn_ops.specs.Collections.{ReadsMembers}
 use Rattle.edn_ops.specs.Fields.{Gathers, AreFieldsIn}
-use Rattle.edn_ops.proofs.maps.read_map.Given as goal
+use Rattle.edn_ops.proofs.maps.read_any_map.Given as goal
 
 abbrev pub invariant-loop-fields : goal.invariant-loop-fields
 invariant-loop-fields l =

@@ -6,7 +6,7 @@ use Rattle.edn_ops.proofs.Collected.{member_in}
 use Rattle.edn_ops.proofs.Levels.{GivesMember-shorter}
 use Rattle.edn_ops.proofs.ByMember.{nothing_read, one_read, shorter_member, next_given, next_none, member_some, not_closer}
 use Rattle.edn_ops.proofs.MapMembers.{map_stops, map_fails, map_unclosed, member_stops, map_closed, token_end, gathered_one}
-use Rattle.edn_ops.proofs.maps.read_map.Goals as goal
+use Rattle.edn_ops.proofs.maps.read_any_map.Goals as goal
 
 pub loop-fields-init : goal.loop-fields-init
 loop-fields-init c =
