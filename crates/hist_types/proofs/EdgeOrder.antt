@@ -1,5 +1,5 @@
 -- The order of edges is total, so putting one edge after the other into its place leaves each once and in order.
-use Rattle.std.proofs.Common.{◌≡◌, ◌⊎◌, inl, inr, ℤ, pos, List, [], ◌∷◌, Some, None, fold, Contains, ℕ, refl, ◌∙◌, ap, subst}
+use Rattle.std.proofs.Common.{◌≡◌, ◌⊎◌, inl, inr, ℤ, pos, List, [], ◌∷◌, None, fold, Contains, ℕ, refl, ◌∙◌, ap, subst}
 use Rattle.std.specs.Bool.{⊤}
 use Rattle.std.specs.Cmp.{IsTotalOrder}
 use Rattle.std.specs.Cmp.Lexicographic.{slice_cmp, options_total}
@@ -51,24 +51,24 @@ pub value_cmp_total : IsTotalOrder value_cmp
 value_cmp_total = options_total atom_cmp_total
 
 abbrev key_in : Label → Atom
-key_in (ww key earlier later) = key
-key_in (wr key value) = key
-key_in (rw key earlier later) = key
+key_in (ww earlier later) = earlier.key
+key_in (wr version) = version.key
+key_in (rw earlier later) = earlier.key
 key_in label = integer (pos 0)
 
-abbrev version_in : Label → Value
-version_in (ww key earlier later) = Some earlier
-version_in (wr key value) = Some value
-version_in (rw key earlier later) = earlier
-version_in label = None
+abbrev value_in : Label → Value
+value_in (ww earlier later) = earlier.value
+value_in (wr version) = version.value
+value_in (rw earlier later) = earlier.value
+value_in label = None
 
 abbrev label_parts_cmp : Label → Label → Ordering
-label_parts_cmp = then_cmp (on label_rank nat_cmp) (then_cmp (on key_in atom_cmp) (on version_in value_cmp))
+label_parts_cmp = then_cmp (on label_rank nat_cmp) (then_cmp (on key_in atom_cmp) (on value_in value_cmp))
 
 label_by_parts : (a b : Label) → label_parts_cmp a b ≡ label_cmp a b
-label_by_parts (ww k v w) (ww l x y) = refl
-label_by_parts (wr k v) (wr l x) = refl
-label_by_parts (rw k v w) (rw l x y) = refl
+label_by_parts (ww v w) (ww x y) = refl
+label_by_parts (wr v) (wr x) = refl
+label_by_parts (rw v w) (rw x y) = refl
 label_by_parts (process p) (process q) = refl
 label_by_parts (realtime c d) (realtime e f) = refl
 label_by_parts a b = refl
@@ -76,7 +76,7 @@ label_by_parts a b = refl
 pub label_cmp_total : IsTotalOrder label_cmp
 label_cmp_total =
     subst IsTotalOrder (λ i a b. label_by_parts a b i)
-    (then_total (on_total label_rank nat_cmp_total) (then_total (on_total key_in atom_cmp_total) (on_total version_in value_cmp_total)))
+    (then_total (on_total label_rank nat_cmp_total) (then_total (on_total key_in atom_cmp_total) (on_total value_in value_cmp_total)))
 
 pub edge_cmp_total : IsTotalOrder edge_cmp
 edge_cmp_total =

@@ -1,11 +1,11 @@
--- The tests of equality decide it: for atoms, for what a read returns, for writes and for reads.
+-- The tests of equality decide it: for atoms, for what a read returns, for writes and for versions.
 use Rattle.std.proofs.Common.{◌≡◌, ◌↔◌, Bool, true, Some, None, IsTrue, refl, ◌∙◌, ap, subst}
 use Rattle.std.specs.Cmp.Lexicographic.{bytes_decides}
 use Rattle.std.proofs.lemmas.Bool.{false≢true, and_parts, and_from}
 use Rattle.std.proofs.lemmas.Bool.Decides.{Decides-int_eq}
 use Rattle.hist_types.specs.Atoms.{Atom, integer, keyword, string, symbol, Value, atom_eq, value_eq}
 use Rattle.hist_types.specs.Journal.{Write, write_eq}
-use Rattle.hist_types.specs.Transactions.{Read, read_eq}
+use Rattle.hist_types.specs.Transactions.{Version, version_eq}
 
 pub atom_eq-same : (a b : Atom) → atom_eq a b ≡ true → a ≡ b
 atom_eq-same (integer i) (integer j) e = ap integer ((Decides-int_eq i j).0 e)
@@ -47,33 +47,33 @@ value_eq-decides = decides value_eq value_eq-same value_eq-itself
 abbrev the_write : Atom → Atom → Write
 the_write key value = record { key = key; value = value }
 
-same_write : (a b : Write) → a.key ≡ b.key → a.value ≡ b.value → a ≡ b
+pub same_write : (a b : Write) → a.key ≡ b.key → a.value ≡ b.value → a ≡ b
 same_write a b k v = ap (λ key. the_write key a.value) k ∙ ap (the_write b.key) v
 
-write_eq-same : (a b : Write) → write_eq a b ≡ true → a ≡ b
+pub write_eq-same : (a b : Write) → write_eq a b ≡ true → a ≡ b
 write_eq-same a b e =
     let parts = and_parts (atom_eq a.key b.key) (atom_eq a.value b.value) e in
     same_write a b (atom_eq-same a.key b.key parts.0) (atom_eq-same a.value b.value parts.1)
 
-write_eq-itself : (a : Write) → write_eq a a ≡ true
+pub write_eq-itself : (a : Write) → write_eq a a ≡ true
 write_eq-itself a = and_from (atom_eq a.key a.key) (atom_eq a.value a.value) (atom_eq-itself a.key) (atom_eq-itself a.value)
 
 pub write_eq-decides : (a b : Write) → IsTrue (write_eq a b) ↔ (a ≡ b)
 write_eq-decides = decides write_eq write_eq-same write_eq-itself
 
-abbrev the_read : Atom → Value → Read
-the_read key value = record { key = key; value = value }
+abbrev the_version : Atom → Value → Version
+the_version key value = record { key = key; value = value }
 
-same_read : (a b : Read) → a.key ≡ b.key → a.value ≡ b.value → a ≡ b
-same_read a b k v = ap (λ key. the_read key a.value) k ∙ ap (the_read b.key) v
+pub same_version : (v w : Version) → v.key ≡ w.key → v.value ≡ w.value → v ≡ w
+same_version v w k e = ap (λ key. the_version key v.value) k ∙ ap (the_version w.key) e
 
-read_eq-same : (a b : Read) → read_eq a b ≡ true → a ≡ b
-read_eq-same a b e =
-    let parts = and_parts (atom_eq a.key b.key) (value_eq a.value b.value) e in
-    same_read a b (atom_eq-same a.key b.key parts.0) (value_eq-same a.value b.value parts.1)
+pub version_eq-same : (v w : Version) → version_eq v w ≡ true → v ≡ w
+version_eq-same v w e =
+    let parts = and_parts (atom_eq v.key w.key) (value_eq v.value w.value) e in
+    same_version v w (atom_eq-same v.key w.key parts.0) (value_eq-same v.value w.value parts.1)
 
-read_eq-itself : (a : Read) → read_eq a a ≡ true
-read_eq-itself a = and_from (atom_eq a.key a.key) (value_eq a.value a.value) (atom_eq-itself a.key) (value_eq-itself a.value)
+pub version_eq-itself : (v : Version) → version_eq v v ≡ true
+version_eq-itself v = and_from (atom_eq v.key v.key) (value_eq v.value v.value) (atom_eq-itself v.key) (value_eq-itself v.value)
 
-pub read_eq-decides : (a b : Read) → IsTrue (read_eq a b) ↔ (a ≡ b)
-read_eq-decides = decides read_eq read_eq-same read_eq-itself
+pub version_eq-decides : (v w : Version) → IsTrue (version_eq v w) ↔ (v ≡ w)
+version_eq-decides = decides version_eq version_eq-same version_eq-itself

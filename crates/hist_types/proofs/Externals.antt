@@ -7,7 +7,7 @@ use Rattle.hist_types.specs.Atoms.{Atom, Value, atom_eq}
 use Rattle.hist_types.specs.Journal.{Write, writes_of}
 use Rattle.hist_types.specs.Laws.{WritesAnother, ReadsFirst, WritesLast}
 use Rattle.hist_types.specs.Operations.{Mop, read, write}
-use Rattle.hist_types.specs.Transactions.{Transaction, Read, reads_after, external_reads, has_key, last_writes, external_writes}
+use Rattle.hist_types.specs.Transactions.{Transaction, Version, reads_after, external_reads, has_key, last_writes, external_writes}
 use Rattle.hist_types.proofs.Equality.{atom_eq-same, atom_eq-itself}
 use Rattle.hist_types.proofs.Members.{In, in_from_Contains, Contains_from_in}
 
@@ -42,30 +42,30 @@ no_key key (w ∷ ws) all = neither (atom_eq key w.key) (has_key key ws) (told_a
 
 -- ---- reads
 
-abbrev the_read : Atom → Value → Read
-the_read key value = record { key = key; value = value }
+abbrev the_version : Atom → Value → Version
+the_version key value = record { key = key; value = value }
 
 -- it stands in the list behind no write of its key
-abbrev StandsFirst : List Mop → Read → Type 0
+abbrev StandsFirst : List Mop → Version → Type 0
 StandsFirst mops r =
     (before : List Mop) × (after : List Mop) × (mops ≡ before ++ read r.key r.value ∷ after) × AllByRecursion (WritesAnother r.key) (writes_of before)
 
 -- and its key is none of the keys
-abbrev StandsFirstBehind : List Atom → List Mop → Read → Type 0
+abbrev StandsFirstBehind : List Atom → List Mop → Version → Type 0
 StandsFirstBehind written mops r = (list_any (atom_eq r.key) written ≡ false) × StandsFirst mops r
 
-after_read : (written : List Atom) (key : Atom) (value : Value) (mops : List Mop) (r : Read) → StandsFirstBehind written mops r → StandsFirstBehind written (read key value ∷ mops) r
+after_read : (written : List Atom) (key : Atom) (value : Value) (mops : List Mop) (r : Version) → StandsFirstBehind written mops r → StandsFirstBehind written (read key value ∷ mops) r
 after_read written key value mops r s = (s.0, (read key value ∷ s.1.0, s.1.1, ap (λ ms. read key value ∷ ms) s.1.2, s.1.3))
 
-after_write : (written : List Atom) (key value : Atom) (mops : List Mop) (r : Read) → StandsFirstBehind (key ∷ written) mops r → StandsFirstBehind written (write key value ∷ mops) r
+after_write : (written : List Atom) (key value : Atom) (mops : List Mop) (r : Version) → StandsFirstBehind (key ∷ written) mops r → StandsFirstBehind written (write key value ∷ mops) r
 after_write written key value mops r s =
     let both = no_or (atom_eq r.key key) (list_any (atom_eq r.key) written) s.0 in
     (both.1, (write key value ∷ s.1.0, s.1.1, ap (λ ms. write key value ∷ ms) s.1.2, (other_keys r.key key both.0, s.1.3)))
 
 here_or_further :
-    (was : Bool) (written : List Atom) (key : Atom) (value : Value) (mops : List Mop) (r : Read)
+    (was : Bool) (written : List Atom) (key : Atom) (value : Value) (mops : List Mop) (r : Version)
     → list_any (atom_eq key) written ≡ was
-    → In r (if was then reads_after written mops else the_read key value ∷ reads_after written mops)
+    → In r (if was then reads_after written mops else the_version key value ∷ reads_after written mops)
     → (In r (reads_after written mops) → StandsFirstBehind written mops r)
     → StandsFirstBehind written (read key value ∷ mops) r
 here_or_further true written key value mops r e i further = after_read written key value mops r (further i)
@@ -73,29 +73,29 @@ here_or_further false written key value mops r e (inl here) further =
     subst (StandsFirstBehind written (read key value ∷ mops)) here (e, ([], mops, refl, tt))
 here_or_further false written key value mops r e (inr i) further = after_read written key value mops r (further i)
 
-stands_first : (written : List Atom) (mops : List Mop) (r : Read) → In r (reads_after written mops) → StandsFirstBehind written mops r
+stands_first : (written : List Atom) (mops : List Mop) (r : Version) → In r (reads_after written mops) → StandsFirstBehind written mops r
 stands_first written [] r i = elim i [ ]
 stands_first written (read key value ∷ mops) r i =
     here_or_further (list_any (atom_eq key) written) written key value mops r refl i (stands_first written mops r)
 stands_first written (write key value ∷ mops) r i = after_write written key value mops r (stands_first (key ∷ written) mops r i)
 
-still_in : (was : Bool) (s r : Read) (rs : List Read) → In r rs → In r (if was then rs else s ∷ rs)
+still_in : (was : Bool) (s r : Version) (rs : List Version) → In r rs → In r (if was then rs else s ∷ rs)
 still_in true s r rs i = i
 still_in false s r rs i = inr i
 
 first_in :
-    (written : List Atom) (before after : List Mop) (r : Read)
+    (written : List Atom) (before after : List Mop) (r : Version)
     → list_any (atom_eq r.key) written ≡ false
     → AllByRecursion (WritesAnother r.key) (writes_of before)
     → In r (reads_after written (before ++ read r.key r.value ∷ after))
 first_in written [] after r none all =
-    subst (λ was. In r (if was then reads_after written after else the_read r.key r.value ∷ reads_after written after)) (sym none) (inl refl)
+    subst (λ was. In r (if was then reads_after written after else the_version r.key r.value ∷ reads_after written after)) (sym none) (inl refl)
 first_in written (read key value ∷ before) after r none all =
-    still_in (list_any (atom_eq key) written) (the_read key value) r (reads_after written (before ++ read r.key r.value ∷ after)) (first_in written before after r none all)
+    still_in (list_any (atom_eq key) written) (the_version key value) r (reads_after written (before ++ read r.key r.value ∷ after)) (first_in written before after r none all)
 first_in written (write key value ∷ before) after r none all =
     first_in (key ∷ written) before after r (neither (atom_eq r.key key) (list_any (atom_eq r.key) written) (told_apart r.key key all.0) none) all.1
 
-pub external_reads-first : (t : Transaction) (r : Read) → Contains (external_reads t) r ↔ ReadsFirst t.mops r
+pub external_reads-first : (t : Transaction) (r : Version) → Contains (external_reads t) r ↔ ReadsFirst t.mops r
 external_reads-first t r = (
   λ c.
       let s = stands_first [] t.mops r (in_from_Contains r (external_reads t) c) in

@@ -8,7 +8,11 @@ pub mod Processes
 pub mod Externals
 pub mod OrderEdges
 pub mod EdgeOrder
+pub mod VersionMembers
+pub mod DependencyEdges
 pub mod PrintedEdges
+pub mod WrittenOnce
+pub mod BadReads
 pub mod OneCut
 pub mod EachCut
 pub mod Fronts

@@ -76,3 +76,17 @@ in_filtered p x [] i passes = elim i [ ]
 in_filtered p x (z ∷ xs) (inl e) passes =
     subst (λ b. In x (if b then z ∷ filter p xs else filter p xs)) (sym (ap p e ∙ passes)) (inl e)
 in_filtered p x (z ∷ xs) (inr i) passes = stays x z (p z) (filter p xs) (in_filtered p x xs i passes)
+
+passes_by :
+    {X : Type 0} (p : X → Bool) (x z : X) (passes : Bool) (rest : List X)
+    → p z ≡ passes
+    → In x (if passes then z ∷ rest else rest)
+    → (In x rest → p x ≡ true)
+    → p x ≡ true
+passes_by p x z true rest e (inl here) further = sym (ap p here) ∙ e
+passes_by p x z true rest e (inr i) further = further i
+passes_by p x z false rest e i further = further i
+
+pub passes_filter : {X : Type 0} (p : X → Bool) (x : X) (xs : List X) → In x (filter p xs) → p x ≡ true
+passes_filter p x [] i = elim i [ ]
+passes_filter p x (z ∷ xs) i = passes_by p x z (p z) (filter p xs) refl i (passes_filter p x xs)

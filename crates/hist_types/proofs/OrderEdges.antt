@@ -3,7 +3,7 @@ use Rattle.std.proofs.Common.{◌≡◌, ℕ, List, [], ◌∷◌, Bool, true, f
 use Rattle.std.specs.Option.{option_map_or}
 use Rattle.std.proofs.lemmas.Bool.{false≢true, and_parts, or_left}
 use Rattle.hist_types.specs.Transactions.{Transaction, is_ok, is_failed, was_read, is_node, nodes}
-use Rattle.hist_types.specs.Edges.{Label, process, realtime, Edge, edge, between_each, is_before, same_process, process_labels, realtime_label, realtime_labels, order_labels, all_order_edges, order_edges}
+use Rattle.hist_types.specs.Edges.{Label, process, realtime, Edge, edge, between_each, is_ok_before, same_process, process_labels, realtime_label, realtime_labels, order_labels, all_order_edges, order_edges}
 use Rattle.hist_types.specs.Frontier.{has_between, thinned_labels, all_thinned_edges, thinned_edges}
 use Rattle.hist_types.specs.Laws.{LeavesOne, LeadsToOne, HasRealtimeTwin}
 use Rattle.hist_types.specs.declared.types.Level.{Level}
@@ -35,7 +35,7 @@ comes_from ts f e i =
     let rest = different_ends t u (t.invocation == u.invocation) e (map (edge t u) (f t u)) second.2 in
     (t, u, first.1, second.1, rest.0, rest.1)
 
-goes_to : (ts : List Transaction) (f : Labels) (e : Edge) → Comes ts f e → In e (between_each ts f)
+pub goes_to : (ts : List Transaction) (f : Labels) (e : Edge) → Comes ts f e → In e (between_each ts f)
 goes_to ts f e c =
     let t : Transaction = c.0 in
     let u : Transaction = c.1 in
@@ -113,16 +113,16 @@ label_if : (holds : Bool) (ls : List Label) (label : Label) → In label (if hol
 label_if true ls label i = refl
 label_if false ls label i = elim i [ ]
 
-ordered_before : (level : Level) (t u : Transaction) (label : Label) → In label (order_labels level t u) → is_before t u ≡ true
+ordered_before : (level : Level) (t u : Transaction) (label : Label) → In label (order_labels level t u) → is_ok_before t u ≡ true
 ordered_before Plain t u label i = elim i [ ]
 ordered_before Process t u label i =
-    (and_parts (is_before t u) (same_process t u) (label_if (is_before t u && same_process t u) (process t.process ∷ []) label i)).0
-ordered_before Realtime t u label i = label_if (is_before t u) (realtime_label t.completion u.invocation) label i
+    (and_parts (is_ok_before t u) (same_process t u) (label_if (is_ok_before t u && same_process t u) (process t.process ∷ []) label i)).0
+ordered_before Realtime t u label i = label_if (is_ok_before t u) (realtime_label t.completion u.invocation) label i
 
-completed : (t u : Transaction) → is_before t u ≡ true → option_map_or (λ completion. nat_lt completion u.invocation) t.completion false ≡ true
+completed : (t u : Transaction) → is_ok_before t u ≡ true → option_map_or (λ completion. nat_lt completion u.invocation) t.completion false ≡ true
 completed t u e = (and_parts (is_ok t) (option_map_or (λ completion. nat_lt completion u.invocation) t.completion false) e).1
 
-ok_before : (t u : Transaction) → is_before t u ≡ true → is_ok t ≡ true
+ok_before : (t u : Transaction) → is_ok_before t u ≡ true → is_ok t ≡ true
 ok_before t u e = (and_parts (is_ok t) (option_map_or (λ completion. nat_lt completion u.invocation) t.completion false) e).0
 
 ok_is_node : (ts : List Transaction) (t : Transaction) → is_ok t ≡ true → is_node ts t ≡ true
@@ -153,7 +153,7 @@ some_completion : (o : Option ℕ) (f : ℕ → Bool) → option_map_or f o fals
 some_completion None f e = elim (false≢true e) [ ]
 some_completion (Some c) f e = (c, refl)
 
-realtime_in : (t u : Transaction) (c : ℕ) → is_before t u ≡ true → t.completion ≡ Some c → In (realtime c u.invocation) (realtime_labels t u)
+realtime_in : (t u : Transaction) (c : ℕ) → is_ok_before t u ≡ true → t.completion ≡ Some c → In (realtime c u.invocation) (realtime_labels t u)
 realtime_in t u c before completion =
     subst (λ b. In (realtime c u.invocation) (if b then realtime_label t.completion u.invocation else [])) (sym before)
     (subst (λ o. In (realtime c u.invocation) (realtime_label o u.invocation)) (sym completion) (inl refl))
@@ -164,7 +164,7 @@ process_edges-realtime ts e contains =
     let t : Transaction = c.0 in
     let u : Transaction = c.1 in
     let found = in_map (edge t u) e (process_labels t u) c.5 in
-    let before : is_before t u ≡ true = ordered_before Process t u found.0 found.1 in
+    let before : is_ok_before t u ≡ true = ordered_before Process t u found.0 found.1 in
     let completion = some_completion t.completion (λ completion. nat_lt completion u.invocation) (completed t u before) in
     let twin : In (edge t u (realtime completion.0 u.invocation)) (order_edges Realtime ts) =
     goes_to (nodes ts) (order_labels Realtime) (edge t u (realtime completion.0 u.invocation))

@@ -1,23 +1,25 @@
 -- No two dependency edges of a history stand at one place, so each is among those in order.
-use Rattle.std.proofs.Common.{◌≡◌, ◌⊎◌, inl, inr, ℕ, ◌+◌, ◌≤◌, List, [], ◌∷◌, ◌++◌, Bool, true, false, ◌&&◌, ◌||◌, if◌then◌else◌, Option, Some, None, filter, map, Contains, refl, sym, ◌∙◌, ap, subst, arith}
+use Rattle.std.proofs.Common.{◌≡◌, ◌⊎◌, inl, inr, ℕ, ◌+◌, ◌≤◌, List, [], ◌∷◌, Bool, true, false, ◌||◌, if◌then◌else◌, Option, Some, None, Contains, IsTrue, refl, sym, ◌∙◌, ap, subst, arith}
 use Rattle.std.specs.Bool.{⊤}
-use Rattle.std.specs.List.{list_any}
 use Rattle.std.specs.Ordering.{nat_cmp, is_eq, ordering_then}
 use Rattle.std.specs.declared.cmp.Ordering.{Ordering}
 use Rattle.std.specs.declared.cmp.Ordering.TheVariants.{Less, Equal, Greater}
-use Rattle.std.proofs.lemmas.Bool.{false≢true, and_parts, or_cases}
+use Rattle.std.proofs.lemmas.Bool.{false≢true}
 use Rattle.std.proofs.lemmas.Map.Lookups.{exact_bytes, exact_signed, exact_unsigned}
 use Rattle.hist_types.specs.Atoms.{Atom, integer, keyword, string, symbol, Value, atom_eq, atom_cmp, value_cmp}
-use Rattle.hist_types.specs.Edges.{Label, ww, wr, rw, process, realtime, Edge, edge, wrote_earlier, wrote_later, ww_label, ww_labels, wr_labels, reads_earlier, rw_labels, dependency_labels, dependency_edges}
+use Rattle.hist_types.specs.Edges.{Label, ww, wr, rw, process, realtime, Edge, edge, dependency_labels, dependency_edges}
 use Rattle.hist_types.specs.Journal.{Write, writes_of, is_invoke}
+use Rattle.hist_types.specs.Dependencies.{Depends}
 use Rattle.hist_types.specs.Operations.{Operation}
-use Rattle.hist_types.specs.Texts.{label_cmp, edge_cmp, in_order}
-use Rattle.hist_types.specs.Transactions.{Transaction, Indexed, completion_in, transaction_by, transactions_from, transactions_of, is_ok, is_node, nodes, has_key, last_writes, external_writes, reads_externally, read_of}
-use Rattle.hist_types.specs.Versions.{VersionPair, version_pairs}
+use Rattle.hist_types.specs.Texts.{version_cmp, label_cmp, edge_cmp, in_order}
+use Rattle.hist_types.specs.Transactions.{Transaction, Indexed, Version, version_of, completion_in, transaction_by, transactions_from, transactions_of, is_node, nodes, has_key, last_writes, external_writes, installed_by, installs}
+use Rattle.hist_types.specs.Versions.{VersionPair, pair, version_pairs}
+use Rattle.hist_types.proofs.DependencyEdges.{label_depends}
 use Rattle.hist_types.proofs.EdgeOrder.{in_order-among, in_order-places}
-use Rattle.hist_types.proofs.Equality.{atom_eq-same, atom_eq-itself}
-use Rattle.hist_types.proofs.Members.{In, in_from_Contains, in_append, in_some, in_map, in_filter}
+use Rattle.hist_types.proofs.Equality.{atom_eq-itself, same_version}
+use Rattle.hist_types.proofs.Members.{In, in_from_Contains, in_map, in_filter}
 use Rattle.hist_types.proofs.OrderEdges.{Comes, comes_from}
+use Rattle.hist_types.proofs.VersionMembers.{in_from_has, pair_of_one_key}
 
 -- ---- what is not told apart is the same
 
@@ -39,9 +41,6 @@ both_equal Less b e = elim (false≢true (ap is_eq e)) [ ]
 both_equal Greater b e = elim (false≢true (ap is_eq e)) [ ]
 
 -- ---- a transaction has one external write of a key
-
-abbrev the_write : Atom → Atom → Write
-the_write key value = record { key = key; value = value }
 
 no_other : (key : Atom) (ws : List Write) (w : Write) → has_key key ws ≡ false → In w (last_writes ws) → w.key ≡ key → ⊥
 no_other key [] w none i same = i
@@ -79,97 +78,53 @@ one_write v w [] i j same = elim i [ ]
 one_write v w (u ∷ ws) i j same =
     one_write_by (has_key u.key ws) u v w ws refl i j same (λ k l. one_write v w ws k l same)
 
--- ---- a dependency label's later version is an external write of the second transaction
+-- ---- a dependency label's later version is installed by the second transaction
 
-abbrev IsWritten : Transaction → Label → Type 0
-IsWritten u (ww key earlier later) = In (the_write key later) (external_writes u)
-IsWritten u (wr key value) = ⊤
-IsWritten u (rw key earlier later) = In (the_write key later) (external_writes u)
-IsWritten u (process p) = ⊥
-IsWritten u (realtime completion invocation) = ⊥
+version_cmp-equal : (v w : Version) → version_cmp v w ≡ Equal → v ≡ w
+version_cmp-equal v w e =
+    let both = both_equal (atom_cmp v.key w.key) (value_cmp v.value w.value) e in
+    same_version v w (atom_cmp-equal v.key w.key both.0) (value_cmp-equal v.value w.value both.1)
 
-later_value : (u : Transaction) (key v w : Atom) → In (the_write key v) (external_writes u) → (l : Atom) → key ≡ l → In (the_write l w) (external_writes u) → v ≡ w
-later_value u key v w i l same j = ap (λ (x : Write). x.value) (one_write (the_write key v) (the_write l w) (writes_of u.mops) i j same)
+-- a transaction installs one version of a key
+one_version : (t : Transaction) (v w : Version) → In v (installed_by t) → In w (installed_by t) → v.key ≡ w.key → v ≡ w
+one_version t v w i j same =
+    let a = in_map version_of v (external_writes t) i in
+    let b = in_map version_of w (external_writes t) j in
+    let key : a.0.key ≡ b.0.key = ap (λ (x : Version). x.key) a.2 ∙ (same ∙ sym (ap (λ (x : Version). x.key) b.2)) in
+    sym a.2 ∙ (ap version_of (one_write a.0 b.0 (writes_of t.mops) a.1 b.1 key) ∙ b.2)
 
-one_label : (u : Transaction) (a b : Label) → IsWritten u a → IsWritten u b → label_cmp a b ≡ Equal → a ≡ b
-one_label u (ww k v w) (ww l x y) i j e =
-    let both = both_equal (atom_cmp k l) (atom_cmp v x) e in
-    let key : k ≡ l = atom_cmp-equal k l both.0 in
-    ap (λ c. ww c v w) key ∙ (ap (λ c. ww l c w) (atom_cmp-equal v x both.1) ∙ ap (ww l x) (later_value u k w y i l key j))
-one_label u (wr k v) (wr l x) i j e =
-    let both = both_equal (atom_cmp k l) (atom_cmp v x) e in
-    ap (λ c. wr c v) (atom_cmp-equal k l both.0) ∙ ap (wr l) (atom_cmp-equal v x both.1)
-one_label u (rw k v w) (rw l x y) i j e =
-    let both = both_equal (atom_cmp k l) (value_cmp v x) e in
-    let key : k ≡ l = atom_cmp-equal k l both.0 in
-    ap (λ c. rw c v w) key ∙ (ap (λ c. rw l c w) (value_cmp-equal v x both.1) ∙ ap (rw l x) (later_value u k w y i l key j))
+pub one_installed : (t : Transaction) (v w : Version) → IsTrue (installs t v) → IsTrue (installs t w) → v.key ≡ w.key → v ≡ w
+one_installed t v w i j same = one_version t v w (in_from_has v (installed_by t) i) (in_from_has w (installed_by t) j) same
+
+-- what makes two labels at one place the same
+abbrev IsInstalled : Transaction → Label → Type 0
+IsInstalled u (ww earlier later) = (earlier.key ≡ later.key) × In later (installed_by u)
+IsInstalled u (wr version) = ⊤
+IsInstalled u (rw earlier later) = (earlier.key ≡ later.key) × In later (installed_by u)
+IsInstalled u (process p) = ⊥
+IsInstalled u (realtime completion invocation) = ⊥
+
+one_label : (u : Transaction) (a b : Label) → IsInstalled u a → IsInstalled u b → label_cmp a b ≡ Equal → a ≡ b
+one_label u (ww v w) (ww x y) i j e =
+    let first : v ≡ x = version_cmp-equal v x e in
+    ap (λ c. ww c w) first ∙ ap (ww x) (one_version u w y i.1 j.1 (sym i.0 ∙ (ap (λ (c : Version). c.key) first ∙ j.0)))
+one_label u (wr v) (wr x) i j e = ap wr (version_cmp-equal v x e)
+one_label u (rw v w) (rw x y) i j e =
+    let first : v ≡ x = version_cmp-equal v x e in
+    ap (λ c. rw c w) first ∙ ap (rw x) (one_version u w y i.1 j.1 (sym i.0 ∙ (ap (λ (c : Version). c.key) first ∙ j.0)))
 one_label u (process p) b i j e = elim i [ ]
 one_label u (realtime c d) b i j e = elim i [ ]
 one_label u a b i j e = elim (false≢true (ap is_eq e)) [ ]
 
-passes_by :
-    {X : Type 0} (p : X → Bool) (x z : X) (passes : Bool) (rest : List X)
-    → p z ≡ passes
-    → In x (if passes then z ∷ rest else rest)
-    → (In x rest → p x ≡ true)
-    → p x ≡ true
-passes_by p x z true rest e (inl here) further = sym (ap p here) ∙ e
-passes_by p x z true rest e (inr i) further = further i
-passes_by p x z false rest e i further = further i
-
-passes_filter : {X : Type 0} (p : X → Bool) (x : X) (xs : List X) → In x (filter p xs) → p x ≡ true
-passes_filter p x [] i = elim i [ ]
-passes_filter p x (z ∷ xs) i = passes_by p x z (p z) (filter p xs) refl i (passes_filter p x xs)
-
-in_if : {X : Type 0} (holds : Bool) (x : X) (xs : List X) → In x (if holds then xs else []) → In x xs
-in_if true x xs i = i
-in_if false x xs i = elim i [ ]
-
-wrote : (key later : Atom) (ws : List Write) → list_any (λ (w : Write). atom_eq w.key key && atom_eq w.value later) ws ≡ true → In (the_write key later) ws
-wrote key later [] e = elim (false≢true e) [ ]
-wrote key later (w ∷ ws) e =
-    elim (or_cases (atom_eq w.key key && atom_eq w.value later) (list_any (λ (v : Write). atom_eq v.key key && atom_eq v.value later) ws) e) [
-      | inl here ↦ (
-          let parts = and_parts (atom_eq w.key key) (atom_eq w.value later) here in
-          inl (ap (λ k. the_write k w.value) (atom_eq-same w.key key parts.0) ∙ ap (the_write key) (atom_eq-same w.value later parts.1)))
-      | inr further ↦ inr (wrote key later ws further)
-    ]
-
-ww_written : (u : Transaction) (key : Atom) (earlier : Value) (later : Atom) (l : Label) → In l (ww_label key earlier later) → In (the_write key later) (external_writes u) → IsWritten u l
-ww_written u key None later l i w = elim i [ ]
-ww_written u key (Some v) later l (inl e) w = subst (IsWritten u) e w
-ww_written u key (Some v) later l (inr none) w = elim none [ ]
-
-is_rw_written :
-    (pairs : List VersionPair) (t u : Transaction) (l : Label)
-    → In l (map (λ (p : VersionPair). rw p.key p.earlier p.later) (filter (λ p. reads_earlier t p && wrote_later u p) pairs))
-    → IsWritten u l
-is_rw_written pairs t u l i =
-    let found = in_map (λ (p : VersionPair). rw p.key p.earlier p.later) l (filter (λ p. reads_earlier t p && wrote_later u p) pairs) i in
-    let both = and_parts (reads_earlier t found.0) (wrote_later u found.0) (passes_filter (λ p. reads_earlier t p && wrote_later u p) found.0 pairs found.1) in
-    subst (IsWritten u) found.2 (wrote found.0.key found.0.later (external_writes u) both.1)
-
-is_wr_written : (u : Transaction) (ws : List Write) (l : Label) → In l (map (λ (w : Write). wr w.key w.value) ws) → IsWritten u l
-is_wr_written u ws l i =
-    let found = in_map (λ (w : Write). wr w.key w.value) l ws i in
-    subst (IsWritten u) found.2 tt
-
-is_ww_written : (pairs : List VersionPair) (t u : Transaction) (l : Label) → In l (ww_labels pairs t u) → IsWritten u l
-is_ww_written pairs t u l i =
-    let found = in_some (λ (p : VersionPair). ww_label p.key p.earlier p.later) l (filter (λ p. wrote_earlier t p && wrote_later u p) pairs) i in
-    let both = and_parts (wrote_earlier t found.0) (wrote_later u found.0) (passes_filter (λ p. wrote_earlier t p && wrote_later u p) found.0 pairs found.1) in
-    ww_written u found.0.key found.0.earlier found.0.later l found.2 (wrote found.0.key found.0.later (external_writes u) both.1)
-
-label_written : (pairs : List VersionPair) (t u : Transaction) (l : Label) → In l (dependency_labels pairs t u) → IsWritten u l
-label_written pairs t u l i = elim (in_append l (ww_labels pairs t u ++ wr_labels t u) (rw_labels pairs t u) i) [
-  | inl front ↦ elim (in_append l (ww_labels pairs t u) (wr_labels t u) front) [
-    | inl first ↦ is_ww_written pairs t u l first
-    | inr second ↦ is_wr_written u (filter (λ w. reads_externally u (read_of w)) (external_writes t)) l
-        (in_if (is_ok u) l (map (λ (w : Write). wr w.key w.value) (filter (λ w. reads_externally u (read_of w)) (external_writes t))) second)
-  ]
-  | inr third ↦ is_rw_written pairs t u l
-      (in_if (is_ok t) l (map (λ (p : VersionPair). rw p.key p.earlier p.later) (filter (λ p. reads_earlier t p && wrote_later u p) pairs)) third)
-]
+installed : (ts : List Transaction) (t u : Transaction) (l : Label) → In l (dependency_labels (version_pairs ts) t u) → IsInstalled u l
+installed ts t u l i = from l (label_depends ts t u l i)
+  where
+    from : (l : Label) → Depends ts t u l → IsInstalled u l
+    from (ww v w) d = (pair_of_one_key ts (pair v w) (in_from_Contains (pair v w) (version_pairs ts) d.0), in_from_has w (installed_by u) d.2)
+    from (wr v) d = tt
+    from (rw v w) d = (pair_of_one_key ts (pair v w) (in_from_Contains (pair v w) (version_pairs ts) d.0), in_from_has w (installed_by u) d.2)
+    from (process p) d = d
+    from (realtime c e) d = d
 
 -- ---- a transaction is told by the index of its invocation
 
@@ -232,9 +187,9 @@ one_edge events e f i j same =
     let first : e.to ≡ a.1.invocation = ap (λ (d : Edge). d.to) (sym l.2) in
     let second : f.to ≡ b.1.invocation = ap (λ (d : Edge). d.to) (sym m.2) in
     let one : b.1 ≡ a.1 = one_transaction 0 events b.1 a.1 (in_filter (is_node ts) b.1 ts b.3) (in_filter (is_node ts) a.1 ts a.3) (sym second ∙ (sym to ∙ first)) in
-    let here : IsWritten a.1 e.label = subst (IsWritten a.1) (ap (λ (d : Edge). d.label) l.2) (label_written pairs a.0 a.1 l.0 l.1) in
-    let there : IsWritten b.1 f.label = subst (IsWritten b.1) (ap (λ (d : Edge). d.label) m.2) (label_written pairs b.0 b.1 m.0 m.1) in
-    let label : e.label ≡ f.label = one_label a.1 e.label f.label here (subst (λ u. IsWritten u f.label) one there) further.1 in
+    let here : IsInstalled a.1 e.label = subst (IsInstalled a.1) (ap (λ (d : Edge). d.label) l.2) (installed ts a.0 a.1 l.0 l.1) in
+    let there : IsInstalled b.1 f.label = subst (IsInstalled b.1) (ap (λ (d : Edge). d.label) m.2) (installed ts b.0 b.1 m.0 m.1) in
+    let label : e.label ≡ f.label = one_label a.1 e.label f.label here (subst (λ u. IsInstalled u f.label) one there) further.1 in
     ap (λ n. the_edge n e.to e.label) from ∙ (ap (λ n. the_edge f.from n e.label) to ∙ ap (the_edge f.from f.to) label)
 
 pub in_order-all : (events : List Operation) (e : Edge) → Contains (dependency_edges (transactions_of events)) e → Contains (in_order (dependency_edges (transactions_of events))) e

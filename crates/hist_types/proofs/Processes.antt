@@ -10,7 +10,7 @@ use Rattle.hist_types.specs.Laws.{IsOfAnother, IsNextOf, IsLastOf}
 use Rattle.hist_types.specs.Operations.{Operation}
 use Rattle.hist_types.specs.Transactions.{Indexed, completion_in}
 
-told_apart : (m n : ℕ) → ¬ (m ≡ n) → (m == n) ≡ false
+pub told_apart : (m n : ℕ) → ¬ (m ≡ n) → (m == n) ≡ false
 told_apart m n other = elim (cases_Bool (m == n)) [
   | inl same ↦ elim (other (eqb-true m n same)) [ ]
   | inr e ↦ e

@@ -8,7 +8,7 @@ use Rattle.std.proofs.lemmas.List.Sums.{length-filter}
 use Rattle.hist_types.specs.Journal.{is_invoke}
 use Rattle.hist_types.specs.Operations.{Operation}
 use Rattle.hist_types.specs.Transactions.{Transaction, is_node, nodes, transactions_of, transactions_from, transaction_by, completion_in}
-use Rattle.hist_types.specs.Edges.{Label, Edge, edge, between_each, is_before, same_process, order_labels, realtime_label, process}
+use Rattle.hist_types.specs.Edges.{Label, Edge, edge, between_each, is_ok_before, same_process, order_labels, realtime_label, process}
 use Rattle.hist_types.specs.Frontier.{is_ordered, has_between, thinned_labels, thinned_edges, all_thinned_edges}
 use Rattle.hist_types.specs.Thinning.{thinned_edges_between, is_open_at, open_at, greatest, most_open, predecessors}
 use Rattle.hist_types.specs.declared.types.Level.{Level}
@@ -341,8 +341,8 @@ one_thinned_label level ts t u = left (has_between level ts t u) (one level)
 
     one : (level : Level) → length (order_labels level t u) ≤ 1
     one Plain = omega arith
-    one Process = one_of (is_before t u && same_process t u) (process t.process ∷ []) (omega arith)
-    one Realtime = one_of (is_before t u) (realtime_label t.completion u.invocation) (one_realtime t.completion)
+    one Process = one_of (is_ok_before t u && same_process t u) (process t.process ∷ []) (omega arith)
+    one Realtime = one_of (is_ok_before t u) (realtime_label t.completion u.invocation) (one_realtime t.completion)
 
     left :
         (between : Bool)
@@ -383,8 +383,8 @@ has_thinned_to level ts ns to t = list_any (leads_to to) (edges_from (thinned_la
 same_end :
     (level : Level) (v u w : Transaction)
     → w.invocation ≡ u.invocation
-    → is_before v w ≡ true
-    → is_before v u ≡ true
+    → is_ok_before v w ≡ true
+    → is_ok_before v u ≡ true
 same_end level v u w same e =
     let (d, before) = ended_before v w e in
     before_from_ended v u d (record { ok = before.ok; ended = before.ended; before = subst (λ n. d < n) same before.before })
@@ -403,7 +403,7 @@ still_open ts ns to t v some i j begun e f =
     let (w, label', end') = end_of (thinned_labels Realtime ts) ns to v f in
     let thinned = thinned_from_label Realtime ts t u label end.labelled in
     let (c, before) = ended_before t u thinned.ordered in
-    let second : is_before v u ≡ true = same_end Realtime v u w (end'.there ∙ sym end.there) (thinned_from_label Realtime ts v w label' end'.labelled).ordered in
+    let second : is_ok_before v u ≡ true = same_end Realtime v u w (end'.there ∙ sym end.there) (thinned_from_label Realtime ts v w label' end'.labelled).ordered in
     let later : v.invocation < c = elim (cases_order c v.invocation) [
       | inl met ↦ absurd (some.sequential.other t v c (some.among t i) (some.among v j) before.ended met)
       | inr apart ↦ elim apart [
@@ -427,16 +427,16 @@ same_one ts ns to t v some i j begun e f =
     let (u, label, end) = end_of (thinned_labels Process ts) ns to t e in
     let (w, label', end') = end_of (thinned_labels Process ts) ns to v f in
     let thinned = thinned_from_label Process ts t u label end.labelled in
-    let first = and_parts (is_before t u) (same_process t u) thinned.ordered in
+    let first = and_parts (is_ok_before t u) (same_process t u) thinned.ordered in
     let (c, before) = ended_before t u first.0 in
     let same : w ≡ u = some.timed.apart w u (some.among w end'.member) (some.among u end.member) (end'.there ∙ sym end.there) in
     let ordered : Ordered Process v u = subst (Ordered Process v) same (thinned_from_label Process ts v w label' end'.labelled).ordered in
-    let second = and_parts (is_before v u) (same_process v u) ordered in
+    let second = and_parts (is_ok_before v u) (same_process v u) ordered in
     let own : t.process ≡ v.process = eqb-true t.process u.process first.1 ∙ sym (eqb-true v.process u.process second.1) in
     elim (cases_lt t.invocation v.invocation) [
       | inl earlier ↦
           let over : c < v.invocation = some.sequential.in_turn t v c (some.among t i) (some.among v j) own earlier before.ended in
-          absurd (thinned.alone v (some.among v j) (and_from (is_before t v) (same_process t v) (before_from_ended t v c (record { ok = before.ok; ended = before.ended; before = over })) (eq-eqb t.process v.process own)) ordered)
+          absurd (thinned.alone v (some.among v j) (and_from (is_ok_before t v) (same_process t v) (before_from_ended t v c (record { ok = before.ok; ended = before.ended; before = over })) (eq-eqb t.process v.process own)) ordered)
       | inr at ↦ eq-eqb t.invocation v.invocation (omega arith)
     ]
 

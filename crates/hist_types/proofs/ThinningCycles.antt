@@ -4,7 +4,7 @@ use Rattle.std.specs.List.{AllByRecursion, list_any, list_all}
 use Rattle.std.proofs.lemmas.Bool.{false≢true, and_parts, and_from, or_cases, or_left, eqb-true, eq-eqb, not-true, not_from_false}
 use Rattle.std.proofs.lemmas.List.Elements.{All-cons}
 use Rattle.hist_types.specs.Transactions.{Transaction, nodes, transactions_of}
-use Rattle.hist_types.specs.Edges.{Edge, edge, is_before, same_process, order_labels, dependency_edges, edges_at}
+use Rattle.hist_types.specs.Edges.{Edge, edge, is_ok_before, same_process, order_labels, dependency_edges, edges_at}
 use Rattle.hist_types.specs.Frontier.{thinned_edges}
 use Rattle.hist_types.specs.Operations.{Operation}
 use Rattle.hist_types.specs.Phenomena.{Leads, IsClosedWalk, is_ww, is_wr, is_rw, is_order, makes, Has, height}
@@ -27,7 +27,7 @@ rises :
 rises Plain higher t u up e = elim (false≢true e) [ ]
 rises Process Plain t u up e = absurd (omega (arith, up))
 rises Process Process t u up e = e
-rises Process Realtime t u up e = (and_parts (is_before t u) (same_process t u) e).0
+rises Process Realtime t u up e = (and_parts (is_ok_before t u) (same_process t u) e).0
 rises Realtime Plain t u up e = absurd (omega (arith, up))
 rises Realtime Process t u up e = absurd (omega (arith, up))
 rises Realtime Realtime t u up e = e

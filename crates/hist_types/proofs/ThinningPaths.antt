@@ -7,7 +7,7 @@ use Rattle.std.proofs.lemmas.List.Elements.{All-from_recursion, recursion_from_A
 use Rattle.std.proofs.lemmas.Option.{same_Some}
 use Rattle.hist_types.specs.Operations.{Operation}
 use Rattle.hist_types.specs.Transactions.{Transaction, is_ok, is_failed, was_read, is_node, nodes, transactions_of}
-use Rattle.hist_types.specs.Edges.{Label, process, realtime, Edge, edge, between_each, is_before, same_process, realtime_label, order_labels}
+use Rattle.hist_types.specs.Edges.{Label, process, realtime, Edge, edge, between_each, is_ok_before, same_process, realtime_label, order_labels}
 use Rattle.hist_types.specs.Frontier.{is_ordered, has_between, thinned_labels}
 use Rattle.hist_types.specs.Phenomena.{Leads}
 use Rattle.hist_types.specs.Thinning.{IncludesAllOk, order_edges_between, thinned_edges_between, HasEdge, IsPath, HasPath}
@@ -38,9 +38,9 @@ any_passes p x (y ∷ xs) (inr i) e = or_second (p y) (list_any p xs) (any_passe
 abbrev pub Ordered : Level → Transaction → Transaction → Type 0
 Ordered level t u = is_ordered level t u ≡ true
 
-pub ordered_in_time : (level : Level) (t u : Transaction) → Ordered level t u → is_before t u ≡ true
+pub ordered_in_time : (level : Level) (t u : Transaction) → Ordered level t u → is_ok_before t u ≡ true
 ordered_in_time Plain t u e = elim (false≢true e) [ ]
-ordered_in_time Process t u e = (and_parts (is_before t u) (same_process t u) e).0
+ordered_in_time Process t u e = (and_parts (is_ok_before t u) (same_process t u) e).0
 ordered_in_time Realtime t u e = e
 
 -- t completed at c, before u's invocation
@@ -53,13 +53,13 @@ ended_at : (o : Option ℕ) (n : ℕ) → option_map_or (λ c. nat_lt c n) o fal
 ended_at None n e = elim (false≢true e) [ ]
 ended_at (Some c) n e = (c, refl, ltb-true c n e)
 
-pub ended_before : (t u : Transaction) → is_before t u ≡ true → (c : ℕ) × EndedBefore t u c
+pub ended_before : (t u : Transaction) → is_ok_before t u ≡ true → (c : ℕ) × EndedBefore t u c
 ended_before t u e =
     let both = and_parts (is_ok t) (option_map_or (λ c. nat_lt c u.invocation) t.completion false) e in
     let at = ended_at t.completion u.invocation both.1 in
     (at.0, record { ok = both.0; ended = at.1; before = at.2 })
 
-pub before_from_ended : (t u : Transaction) (c : ℕ) → EndedBefore t u c → is_before t u ≡ true
+pub before_from_ended : (t u : Transaction) (c : ℕ) → EndedBefore t u c → is_ok_before t u ≡ true
 before_from_ended t u c h =
     and_from (is_ok t) (option_map_or (λ c. nat_lt c u.invocation) t.completion false) h.ok
     (ap (λ o. option_map_or (λ c. nat_lt c u.invocation) o false) h.ended ∙ lt-ltb c u.invocation h.before)
@@ -69,9 +69,9 @@ before_through :
     (t v w u : Transaction)
     → ((c : ℕ) → w.completion ≡ Some c → w.invocation < c)
     → v.invocation ≡ w.invocation
-    → is_before t v ≡ true
-    → is_before w u ≡ true
-    → is_before t u ≡ true
+    → is_ok_before t v ≡ true
+    → is_ok_before w u ≡ true
+    → is_ok_before t u ≡ true
 before_through t v w u later same first second =
     let (c, begun) = ended_before t v first in
     let (d, done) = ended_before w u second in
@@ -89,9 +89,9 @@ pub ordered_through :
 ordered_through Plain t v u later first second = elim (false≢true first) [ ]
 ordered_through Realtime t v u later first second = before_through t v v u later refl first second
 ordered_through Process t v u later first second =
-    let a = and_parts (is_before t v) (same_process t v) first in
-    let b = and_parts (is_before v u) (same_process v u) second in
-    and_from (is_before t u) (same_process t u) (before_through t v v u later refl a.0 b.0)
+    let a = and_parts (is_ok_before t v) (same_process t v) first in
+    let b = and_parts (is_ok_before v u) (same_process v u) second in
+    and_from (is_ok_before t u) (same_process t u) (before_through t v v u later refl a.0 b.0)
     (eq-eqb t.process u.process (eqb-true t.process v.process a.1 ∙ eqb-true v.process u.process b.1))
 
 -- ---- edges
@@ -105,8 +105,8 @@ pub ordered_from_label :
     → In label (order_labels level t u)
     → Ordered level t u
 ordered_from_label Plain t u label i = elim i [ ]
-ordered_from_label Process t u label i = holds_if (is_before t u && same_process t u) (process t.process ∷ []) label i
-ordered_from_label Realtime t u label i = holds_if (is_before t u) (realtime_label t.completion u.invocation) label i
+ordered_from_label Process t u label i = holds_if (is_ok_before t u && same_process t u) (process t.process ∷ []) label i
+ordered_from_label Realtime t u label i = holds_if (is_ok_before t u) (realtime_label t.completion u.invocation) label i
 
 pub label_from_ordered :
     (level : Level) (t u : Transaction)

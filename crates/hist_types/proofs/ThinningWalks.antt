@@ -6,7 +6,7 @@ use Rattle.std.proofs.lemmas.List.Elements.{All-from_recursion, recursion_from_A
 use Rattle.std.proofs.lemmas.List.Sums.{sum_by-cons, sum_by-append}
 use Rattle.hist_types.specs.Operations.{Operation}
 use Rattle.hist_types.specs.Transactions.{Transaction, nodes, transactions_of}
-use Rattle.hist_types.specs.Edges.{Label, process, Edge, is_before, same_process, realtime_label, order_labels, dependency_edges, edges_at}
+use Rattle.hist_types.specs.Edges.{Label, process, Edge, is_ok_before, same_process, realtime_label, order_labels, dependency_edges, edges_at}
 use Rattle.hist_types.specs.Frontier.{thinned_edges}
 use Rattle.hist_types.specs.Phenomena.{Leads, IsClosedWalk, is_ww_label, is_wr_label, is_rw_label, is_ww, is_wr, is_rw, is_order, makes, Has}
 use Rattle.hist_types.specs.Thinning.{IncludesAllOk, order_edges_between, thinned_edges_between, HasOver, SameCounts, WalksCarryOver}
@@ -121,9 +121,9 @@ only_ww-wr :
     (l : Label)
     → (is_ww_label l || not (is_ww_label l || is_wr_label l || is_rw_label l)) ≡ true
     → is_wr_label l ≡ false
-only_ww-wr (Label.ww k v w) e = refl
-only_ww-wr (Label.wr k v) e = elim (false≢true e) [ ]
-only_ww-wr (Label.rw k v w) e = refl
+only_ww-wr (Label.ww v w) e = refl
+only_ww-wr (Label.wr v) e = elim (false≢true e) [ ]
+only_ww-wr (Label.rw v w) e = refl
 only_ww-wr (Label.process p) e = refl
 only_ww-wr (Label.realtime c i) e = refl
 
@@ -131,9 +131,9 @@ only_ww-rw :
     (l : Label)
     → (is_ww_label l || not (is_ww_label l || is_wr_label l || is_rw_label l)) ≡ true
     → is_rw_label l ≡ false
-only_ww-rw (Label.ww k v w) e = refl
-only_ww-rw (Label.wr k v) e = refl
-only_ww-rw (Label.rw k v w) e = elim (false≢true e) [ ]
+only_ww-rw (Label.ww v w) e = refl
+only_ww-rw (Label.wr v) e = refl
+only_ww-rw (Label.rw v w) e = elim (false≢true e) [ ]
 only_ww-rw (Label.process p) e = refl
 only_ww-rw (Label.realtime c i) e = refl
 
@@ -142,9 +142,9 @@ ww_only :
     → is_wr_label l ≡ false
     → is_rw_label l ≡ false
     → (is_ww_label l || not (is_ww_label l || is_wr_label l || is_rw_label l)) ≡ true
-ww_only (Label.ww k v w) e f = refl
-ww_only (Label.wr k v) e f = elim (false≢true (sym e)) [ ]
-ww_only (Label.rw k v w) e f = elim (false≢true (sym f)) [ ]
+ww_only (Label.ww v w) e f = refl
+ww_only (Label.wr v) e f = elim (false≢true (sym e)) [ ]
+ww_only (Label.rw v w) e f = elim (false≢true (sym f)) [ ]
 ww_only (Label.process p) e f = refl
 ww_only (Label.realtime c i) e f = refl
 
@@ -152,9 +152,9 @@ no_rw-rw :
     (l : Label)
     → (is_ww_label l || is_wr_label l || not (is_ww_label l || is_wr_label l || is_rw_label l)) ≡ true
     → is_rw_label l ≡ false
-no_rw-rw (Label.ww k v w) e = refl
-no_rw-rw (Label.wr k v) e = refl
-no_rw-rw (Label.rw k v w) e = elim (false≢true e) [ ]
+no_rw-rw (Label.ww v w) e = refl
+no_rw-rw (Label.wr v) e = refl
+no_rw-rw (Label.rw v w) e = elim (false≢true e) [ ]
 no_rw-rw (Label.process p) e = refl
 no_rw-rw (Label.realtime c i) e = refl
 
@@ -162,9 +162,9 @@ rw_no :
     (l : Label)
     → is_rw_label l ≡ false
     → (is_ww_label l || is_wr_label l || not (is_ww_label l || is_wr_label l || is_rw_label l)) ≡ true
-rw_no (Label.ww k v w) f = refl
-rw_no (Label.wr k v) f = refl
-rw_no (Label.rw k v w) f = elim (false≢true (sym f)) [ ]
+rw_no (Label.ww v w) f = refl
+rw_no (Label.wr v) f = refl
+rw_no (Label.rw v w) f = elim (false≢true (sym f)) [ ]
 rw_no (Label.process p) f = refl
 rw_no (Label.realtime c i) f = refl
 
@@ -310,8 +310,8 @@ order_uncounted :
     → Uncounted label
 order_uncounted Plain t u label i = elim i [ ]
 order_uncounted Process t u label i =
-    subst Uncounted (label_of_one (is_before t u && same_process t u) (process t.process) label i) (record { no_ww = refl; no_wr = refl; no_rw = refl })
-order_uncounted Realtime t u label i = realtime_uncounted (is_before t u) t.completion u.invocation label i
+    subst Uncounted (label_of_one (is_ok_before t u && same_process t u) (process t.process) label i) (record { no_ww = refl; no_wr = refl; no_rw = refl })
+order_uncounted Realtime t u label i = realtime_uncounted (is_ok_before t u) t.completion u.invocation label i
 
 pub uncounted_edge :
     (level : Level) (ns : List Transaction) (e : Edge)

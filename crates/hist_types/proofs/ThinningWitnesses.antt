@@ -4,19 +4,17 @@ use Rattle.std.proofs.Common.{◌≡◌, ◌↔◌, inl, inr, ℕ, ◌≤◌, Li
 use Rattle.std.specs.List.{AllByRecursion, list_any, list_all}
 use Rattle.std.proofs.lemmas.Bool.{false≢true, and_parts, and_from, or_cases, or_right, or_parts, or_from, and_right, cases_Bool, cases_lt, eqb-true, eqb-false, ne_eqb, le-leb, not-true, not_from_false, not_from_true}
 use Rattle.std.proofs.lemmas.List.{map-append}
-use Rattle.hist_types.specs.Atoms.{Atom, Value}
-use Rattle.hist_types.specs.Journal.{Write}
 use Rattle.hist_types.specs.Operations.{Operation}
-use Rattle.hist_types.specs.Transactions.{Transaction, is_ok, nodes, transactions_of, external_writes, reads_externally, read_of}
+use Rattle.hist_types.specs.Transactions.{Transaction, is_ok, nodes, transactions_of, installed_by, reads, installs}
 use Rattle.hist_types.specs.Versions.{VersionPair, version_pairs}
-use Rattle.hist_types.specs.Edges.{Label, wr, Edge, dependency_edges, dependency_labels, ww_label, ww_labels, wr_labels, rw_labels, wrote_earlier, wrote_later, reads_earlier, edges_at, order_edges}
+use Rattle.hist_types.specs.Edges.{Label, Edge, dependency_edges, dependency_labels, ww_labels, wr_labels, rw_labels, edges_at, order_edges}
 use Rattle.hist_types.specs.Phenomena.{Leads, IsClosedWalk, is_ww_label, is_wr_label, is_rw_label, is_ww, is_wr, is_rw, is_order, makes, Has}
 use Rattle.hist_types.specs.Thinning.{order_edges_between, SameCounts, is_needed, may_lead_back, HasReturn, HasWitness}
 use Rattle.hist_types.specs.Witness.{stations, all_different, alternates, ends_in_order, IsWitness}
 use Rattle.hist_types.specs.declared.types.Level.{Level}
 use Rattle.hist_types.specs.declared.types.Phenomenon.{Phenomenon}
 use Rattle.hist_types.specs.declared.types.Phenomenon.TheVariants.{G0, G1c, GSingle, G2Item}
-use Rattle.hist_types.proofs.Members.{In, in_from_Contains, in_front, in_back, in_append, in_some, in_map}
+use Rattle.hist_types.proofs.Members.{In, in_from_Contains, in_front, in_back, in_append, in_map}
 use Rattle.hist_types.proofs.ThinningPaths.{are_nodes, nodes_included, ends_of, two_in_one, leads_on, all_of_both}
 use Rattle.hist_types.proofs.ThinningWalks.{Uncounted, uncounted_edge, within_in, within_contains, closed_from, count-append, makes_alike}
 use Rattle.hist_types.proofs.ThinningCycles.{closing_makes, closed_is_led, all_apart, at_level}
@@ -159,18 +157,6 @@ simple_way es p from to (e ∷ walk) joins leads within passes =
 abbrev IsDependency : Label → Type 0
 IsDependency l = not (is_ww_label l || is_wr_label l || is_rw_label l) ≡ false
 
-ww_dependency :
-    (key : Atom) (earlier : Value) (later : Atom) (label : Label)
-    → In label (ww_label key earlier later)
-    → IsDependency label
-ww_dependency key None later label i = elim i [ ]
-ww_dependency key (Some v) later label (inl e) = subst IsDependency e refl
-ww_dependency key (Some v) later label (inr i) = elim i [ ]
-
-among : (holds : Bool) (ls : List Label) (label : Label) → In label (if holds then ls else []) → In label ls
-among true ls label i = i
-among false ls label i = elim i [ ]
-
 dependency_label :
     (pairs : List VersionPair) (t u : Transaction) (label : Label)
     → In label (dependency_labels pairs t u)
@@ -178,16 +164,14 @@ dependency_label :
 dependency_label pairs t u label i = elim (in_append label (ww_labels pairs t u ++ wr_labels t u) (rw_labels pairs t u) i) [
   | inl j ↦ elim (in_append label (ww_labels pairs t u) (wr_labels t u) j) [
     | inl k ↦
-        let found = in_some (λ (p : VersionPair). ww_label p.key p.earlier p.later) label (filter (λ p. wrote_earlier t p && wrote_later u p) pairs) k in
-        ww_dependency found.0.key found.0.earlier found.0.later label found.2
+        let found = in_map (λ (p : VersionPair). Label.ww p.earlier p.later) label (filter (λ p. installs t p.earlier && installs u p.later) pairs) k in
+        subst IsDependency found.2 refl
     | inr k ↦
-        let found = in_map (λ (w : Write). wr w.key w.value) label (filter (λ w. reads_externally u (read_of w)) (external_writes t))
-        (among (is_ok u) (map (λ (w : Write). wr w.key w.value) (filter (λ w. reads_externally u (read_of w)) (external_writes t))) label k) in
+        let found = in_map Label.wr label (filter (reads u) (installed_by t)) k in
         subst IsDependency found.2 refl
   ]
   | inr j ↦
-      let found = in_map (λ (p : VersionPair). Label.rw p.key p.earlier p.later) label (filter (λ p. reads_earlier t p && wrote_later u p) pairs)
-      (among (is_ok t) (map (λ (p : VersionPair). Label.rw p.key p.earlier p.later) (filter (λ p. reads_earlier t p && wrote_later u p) pairs)) label j) in
+      let found = in_map (λ (p : VersionPair). Label.rw p.earlier p.later) label (filter (λ p. reads t p.earlier && installs u p.later) pairs) j in
       subst IsDependency found.2 refl
 ]
 

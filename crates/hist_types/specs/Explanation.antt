@@ -7,7 +7,7 @@ use Rattle.std.specs.Prelude.{◌≡◌, List, [], ◌∷◌, ◌==◌, if◌the
 use Rattle.hist_types.specs.Atoms.{Atom, Value, atom_eq}
 use Rattle.hist_types.specs.Operations.{Mop, read, write}
 use Rattle.hist_types.specs.Transactions.{Transaction, is_ok, is_failed}
-use Rattle.hist_types.specs.Edges.{is_before}
+use Rattle.hist_types.specs.Edges.{is_ok_before}
 
 -- what each register holds
 abbrev pub Registers : Type 0
@@ -43,7 +43,7 @@ Runs registers (t ∷ ts) = (IsTrue (is_ok t) → AreRead registers t.mops) × R
 -- no transaction stands behind one that it completed before
 abbrev pub KeepsRealtime : List Transaction → Type 0
 KeepsRealtime [] = ⊤
-KeepsRealtime (t ∷ ts) = All (λ later. IsFalse (is_before later t)) ts × KeepsRealtime ts
+KeepsRealtime (t ∷ ts) = All (λ later. IsFalse (is_ok_before later t)) ts × KeepsRealtime ts
 
 -- no transaction stands twice
 abbrev pub AreDifferent : List Transaction → Type 0

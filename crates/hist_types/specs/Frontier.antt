@@ -5,15 +5,15 @@
 use Rattle.std.specs.Prelude.{List, [], Bool, false, ◌&&◌, if◌then◌else◌}
 use Rattle.std.specs.List.{list_any}
 use Rattle.hist_types.specs.Transactions.{Transaction, nodes}
-use Rattle.hist_types.specs.Edges.{Label, Edge, between_each, is_before, same_process, order_labels}
+use Rattle.hist_types.specs.Edges.{Label, Edge, between_each, is_ok_before, same_process, order_labels}
 use Rattle.hist_types.specs.declared.types.Level.{Level}
 use Rattle.hist_types.specs.declared.types.Level.TheVariants.{Plain, Process, Realtime}
 
 -- the level's order puts t before u
 abbrev pub is_ordered : Level → Transaction → Transaction → Bool
 is_ordered Plain t u = false
-is_ordered Process t u = is_before t u && same_process t u
-is_ordered Realtime t u = is_before t u
+is_ordered Process t u = is_ok_before t u && same_process t u
+is_ordered Realtime t u = is_ok_before t u
 
 -- some transaction stands between the two in the level's order
 abbrev pub has_between : Level → List Transaction → Transaction → Transaction → Bool

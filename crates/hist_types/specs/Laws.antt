@@ -5,7 +5,7 @@ use Rattle.hist_types.specs.Bytes.{is_run_byte}
 use Rattle.hist_types.specs.Atoms.{Atom}
 use Rattle.hist_types.specs.Journal.{Write, writes_of}
 use Rattle.hist_types.specs.Operations.{Mop, read, write, Operation}
-use Rattle.hist_types.specs.Transactions.{Transaction, Read, Indexed}
+use Rattle.hist_types.specs.Transactions.{Transaction, Version, Indexed}
 use Rattle.hist_types.specs.Edges.{realtime, Edge}
 use Rattle.hist_types.specs.Texts.{edge_cmp}
 use Rattle.hist_types.specs.declared.types.Fault.{Fault}
@@ -53,13 +53,13 @@ IsLastOf process events event =
 abbrev pub WritesAnother : Atom → Write → Type 0
 WritesAnother key w = ¬ (w.key ≡ key)
 
--- the read is one of the list's, and no write of its key stands before it
-abbrev pub ReadsFirst : List Mop → Read → Type 0
-ReadsFirst mops r =
+-- a read of the version is one of the list's, and no write of its key stands before it
+abbrev pub ReadsFirst : List Mop → Version → Type 0
+ReadsFirst mops v =
     (before : List Mop)
     × (after : List Mop)
-    × (mops ≡ before ++ read r.key r.value ∷ after)
-    × All (WritesAnother r.key) (writes_of before)
+    × (mops ≡ before ++ read v.key v.value ∷ after)
+    × All (WritesAnother v.key) (writes_of before)
 
 -- the write is one of the list's, and no write of its key stands after it
 abbrev pub WritesLast : List Mop → Write → Type 0

@@ -22,3 +22,4 @@ pub mod Devices
 pub mod Stored
 pub mod Thinning
 pub mod Laws
+pub mod Dependencies

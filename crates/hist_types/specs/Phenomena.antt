@@ -1,22 +1,21 @@
 -- Phenomena and levels (Adya's thesis; the three levels are this project's own).
 --
 -- A closed walk goes along edges, each beginning where the one before it ends, back to where it began, and has one edge at
--- least. At the level plain it uses dependency edges alone, at process also process edges, at realtime also realtime edges.
+-- least. At the level plain it uses dependency edges alone. At process it may also use process edges. At realtime it may use
+-- realtime edges and no process edges: what is ordered within a process is then told as ordered in real time.
 --     G0         ww and order edges only, at least one ww
 --     G1c        ww, wr and order edges only, at least one wr
 --     G-single   exactly one rw, any other edges of the level
 --     G2-item    at least one rw
 -- A phenomenon is reported at the lowest level that has such a walk.
---     G1a        an ok transaction reads externally a value that a failed one wrote
---     G1b        an ok transaction reads externally a value that another transaction, of any status, wrote and wrote over in
---                itself
--- These two have no level; each is told by the reader with the least index and its first such read. A stray read is an
--- external read of an ok transaction whose value isn't nil and was written by no transaction.
-use Rattle.std.specs.Prelude.{◌≡◌, ℕ, ◌<◌, List, [], ◌∷◌, length, Bool, true, false, not, ◌&&◌, ◌||◌, ◌==◌, if◌then◌else◌, IsTrue, Option, Some, None, filter, map, flat_map, Contains, All, count_by}
+--     G1a        a transaction reads a version that a failed one wrote
+--     G1b        a transaction reads a version that another one, of any status, wrote and wrote over in itself
+-- These two have no level; each is told by the reader with the least index and its first such read. A stray read is a read
+-- of a version that isn't nil and that no transaction wrote. Reads are meant as in Transactions: external ones, of ok
+-- transactions.
+use Rattle.std.specs.Prelude.{◌≡◌, ℕ, ◌<◌, List, [], ◌∷◌, length, Bool, true, false, not, ◌&&◌, ◌||◌, ◌==◌, if◌then◌else◌, IsTrue, Option, Some, None, is_some, filter, map, flat_map, Contains, All, count_by}
 use Rattle.std.specs.List.{list_any, list_all}
-use Rattle.hist_types.specs.Atoms.{Atom, Value}
-use Rattle.hist_types.specs.Journal.{Write, write_eq, writes_of}
-use Rattle.hist_types.specs.Transactions.{Transaction, Read, is_ok, is_failed, external_reads, intermediate_writes}
+use Rattle.hist_types.specs.Transactions.{Transaction, Version, is_ok, is_failed, external_reads, writes, writes_over}
 use Rattle.hist_types.specs.Edges.{Label, ww, wr, rw, Edge, edges_at}
 use Rattle.hist_types.specs.declared.types.Level.{Level}
 use Rattle.hist_types.specs.declared.types.Level.TheVariants.{Plain, Process, Realtime}
@@ -36,15 +35,15 @@ IsClosedWalk [] = ⊥
 IsClosedWalk (e ∷ es) = Leads e.to es e.from
 
 abbrev pub is_ww_label : Label → Bool
-is_ww_label (ww key earlier later) = true
+is_ww_label (ww earlier later) = true
 is_ww_label label = false
 
 abbrev pub is_wr_label : Label → Bool
-is_wr_label (wr key value) = true
+is_wr_label (wr version) = true
 is_wr_label label = false
 
 abbrev pub is_rw_label : Label → Bool
-is_rw_label (rw key earlier later) = true
+is_rw_label (rw earlier later) = true
 is_rw_label label = false
 
 abbrev pub is_ww : Edge → Bool
@@ -86,56 +85,52 @@ abbrev pub IsLowestLevel : Phenomenon → List Transaction → Option Level → 
 IsLowestLevel phenomenon ts None = (level : Level) → ¬ Has phenomenon level ts
 IsLowestLevel phenomenon ts (Some level) = Has phenomenon level ts × ((lower : Level) → height lower < height level → ¬ Has phenomenon lower ts)
 
--- ---- reads of values that should not have been seen
+-- ---- reads of versions that should not have been seen
 
--- a read of an ok transaction, and the transaction that wrote its value
+-- a read of an ok transaction, and a transaction that wrote its version
 pub record BadRead : Type 0 where
   pub reader : ℕ
-  pub key : Atom
-  pub value : Atom
+  pub version : Version
   pub writer : ℕ
 
-abbrev pub has_write : List Write → Write → Bool
-has_write ws w = list_any (write_eq w) ws
+abbrev pub bad_read : Transaction → Version → Transaction → BadRead
+bad_read reader v writer = record { reader = reader.invocation; version = v; writer = writer.invocation }
 
-abbrev pub seen_value : Atom → Value → List Write
-seen_value key None = []
-seen_value key (Some value) = record { key = key; value = value } ∷ []
-
--- the read as a write that it would return, if it didn't return nil
-abbrev pub seen_write : Read → List Write
-seen_write r = seen_value r.key r.value
-
--- what f gives for each external read of an ok transaction that didn't return nil: by reader, and in it by read
-abbrev pub for_each_read : {A : Type 0} → List Transaction → (Transaction → Write → List A) → List A
-for_each_read ts f = flat_map (λ (t : Transaction). flat_map (λ (r : Read). flat_map (f t) (seen_write r)) (external_reads t)) (filter is_ok ts)
-
-abbrev pub bad_read : Transaction → Write → Transaction → BadRead
-bad_read reader w writer = record { reader = reader.invocation; key = w.key; value = w.value; writer = writer.invocation }
+-- what f gives for each version that an ok transaction reads: by reader, and in it by read
+abbrev pub for_each_read : {A : Type 0} → List Transaction → (Transaction → Version → List A) → List A
+for_each_read ts f = flat_map (λ (t : Transaction). flat_map (f t) (external_reads t)) (filter is_ok ts)
 
 -- the first of a list
 abbrev pub first_of : {A : Type 0} → List A → Option A
 first_of [] = None
 first_of (x ∷ xs) = Some x
 
+-- the failed transactions that wrote the version
+abbrev pub aborted_writers : List Transaction → Version → List Transaction
+aborted_writers ts v = filter (λ writer. is_failed writer && writes writer v) ts
+
 abbrev pub aborted_reads : List Transaction → List BadRead
-aborted_reads ts =
-    for_each_read ts (λ reader w. map (bad_read reader w) (filter (λ writer. is_failed writer && has_write (writes_of writer.mops) w) ts))
+aborted_reads ts = for_each_read ts (λ reader v. map (bad_read reader v) (aborted_writers ts v))
 
 abbrev pub g1a : List Transaction → Option BadRead
 g1a ts = first_of (aborted_reads ts)
 
+-- the transactions other than the reader that wrote the version over
+abbrev pub intermediate_writers : List Transaction → Transaction → Version → List Transaction
+intermediate_writers ts reader v = filter (λ writer. not (writer.invocation == reader.invocation) && writes_over writer v) ts
+
 abbrev pub intermediate_reads : List Transaction → List BadRead
-intermediate_reads ts =
-    for_each_read ts (λ reader w.
-    map (bad_read reader w) (filter (λ writer. not (writer.invocation == reader.invocation) && has_write (intermediate_writes writer) w) ts))
+intermediate_reads ts = for_each_read ts (λ reader v. map (bad_read reader v) (intermediate_writers ts reader v))
 
 abbrev pub g1b : List Transaction → Option BadRead
 g1b ts = first_of (intermediate_reads ts)
 
--- the values that nobody wrote
-abbrev pub stray_reads : List Transaction → List Write
-stray_reads ts = for_each_read ts (λ reader w. if list_any (λ writer. has_write (writes_of writer.mops) w) ts then [] else w ∷ [])
+-- whether the version isn't nil and nobody wrote it
+abbrev pub is_stray : List Transaction → Version → Bool
+is_stray ts v = is_some v.value && not (list_any (λ writer. writes writer v) ts)
+
+abbrev pub stray_reads : List Transaction → List Version
+stray_reads ts = for_each_read ts (λ reader v. if is_stray ts v then v ∷ [] else [])
 
 abbrev pub stray : List Transaction → ℕ
 stray ts = length (stray_reads ts)

@@ -15,7 +15,7 @@ use Rattle.std.specs.Ordering.{nat_cmp, ordering_then}
 use Rattle.hist_types.specs.Bytes.{quote, backslash, line_feed}
 use Rattle.hist_types.specs.Atoms.{Atom, integer, keyword, string, symbol, Value, atom_cmp, value_cmp}
 use Rattle.hist_types.specs.Operations.{Mop, read, write, Operation}
-use Rattle.hist_types.specs.Transactions.{transactions_of}
+use Rattle.hist_types.specs.Transactions.{Version, transactions_of}
 use Rattle.hist_types.specs.Edges.{Label, ww, wr, rw, process, realtime, Edge, dependency_edges}
 use Rattle.hist_types.specs.Phenomena.{BadRead, g1a, g1b, stray}
 use Rattle.hist_types.specs.Witness.{Finding, IsFinding}
@@ -89,10 +89,15 @@ number_line word n = line (word ++ codes " " ++ decimal n)
 abbrev pub transaction_name : ℕ → List ℕ
 transaction_name index = codes "T" ++ decimal index
 
+-- a key and its value
+abbrev pub version_text : Version → List ℕ
+version_text v = atom_text v.key ++ codes " " ++ value_text v.value
+
+-- of two versions the key is told once
 abbrev pub label_text : Label → List ℕ
-label_text (ww key earlier later) = codes "ww " ++ atom_text key ++ codes " " ++ atom_text earlier ++ codes " " ++ atom_text later
-label_text (wr key value) = codes "wr " ++ atom_text key ++ codes " " ++ atom_text value
-label_text (rw key earlier later) = codes "rw " ++ atom_text key ++ codes " " ++ value_text earlier ++ codes " " ++ atom_text later
+label_text (ww earlier later) = codes "ww " ++ version_text earlier ++ codes " " ++ value_text later.value
+label_text (wr version) = codes "wr " ++ version_text version
+label_text (rw earlier later) = codes "rw " ++ version_text earlier ++ codes " " ++ value_text later.value
 label_text (process p) = codes "process " ++ decimal p
 label_text (realtime completion invocation) = codes "realtime " ++ decimal completion ++ codes " " ++ decimal invocation
 
@@ -105,7 +110,7 @@ indented text = line (codes "  " ++ text)
 
 abbrev pub bad_read_text : BadRead → List ℕ
 bad_read_text r =
-    transaction_name r.reader ++ codes " read " ++ atom_text r.key ++ codes " " ++ atom_text r.value ++ codes " of " ++ transaction_name r.writer
+    transaction_name r.reader ++ codes " read " ++ version_text r.version ++ codes " of " ++ transaction_name r.writer
 
 -- ---- the text of `reads`
 
@@ -138,16 +143,19 @@ has_bad_read events = is_some (g1a (transactions_of events)) || is_some (g1b (tr
 
 -- dependency edges in order: ww, wr, rw, then by key and first version
 abbrev pub label_rank : Label → ℕ
-label_rank (ww key earlier later) = 0
-label_rank (wr key value) = 1
-label_rank (rw key earlier later) = 2
+label_rank (ww earlier later) = 0
+label_rank (wr version) = 1
+label_rank (rw earlier later) = 2
 label_rank (process p) = 3
 label_rank (realtime completion invocation) = 4
 
+abbrev pub version_cmp : Version → Version → Ordering
+version_cmp v w = ordering_then (atom_cmp v.key w.key) (value_cmp v.value w.value)
+
 abbrev pub label_cmp : Label → Label → Ordering
-label_cmp (ww key earlier later) (ww key' earlier' later') = ordering_then (atom_cmp key key') (atom_cmp earlier earlier')
-label_cmp (wr key value) (wr key' value') = ordering_then (atom_cmp key key') (atom_cmp value value')
-label_cmp (rw key earlier later) (rw key' earlier' later') = ordering_then (atom_cmp key key') (value_cmp earlier earlier')
+label_cmp (ww earlier later) (ww earlier' later') = version_cmp earlier earlier'
+label_cmp (wr version) (wr version') = version_cmp version version'
+label_cmp (rw earlier later) (rw earlier' later') = version_cmp earlier earlier'
 label_cmp a b = nat_cmp (label_rank a) (label_rank b)
 
 -- by first transaction, second transaction and label

@@ -4,10 +4,12 @@
 -- the index of its completion if it has one, its status, and its micro-operations, which are the completion's if that is
 -- an ok, else the invocation's. Its completion is the next event of its process, where that is a completion.
 --
--- An external read of a transaction at a key is a read of the key with no write of it before. The external write of a
--- key is the last one. A value is always meant with its key. The nodes are all ok transactions, and each info or open one
--- that wrote a value which an ok transaction read externally.
-use Rattle.std.specs.Prelude.{ℕ, ◌+◌, List, [], ◌∷◌, Bool, true, false, not, ◌&&◌, ◌||◌, ◌==◌, if◌then◌else◌, Option, Some, None, filter}
+-- A version of a key is a value that is written to the key, or nil, which the key has at first. An external read of a
+-- transaction at a key is a read of the key with no write of it before; where the transaction is ok, it reads that version.
+-- The external write of a key is the last one; a transaction installs that version, and its earlier writes of the key it
+-- writes over. The nodes are all ok transactions, and each info or open one that wrote a version which an ok transaction
+-- reads.
+use Rattle.std.specs.Prelude.{ℕ, ◌+◌, List, [], ◌∷◌, Bool, true, false, not, ◌&&◌, ◌||◌, ◌==◌, if◌then◌else◌, Option, Some, None, filter, map}
 use Rattle.std.specs.List.{list_any}
 use Rattle.hist_types.specs.Atoms.{Atom, Value, atom_eq, value_eq}
 use Rattle.hist_types.specs.Operations.{Mop, read, write, Operation}
@@ -88,24 +90,33 @@ is_ok t = is_ok_status t.status
 abbrev pub is_failed : Transaction → Bool
 is_failed t = is_fail_status t.status
 
--- ---- reads and writes
+-- ---- versions of keys
 
--- what a read of a key returned
-pub record Read : Type 0 where
+-- a value of a key, nil for the one that it has at first
+pub record Version : Type 0 where
   pub key : Atom
   pub value : Value
 
-abbrev pub read_eq : Read → Read → Bool
-read_eq a b = atom_eq a.key b.key && value_eq a.value b.value
+abbrev pub version_eq : Version → Version → Bool
+version_eq v w = atom_eq v.key w.key && value_eq v.value w.value
+
+-- the version that a write makes, which is never nil
+abbrev pub version_of : Write → Version
+version_of w = record { key = w.key; value = Some w.value }
+
+abbrev pub has_version : List Version → Version → Bool
+has_version vs v = list_any (version_eq v) vs
+
+-- ---- reads and writes
 
 -- the external reads, where these keys were written before
-abbrev pub reads_after : (written : List Atom) → List Mop → List Read
+abbrev pub reads_after : (written : List Atom) → List Mop → List Version
 reads_after written [] = []
 reads_after written (read key value ∷ mops) =
     if list_any (atom_eq key) written then reads_after written mops else record { key = key; value = value } ∷ reads_after written mops
 reads_after written (write key value ∷ mops) = reads_after (key ∷ written) mops
 
-abbrev pub external_reads : Transaction → List Read
+abbrev pub external_reads : Transaction → List Version
 external_reads t = reads_after [] t.mops
 
 -- whether one of the writes is of the key
@@ -128,18 +139,30 @@ external_writes t = last_writes (writes_of t.mops)
 abbrev pub intermediate_writes : Transaction → List Write
 intermediate_writes t = overwritten (writes_of t.mops)
 
-abbrev pub reads_externally : Transaction → Read → Bool
-reads_externally t r = list_any (read_eq r) (external_reads t)
+-- the versions that its external writes make
+abbrev pub installed_by : Transaction → List Version
+installed_by t = map version_of (external_writes t)
 
--- the read that returns what was written
-abbrev pub read_of : Write → Read
-read_of w = record { key = w.key; value = Some w.value }
+-- the transaction is ok and reads the version externally; nobody knows what the others read
+abbrev pub reads : Transaction → Version → Bool
+reads t v = is_ok t && has_version (external_reads t) v
+
+abbrev pub installs : Transaction → Version → Bool
+installs t v = has_version (installed_by t) v
+
+-- whether the version is of any of its writes
+abbrev pub writes : Transaction → Version → Bool
+writes t v = has_version (map version_of (writes_of t.mops)) v
+
+-- whether it wrote the version and then the key again
+abbrev pub writes_over : Transaction → Version → Bool
+writes_over t v = has_version (map version_of (intermediate_writes t)) v
 
 -- ---- nodes
 
--- some ok transaction reads externally what the transaction wrote
+-- some transaction reads a version that this one wrote
 abbrev pub was_read : List Transaction → Transaction → Bool
-was_read ts t = list_any (λ w. list_any (λ reader. is_ok reader && reads_externally reader (read_of w)) ts) (writes_of t.mops)
+was_read ts t = list_any (λ w. list_any (λ reader. reads reader (version_of w)) ts) (writes_of t.mops)
 
 abbrev pub is_node : List Transaction → Transaction → Bool
 is_node ts t = is_ok t || (not (is_failed t) && was_read ts t)

@@ -1,23 +1,25 @@
 //! Laws of this crate's definitions: the contracts of functions that do nothing, and of one that compares levels.
 
-ghost use Rattle.std.specs.Prelude.{◌≡◌, ◌↔◌, ◌<◌, ◌≤◌, ℕ, List, [], ◌∷◌, ◌++◌, length, drop, Bool, false, ◌==◌, IsTrue, IsFalse, Option, Some, None, All, Contains, true};
+ghost use Rattle.std.specs.Prelude.{◌≡◌, ◌↔◌, ◌⊎◌, ◌<◌, ◌≤◌, ℕ, List, [], ◌∷◌, ◌++◌, length, drop, Bool, false, not, ◌&&◌, ◌==◌, IsTrue, IsFalse, Option, Some, None, is_some, All, Contains, true};
 ghost use Rattle.std.specs.Ordering.{nat_cmp};
 ghost use Rattle.hist_types.specs.Bytes.{is_run_byte};
 ghost use Rattle.hist_types.specs.Atoms.{Atom, Value, atom_eq, value_eq};
-ghost use Rattle.hist_types.specs.Edges.{Label, Edge, edge, dependency_edges, edges_at, order_labels, all_order_edges, order_edges};
+ghost use Rattle.hist_types.specs.Edges.{Label, Edge, edge, dependency_labels, dependency_edges, edges_at, order_labels, all_order_edges, order_edges};
 ghost use Rattle.hist_types.specs.Frontier.{all_thinned_edges, thinned_edges};
-ghost use Rattle.hist_types.specs.Journal.{Write, write_eq, is_invoke, last_event, first_broken, events_after, events_of};
+ghost use Rattle.hist_types.specs.Journal.{Write, write_eq, is_invoke, last_event, first_broken, KeepsRules, events_after, events_of};
 ghost use Rattle.hist_types.specs.Laws.{HasOne, RunEndsAt, IsNextOf, IsLastOf, ReadsFirst, WritesLast, LeavesOne, LeadsToOne, HasRealtimeTwin, Rise, HasOneAtItsPlace};
+ghost use Rattle.hist_types.specs.Dependencies.{IsVersionPair, Depends, IsDependency, IsAbortedRead, IsIntermediateRead, WroteNone, IsStrayRead, alone_if, NoneTwice, writes_of_all};
 ghost use Rattle.hist_types.specs.Operations.{Operation};
 ghost use Rattle.hist_types.specs.Entries.{PlacedOperation, Entry, operation};
-ghost use Rattle.hist_types.specs.Phenomena.{height, makes, Has};
+ghost use Rattle.hist_types.specs.Phenomena.{height, makes, Has, BadRead, aborted_writers, aborted_reads, intermediate_writers, intermediate_reads, is_stray, stray_reads};
 ghost use Rattle.hist_types.specs.Placed.{IsMopIn, KeepsLimits, IsTextOf, IsIn, SpellsValue, IsTokenAlone, IsMopOfTokens};
 ghost use Rattle.hist_types.specs.Reading.{Reads};
 ghost use Rattle.hist_types.specs.Refusals.{number_of, name_of};
 ghost use Rattle.hist_types.specs.Texts.{in_order};
 ghost use Rattle.hist_types.specs.Tokens.{IsCut, HasTokens, run_of, run_len, Item, ItemKind, is_token, item_fault, BeginsWith};
 ghost use Rattle.hist_types.specs.Thinning.{AreInvokedInOrder, CompletesLater, CompletesBefore, IncludesAllOk, order_edges_between, thinned_edges_between, HasEdge, HasPath, HasOver, SameCounts, WalksCarryOver, HasReturn, HasWitness, open_at, most_open, predecessors};
-ghost use Rattle.hist_types.specs.Transactions.{Transaction, Indexed, completion_in, transactions_of, Read, read_eq, external_reads, external_writes, nodes};
+ghost use Rattle.hist_types.specs.Transactions.{Transaction, Indexed, completion_in, transactions_of, Version, version_eq, is_failed, external_reads, external_writes, installs, writes, writes_over, nodes};
+ghost use Rattle.hist_types.specs.Versions.{VersionPair, version_pairs};
 ghost use Rattle.hist_types.specs.declared.limits.TheConstants.{MAX_PROCESS, MAX_MICRO_OPS, MAX_OPERATION_BYTES, MAX_OPEN_COLLECTIONS, MAX_BLOCK_OPERATIONS, MAX_BLOCK_BYTES, MAX_CELLS, MAX_EVENTS, MAX_LINE_BYTES, MAX_WORKERS};
 ghost use Rattle.hist_types.specs.declared.types.Fault.{Fault};
 ghost use Rattle.hist_types.specs.declared.types.Level.{Level};
@@ -55,17 +57,19 @@ pub fn levels_in_order(a: Level, b: Level) -> Ordering
     a.cmp(&b)
 }
 
-/// The tests of equality pass equal things, and nothing else: for atoms, for what reads return, for writes and for reads.
+/// The tests of equality pass equal things, and nothing else: for atoms, for what reads return, for writes and for versions.
 pub fn equality_decided()
     ensures atoms { (a b : Atom) → IsTrue (atom_eq a b) ↔ (a ≡ b) }
     ensures values { (v w : Value) → IsTrue (value_eq v w) ↔ (v ≡ w) }
     ensures writes { (a b : Write) → IsTrue (write_eq a b) ↔ (a ≡ b) }
-    ensures reads { (a b : Read) → IsTrue (read_eq a b) ↔ (a ≡ b) }
+    ensures versions { (v w : Version) → IsTrue (version_eq v w) ↔ (v ≡ w) }
 {}
 
-/// A journal grows block by block, and operations keep its rules where each part of them does behind what is before it.
+/// A journal grows block by block, and its events keep its rules. Operations keep them where each part of them does behind what is
+/// before it.
 pub fn blocks_one_after_another()
     ensures push { (blocks : List (List Operation)) → (block : List Operation) → events_of (blocks ++ block ∷ []) ≡ events_after (events_of blocks) block }
+    ensures kept { (blocks : List (List Operation)) → KeepsRules (events_of blocks) }
     ensures parts { (events front rest : List Operation) → (first_broken events (front ++ rest) ≡ None) ↔ ((first_broken events front ≡ None) × (first_broken (events ++ front) rest ≡ None)) }
 {}
 
@@ -77,7 +81,7 @@ pub fn events_of_a_process()
 
 /// An external read has no write of its key before it in its transaction, and an external write none after it.
 pub fn external_reads_and_writes()
-    ensures reads { (t : Transaction) → (r : Read) → Contains (external_reads t) r ↔ ReadsFirst t.mops r }
+    ensures reads { (t : Transaction) → (v : Version) → Contains (external_reads t) v ↔ ReadsFirst t.mops v }
     ensures writes { (t : Transaction) → (w : Write) → Contains (external_writes t) w ↔ WritesLast t.mops w }
 {}
 
@@ -198,4 +202,46 @@ pub fn edges_in_order()
     ensures places { (es : List Edge) → (e : Edge) → Contains es e → HasOneAtItsPlace (in_order es) e }
     ensures rising { (es : List Edge) → Rise (in_order es) }
     ensures dependencies { (events : List Operation) → (e : Edge) → Contains (dependency_edges (transactions_of events)) e → Contains (in_order (dependency_edges (transactions_of events))) e }
+{}
+
+/// A pair of versions is known exactly where the earlier version is nil and a node installs the later one, or where one transaction
+/// reads the one and installs the other.
+pub fn versions_by_membership()
+    ensures { (ts : List Transaction) → (p : VersionPair) → Contains (version_pairs ts) p ↔ IsVersionPair ts p }
+{}
+
+/// A dependency edge joins two different nodes exactly where they install and read the versions of its label: for a ww or an rw, a
+/// pair that is known.
+pub fn edges_by_versions()
+    ensures labels { (ts : List Transaction) → (t u : Transaction) → (label : Label) → Contains (dependency_labels (version_pairs ts) t u) label ↔ Depends ts t u label }
+    ensures edges { (ts : List Transaction) → (e : Edge) → Contains (dependency_edges ts) e ↔ IsDependency ts e }
+{}
+
+/// Where the rules are kept, no version of a key is written twice, by two transactions or by one. A transaction installs each
+/// version that it writes, or writes it over, and not both; of each key it installs one version, and never nil.
+pub fn versions_written_once()
+    ensures once { (events : List Operation) → KeepsRules events → NoneTwice (writes_of_all (transactions_of events)) }
+    ensures one_writer { (events : List Operation) → KeepsRules events → (t u : Transaction) → Contains (transactions_of events) t → Contains (transactions_of events) u → (v : Version) → IsTrue (writes t v) → IsTrue (writes u v) → t ≡ u }
+    ensures installed_or_over { (t : Transaction) → (v : Version) → IsTrue (writes t v) ↔ (IsTrue (installs t v) ⊎ IsTrue (writes_over t v)) }
+    ensures not_both { (events : List Operation) → KeepsRules events → (t : Transaction) → (v : Version) → Contains (transactions_of events) t → IsTrue (writes_over t v) → IsFalse (installs t v) }
+    ensures one_of_a_key { (t : Transaction) → (v w : Version) → IsTrue (installs t v) → IsTrue (installs t w) → v.key ≡ w.key → v ≡ w }
+    ensures not_nil { (t : Transaction) → (v : Version) → IsTrue (writes t v) → ¬ (v.value ≡ None) }
+{}
+
+/// Aborted, intermediate and stray reads by who wrote the version that is read.
+pub fn bad_reads_by_writer()
+    ensures aborted { (ts : List Transaction) → (r : BadRead) → Contains (aborted_reads ts) r ↔ IsAbortedRead ts r }
+    ensures intermediate { (ts : List Transaction) → (r : BadRead) → Contains (intermediate_reads ts) r ↔ IsIntermediateRead ts r }
+    ensures stray { (ts : List Transaction) → (v : Version) → Contains (stray_reads ts) v ↔ IsStrayRead ts v }
+{}
+
+/// Where the rules are kept, the one transaction that wrote a version decides what a read of it is; where nobody wrote it, the read
+/// is stray, unless it returned nil.
+pub fn writer_decides()
+    ensures aborted { (events : List Operation) → KeepsRules events → (writer : Transaction) → (v : Version) → Contains (transactions_of events) writer → IsTrue (writes writer v) → aborted_writers (transactions_of events) v ≡ alone_if (is_failed writer) writer }
+    ensures intermediate { (events : List Operation) → KeepsRules events → (reader writer : Transaction) → (v : Version) → Contains (transactions_of events) writer → IsTrue (writes writer v) → intermediate_writers (transactions_of events) reader v ≡ alone_if (not (writer.invocation == reader.invocation) && writes_over writer v) writer }
+    ensures not_stray { (ts : List Transaction) → (writer : Transaction) → (v : Version) → Contains ts writer → IsTrue (writes writer v) → IsFalse (is_stray ts v) }
+    ensures none_aborted { (ts : List Transaction) → (v : Version) → WroteNone ts v → aborted_writers ts v ≡ [] }
+    ensures none_intermediate { (ts : List Transaction) → (reader : Transaction) → (v : Version) → WroteNone ts v → intermediate_writers ts reader v ≡ [] }
+    ensures stray { (ts : List Transaction) → (v : Version) → WroteNone ts v → is_stray ts v ≡ is_some v.value }
 {}

@@ -1,6 +1,7 @@
 pub mod Lists
 pub mod Lookups
 pub mod Noting
+pub mod Values
 pub mod Sights
 pub mod Pieces
 pub mod OneByOne

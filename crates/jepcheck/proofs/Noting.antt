@@ -9,11 +9,15 @@ use Rattle.std.proofs.lemmas.List.Folds.{list_any-append}
 use Rattle.hist_types.specs.Operations.{Mop, read, write}
 use Rattle.hist_types.specs.Journal.{Write, write_eq, writes_of}
 use Rattle.hist_types.specs.Transactions.{Transaction, is_failed, has_key, overwritten, intermediate_writes}
-use Rattle.hist_types.specs.Phenomena.{has_write, first_of}
+use Rattle.hist_types.specs.Phenomena.{first_of}
 use Rattle.jepcheck.specs.declared.bad_reads.Writers.{Writers}
 use Rattle.std.specs.Bool.{then_some}
 use Rattle.jepcheck.specs.Writers.{Note, notes, notes_of, notes_of_mops, add, nobody, after_note, after_notes, is_another, over_apart, option_is}
 use Rattle.jepcheck.proofs.Lists.{first_of-append, filter-append, append-nil-right, option_or-assoc, option_or-none}
+
+-- whether the write is one of the list's
+abbrev pub has_write : List Write → Write → Bool
+has_write ws w = list_any (write_eq w) ws
 
 -- notes, and more notes
 pub after_notes-append : (w : Write) (known : Option Writers) (ms ns : List Note) → after_notes w known (ms ++ ns) ≡ after_notes w (after_notes w known ms) ns

@@ -6,18 +6,19 @@ use Rattle.std.proofs.lemmas.List.Concat.{length-flat_map}
 use Rattle.hist_types.specs.Atoms.{Atom, atom_eq}
 use Rattle.hist_types.specs.Operations.{Mop, read, write}
 use Rattle.hist_types.specs.Journal.{Write, writes_of}
-use Rattle.hist_types.specs.Transactions.{Transaction, Read, reads_after, external_reads, has_key, is_ok}
-use Rattle.hist_types.specs.Phenomena.{seen_value, seen_write, has_write, for_each_read, first_of, g1a, g1b, stray}
+use Rattle.hist_types.specs.Transactions.{Transaction, Version, version_of, reads_after, external_reads, has_key, is_ok}
+use Rattle.hist_types.specs.Phenomena.{first_of, g1a, g1b, stray}
 use Rattle.hist_types.specs.Phenomena as phenomena
 use Rattle.jepcheck.specs.declared.bad_reads.Written.{Written}
 use Rattle.jepcheck.specs.declared.bad_reads.Writers.{Writers}
 use Rattle.jepcheck.specs.declared.bad_reads.Seen.{Seen}
-use Rattle.jepcheck.specs.Writers.{Sight, sight, sight_of, sights, sights_of, sights_behind, write_of, notes, after_notes, bad_sight, aborted_sight, intermediate_sight, first_some}
+use Rattle.jepcheck.specs.Writers.{Sight, sight, seen_value, sight_of, sights, sights_of, sights_behind, write_of, notes, after_notes, bad_sight, aborted_sight, intermediate_sight, first_some}
 use Rattle.jepcheck.proofs.Lists.{first_of-flat_map, first_some-same, first_some-map, sum_by-same, sum_by-mapped, flat_map-flat_map, flat_map-same, flat_map-mapped}
-use Rattle.jepcheck.proofs.Noting.{aborts_write, overwrites, index-aborted, index-intermediate, index-written}
+use Rattle.jepcheck.proofs.Noting.{has_write, aborts_write, overwrites, index-aborted, index-intermediate, index-written}
+use Rattle.jepcheck.proofs.Values.{seen_write, for_each_value, aborted_reads-are, intermediate_reads-are, stray_reads-are}
 
 -- what an external read saw
-abbrev seen_by : ℕ → Read → List Sight
+abbrev seen_by : ℕ → Version → List Sight
 seen_by reader r = map (sight reader) (seen_write r)
 
 -- one of three, in another order
@@ -41,7 +42,7 @@ has_key-behind_read key (read k' v' ∷ before) k v = has_key-behind_read key be
 has_key-behind_read key (write k' v' ∷ before) k v = ap (λ b. atom_eq key k' || b) (has_key-behind_read key before k v)
 
 -- a read that is external or not
-read_passing : (b : Bool) (reader : ℕ) (r : Read) (rs : List Read) →
+read_passing : (b : Bool) (reader : ℕ) (r : Version) (rs : List Version) →
     cond b [] (seen_by reader r) ++ flat_map (seen_by reader) rs ≡ flat_map (seen_by reader) (cond b rs (r ∷ rs))
 read_passing true reader r rs = refl
 read_passing false reader r rs = refl
@@ -60,7 +61,7 @@ sights_behind-are reader before written (write k v ∷ mops) same =
     sights_behind-are reader (before ++ write k v ∷ []) (k ∷ written) mops (λ key. has_key-behind key before k v ∙ ap (λ b. atom_eq key k || b) (same key))
 
 -- what is asked of each value seen is asked of each external read
-pub over_sights : {B : Type 0} (g : Sight → List B) (ts : List Transaction) → flat_map g (sights ts) ≡ for_each_read ts (λ t w. g (sight t.invocation w))
+pub over_sights : {B : Type 0} (g : Sight → List B) (ts : List Transaction) → flat_map g (sights ts) ≡ for_each_value ts (λ t w. g (sight t.invocation w))
 over_sights g ts =
     flat_map-flat_map g sights_of (filter is_ok ts)
     ∙ flat_map-same (λ t. flat_map g (sights_of t)) (λ t. flat_map (λ r. flat_map (λ w. g (sight t.invocation w)) (seen_write r)) (external_reads t))
@@ -80,7 +81,7 @@ first_bad s (t ∷ ts) = refl
 pub g1a-is : (ts : List Transaction) → g1a ts ≡ first_some (λ s. aborted_sight (after_notes s.write None (notes ts)) s) (sights ts)
 g1a-is ts =
     let found : Sight → List phenomena.BadRead = λ s. map (λ (t : Transaction). bad_sight s t.invocation) (filter (aborts_write s.write) ts) in
-    ap first_of (sym (over_sights found ts))
+    ap first_of (aborted_reads-are ts ∙ sym (over_sights found ts))
     ∙ (first_of-flat_map found (sights ts)
     ∙ first_some-same (λ s. first_of (found s)) (λ s. aborted_sight (after_notes s.write None (notes ts)) s)
     (λ s. first_bad s (filter (aborts_write s.write) ts) ∙ ap (option_map (bad_sight s)) (sym (index-aborted s.write ts))) (sights ts))
@@ -89,24 +90,24 @@ g1a-is ts =
 pub g1b-is : (ts : List Transaction) → g1b ts ≡ first_some (λ s. intermediate_sight (after_notes s.write None (notes ts)) s) (sights ts)
 g1b-is ts =
     let found : Sight → List phenomena.BadRead = λ s. map (λ (t : Transaction). bad_sight s t.invocation) (filter (overwrites s.reader s.write) ts) in
-    ap first_of (sym (over_sights found ts))
+    ap first_of (intermediate_reads-are ts ∙ sym (over_sights found ts))
     ∙ (first_of-flat_map found (sights ts)
     ∙ first_some-same (λ s. first_of (found s)) (λ s. intermediate_sight (after_notes s.write None (notes ts)) s)
     (λ s. first_bad s (filter (overwrites s.reader s.write) ts) ∙ ap (option_map (bad_sight s)) (sym (index-intermediate s.reader s.write ts))) (sights ts))
 
 -- one read, counted or not
-stray_passing : (b : Bool) (w : Write) → length (cond b [] (w ∷ [])) ≡ cond (not b) 1 0
+stray_passing : (b : Bool) (w : Version) → length (cond b [] (w ∷ [])) ≡ cond (not b) 1 0
 stray_passing true w = refl
 stray_passing false w = refl
 
 -- the number of stray reads, likewise
 pub stray-is : (ts : List Transaction) → stray ts ≡ sum_by (λ s. cond (not (is_some (after_notes s.write None (notes ts)))) 1 0) (sights ts)
 stray-is ts =
-    let found : Sight → List Write = λ s. cond (list_any (λ t. has_write (writes_of t.mops) s.write) ts) [] (s.write ∷ []) in
-    ap length (sym (over_sights found ts))
+    let found : Sight → List Version = λ s. cond (list_any (λ t. has_write (writes_of t.mops) s.write) ts) [] (version_of s.write ∷ []) in
+    ap length (stray_reads-are ts ∙ sym (over_sights found ts))
     ∙ (length-flat_map found (sights ts)
     ∙ sum_by-same (λ s. length (found s)) (λ s. cond (not (is_some (after_notes s.write None (notes ts)))) 1 0)
-    (λ s. stray_passing (list_any (λ t. has_write (writes_of t.mops) s.write) ts) s.write ∙ ap (λ b. cond (not b) 1 0) (sym (index-written s.write ts))) (sights ts))
+    (λ s. stray_passing (list_any (λ t. has_write (writes_of t.mops) s.write) ts) (version_of s.write) ∙ ap (λ b. cond (not b) 1 0) (sym (index-written s.write ts))) (sights ts))
 
 -- ---- what the look-ups of all values seen give, where they know what the notes say
 

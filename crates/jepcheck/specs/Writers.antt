@@ -4,8 +4,8 @@ use Rattle.std.specs.Bool.{then_some}
 use Rattle.std.specs.Option.{option_or}
 use Rattle.hist_types.specs.Operations.{Mop, read, write}
 use Rattle.hist_types.specs.Journal.{Write, write_eq, writes_of}
-use Rattle.hist_types.specs.Transactions.{Transaction, has_key, is_ok, is_failed}
-use Rattle.hist_types.specs.Phenomena.{seen_value, seen_write}
+use Rattle.hist_types.specs.Atoms.{Atom, Value}
+use Rattle.hist_types.specs.Transactions.{Transaction, version_of, has_key, is_ok, is_failed}
 use Rattle.hist_types.specs.Phenomena as phenomena
 use Rattle.simple_ops.specs.Owned.{atom_of_owned}
 use Rattle.jepcheck.specs.declared.bad_reads.Written.{Written}
@@ -83,6 +83,11 @@ sight_of s = record { reader = s.reader; write = write_of s.written }
 abbrev pub sight : ℕ → Write → Sight
 sight reader w = record { reader = reader; write = w }
 
+-- the write that a read of the key returned, if it didn't return nil
+abbrev pub seen_value : Atom → Value → List Write
+seen_value key None = []
+seen_value key (Some value) = record { key = key; value = value } ∷ []
+
 -- the values that a transaction saw, where these micro-operations came before
 abbrev pub sights_behind : (reader : ℕ) (before : List Mop) → List Mop → List Sight
 sights_behind reader before [] = []
@@ -98,10 +103,11 @@ abbrev pub sights : List Transaction → List Sight
 sights ts = flat_map sights_of (filter is_ok ts)
 
 abbrev pub bad_read_of : BadRead → phenomena.BadRead
-bad_read_of r = record { reader = r.reader; key = atom_of_owned r.key.now; value = atom_of_owned r.value.now; writer = r.writer }
+bad_read_of r =
+    record { reader = r.reader; version = record { key = atom_of_owned r.key.now; value = Some (atom_of_owned r.value.now) }; writer = r.writer }
 
 abbrev pub bad_sight : Sight → ℕ → phenomena.BadRead
-bad_sight s writer = record { reader = s.reader; key = s.write.key; value = s.write.value; writer = writer }
+bad_sight s writer = record { reader = s.reader; version = version_of s.write; writer = writer }
 
 -- whether there is a number, and it is this one
 abbrev pub option_is : ℕ → Option ℕ → Bool

@@ -5,7 +5,7 @@ use Rattle.std.proofs.lemmas.List.Elements.{All-from_recursion}
 use Rattle.hist_types.proofs.Members.{In, in_from_Contains, Contains_from_in, in_each, in_some, in_mapped, in_map, in_filter, in_filtered}
 use Rattle.hist_types.proofs.OrderEdges.{Comes, comes_from}
 use Rattle.hist_types.specs.Transactions.{Transaction}
-use Rattle.hist_types.specs.Edges.{Label, process, realtime, Edge, edge, is_before, same_process, realtime_label, order_labels, all_order_edges}
+use Rattle.hist_types.specs.Edges.{Label, process, realtime, Edge, edge, is_ok_before, same_process, realtime_label, order_labels, all_order_edges}
 use Rattle.hist_types.specs.declared.types.Level.{Level}
 use Rattle.hist_types.specs.declared.types.Level.TheVariants.{Plain, Process, Realtime}
 use Rattle.order_frontier.specs.declared.types.Completed.{Completed}
@@ -77,7 +77,7 @@ module _ (ts : List Transaction) (done : List Completed) (are : (d : Completed) 
       let same : t.process ≡ u.process = parts.process ∙ eqb-true d.process u.process both.1 in
       let label = process u.process in
       let labelled : In label (order_labels Process t u) =
-      subst (λ b. In label (if b then process t.process ∷ [] else [])) (sym (and_from (is_before t u) (same_process t u) (before_from t u d leaves.done leaves.below) (eq-eqb t.process u.process same)))
+      subst (λ b. In label (if b then process t.process ∷ [] else [])) (sym (and_from (is_ok_before t u) (same_process t u) (before_from t u d leaves.done leaves.below) (eq-eqb t.process u.process same)))
       (inl (ap process same)) in
       subst (λ e. In e (all_order_edges Process ts))
       (ap (λ n. record { from = n; to = u.invocation; label = label }) parts.invocation ∙ ap (process_edge u.process u.invocation) one.2 ∙ to.2)
@@ -94,7 +94,7 @@ module _ (ts : List Transaction) (done : List Completed) (are : (d : Completed) 
   realtime_here t u e first apart i =
       let found = in_map (edge t u) e (order_labels Realtime t u) i in
       let label : Label = found.0 in
-      let ordered = in_if label (is_before t u) (realtime_label t.completion u.invocation) found.1 in
+      let ordered = in_if label (is_ok_before t u) (realtime_label t.completion u.invocation) found.1 in
       let before = before_to t u ordered.0 in
       let d : Completed = before.0 in
       let parts = done-parts t d before.1 in
@@ -112,8 +112,8 @@ module _ (ts : List Transaction) (done : List Completed) (are : (d : Completed) 
       let test : Completed → Bool = λ d. is_earlier u d && (d.process == u.process) in
       let found = in_map (edge t u) e (order_labels Process t u) i in
       let label : Label = found.0 in
-      let ordered = in_if label (is_before t u && same_process t u) (process t.process ∷ []) found.1 in
-      let both = and_parts (is_before t u) (same_process t u) ordered.0 in
+      let ordered = in_if label (is_ok_before t u && same_process t u) (process t.process ∷ []) found.1 in
+      let both = and_parts (is_ok_before t u) (same_process t u) ordered.0 in
       let before = before_to t u both.0 in
       let d : Completed = before.0 in
       let parts = done-parts t d before.1 in

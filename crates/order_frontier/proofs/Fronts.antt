@@ -4,7 +4,7 @@ use Rattle.std.proofs.lemmas.Bool.{ltb-true, lt-ltb, and_parts, and_from, not-tr
 use Rattle.hist_types.proofs.Members.{In, in_from_Contains, Contains_from_in, in_mapped, in_map, in_filter, in_filtered}
 use Rattle.hist_types.specs.Operations.{Operation}
 use Rattle.hist_types.specs.Transactions.{Transaction, Indexed, is_ok, completion_in, transaction_by, transactions_from, transactions_of}
-use Rattle.hist_types.specs.Edges.{is_before}
+use Rattle.hist_types.specs.Edges.{is_ok_before}
 use Rattle.order_frontier.specs.declared.types.Predecessor.{Predecessor}
 use Rattle.order_frontier.specs.declared.types.Completed.{Completed}
 use Rattle.order_frontier.specs.Completions.{completed_of, predecessor_of, is_overtaken, frontier_of}
@@ -48,8 +48,8 @@ module _ (es : List Operation) where
       let t : Transaction = from.0 in
       let parts = done-parts t d from.2 in
       let none : is_passed ts t ≡ false =
-      none_from (λ v. is_ok v && is_before t v) ts (λ v j both.
-      let ok = and_parts (is_ok v) (is_before t v) both in
+      none_from (λ v. is_ok v && is_ok_before t v) ts (λ v j both.
+      let ok = and_parts (is_ok v) (is_ok_before t v) both in
       let over = has_completed v 0 es j ok.0 in
       let l : Completed = record { completion = over.0; invocation = v.invocation; process = v.process } in
       let after = before_to t v ok.1 in
@@ -75,7 +75,7 @@ module _ (es : List Operation) where
       let v : Transaction = from.0 in
       let parts = done-parts v l from.2 in
       let below : d.completion < v.invocation = subst (λ n. d.completion < n) (sym parts.invocation) (ltb-true d.completion l.invocation later) in
-      none_to (λ v. is_ok v && is_before t v) ts none v from.1 (and_from (is_ok v) (is_before t v) parts.ok (before_from t v d is below))) in
+      none_to (λ v. is_ok v && is_ok_before t v) ts none v from.1 (and_from (is_ok v) (is_ok_before t v) parts.ok (before_from t v d is below))) in
       subst (λ p. In p (frontier_of done)) (ap (λ n. record { invocation = n; completion = p.completion }) at.0)
       (in_mapped predecessor_of d (filter (λ d. not (is_overtaken done d)) done) (in_filtered (λ d. not (is_overtaken done d)) d done (state-complete es t d i is) (not_from_false (is_overtaken done d) clear)))
 

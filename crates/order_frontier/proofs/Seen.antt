@@ -5,7 +5,7 @@ use Rattle.std.proofs.lemmas.Bool.{false≢true, ltb-true, lt-ltb, eqb-true, eq-
 use Rattle.hist_types.proofs.Members.{In, in_from_Contains, Contains_from_in, in_each, in_mapped, in_map, in_filter, in_filtered}
 use Rattle.hist_types.proofs.OrderEdges.{Comes, comes_from}
 use Rattle.hist_types.specs.Transactions.{Transaction, is_ok}
-use Rattle.hist_types.specs.Edges.{Label, process, realtime, Edge, edge, between_each, is_before, same_process, realtime_label, order_labels}
+use Rattle.hist_types.specs.Edges.{Label, process, realtime, Edge, edge, between_each, is_ok_before, same_process, realtime_label, order_labels}
 use Rattle.hist_types.specs.Frontier.{is_ordered, has_between, thinned_labels, all_thinned_edges}
 use Rattle.hist_types.specs.declared.types.Level.{Level}
 use Rattle.hist_types.specs.declared.types.Level.TheVariants.{Plain, Process, Realtime}
@@ -42,7 +42,7 @@ done_parts t d true (Some c) is has e =
 pub done-parts : (t : Transaction) (d : Completed) → completed_of t ≡ Some d → IsDone t d
 done-parts t d e = done_parts t d (is_ok t) t.completion refl refl e
 
-pub before_from : (t u : Transaction) (d : Completed) → completed_of t ≡ Some d → d.completion < u.invocation → is_before t u ≡ true
+pub before_from : (t u : Transaction) (d : Completed) → completed_of t ≡ Some d → d.completion < u.invocation → is_ok_before t u ≡ true
 before_from t u d e below =
     let parts = done-parts t d e in
     and_from (is_ok t) (option_map_or (λ c. nat_lt c u.invocation) t.completion false) parts.ok
@@ -58,7 +58,7 @@ before_parts t u (Some c) has ok below = (
   ltb-true c u.invocation below,
 )
 
-pub before_to : (t u : Transaction) → is_before t u ≡ true → (d : Completed) × (completed_of t ≡ Some d) × (d.completion < u.invocation)
+pub before_to : (t u : Transaction) → is_ok_before t u ≡ true → (d : Completed) × (completed_of t ≡ Some d) × (d.completion < u.invocation)
 before_to t u e =
     let parts = and_parts (is_ok t) (option_map_or (λ c. nat_lt c u.invocation) t.completion false) e in
     before_parts t u t.completion refl parts.0 parts.1
@@ -129,7 +129,7 @@ process_from ts t u d timed thinned same =
     let parts = done-parts t d thinned.done in
     let label = process u.process in
     let labelled : In label (order_labels Process t u) =
-    subst (λ b. In label (if b then process t.process ∷ [] else [])) (sym (and_from (is_before t u) (same_process t u) (before_from t u d thinned.done thinned.below) (eq-eqb t.process u.process same)))
+    subst (λ b. In label (if b then process t.process ∷ [] else [])) (sym (and_from (is_ok_before t u) (same_process t u) (before_from t u d thinned.done thinned.below) (eq-eqb t.process u.process same)))
     (inl (ap process same)) in
     subst (λ n. In (record { from = n; to = u.invocation; label = label }) (all_thinned_edges Process ts)) parts.invocation
     (goes_to ts (thinned_labels Process ts) t u label thinned.first thinned.second (apart_by ts t u d timed thinned.first thinned.done thinned.below)
@@ -168,7 +168,7 @@ realtime_to ts e i =
     let found = in_map (edge t u) e (thinned_labels Realtime ts t u) c.5 in
     let label : Label = found.0 in
     let open_ = in_unless label (has_between Realtime ts t u) (order_labels Realtime t u) found.1 in
-    let ordered = in_if label (is_before t u) (realtime_label t.completion u.invocation) open_.1 in
+    let ordered = in_if label (is_ok_before t u) (realtime_label t.completion u.invocation) open_.1 in
     let before = before_to t u ordered.0 in
     let d : Completed = before.0 in
     let parts = done-parts t d before.1 in
@@ -198,8 +198,8 @@ process_to ts e i =
     let found = in_map (edge t u) e (thinned_labels Process ts t u) c.5 in
     let label : Label = found.0 in
     let open_ = in_unless label (has_between Process ts t u) (order_labels Process t u) found.1 in
-    let ordered = in_if label (is_before t u && same_process t u) (process t.process ∷ []) open_.1 in
-    let both = and_parts (is_before t u) (same_process t u) ordered.0 in
+    let ordered = in_if label (is_ok_before t u && same_process t u) (process t.process ∷ []) open_.1 in
+    let both = and_parts (is_ok_before t u) (same_process t u) ordered.0 in
     let before = before_to t u both.0 in
     let d : Completed = before.0 in
     let parts = done-parts t d before.1 in
@@ -285,11 +285,11 @@ module _ (ts : List Transaction) (u : Transaction) (done : List Completed) (time
         done = from.2;
         below = from.3;
         none = λ v j first second.
-            let before = before_to v u (and_parts (is_before v u) (same_process v u) second).0 in
-            let own : v.process ≡ u.process = eqb-true v.process u.process (and_parts (is_before v u) (same_process v u) second).1 in
+            let before = before_to v u (and_parts (is_ok_before v u) (same_process v u) second).0 in
+            let own : v.process ≡ u.process = eqb-true v.process u.process (and_parts (is_ok_before v u) (same_process v u) second).1 in
             let k : Completed = before.0 in
             let parts = done-parts v k before.1 in
-            let after = before_to t v (and_parts (is_before t v) (same_process t v) first).0 in
+            let after = before_to t v (and_parts (is_ok_before t v) (same_process t v) first).0 in
             let same : after.0 ≡ l = some_same t after.0 l after.1 from.2 in
             let later : l.completion < k.invocation = subst (λ n. l.completion < n) parts.invocation (subst (λ (x : Completed). x.completion < v.invocation) same after.2) in
             let span : k.invocation < k.completion = timed.spans v k j before.1 in
@@ -310,8 +310,8 @@ module _ (ts : List Transaction) (u : Transaction) (done : List Completed) (time
         | inr (inl earlier) ↦
             let over : d.completion < v.invocation = timed.sequential t v d thinned.first from.1 (own ∙ sym own') earlier thinned.done in
             absurd (thinned.none v from.1
-            (and_from (is_before t v) (same_process t v) (before_from t v d thinned.done over) (eq-eqb t.process v.process (own ∙ sym own')))
-            (and_from (is_before v u) (same_process v u) (before_from v u l from.2 from.3) (eq-eqb v.process u.process own')))
+            (and_from (is_ok_before t v) (same_process t v) (before_from t v d thinned.done over) (eq-eqb t.process v.process (own ∙ sym own')))
+            (and_from (is_ok_before v u) (same_process v u) (before_from v u l from.2 from.3) (eq-eqb v.process u.process own')))
         | inr (inr later) ↦
             let over : l.completion < t.invocation = timed.sequential v t l from.1 thinned.first (own' ∙ sym own) later from.2 in
             let start = parts.invocation in

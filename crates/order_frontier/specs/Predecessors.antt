@@ -3,7 +3,7 @@ use Rattle.std.specs.Prelude.{◌≡◌, nat_eq, ℕ, Bool, ◌&&◌, Some, IsTr
 use Rattle.std.specs.List.{IsDistinct, list_any}
 use Rattle.hist_types.specs.Operations.{Operation}
 use Rattle.hist_types.specs.Transactions.{Transaction, is_ok, transactions_of}
-use Rattle.hist_types.specs.Edges.{process, realtime, Edge, is_before, all_order_edges}
+use Rattle.hist_types.specs.Edges.{process, realtime, Edge, is_ok_before, all_order_edges}
 use Rattle.hist_types.specs.Frontier.{all_thinned_edges}
 use Rattle.hist_types.specs.declared.types.Level.{Level}
 use Rattle.hist_types.specs.declared.types.Level.TheVariants.{Plain, Process, Realtime}
@@ -71,7 +71,7 @@ IsAt t p = (t.invocation ≡ p.invocation) × (t.completion ≡ Some p.completio
 
 -- whether an ok transaction was both invoked after a transaction's completion and completed
 abbrev pub is_passed : List Transaction → Transaction → Bool
-is_passed ts t = list_any (λ v. is_ok v && is_before t v) ts
+is_passed ts t = list_any (λ v. is_ok v && is_ok_before t v) ts
 
 -- exactly the ok transactions that none has passed
 abbrev pub AreFrontier : List Transaction → List Predecessor → Type 0

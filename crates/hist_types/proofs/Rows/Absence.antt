@@ -90,7 +90,7 @@ no_single_rw level ts none has =
 -- ---- edges that lead down, but for the rw edges
 
 not_rw : (label : Label) → (is_ww_label label || is_wr_label label || not (is_ww_label label || is_wr_label label || is_rw_label label)) ≡ true → is_rw_label label ≡ true → ⊥
-not_rw (rw key earlier later) g1c e = false≢true g1c
+not_rw (rw earlier later) g1c e = false≢true g1c
 not_rw label g1c e = false≢true e
 
 down_without_rw :

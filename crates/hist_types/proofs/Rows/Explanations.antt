@@ -3,7 +3,7 @@ use Rattle.std.proofs.Common.{◌≡◌, inl, inr, List, [], ◌∷◌, ◌==◌
 use Rattle.std.proofs.lemmas.Bool.{false≢true}
 use Rattle.std.proofs.lemmas.List.Elements.{All-from_recursion, recursion_from_All, All-contains}
 use Rattle.std.proofs.lemmas.Option.{none-some}
-use Rattle.hist_types.specs.Edges.{is_before}
+use Rattle.hist_types.specs.Edges.{is_ok_before}
 use Rattle.hist_types.specs.Explanation.{all_nil, after_mops, Runs, KeepsRealtime, AreDifferent, Explains}
 use Rattle.hist_types.specs.Operations.{Operation}
 use Rattle.hist_types.specs.Transactions.{Transaction, transactions_of, is_failed}
@@ -38,8 +38,8 @@ chained_updates-explained =
         (All-from_recursion (λ (later : Transaction). IsFalse (later.invocation == 2)) [] tt, tt),
       );
       realtime = (
-        All-from_recursion (λ later. IsFalse (is_before later first_update)) (second_update ∷ []) (refl, tt),
-        (All-from_recursion (λ later. IsFalse (is_before later second_update)) [] tt, tt),
+        All-from_recursion (λ later. IsFalse (is_ok_before later first_update)) (second_update ∷ []) (refl, tt),
+        (All-from_recursion (λ later. IsFalse (is_ok_before later second_update)) [] tt, tt),
       );
       runs = (λ _. (refl, (tt, tt)), (λ _. (refl, (tt, tt)), tt));
     }
@@ -47,7 +47,7 @@ chained_updates-explained =
 -- The other way round the second one stands before one that was over when it began.
 chained_updates-other_order : ¬ Explains (transactions_of chained_updates) (second_update ∷ first_update ∷ [])
 chained_updates-other_order e =
-    false≢true (sym (recursion_from_All (λ later. IsFalse (is_before later second_update)) (first_update ∷ []) e.realtime.0).0)
+    false≢true (sym (recursion_from_All (λ later. IsFalse (is_ok_before later second_update)) (first_update ∷ []) e.realtime.0).0)
 
 -- Neither of two ok transactions may be left out.
 chained_updates-left_out : ¬ Explains (transactions_of chained_updates) (first_update ∷ [])
@@ -88,8 +88,8 @@ unknown_and_read-explained =
         (All-from_recursion (λ (later : Transaction). IsFalse (later.invocation == 2)) [] tt, tt),
       );
       realtime = (
-        All-from_recursion (λ later. IsFalse (is_before later unknown_one)) (reader ∷ []) (refl, tt),
-        (All-from_recursion (λ later. IsFalse (is_before later reader)) [] tt, tt),
+        All-from_recursion (λ later. IsFalse (is_ok_before later unknown_one)) (reader ∷ []) (refl, tt),
+        (All-from_recursion (λ later. IsFalse (is_ok_before later reader)) [] tt, tt),
       );
       runs = (λ _. (tt, tt), (λ _. (refl, tt), tt));
     }
@@ -120,7 +120,7 @@ not_both same = let n : 0 ≡ 2 = ap (λ (t : Transaction). t.invocation) same i
 -- Where the reader stands first, the writer stands behind one that began after it was over.
 reader_first : (rest : List Transaction) → In writer rest → KeepsRealtime (late_reader ∷ rest) → ⊥
 reader_first rest i realtime =
-    false≢true (sym (All-contains (λ later. IsFalse (is_before later late_reader)) rest writer realtime.0 (Contains_from_in writer rest i)))
+    false≢true (sym (All-contains (λ later. IsFalse (is_ok_before later late_reader)) rest writer realtime.0 (Contains_from_in writer rest i)))
 
 -- Where the writer stands first, the reader comes next, and finds what was written.
 writer_first : (rest : List Transaction) → All (MayStand ts) rest → In late_reader rest → AreDifferent (writer ∷ rest) → Runs all_nil (writer ∷ rest) → ⊥

@@ -6,8 +6,9 @@ use Rattle.std.proofs.lemmas.List.Elements.{All-from_recursion}
 use Rattle.std.proofs.lemmas.Bool.{ltb-true}
 use Rattle.hist_types.specs.Atoms.{Atom, integer, keyword}
 use Rattle.hist_types.specs.Operations.{Mop, read, write, Operation}
-use Rattle.hist_types.specs.Transactions.{Transaction, Ok, Fail, Info, Open}
-use Rattle.hist_types.specs.Versions.{VersionPair}
+use Rattle.hist_types.specs.Transactions.{Transaction, Version, Ok, Fail, Info, Open}
+use Rattle.hist_types.specs.Versions.{VersionPair, nil_of}
+use Rattle.hist_types.specs.Versions as versions
 use Rattle.hist_types.specs.Edges.{ww, wr, rw, process, realtime, Edge, edges_at}
 use Rattle.hist_types.specs.Phenomena.{IsClosedWalk, makes}
 use Rattle.hist_types.specs.Witness.{IsWitness, stations, all_different, alternates, ends_in_order, begins_least}
@@ -76,29 +77,33 @@ unfinished p invocation mops =
 abbrev pub names : List Transaction → List ℕ
 names ts = map (λ (t : Transaction). t.invocation) ts
 
--- ---- version pairs
+-- ---- versions and pairs of them
+
+-- the number that is written to the key
+abbrev pub version : Atom → ℕ → Version
+version key n = record { key = key; value = Some (number n) }
 
 -- nil comes before the number
 abbrev pub nil_then : Atom → ℕ → VersionPair
-nil_then key n = record { key = key; earlier = None; later = number n }
+nil_then key n = versions.pair (nil_of key) (version key n)
 
 abbrev pub pair : Atom → ℕ → ℕ → VersionPair
-pair key m n = record { key = key; earlier = Some (number m); later = number n }
+pair key m n = versions.pair (version key m) (version key n)
 
 -- ---- edges, by the transactions that they lead from and to
 
 abbrev pub ww_edge : ℕ → ℕ → Atom → ℕ → ℕ → Edge
-ww_edge t u key m n = record { from = t; to = u; label = ww key (number m) (number n) }
+ww_edge t u key m n = record { from = t; to = u; label = ww (version key m) (version key n) }
 
 abbrev pub wr_edge : ℕ → ℕ → Atom → ℕ → Edge
-wr_edge t u key n = record { from = t; to = u; label = wr key (number n) }
+wr_edge t u key n = record { from = t; to = u; label = wr (version key n) }
 
 -- nil was read
 abbrev pub rw_nil_edge : ℕ → ℕ → Atom → ℕ → Edge
-rw_nil_edge t u key n = record { from = t; to = u; label = rw key None (number n) }
+rw_nil_edge t u key n = record { from = t; to = u; label = rw (nil_of key) (version key n) }
 
 abbrev pub rw_edge : ℕ → ℕ → Atom → ℕ → ℕ → Edge
-rw_edge t u key m n = record { from = t; to = u; label = rw key (Some (number m)) (number n) }
+rw_edge t u key m n = record { from = t; to = u; label = rw (version key m) (version key n) }
 
 abbrev pub process_edge : ℕ → ℕ → ℕ → Edge
 process_edge t u p = record { from = t; to = u; label = process p }

@@ -11,7 +11,7 @@ use Rattle.hist_types.specs.Witness.{IsWitness}
 use Rattle.hist_types.specs.Texts.{reads_text, finding_lines}
 use Rattle.hist_types.specs.declared.types.Level.TheVariants.{Process}
 use Rattle.hist_types.specs.declared.types.Phenomenon.TheVariants.{GSingle, G2Item}
-use Rattle.hist_types.proofs.Rows.History.{x, y, number, sets, gets, finds_nil, invoke, ok, fail, info, committed, aborted, unfinished, nil_then, pair, wr_edge, rw_nil_edge, process_edge, names, witness}
+use Rattle.hist_types.proofs.Rows.History.{x, y, number, sets, gets, finds_nil, invoke, ok, fail, info, committed, aborted, unfinished, nil_then, pair, wr_edge, rw_nil_edge, process_edge, names, witness, version}
 
 -- ---- a value of a transaction that failed
 
@@ -46,7 +46,7 @@ aborted_read-edges : dependency_edges (transactions_of aborted_read) ≡ []
 aborted_read-edges = refl
 
 -- The read is a G1a, told with its reader and its writer.
-aborted_read-g1a : g1a (transactions_of aborted_read) ≡ Some (record { reader = 2; key = x; value = number 1; writer = 0 })
+aborted_read-g1a : g1a (transactions_of aborted_read) ≡ Some (record { reader = 2; version = version x 1; writer = 0 })
 aborted_read-g1a = refl
 
 -- Nothing was written over, so it is no G1b.
@@ -98,7 +98,7 @@ intermediate_read-edges : dependency_edges (transactions_of intermediate_read) �
 intermediate_read-edges = refl
 
 -- The read is a G1b, told with its reader and its writer.
-intermediate_read-g1b : g1b (transactions_of intermediate_read) ≡ Some (record { reader = 2; key = x; value = number 1; writer = 0 })
+intermediate_read-g1b : g1b (transactions_of intermediate_read) ≡ Some (record { reader = 2; version = version x 1; writer = 0 })
 intermediate_read-g1b = refl
 
 -- No writer failed, so it is no G1a.
@@ -236,7 +236,7 @@ failed_writer-edges : (names (nodes (transactions_of failed_writer)) ≡ 1 ∷ 3
 failed_writer-edges = (refl, refl)
 
 -- In their place the read is a G1a.
-failed_writer-g1a : g1a (transactions_of failed_writer) ≡ Some (record { reader = 1; key = x; value = number 1; writer = 0 })
+failed_writer-g1a : g1a (transactions_of failed_writer) ≡ Some (record { reader = 1; version = version x 1; writer = 0 })
 failed_writer-g1a = refl
 
 -- ---- which reads and which writers count
@@ -318,7 +318,7 @@ both_at_once-legal : (first_broken [] both_at_once ≡ None) × (events_of (both
 both_at_once-legal = (refl, refl)
 
 -- The read is both a G1a and a G1b, which looks at writers of every status.
-both_at_once-found : (g1a (transactions_of both_at_once) ≡ Some (record { reader = 2; key = x; value = number 1; writer = 0 })) × (g1b (transactions_of both_at_once) ≡ Some (record { reader = 2; key = x; value = number 1; writer = 0 }))
+both_at_once-found : (g1a (transactions_of both_at_once) ≡ Some (record { reader = 2; version = version x 1; writer = 0 })) × (g1b (transactions_of both_at_once) ≡ Some (record { reader = 2; version = version x 1; writer = 0 }))
 both_at_once-found = (refl, refl)
 
 -- Invocations name the failed value, but none of them is ok.
@@ -357,5 +357,5 @@ two_bad_reads-legal : (first_broken [] two_bad_reads ≡ None) × (events_of (tw
 two_bad_reads-legal = (refl, refl)
 
 -- The reader with the least index is told, and its first such read.
-two_bad_reads-g1a : g1a (transactions_of two_bad_reads) ≡ Some (record { reader = 2; key = y; value = number 1; writer = 0 })
+two_bad_reads-g1a : g1a (transactions_of two_bad_reads) ≡ Some (record { reader = 2; version = version y 1; writer = 0 })
 two_bad_reads-g1a = refl

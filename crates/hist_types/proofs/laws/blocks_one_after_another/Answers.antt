@@ -1,4 +1,4 @@
-use Rattle.hist_types.proofs.Blocks.{events_of-push, kept_by_both}
+use Rattle.hist_types.proofs.Blocks.{events_of-push, events_of-kept, kept_by_both}
 use Rattle.hist_types.proofs.laws.blocks_one_after_another.Goals as goal
 
 pub returns-clause-push : goal.returns-clause-push
@@ -6,3 +6,6 @@ returns-clause-push c = events_of-push
 
 pub returns-clause-parts : goal.returns-clause-parts
 returns-clause-parts c = kept_by_both
+
+pub returns-clause-kept : goal.returns-clause-kept
+returns-clause-kept c = events_of-kept

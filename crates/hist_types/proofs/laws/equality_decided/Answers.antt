@@ -1,4 +1,4 @@
-use Rattle.hist_types.proofs.Equality.{atom_eq-decides, value_eq-decides, write_eq-decides, read_eq-decides}
+use Rattle.hist_types.proofs.Equality.{atom_eq-decides, value_eq-decides, write_eq-decides, version_eq-decides}
 use Rattle.hist_types.proofs.laws.equality_decided.Goals as goal
 
 pub returns-clause-atoms : goal.returns-clause-atoms
@@ -10,5 +10,5 @@ returns-clause-values c = value_eq-decides
 pub returns-clause-writes : goal.returns-clause-writes
 returns-clause-writes c = write_eq-decides
 
-pub returns-clause-reads : goal.returns-clause-reads
-returns-clause-reads c = read_eq-decides
+pub returns-clause-versions : goal.returns-clause-versions
+returns-clause-versions c = version_eq-decides

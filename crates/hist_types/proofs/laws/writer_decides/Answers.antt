@@ -1,0 +1,20 @@
+use Rattle.hist_types.proofs.BadReads.{one_aborted, one_intermediate, written_is_not_stray, unwritten_aborted, unwritten_intermediate, unwritten_stray}
+use Rattle.hist_types.proofs.laws.writer_decides.Goals as goal
+
+pub returns-clause-aborted : goal.returns-clause-aborted
+returns-clause-aborted c = one_aborted
+
+pub returns-clause-intermediate : goal.returns-clause-intermediate
+returns-clause-intermediate c = one_intermediate
+
+pub returns-clause-not_stray : goal.returns-clause-not_stray
+returns-clause-not_stray c = written_is_not_stray
+
+pub returns-clause-none_aborted : goal.returns-clause-none_aborted
+returns-clause-none_aborted c = unwritten_aborted
+
+pub returns-clause-none_intermediate : goal.returns-clause-none_intermediate
+returns-clause-none_intermediate c = unwritten_intermediate
+
+pub returns-clause-stray : goal.returns-clause-stray
+returns-clause-stray c = unwritten_stray
