@@ -1,18 +1,16 @@
 -- Marks that wait, and the forms that they leave out.
-use Rattle.std.proofs.Common.{◌≡◌, ℕ, zero, suc, ◌+◌, ◌-◌, ◌<◌, ◌≤◌, List, [], ◌∷◌, length, Bool, true, false, cond, not, ◌&&◌, ◌||◌, Option, Some, None, Result, Ok, Err, refl, sym, ◌∙◌, ap, arith, subst}
+use Rattle.std.proofs.Common.{◌≡◌, ℕ, zero, suc, ◌+◌, ◌-◌, ◌<◌, ◌≤◌, List, [], ◌∷◌, length, Bool, true, false, cond, not, ◌&&◌, ◌||◌, Option, Some, None, Ok, refl, sym, ◌∙◌, ap, arith, subst}
 use Rattle.std.specs.Bool.{if◌then◌else◌}
-use Rattle.hist_types.specs.Entries.{Entry}
 use Rattle.hist_types.specs.Forms.{Form, plain, collection, tagged, forms_of, OpenCollection, Open, is_drop, leave_out, is_vector_or_list, settled, still_waiting, with_member, with_form, with_mark, with_opener}
-use Rattle.hist_types.specs.Reading.{Reading, Step, step, step_by, may_open, is_place_in, in_operation_place, fault_at_end, goes_on}
+use Rattle.hist_types.specs.Reading.{Reading, step_by, may_open, in_operation_place, fault_at_end, goes_on}
 use Rattle.hist_types.specs.Tokens.{Item, ItemKind, Blank, Comment, Opener, Closer, Str, Char, Drop, Tag, Nil, True, False, Int, Keyword, Symbol, Other, byte_fault, nesting_refusal}
 use Rattle.hist_types.specs.declared.types.Fault.{Fault}
 use Rattle.hist_types.specs.declared.types.Refusal.TheVariants.{DanglingTag}
 use Rattle.edn_lex.specs.declared.types.Token.{Token}
 use Rattle.edn_lex.specs.Kinds.{kind_of, item_of}
-use Rattle.edn_lex.specs.State.{State, Rest, GivesToken, GivesEnd}
-use Rattle.edn_ops.specs.declared.forms.Member.{Member}
-use Rattle.edn_ops.specs.LevelEnds.{opens, closes, waits, stands, role_of, level_end, SameLevel, WaitAtEnd}
-use Rattle.edn_ops.specs.Leads.{SameDepth, Leads, ReadsAs, Stops, marks_among, with_marks, first_place, is_mark_kind, is_plain_kind, GivesMember, GivesNoMember, PassesCollection}
+use Rattle.edn_lex.specs.State.{State, GivesToken, GivesEnd}
+use Rattle.edn_ops.specs.LevelEnds.{waits, stands, role_of, SameLevel, WaitAtEnd}
+use Rattle.edn_ops.specs.Leads.{Leads, Stops, marks_among, with_marks, is_mark_kind, is_plain_kind, GivesMember, GivesNoMember, PassesCollection}
 use Rattle.edn_ops.specs.Marks.{Waits, any_mark, drops_among}
 use Rattle.edn_ops.proofs.Steps.{Leads-refl, Leads-then, Leads-stops, Leads-reads, Leads-step, Stops-step, ReadsAs-end, closer-depth, token-some}
 use Rattle.edn_ops.proofs.Levels.{step-plain, step-opener}

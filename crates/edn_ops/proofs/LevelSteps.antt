@@ -1,11 +1,11 @@
 -- Tokens within a level.
-use Rattle.std.proofs.Common.{◌≡◌, ℕ, suc, List, [], ◌∷◌, ◌++◌, length, Bool, true, false, Option, Some, None, refl, sym, ◌∙◌, ap, subst}
+use Rattle.std.proofs.Common.{◌≡◌, List, [], ◌∷◌, ◌++◌, Option, refl, sym, ◌∙◌, ap}
 use Rattle.hist_types.specs.Forms.{still_waiting}
-use Rattle.hist_types.specs.Tokens.{Item, ItemKind}
+use Rattle.hist_types.specs.Tokens.{Item}
 use Rattle.hist_types.specs.declared.types.Fault.{Fault}
 use Rattle.edn_lex.specs.declared.types.Token.{Token}
 use Rattle.edn_lex.specs.Kinds.{kind_of, item_of}
-use Rattle.edn_lex.specs.State.{State, Rest, GivesToken, GivesFault, GivesEnd}
+use Rattle.edn_lex.specs.State.{State, Rest, GivesToken}
 use Rattle.edn_lex.proofs.Exists.{Rest-exists}
 use Rattle.edn_ops.specs.LevelEnds.{Role, opens, closes, waits, stands, role_of, LevelEnd, passed_by, level_end, end_behind, SameLevel, LevelEnds, WaitAtEnd}
 

@@ -1,17 +1,16 @@
 -- The members of one level: an open collection, or the top level.
-use Rattle.std.proofs.Common.{◌≡◌, ℕ, suc, ◌+◌, ◌<◌, ◌≤◌, List, [], ◌∷◌, ◌++◌, length, Bool, true, false, not, ◌&&◌, ◌||◌, Option, Some, None, Result, Ok, Err, refl, sym, ◌∙◌, ap, arith, subst, unwrap_or}
+use Rattle.std.proofs.Common.{◌≡◌, ℕ, ◌<◌, ◌≤◌, List, [], ◌∷◌, ◌++◌, length, Bool, true, false, not, ◌&&◌, ◌||◌, Option, Some, Result, Ok, Err, refl, sym, ◌∙◌, ap, arith, subst, unwrap_or}
 use Rattle.std.specs.Bool.{if◌then◌else◌}
-use Rattle.hist_types.specs.Entries.{Entry, ◌>>=◌, refuse_if}
-use Rattle.hist_types.specs.Forms.{Form, plain, collection, tagged, forms_of, OpenCollection, Open, is_drop, is_drop_kind, is_map, is_vector_or_list, leave_out, settled, still_waiting, with_member, with_form, with_mark, with_opener, form_of}
-use Rattle.hist_types.specs.Reading.{Reading, Step, step, step_by, close, given_by, refuse_waiting, may_open, is_place_in, in_operation_place, fault_at_end, goes_on}
+use Rattle.hist_types.specs.Entries.{Entry, ◌>>=◌}
+use Rattle.hist_types.specs.Forms.{Form, plain, collection, tagged, forms_of, OpenCollection, Open, is_drop, is_map, is_vector_or_list, leave_out, settled, still_waiting, with_member, with_form, with_opener}
+use Rattle.hist_types.specs.Reading.{Step, step, step_by, given_by, may_open, is_place_in, in_operation_place, goes_on}
 use Rattle.hist_types.specs.Tokens.{Item, ItemKind, Blank, Comment, Opener, Closer, Str, Char, Drop, Tag, Nil, True, False, Int, Keyword, Symbol, Other, byte_fault}
 use Rattle.hist_types.specs.declared.types.Fault.{Fault}
-use Rattle.hist_types.specs.declared.types.Refusal.TheVariants.{NotAMap, Unclosed}
-use Rattle.edn_lex.specs.declared.types.Token.{Token}
+use Rattle.hist_types.specs.declared.types.Refusal.TheVariants.{Unclosed}
 use Rattle.edn_lex.specs.Kinds.{kind_of, item_of}
-use Rattle.edn_lex.specs.State.{State, GivesToken, GivesEnd}
+use Rattle.edn_lex.specs.State.{State}
 use Rattle.edn_ops.specs.declared.forms.Member.{Member}
-use Rattle.edn_ops.specs.Leads.{Leads, ReadsAs, Stops, inside, NoPlaceIn, with_marks, first_place, behind, IsBehind, is_plain_kind, GivesMember, GivesNoMember, PassesCollection}
+use Rattle.edn_ops.specs.Leads.{Leads, Stops, inside, NoPlaceIn, first_place, behind, IsBehind, is_plain_kind, GivesMember, GivesNoMember, PassesCollection}
 use Rattle.edn_ops.proofs.Steps.{Leads-step, Leads-then, Leads-stops, Stops-step}
 
 -- ---- tags

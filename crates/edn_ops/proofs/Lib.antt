@@ -14,6 +14,7 @@ pub mod LastMark
 pub mod LeftOut
 pub mod PassedOver
 pub mod Places
+pub mod Reached
 pub mod ReadsBack
 mod Tokens
 mod Decimals

@@ -1,11 +1,10 @@
 -- A collection that is passed over.
-use Rattle.std.proofs.Common.{◌≡◌, ℕ, ◌+◌, ◌<◌, ◌≤◌, List, [], ◌∷◌, ◌++◌, length, Bool, true, false, Option, Some, None, Result, Ok, Err, refl, sym, ◌∙◌, ap, arith, subst}
-use Rattle.hist_types.specs.Forms.{Form, plain, collection, forms_of, Open, still_waiting, with_form, with_opener}
+use Rattle.std.proofs.Common.{◌≡◌, ◌≤◌, List, [], ◌∷◌, ◌++◌, false, refl, ◌∙◌, ap, arith, subst}
+use Rattle.hist_types.specs.Forms.{Form, plain, collection, forms_of, Open, with_form, with_opener}
 use Rattle.hist_types.specs.Reading.{in_operation_place}
 use Rattle.hist_types.specs.Tokens.{Item, Opener, Closer, byte_fault}
 use Rattle.hist_types.specs.declared.types.Fault.{Fault}
 use Rattle.hist_types.specs.declared.types.Refusal.TheVariants.{Unclosed}
-use Rattle.edn_lex.specs.declared.types.Token.{Token}
 use Rattle.edn_lex.specs.declared.types.TokenKind.TheVariants as kinds
 use Rattle.edn_lex.specs.Kinds.{kind_of, item_of}
 use Rattle.edn_lex.specs.State.{State}

@@ -1,30 +1,29 @@
 -- From one operation to the next.
-use Rattle.std.proofs.Common.{◌≡◌, ◌≢◌, ℕ, zero, suc, ◌+◌, ◌<◌, ◌≤◌, List, [], ◌∷◌, ◌++◌, length, Bool, true, false, not, ◌&&◌, ◌||◌, bytes_eq, Option, Some, None, Result, Ok, Err, refl, sym, ◌∙◌, ap, arith, subst, append_assoc, ◌⊎◌, inl, inr}
+use Rattle.std.proofs.Common.{◌≡◌, ℕ, zero, suc, ◌+◌, ◌<◌, ◌≤◌, List, [], ◌∷◌, ◌++◌, length, Bool, true, false, not, ◌&&◌, ◌||◌, bytes_eq, Option, Some, None, Result, Ok, Err, refl, sym, ◌∙◌, ap, arith, subst, ◌⊎◌, inl, inr}
 use Rattle.std.specs.Option.{is_some}
 use Rattle.std.specs.Bool.{if◌then◌else◌}
 use Rattle.std.proofs.lemmas.Slice.Eq.{bytes_eq-Decides}
 use Rattle.hist_types.specs.Bytes.{open_round, open_square, open_brace}
-use Rattle.hist_types.specs.Entries.{Entry, PlacedOperation, operation, skipped, ◌>>=◌, refuse_if}
-use Rattle.hist_types.specs.Forms.{Form, plain, collection, forms_of, OpenCollection, Open, is_map, is_vector_or_list, leave_out, still_waiting, with_form, with_opener}
-use Rattle.hist_types.specs.Reading.{Reading, Step, step, step_by, may_open, is_place_in, in_operation_place, in_front_of, fault_at_end, reading_from, goes_on, nothing_open, given_by}
-use Rattle.hist_types.specs.Tokens.{Item, ItemKind, Blank, Comment, Opener, Closer, Str, Char, Drop, Tag, Nil, True, False, Int, Keyword, Symbol, Other, byte_fault, nesting_refusal}
+use Rattle.hist_types.specs.Entries.{Entry, PlacedOperation, operation, skipped}
+use Rattle.hist_types.specs.Forms.{Form, collection, forms_of, Open, is_map, is_vector_or_list, leave_out, with_form, with_opener}
+use Rattle.hist_types.specs.Reading.{step, step_by, may_open, is_place_in, in_operation_place, goes_on, nothing_open}
+use Rattle.hist_types.specs.Tokens.{Item, Opener, Closer, byte_fault, nesting_refusal}
 use Rattle.hist_types.specs.declared.types.Fault.{Fault}
 use Rattle.hist_types.specs.declared.types.Refusal.TheVariants.{NotAMap, Unclosed}
 use Rattle.edn_lex.specs.declared.types.Token.{Token}
 use Rattle.edn_lex.specs.declared.types.TokenKind.{TokenKind}
 use Rattle.edn_lex.specs.declared.types.TokenKind.TheVariants as kinds
 use Rattle.edn_lex.specs.Kinds.{kind_of, item_of}
-use Rattle.edn_lex.specs.State.{State, Rest, GivesToken}
+use Rattle.edn_lex.specs.State.{State}
 use Rattle.edn_ops.specs.declared.forms.Member.{Member}
 use Rattle.edn_ops.specs.declared.types.OpShape.{OpShape}
-use Rattle.edn_ops.specs.Leads.{SameDepth, Leads, ReadsAs, Stops, inside, behind, marks_among, with_marks, is_mark_kind, is_plain_kind, GivesMember, GivesNoMember}
+use Rattle.edn_ops.specs.Leads.{SameDepth, Leads, ReadsAs, Stops, inside, behind, with_marks, is_mark_kind, GivesMember, GivesNoMember}
 use Rattle.edn_ops.specs.Fields.{IsEntry}
 use Rattle.edn_ops.specs.Shapes.{IsShapeOf}
 use Rattle.edn_ops.specs.Collections.{ReadsMap}
 use Rattle.edn_ops.specs.Reader.{OpenWith, AreOpen, skips, Goes, EndsWith}
 use Rattle.edn_ops.proofs.Steps.{Leads-refl, Leads-append, Leads-then, Leads-stops, Leads-reads, Leads-depth, Leads-step, Stops-step, closer-depth, token-some}
 use Rattle.edn_ops.proofs.Levels.{nothing_waits, with_form-behind, step-opener, Leads-closer}
-use Rattle.edn_ops.proofs.LastMark.{plain-form}
 
 -- ---- what is open
 
@@ -235,7 +234,7 @@ pub Passed-start : (s : State) (list : Option Token) (n : ℕ) → n ≤ s.offse
 Passed-start s list n few =
     record { more = 0; count = omega arith; few = few; text = refl; goes = λ o is. (o, is, Leads-refl s o) }
 
-Goes-append :
+pub Goes-append :
     (s t u : State) (a b c : Option Token) (g h : List Entry) → Goes s a g t b → Goes t b h u c → Goes s a (g ++ h) u c
 Goes-append s t u a b c g h first second =
     λ o is.

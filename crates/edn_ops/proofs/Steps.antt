@@ -1,5 +1,5 @@
 -- How reading goes on: one token, and one stretch after the other.
-use Rattle.std.proofs.Common.{◌≡◌, ℕ, suc, ◌+◌, ◌<◌, ◌≤◌, List, [], ◌∷◌, ◌++◌, length, drop, take, Bool, true, false, Option, Some, None, Result, Ok, Err, refl, sym, ◌∙◌, ap, arith, subst, append_assoc, ◌-◌, length-drop, length-take-le}
+use Rattle.std.proofs.Common.{◌≡◌, ℕ, suc, ◌+◌, ◌<◌, List, [], ◌∷◌, ◌++◌, length, drop, Bool, true, false, Some, None, Result, Ok, Err, refl, sym, ◌∙◌, ap, arith, append_assoc, ◌-◌, length-drop, length-take-le}
 use Rattle.std.specs.Bool.{if◌then◌else◌}
 use Rattle.hist_types.specs.Entries.{Entry, ◌>>=◌, refuse_if}
 use Rattle.hist_types.specs.Forms.{Form, plain, OpenCollection, Open, with_form, with_mark, with_opener, form_of}
@@ -9,8 +9,8 @@ use Rattle.hist_types.specs.declared.types.Fault.{Fault}
 use Rattle.hist_types.specs.declared.types.Refusal.{Refusal}
 use Rattle.hist_types.specs.declared.types.Refusal.TheVariants.{NotAMap, StrayCloser}
 use Rattle.edn_lex.specs.declared.types.Token.{Token}
-use Rattle.edn_lex.specs.Kinds.{kind_of, item_of}
-use Rattle.edn_lex.specs.State.{State, Rest, GivesToken, GivesFault, GivesEnd}
+use Rattle.edn_lex.specs.Kinds.{item_of}
+use Rattle.edn_lex.specs.State.{State, GivesToken, GivesFault, GivesEnd}
 use Rattle.edn_ops.specs.Leads.{SameDepth, Leads, ReadsAs, Stops}
 
 -- ---- one stretch after the other

@@ -8,7 +8,7 @@ use Rattle.hist_types.specs.Forms.{Form, collection, tagged, forms_of, OpenColle
 use Rattle.hist_types.specs.Reading.{Reading, in_operation_place, in_front_of, fault_at_end, reading_from}
 use Rattle.hist_types.specs.Tokens.{Item, ItemKind, Opener, Closer, Drop, Tag}
 use Rattle.hist_types.specs.declared.types.Fault.{Fault}
-use Rattle.edn_lex.specs.Kinds.{kind_of, item_of}
+use Rattle.edn_lex.specs.Kinds.{kind_of}
 use Rattle.edn_lex.specs.State.{State, Rest, GivesToken}
 use Rattle.edn_ops.specs.declared.forms.Member.{Member}
 use Rattle.edn_ops.specs.LevelEnds.{SameLevel, LevelEnds}

@@ -1,10 +1,11 @@
 -- What a call that reads the next operation gives.
-use Rattle.std.specs.Prelude.{◌≡◌, ◌+◌, ◌≤◌, ℕ, [], ◌∷◌, ◌++◌, Option, Some, None, Result, Ok, Err}
-use Rattle.hist_types.specs.Entries.{operation, PlacedOperation}
+use Rattle.std.specs.Prelude.{◌≡◌, ◌+◌, ℕ, List, [], ◌∷◌, ◌++◌, Bool, true, false, Option, Some, None, Result, Ok, Err}
+use Rattle.hist_types.specs.Entries.{Entry, operation, PlacedOperation}
 use Rattle.hist_types.specs.declared.types.Fault.{Fault}
-use Rattle.edn_lex.specs.State.{Rest}
+use Rattle.edn_lex.specs.State.{State, state_at_start, Rest}
 use Rattle.edn_ops.specs.declared.reader.Place.{Place}
 use Rattle.edn_ops.specs.declared.types.OpShape.{OpShape}
+use Rattle.edn_lex.specs.declared.types.Token.{Token}
 use Rattle.edn_ops.specs.Collections.{UnlessMemory}
 use Rattle.edn_ops.specs.Reader.{skips, Goes, EndsWith}
 use Rattle.edn_ops.specs.Shapes.{IsShapeOf}
@@ -35,3 +36,15 @@ abbrev pub NextOp : Place → Result (Option OpShape) Fault → Place → Type 0
 NextOp old (Ok (Some shape)) new = ReadsOp old shape new
 NextOp old (Ok None) new = ReadsEnd old new
 NextOp old (Err fault) new = UnlessMemory fault (ReadsFault old fault)
+
+-- ---- where a reader is in its text
+
+-- the state, where the list is open, is reached from the text's start
+abbrev pub IsReached : State → Option Token → Type 0
+IsReached s list = (given : List Entry) × Goes (state_at_start s.text) None given s list
+
+-- the text has been read up to the place, and where it has ended nothing is left
+pub record IsReadUpTo (place : Place) (ended : Bool) : Type 0 where
+  pub reached : ended ≡ false → IsReached place.lexer place.list
+  pub closed : ended ≡ true → place.list ≡ None
+  pub nothing_left : ended ≡ true → Rest place.lexer [] None

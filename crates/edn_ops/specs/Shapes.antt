@@ -1,5 +1,5 @@
 -- Shapes of operations: what is kept of an operation that was read, with the places of its parts.
-use Rattle.std.specs.Prelude.{◌≡◌, ℕ, ◌+◌, List, length, Bool, true, false, map}
+use Rattle.std.specs.Prelude.{◌≡◌, ℕ, List, Bool, true, false, map}
 use Rattle.hist_types.specs.Entries.{PlacedMop, PlacedOperation, end_of}
 use Rattle.hist_types.specs.Operations.{Mop, read, write}
 use Rattle.hist_types.specs.Placed.{IsIn}

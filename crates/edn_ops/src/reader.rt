@@ -8,6 +8,7 @@ ghost use Rattle.edn_lex.specs.declared.types.TokenKind.TheVariants.{Open};
 ghost use Rattle.edn_lex.specs.Kinds.{item_of};
 ghost use Rattle.edn_ops.specs.Reader.{reader_at_start, Left, NextOf};
 ghost use Rattle.edn_ops.specs.Places.{NextOp};
+ghost use Rattle.edn_ops.specs.Shapes.{IsShapeIn};
 
 use crate::faults::fault_at;
 use crate::forms::next_member;
@@ -117,17 +118,20 @@ pub struct OpReader<'a> {
     alloc: Global,
     place: Place<'a>,
     failed: Option<Fault>,
+    /// Whether the text's end has been reached.
+    ended: bool,
 }
 
 impl<'a> Model for OpReader<'a> {
     ghost use Rattle.std.specs.Prelude.{◌≤◌};
+    ghost use Rattle.edn_ops.specs.Places.{IsReadUpTo};
     ghost use Rattle.edn_ops.specs.Reader.{Reader};
 
     ghost Value = { Reader };
 
     ghost view = { λ r. record { state = r.place.lexer; list = r.place.list; failed = r.failed; skipped = r.place.skipped } };
 
-    ghost invariant = { λ r. r.place.skipped ≤ r.place.lexer.offset };
+    ghost invariant = { λ r. (r.place.skipped ≤ r.place.lexer.offset) × IsReadUpTo r.place r.ended };
 }
 
 impl<'a> OpReader<'a> {
@@ -145,6 +149,7 @@ impl<'a> OpReader<'a> {
                 skipped: 0,
             },
             failed: None,
+            ended: false,
         }
     }
 
@@ -153,13 +158,19 @@ impl<'a> OpReader<'a> {
     pub fn next_op(&mut self) -> Result<Option<OpShape>, Fault>
         ensures again { IfSome self.old.failed (λ fault. (result ≡ Err fault) × (self.new ≡ self.old)) }
         ensures next { self.old.failed ≡ None → NextOf self.old result self.new }
+        ensures shape { IfOk result (λ found. IfSome found (IsShapeIn self.old.state.text)) }
+        ensures text { self.new.state.text ≡ self.old.state.text }
     {
         if let Some(fault) = self.failed {
             return Err(fault);
         }
+        if self.ended {
+            return Ok(None);
+        }
         let mut place = self.place.copy();
         match place.next_op(self.alloc) {
             Ok(found) => {
+                self.ended = found.is_none();
                 self.place = place;
                 Ok(found)
             }

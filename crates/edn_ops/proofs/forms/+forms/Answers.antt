@@ -1,16 +1,15 @@
-use Rattle.std.proofs.Common.{◌≡◌, ℕ, ◌+◌, ◌-◌, ◌<◌, ◌≤◌, length, true, false, cond, Option, Some, None, Result, Ok, Err, refl, sym, ◌∙◌, ap, subst, arith}
+use Rattle.std.proofs.Common.{◌≡◌, ℕ, ◌+◌, ◌-◌, ◌<◌, length, cond, Option, Some, Result, Ok, sym, ◌∙◌, ap, subst, arith}
 use Rattle.std.proofs.lemmas.Result.{err_from_is_err_and}
-use Rattle.hist_types.specs.Forms.{Open}
 use Rattle.hist_types.specs.declared.types.Fault.{Fault}
 use Rattle.edn_lex.specs.declared.types.Token.{Token}
 use Rattle.edn_lex.specs.Kinds.{kind_of, item_of}
 use Rattle.edn_lex.specs.State.{State, Gives}
 use Rattle.edn_ops.specs.declared.forms.Member.{Member}
-use Rattle.edn_ops.specs.Leads.{NextMember, with_marks}
+use Rattle.edn_ops.specs.Leads.{NextMember}
 use Rattle.edn_ops.proofs.Steps.{Stops-fault}
 use Rattle.edn_ops.proofs.LastMark.{plain-form, role-form, closer-kind}
 use Rattle.edn_ops.proofs.LeftOut.{Behind, Behind-mark, Behind-form, Behind-collection, Stops-behind, Stops-told, Stops-told_end, Stops-left_out, GivesMember-behind, GivesMember-closer, GivesMember-first, fewer_calls}
-use Rattle.edn_ops.proofs.PassedOver.{Within, Within-plain, Within-collection, PassesCollection-closer, Stops-within, Stops-within_collection, Stops-within_end, PassesCollection-forward}
+use Rattle.edn_ops.proofs.PassedOver.{Within-plain, Within-collection, PassesCollection-closer, Stops-within, Stops-within_collection, Stops-within_end, PassesCollection-forward}
 use Rattle.edn_ops.proofs.Levels.{GivesMember-shorter}
 use Rattle.edn_ops.proofs.forms.+forms.Goals as goal
 use Rattle.edn_ops.proofs.forms.+forms.Goals.{member_behind-then-opens+in_ok-skip_collection, member_behind-else-opens}

@@ -1,4 +1,4 @@
-use Rattle.std.proofs.Common.{◌≡◌, ℕ, ◌+◌, ◌-◌, ◌*◌, ◌≤◌, length}
+use Rattle.std.proofs.Common.{ℕ, ◌+◌, ◌-◌, ◌*◌, length}
 use Rattle.edn_lex.specs.Kinds.{item_of}
 use Rattle.edn_lex.specs.State.{State}
 use Rattle.edn_ops.proofs.LeftOut.{Behind}

@@ -1,4 +1,4 @@
-use Rattle.std.proofs.Common.{◌≡◌, ℕ, ◌+◌, ◌<◌, ◌≤◌, ◌-◌, Some, None, Ok, Err, refl, sym, ◌∙◌, ap, subst, arith, Result, Option}
+use Rattle.std.proofs.Common.{Some, sym, ◌∙◌, subst, arith, Result, Option}
 use Rattle.hist_types.specs.declared.types.Fault.{Fault}
 use Rattle.edn_lex.specs.declared.types.Token.{Token}
 use Rattle.edn_lex.specs.Kinds.{item_of}

@@ -1,4 +1,4 @@
-use Rattle.std.proofs.Common.{◌≡◌, List, length, Option, refl, ◌∙◌, ap}
+use Rattle.std.proofs.Common.{List, length, Option, None, refl, ◌∙◌, ap, arith}
 use Rattle.hist_types.specs.Forms.{Open}
 use Rattle.hist_types.specs.Reading.{reading_from, reading_of, nothing_open}
 use Rattle.hist_types.specs.Tokens.{Item}
@@ -6,6 +6,8 @@ use Rattle.hist_types.specs.declared.types.Fault.{Fault}
 use Rattle.hist_types.proofs.OneCut.{one_row_of_tokens}
 use Rattle.edn_lex.specs.State.{State}
 use Rattle.edn_lex.proofs.Exists.{Rest-exists}
+use Rattle.edn_ops.specs.declared.reader.Place.{Place}
+use Rattle.edn_ops.proofs.Reached.{up_to-start}
 use Rattle.edn_ops.proofs.reader.OpReader.new.Goals as goal
 
 pub returns-clause-left : goal.returns-clause-left
@@ -22,3 +24,8 @@ returns-clause-reads c =
     λ entries fault ends.
     let x = Rest-exists c.new.result in
     (x.0, x.1, c.new.ensures.rest x.0 x.1 x.2, ends nothing_open (refl, ap (λ (s : State). length s.closers) c.new.ensures.start) x.0 x.1 x.2)
+
+pub invariant_of-result : goal.invariant_of-result
+invariant_of-result c =
+    let start : Place = record { lexer = c.new.result; list = None; skipped = 0 } in
+    (omega arith, up_to-start c.args.text.now start c.new.ensures.start refl)
