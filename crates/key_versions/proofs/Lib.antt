@@ -1,0 +1,3 @@
+mod Changed
+mod Places
+mod Numbered
