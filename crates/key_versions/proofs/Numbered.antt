@@ -2,7 +2,7 @@
 use Rattle.std.proofs.Common.{◌≡◌, ◌⊎◌, inl, inr, ◌<◌, ◌+◌, ℕ, zero, suc, List, [], ◌∷◌, ◌++◌, length, map, get_or, Bool, true, false, cond, Option, Some, None, option_map, pos, refl, sym, ◌∙◌, ap, subst, arith}
 use Rattle.std.specs.Prelude.{slice_get, ◌==◌, ◌&&◌, nat_eq}
 use Rattle.std.specs.Option.{is_some, option_eq}
-use Rattle.std.proofs.lemmas.Bool.{cases_Bool, and_parts, eqb-true}
+use Rattle.std.proofs.lemmas.Bool.{cases_Bool, cases_lt, and_parts, eqb-true, false≢true}
 use Rattle.std.proofs.lemmas.List.{get_or_append_left, length_push}
 use Rattle.std.proofs.lemmas.Option.{slice_get-get_or, slice_get_within, get_or_from_slice_get}
 use Rattle.hist_types.specs.Atoms.{Atom, integer, atom_eq, value_eq}
@@ -13,22 +13,29 @@ use Rattle.atom_index.specs.Numbers.{number_in, with_item, AreNumbered, pair_eq}
 use Rattle.atom_index.proofs.Pushed.{number_last, number_kept, number_first, numbered_push, inserted_numbered, pair_eq-itself, item_pushed}
 use Rattle.key_versions.specs.Numbering.{Numbers, IsNumbering, IsBelow, IsInRange, AreInRange, version_by, versions_in, versions_of, with_key, with_versions, IsAccess}
 use Rattle.key_versions.specs.declared.rows.Access.{Access}
-use Rattle.key_versions.proofs.Places.{same_item, no_item, number_within, number_at, same_places, map_same, number_in-map, with_item-map, with_item-there, with_item-new, cases_number, inserted, with_item-twice, slice_get-with_item}
+use Rattle.key_versions.proofs.Places.{same_item, no_item, number_within, number_at, same_places, map_same, number_in-map, with_item-map, with_item-there, with_item-new, cases_number, inserted, with_item-twice, slice_get-with_item, slice_get_front, slice_get_last}
 
 abbrev none : Atom
 none = integer (pos 0)
 
-pair_eq-same : (p q : ℕ × Option ℕ) → pair_eq p q ≡ true → p ≡ q
+abbrev version_with : Atom → Option Atom → Version
+version_with key value = record { key = key; value = value }
+
+abbrev pair_by : ℕ → Option ℕ → ℕ × Option ℕ
+pair_by a v = (a, v)
+
+value_is : (a b : Option ℕ) → option_eq nat_eq a b ≡ true → a ≡ b
+value_is None None h = refl
+value_is (Some a) (Some b) h = ap Some (eqb-true a b h)
+value_is a b h = absurd (false≢true h)
+
+pub pair_eq-same : (p q : ℕ × Option ℕ) → pair_eq p q ≡ true → p ≡ q
 pair_eq-same p q h =
     let parts = and_parts (p.0 == q.0) (option_eq nat_eq p.1 q.1) h in
-    pair_is p.0 q.0 p.1 q.1 (eqb-true p.0 q.0 parts.0) (value_is p.1 q.1 parts.1)
-  where
-    value_is : (a b : Option ℕ) → option_eq nat_eq a b ≡ true → a ≡ b
-    value_is None None h = refl
-    value_is (Some a) (Some b) h = ap Some (eqb-true a b h)
-    value_is a b h = absurd (cc)
-    pair_is : (a b : ℕ) (v w : Option ℕ) → a ≡ b → v ≡ w → (a, v) ≡ (b, w)
-    pair_is a b v w e e' = ap (λ n. (n, v)) e ∙ ap (λ (o : Option ℕ). (b, o)) e'
+    ap (λ n. pair_by n p.1) (eqb-true p.0 q.0 parts.0) ∙ ap (pair_by q.0) (value_is p.1 q.1 parts.1)
+
+abbrev pub numbers : List Atom → List Atom → List (ℕ × Option ℕ) → List ℕ → Numbers
+numbers keys values pairs nils = record { keys = keys; values = values; pairs = pairs; nils = nils }
 
 -- ---- versions by numbers
 
@@ -63,6 +70,16 @@ pub one_pair :
 one_pair keys values pairs keyed valued ranged p here =
     with_item-map (version_by keys values) version_eq pair_eq p pairs (λ j q h. versions_agree keys values keyed valued p q here (ranged j q h))
 
+map_within : {A B : Type 0} (f : A → B) (xs : List A) (i : ℕ) (y : B) → slice_get (map f xs) i ≡ Some y → i < length xs
+map_within f [] i y h = absurd (no_item y h)
+map_within f (x ∷ xs) zero y h = omega arith
+map_within f (x ∷ xs) (suc i) y h = let behind = map_within f xs i y h in omega arith
+
+map_at : {A B : Type 0} (f : A → B) (xs : List A) (i : ℕ) (y : B) → slice_get (map f xs) i ≡ Some y → (d : A) → y ≡ f (get_or xs i d)
+map_at f [] i y h d = absurd (no_item y h)
+map_at f (x ∷ xs) zero y h d = sym (same_item (f x) y h)
+map_at f (x ∷ xs) (suc i) y h d = map_at f xs i y h d
+
 pub numbered_versions : (s : Numbers) → IsNumbering s.keys s.values s.pairs s.nils → AreNumbered version_eq (versions_of s)
 numbered_versions s is i v h =
     let within : i < length s.pairs = map_within (version_by s.keys s.values) s.pairs i v h in
@@ -72,12 +89,130 @@ numbered_versions s is i v h =
     ap (λ (u : Version). number_in version_eq u (versions_of s)) made
     ∙ number_of_pair s.keys s.values s.pairs is.keys_numbered is.values_numbered is.in_range p (is.in_range i p at)
     ∙ is.pairs_numbered i p at
-  where
-    map_within : {A B : Type 0} (f : A → B) (xs : List A) (i : ℕ) (y : B) → slice_get (map f xs) i ≡ Some y → i < length xs
-    map_within f [] i y h = absurd (no_item y h)
-    map_within f (x ∷ xs) zero y h = omega arith
-    map_within f (x ∷ xs) (suc i) y h = let behind = map_within f xs i y h in omega arith
-    map_at : {A B : Type 0} (f : A → B) (xs : List A) (i : ℕ) (y : B) → slice_get (map f xs) i ≡ Some y → (d : A) → y ≡ f (get_or xs i d)
-    map_at f [] i y h d = absurd (no_item y h)
-    map_at f (x ∷ xs) zero y h d = sym (same_item (f x) y h)
-    map_at f (x ∷ xs) (suc i) y h d = map_at f xs i y h d
+
+-- ---- growth
+
+-- more keys change no version
+keys_grown :
+    (keys : List Atom) (key : Atom) (values : List Atom) (pairs : List (ℕ × Option ℕ)) → AreInRange keys values pairs
+    → versions_in (keys ++ key ∷ []) values pairs ≡ versions_in keys values pairs
+keys_grown keys key values pairs ranged =
+    map_same (version_by (keys ++ key ∷ []) values) (version_by keys values) pairs
+    (λ i p h. ap (λ (a : Atom). version_with a (option_map (λ m. get_or values m none) p.1)) (get_or_append_left keys (key ∷ []) none p.0 (ranged i p h).0))
+
+values_grown_by :
+    (values : List Atom) (value : Atom) (v : Option ℕ) → IsBelow (length values) v
+    → option_map (λ m. get_or (values ++ value ∷ []) m none) v ≡ option_map (λ m. get_or values m none) v
+values_grown_by values value None below = refl
+values_grown_by values value (Some m) below = ap Some (get_or_append_left values (value ∷ []) none m below)
+
+values_grown :
+    (keys values : List Atom) (value : Atom) (pairs : List (ℕ × Option ℕ)) → AreInRange keys values pairs
+    → versions_in keys (values ++ value ∷ []) pairs ≡ versions_in keys values pairs
+values_grown keys values value pairs ranged =
+    map_same (version_by keys (values ++ value ∷ [])) (version_by keys values) pairs
+    (λ i p h. ap (version_with (get_or keys p.0 none)) (values_grown_by values value p.1 (ranged i p h).1))
+
+-- ---- one key more
+
+-- a key without a number has no version
+fresh :
+    (keys values : List Atom) (pairs : List (ℕ × Option ℕ)) → AreInRange keys values pairs → number_in pair_eq (length keys, None) pairs ≡ None
+fresh keys values pairs ranged = elim (cases_number pair_eq (length keys, None) pairs) [
+  | inl there ↦ (
+      let here = ranged there.0 (length keys, None) (number_at pair_eq pair_eq-same (length keys, None) pairs there.0 there.1) in
+      let below : length keys < length keys = here.0 in
+      absurd (omega arith))
+  | inr new ↦ new
+]
+
+below_grown : (values : List Atom) (v : Option ℕ) (value : Atom) → IsBelow (length values) v → IsBelow (length (values ++ value ∷ [])) v
+below_grown values None value below = below
+below_grown values (Some m) value below = omega (arith, length_push values value)
+
+nil_numbered :
+    (keys values : List Atom) (pairs : List (ℕ × Option ℕ)) (nils : List ℕ) (key : Atom) → IsNumbering keys values pairs nils
+    → (k : ℕ) → k < length (keys ++ key ∷ [])
+    → number_in pair_eq (k, None) (pairs ++ (length keys, None) ∷ []) ≡ slice_get (nils ++ length pairs ∷ []) k
+nil_numbered keys values pairs nils key old k below = elim (cases_lt k (length keys)) [
+  | inl before ↦ (
+      let among : k < length nils = omega (arith, old.nil_of_each) in
+      let at = slice_get-get_or nils k 0 among in
+      number_first pair_eq (pair_by k None) pairs (pair_by (length keys) None) (get_or nils k 0) (old.nils_numbered k before ∙ at)
+      ∙ sym (slice_get_front nils (length pairs ∷ []) k (get_or nils k 0) at))
+  | inr behind ↦ (
+      let here : k ≡ length keys = omega (arith, length_push keys key) in
+      let last : k ≡ length nils = here ∙ sym old.nil_of_each in
+      ap (λ n. number_in pair_eq (pair_by n None) (pairs ++ (length keys, None) ∷ [])) here
+      ∙ number_last pair_eq (pair_by (length keys) None) pairs (pair_by (length keys) None) (fresh keys values pairs old.in_range) (pair_eq-itself (pair_by (length keys) None))
+      ∙ sym (ap (slice_get (nils ++ length pairs ∷ [])) last ∙ slice_get_last nils (length pairs)))
+]
+
+one_key :
+    (keys values : List Atom) (pairs : List (ℕ × Option ℕ)) (nils : List ℕ) (key : Atom) → IsNumbering keys values pairs nils → number_in atom_eq key keys ≡ None
+    → IsNumbering (keys ++ key ∷ []) values (pairs ++ (length keys, None) ∷ []) (nils ++ length pairs ∷ [])
+one_key keys values pairs nils key old new =
+    let none_there = fresh keys values pairs old.in_range in
+    let p = pair_by (length keys) None in
+    record {
+      keys_numbered = numbered_push atom_eq keys key (atom_eq-itself key) old.keys_numbered new;
+      values_numbered = old.values_numbered;
+      pairs_numbered = numbered_push pair_eq pairs p (pair_eq-itself p) old.pairs_numbered none_there;
+      in_range = λ i q h. elim (item_pushed pairs p i q h) [
+        | inl there ↦ (
+            let old_range = (old.in_range i q there).0 in
+            let wider : q.0 < length (keys ++ key ∷ []) = omega (arith, length_push keys key) in
+            (wider, (old.in_range i q there).1))
+        | inr last ↦ (
+            let wider : length keys < length (keys ++ key ∷ []) = omega (arith, length_push keys key) in
+            subst (λ r. IsInRange (keys ++ key ∷ []) values r) (sym last.1) (wider, tt))
+      ];
+      nils_numbered = nil_numbered keys values pairs nils key old;
+      nil_of_each = length_push nils (length pairs) ∙ ap (λ n. n + 1) old.nil_of_each ∙ sym (length_push keys key);
+    }
+
+-- what a new key leaves
+pub new_key :
+    (s : Numbers) (key : Atom) (number nil : ℕ) (keys : List Atom) (pairs : List (ℕ × Option ℕ)) (nils : List ℕ) → IsNumbering s.keys s.values s.pairs s.nils
+    → keys ≡ with_item atom_eq s.keys key → number_in atom_eq key keys ≡ Some number → number ≡ length s.nils
+    → pairs ≡ with_item pair_eq s.pairs (number, None) → number_in pair_eq (number, None) pairs ≡ Some nil → nils ≡ s.nils ++ nil ∷ []
+    → IsNumbering keys s.values pairs nils × (numbers keys s.values pairs nils ≡ with_key s key)
+new_key s key number nil keys pairs nils old keyed numbered at paired nilled pushed =
+    let new : number_in atom_eq key s.keys ≡ None = elim (cases_number atom_eq key s.keys) [
+      | inl there ↦ (
+          let same : number ≡ there.0 = same_item number there.0 (sym numbered ∙ ap (number_in atom_eq key) (keyed ∙ with_item-there atom_eq s.keys key there.0 there.1) ∙ there.1) in
+          let below : there.0 < length s.keys = number_within atom_eq key s.keys there.0 there.1 in
+          absurd (omega (arith, old.nil_of_each)))
+      | inr new ↦ new
+    ] in
+    let place : number ≡ length s.keys = at ∙ old.nil_of_each in
+    let none_there = fresh s.keys s.values s.pairs old.in_range in
+    let k : keys ≡ s.keys ++ key ∷ [] = keyed ∙ with_item-new atom_eq s.keys key new in
+    let p : pairs ≡ s.pairs ++ (length s.keys, None) ∷ [] =
+      paired ∙ ap (λ n. with_item pair_eq s.pairs (pair_by n None)) place ∙ with_item-new pair_eq s.pairs (length s.keys, None) none_there in
+    let last : number_in pair_eq (length s.keys, None) (s.pairs ++ (length s.keys, None) ∷ []) ≡ Some (length s.pairs) =
+      number_last pair_eq (pair_by (length s.keys) None) s.pairs (pair_by (length s.keys) None) none_there (pair_eq-itself (pair_by (length s.keys) None)) in
+    let n : nil ≡ length s.pairs = same_item nil (length s.pairs)
+      (sym nilled ∙ ap (number_in pair_eq (number, None)) p ∙ ap (λ m. number_in pair_eq (pair_by m None) (s.pairs ++ (length s.keys, None) ∷ [])) place ∙ last) in
+    let ns : nils ≡ s.nils ++ length s.pairs ∷ [] = pushed ∙ ap (λ m. s.nils ++ m ∷ []) n in
+    let is = one_key s.keys s.values s.pairs s.nils key old new in
+    let after : with_key s key ≡ numbers (s.keys ++ key ∷ []) s.values (with_item pair_eq s.pairs (length s.keys, None)) (s.nils ++ length s.pairs ∷ []) =
+      ap (λ (o : Option ℕ). cond (is_some o) s (numbers (s.keys ++ key ∷ []) s.values (with_item pair_eq s.pairs (length s.keys, None)) (s.nils ++ length s.pairs ∷ []))) new in
+    (rw (k, p, ns) is,
+     ap (λ (xs : List Atom). numbers xs s.values pairs nils) k
+     ∙ ap (λ (xs : List (ℕ × Option ℕ)). numbers (s.keys ++ key ∷ []) s.values xs nils) (p ∙ sym (with_item-new pair_eq s.pairs (length s.keys, None) none_there))
+     ∙ ap (numbers (s.keys ++ key ∷ []) s.values (with_item pair_eq s.pairs (length s.keys, None))) ns ∙ sym after)
+
+-- what a known key leaves
+pub known_key :
+    (s : Numbers) (key : Atom) (number : ℕ) (keys : List Atom) → IsNumbering s.keys s.values s.pairs s.nils
+    → keys ≡ with_item atom_eq s.keys key → number_in atom_eq key keys ≡ Some number → (number ≡ length s.nils → ⊥)
+    → (keys ≡ s.keys) × (s ≡ with_key s key)
+known_key s key number keys old keyed numbered apart = elim (cases_number atom_eq key s.keys) [
+  | inl there ↦ (
+      keyed ∙ with_item-there atom_eq s.keys key there.0 there.1,
+      sym (ap (λ (o : Option ℕ). cond (is_some o) s (numbers (s.keys ++ key ∷ []) s.values (with_item pair_eq s.pairs (length s.keys, None)) (s.nils ++ length s.pairs ∷ []))) there.1))
+  | inr new ↦ absurd (apart (
+      same_item number (length s.keys) (sym numbered ∙ ap (number_in atom_eq key) (keyed ∙ with_item-new atom_eq s.keys key new) ∙ number_last atom_eq key s.keys key new (atom_eq-itself key))
+      ∙ sym old.nil_of_each))
+]

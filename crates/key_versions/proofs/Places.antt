@@ -40,7 +40,7 @@ pub same_places :
 same_places {A} eq tells knows items numbered i j d within within' = elim (cases_Bool (i == j)) [
   | inl is ↦ (
       let same : i ≡ j = eqb-true i j is in
-      subst (λ k. eq (get_or items i d) (get_or items k d) ≡ (i == j)) same (knows (get_or items i d)) ∙ sym is)
+      subst (λ k. eq (get_or items i d) (get_or items k d) ≡ true) same (knows (get_or items i d)) ∙ sym is)
   | inr differ ↦ false_from_ne_true _ (λ equal.
         let same : get_or items i d ≡ get_or items j d = tells _ _ equal in
         let first = numbered i (get_or items i d) (slice_get-get_or items i d within) in
@@ -107,14 +107,18 @@ inserted {A} eq knows items x = elim (cases_number eq x items) [
 pub with_item-twice : {A : Type 0} (eq : A → A → Bool) → Knows eq → (items : List A) (x : A) → with_item eq (with_item eq items x) x ≡ with_item eq items x
 with_item-twice eq knows items x = let h = inserted eq knows items x in with_item-there eq (with_item eq items x) x h.0 h.1
 
+pub slice_get_front : {A : Type 0} (xs more : List A) (n : ℕ) (y : A) → slice_get xs n ≡ Some y → slice_get (xs ++ more) n ≡ Some y
+slice_get_front [] more n y h = absurd (no_item y h)
+slice_get_front (x ∷ xs) more zero y h = h
+slice_get_front (x ∷ xs) more (suc n) y h = slice_get_front xs more n y h
+
+pub slice_get_last : {A : Type 0} (xs : List A) (y : A) → slice_get (xs ++ y ∷ []) (length xs) ≡ Some y
+slice_get_last [] y = refl
+slice_get_last (x ∷ xs) y = slice_get_last xs y
+
 -- what is there stays where it is
 pub slice_get-with_item : {A : Type 0} (eq : A → A → Bool) (items : List A) (x y : A) (n : ℕ) → slice_get items n ≡ Some y → slice_get (with_item eq items x) n ≡ Some y
 slice_get-with_item {A} eq items x y n h = elim (cases_number eq x items) [
   | inl there ↦ ap (λ (ys : List A). slice_get ys n) (with_item-there eq items x there.0 there.1) ∙ h
   | inr new ↦ ap (λ (ys : List A). slice_get ys n) (with_item-new eq items x new) ∙ slice_get_front items (x ∷ []) n y h
 ]
-  where
-    slice_get_front : (xs more : List A) (n : ℕ) (y : A) → slice_get xs n ≡ Some y → slice_get (xs ++ more) n ≡ Some y
-    slice_get_front [] more n y h = absurd (no_item y h)
-    slice_get_front (x ∷ xs) more zero y h = h
-    slice_get_front (x ∷ xs) more (suc n) y h = slice_get_front xs more n y h
