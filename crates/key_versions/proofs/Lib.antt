@@ -1,3 +1,4 @@
 mod Changed
 mod Places
 mod Numbered
+mod Growing

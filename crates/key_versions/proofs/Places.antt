@@ -42,11 +42,11 @@ same_places {A} eq tells knows items numbered i j d within within' = elim (cases
       let same : i ≡ j = eqb-true i j is in
       subst (λ k. eq (get_or items i d) (get_or items k d) ≡ true) same (knows (get_or items i d)) ∙ sym is)
   | inr differ ↦ false_from_ne_true _ (λ equal.
-        let same : get_or items i d ≡ get_or items j d = tells _ _ equal in
-        let first = numbered i (get_or items i d) (slice_get-get_or items i d within) in
-        let second = numbered j (get_or items j d) (slice_get-get_or items j d within') in
-        let place : i ≡ j = same_item i j (sym first ∙ ap (λ (x : A). number_in eq x items) same ∙ second) in
-        true≢false (sym (eq-eqb i j place) ∙ differ)) ∙ sym differ
+      let same : get_or items i d ≡ get_or items j d = tells _ _ equal in
+      let first = numbered i (get_or items i d) (slice_get-get_or items i d within) in
+      let second = numbered j (get_or items j d) (slice_get-get_or items j d within') in
+      let place : i ≡ j = same_item i j (sym first ∙ ap (λ (x : A). number_in eq x items) same ∙ second) in
+      true≢false (sym (eq-eqb i j place) ∙ differ)) ∙ sym differ
 ]
 
 -- ---- lists of what is made of items

@@ -17,7 +17,7 @@ loop-i-preserved c =
     let step = at_drop_more (read_rows c.args.place c.args.installs.now c.loop-i.rows before) reads i (record { nil = 0; version = 0 }) c.loop-i-test.true in
     let more = take_more reads i (record { nil = 0; version = 0 }) c.loop-i-test.true in
     let behind = λ (rows : List Known) (e : read_rows c.args.place c.args.installs.now rows (before ++ r ∷ []) rest ≡ read_rows c.args.place c.args.installs.now c.loop-i.rows before (r ∷ rest)).
-      ap (λ (seen : List Access). read_rows c.args.place c.args.installs.now rows seen rest) more ∙ e ∙ sym step ∙ c.loop-i.invariant in
+    ap (λ (seen : List Access). read_rows c.args.place c.args.installs.now rows seen rest) more ∙ e ∙ sym step ∙ c.loop-i.invariant in
     elim c.if-not-has_version.branch [
       | then-not-has_version+in_ok-read w ↦ rw w.rows-is (behind _ (
           ap (λ (rows : List Known). read_rows c.args.place c.args.installs.now rows (before ++ r ∷ []) rest)

@@ -17,9 +17,9 @@ loop-i-preserved c =
     let lasts_step = at_drop_more lasts writes i (record { nil = 0; version = 0 }) c.loop-i-test.true in
     let over : c.has_key-over.result ≡ has_nil w.nil rest = c.has_key-over.ensures ∙ ap (has_nil w.nil) (take_rest writes (i + 1)) in
     let rows = ap (λ (rows : List Known). written_rows c.args.place rows rest)
-      (change_set (with_writer (record { txn = c.args.place; over = c.has_key-over.result })) c.loop-i.rows w.version c.index-rows-write.result c.write.new.self within c.write.ensures)
-      ∙ ap (λ b. written_rows c.args.place (change (with_writer (record { txn = c.args.place; over = b })) w.version c.loop-i.rows) rest) over
-      ∙ sym rows_step ∙ c.loop-i.invariant.0 in
+    (change_set (with_writer (record { txn = c.args.place; over = c.has_key-over.result })) c.loop-i.rows w.version c.index-rows-write.result c.write.new.self within c.write.ensures)
+    ∙ ap (λ b. written_rows c.args.place (change (with_writer (record { txn = c.args.place; over = b })) w.version c.loop-i.rows) rest) over
+    ∙ sym rows_step ∙ c.loop-i.invariant.0 in
     elim c.if-not-over.branch [
       | then-not-over+in_ok-push w' ↦ (
           let is : has_nil w.nil rest ≡ false = sym over ∙ w'.if-not-over.true in

@@ -16,10 +16,14 @@ loop-install-preserved c =
     let fs = c.loop-install.self-inside.followers.items in
     let step = at_drop_more (λ (ws : List Access). fs ++ map (follower c.args.place) (filter (is_behind c.args.read) ws)) installs i (record { nil = 0; version = 0 }) c.loop-install-test.true in
     elim c.if-is_followed_by.branch [
-      | then-is_followed_by+in_ok-push-2 w' ↦ rw w'.self-inside-is
-          (rw w'.in_ok-push-2.ensures.ok (one_followed c.args.place c.args.read w fs rest (sym w'.if-is_followed_by.ensures)) ∙ sym step ∙ c.loop-install.invariant.0
-          , c.loop-install.invariant.1, c.loop-install.invariant.2)
-      | else-is_followed_by w' ↦ rw w'.self-inside-is
-          (none_followed c.args.place c.args.read w fs rest (sym w'.if-is_followed_by.ensures) ∙ sym step ∙ c.loop-install.invariant.0
-          , c.loop-install.invariant.1, c.loop-install.invariant.2)
+      | then-is_followed_by+in_ok-push-2 w' ↦ rw w'.self-inside-is (
+        rw w'.in_ok-push-2.ensures.ok (one_followed c.args.place c.args.read w fs rest (sym w'.if-is_followed_by.ensures)) ∙ sym step ∙ c.loop-install.invariant.0,
+        c.loop-install.invariant.1,
+        c.loop-install.invariant.2,
+      )
+      | else-is_followed_by w' ↦ rw w'.self-inside-is (
+        none_followed c.args.place c.args.read w fs rest (sym w'.if-is_followed_by.ensures) ∙ sym step ∙ c.loop-install.invariant.0,
+        c.loop-install.invariant.1,
+        c.loop-install.invariant.2,
+      )
     ]
