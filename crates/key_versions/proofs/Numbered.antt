@@ -360,24 +360,33 @@ version_read keys values pairs number p key value ranged within is key_is value_
     ∙ ap (λ k. Some (version_with k (option_map (λ m. get_or values m none) p.1))) (sym (get_or_read keys p.0 key here.0 key_is none))
     ∙ ap (λ v. Some (version_with key v)) (value_read values p.1 value here.1 value_is)
 
+-- the number that is kept, as it is read
+kept_nil :
+    (s : Numbers) (key : Atom) (number nil : ℕ) → IsNumbering s.keys s.values s.pairs s.nils → number_in atom_eq key s.keys ≡ Some number → nil ≡ get_or s.nils number nil
+    → slice_get s.nils number ≡ Some nil
+kept_nil s key number nil is numbered read =
+    let below : number < length s.keys = number_within atom_eq key s.keys number numbered in
+    let among : number < length s.nils = omega (arith, is.nil_of_each) in
+    slice_get-get_or s.nils number nil among ∙ ap Some (sym read)
+
 -- what a key and a value leave
 pub access_versions :
-    (old : Numbers) (key : Atom) (value : Option Atom) (after : Numbers) (number nil version : ℕ) (last : List Version)
-    → IsNumbering old.keys old.values old.pairs old.nils → IsNumbering after.keys after.values after.pairs after.nils
-    → after ≡ with_key old key → number_in atom_eq key after.keys ≡ Some number → slice_get after.nils number ≡ Some nil
-    → last ≡ with_item version_eq (versions_of after) (version_with key value) → slice_get last version ≡ Some (version_with key value)
-    → (last ≡ with_versions (versions_of old) (nil_of key ∷ version_with key value ∷ []))
+    (before : List Version) (s : Numbers) (key : Atom) (value : Option Atom) (number nil version : ℕ) (last : List Version)
+    → IsNumbering s.keys s.values s.pairs s.nils → versions_of s ≡ with_item version_eq before (nil_of key)
+    → number_in atom_eq key s.keys ≡ Some number → nil ≡ get_or s.nils number nil
+    → last ≡ with_item version_eq (versions_of s) (version_with key value) → slice_get last version ≡ Some (version_with key value)
+    → (last ≡ with_versions before (nil_of key ∷ version_with key value ∷ []))
     × IsAccess last (version_with key value) (access_by nil version)
-access_versions old key value after number nil version last was is keyed numbered at grown found =
-    let first : versions_of after ≡ with_item version_eq (versions_of old) (nil_of key) = ap versions_of keyed ∙ keyed_versions old key was in
-    (grown ∙ ap (λ (vs : List Version). with_item version_eq vs (version_with key value)) first,
+access_versions before s key value number nil version last is keyed numbered read grown found =
+    let at = kept_nil s key number nil is numbered read in
+    (grown ∙ ap (λ (vs : List Version). with_item version_eq vs (version_with key value)) keyed,
      (ap (λ (vs : List Version). slice_get vs nil) grown
-      ∙ slice_get-with_item version_eq (versions_of after) (version_with key value) (nil_of key) nil (nil_at after key number is numbered nil at), found))
+      ∙ slice_get-with_item version_eq (versions_of s) (version_with key value) (nil_of key) nil (nil_at s key number is numbered nil at), found))
 
 -- nil is inserted with its key
 pub nil_inserted :
-    (s : Numbers) (key : Atom) (number nil : ℕ) → IsNumbering s.keys s.values s.pairs s.nils → number_in atom_eq key s.keys ≡ Some number → slice_get s.nils number ≡ Some nil
-    → versions_of s ≡ with_item version_eq (versions_of s) (nil_of key)
-nil_inserted s key number nil is numbered at =
-    let found = nil_at s key number is numbered nil at in
-    sym (with_item-there version_eq (versions_of s) (nil_of key) nil (numbered_versions s is nil (nil_of key) found))
+    (s : Numbers) (key : Atom) (number nil : ℕ) → IsNumbering s.keys s.values s.pairs s.nils → number_in atom_eq key s.keys ≡ Some number → nil ≡ get_or s.nils number nil
+    → (versions_of s ≡ with_item version_eq (versions_of s) (nil_of key)) × (slice_get (versions_of s) nil ≡ Some (nil_of key))
+nil_inserted s key number nil is numbered read =
+    let found = nil_at s key number is numbered nil (kept_nil s key number nil is numbered read) in
+    (sym (with_item-there version_eq (versions_of s) (nil_of key) nil (numbered_versions s is nil (nil_of key) found)), found)

@@ -7,7 +7,7 @@ ghost use Rattle.hist_types.specs.Journal.{writes_of};
 ghost use Rattle.hist_types.specs.Transactions.{Version, version_of, version_eq};
 ghost use Rattle.hist_types.specs.Versions.{nil_of};
 ghost use Rattle.key_versions.specs.Histories.{named_in, read_by};
-ghost use Rattle.key_versions.specs.Numbering.{Numbers, key_at, version_with, versions_in, versions_of, AreInRange, with_key, with_versions, IsAccess, AreAccesses};
+ghost use Rattle.key_versions.specs.Numbering.{Numbers, key_at, version_with, versions_in, versions_of, AreInRange, with_versions, IsAccess, AreAccesses};
 
 use crate::rows::{Access, has_key};
 use atom_index::atoms::AtomIndex;
@@ -88,7 +88,7 @@ impl<'a, S: BuildHasher> Numbering<'a, S> {
     /// The number of a key. Where it is new, its nil version gets a number too.
     fn key(&mut self, key: Atom<'a>) -> Result<usize, AllocError>
         ensures number { IfOk result (λ number. number_in atom_eq key.entry self.new.keys ≡ Some number) }
-        ensures after { OnOk result (self.new ≡ with_key self.old key.entry) }
+        ensures versions { OnOk result (versions_of self.new ≡ with_item version_eq (versions_of self.old) (nil_of key.entry)) }
     {
         self.pairs.reserve(1)?;
         self.nils.try_reserve(1)?;
