@@ -2,3 +2,6 @@ mod Changed
 mod Places
 mod Numbered
 mod Growing
+mod Accessing
+mod Lists
+mod Unnamed

@@ -1,0 +1,6 @@
+use Rattle.key_versions.proofs.Unnamed.{unnamed_writer}
+use Rattle.key_versions.proofs.Growing.{writer-push}
+use Rattle.key_versions.proofs.building.Building.take.Goals as goal
+
+pub returns : goal.returns
+returns g c = ?
