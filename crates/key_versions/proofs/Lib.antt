@@ -5,3 +5,5 @@ mod Growing
 mod Accessing
 mod Lists
 mod Unnamed
+mod Known
+mod Joined
