@@ -77,7 +77,7 @@ length-written place rows (w ∷ ws) =
 all_behind : {A : Type 0} (P : A → Type 0) (x : A) (xs : List A) → All P (x ∷ xs) → All P xs
 all_behind P x xs h = λ k d below. h (suc k) d (omega arith)
 
-all_cons : {A : Type 0} (P : A → Type 0) (x : A) (xs : List A) → P x → All P xs → All P (x ∷ xs)
+pub all_cons : {A : Type 0} (P : A → Type 0) (x : A) (xs : List A) → P x → All P xs → All P (x ∷ xs)
 all_cons P x xs here behind zero d below = here
 all_cons P x xs here behind (suc k) d below = behind k d (omega arith)
 

@@ -7,3 +7,5 @@ mod Lists
 mod Unnamed
 mod Known
 mod Joined
+mod Followed
+mod Told
