@@ -1,10 +1,10 @@
 -- The table of a history with one transaction more.
-use Rattle.std.proofs.Common.{◌≡◌, ◌⊎◌, inl, inr, ◌<◌, ◌≤◌, ◌+◌, ◌-◌, ℕ, zero, suc, List, [], ◌∷◌, ◌++◌, length, map, All, Bool, true, false, cond, Option, Some, None, option_map, refl, sym, ◌∙◌, ap, subst, arith}
+use Rattle.std.proofs.Common.{◌≡◌, ◌⊎◌, inl, inr, ◌<◌, ◌≤◌, ◌+◌, ◌-◌, ℕ, zero, suc, List, [], ◌∷◌, ◌++◌, length, map, replicate, All, Bool, true, false, cond, Option, Some, None, option_map, refl, sym, ◌∙◌, ap, subst, arith}
 use Rattle.std.specs.Prelude.{slice_get, filter, not, ◌&&◌, ◌||◌, ◌==◌}
 use Rattle.std.specs.List.{list_any}
 use Rattle.std.specs.Option.{option_or, is_none, is_some}
 use Rattle.std.proofs.lemmas.Bool.{cases_Bool, true≢false, false≢true, or_parts, and_parts, false_from_ne_true}
-use Rattle.std.proofs.lemmas.List.{append_assoc, append-nil, map-append, map_push, length-map, length_push}
+use Rattle.std.proofs.lemmas.List.{append_assoc, append-nil, map-append, map_push, length-map, length_push, length-append, length-replicate}
 use Rattle.std.proofs.lemmas.Option.{slice_get_within, slice_get-map}
 use Rattle.hist_types.specs.Atoms.{Atom, Value, atom_eq}
 use Rattle.hist_types.specs.Operations.{Mop}
@@ -304,6 +304,38 @@ module _
             ∙ sym (ap (map as_found) (followers-push ts t v) ∙ map-append as_found (followers_of ts v) (map (with_place place) (installs_behind t v)));
       }
 
+-- the number of the nil version of a version's key
+nil_number :
+    (ts : List Transaction) (t : Transaction) (vs : List Version) (v : Version) (n : ℕ) → AreNumbered version_eq vs
+    → ((u : Version) → has_version vs u ≡ is_named (ts ++ t ∷ []) u) → slice_get vs n ≡ Some v
+    → (nil : ℕ) × (slice_get vs nil ≡ Some (nil_of v.key))
+nil_number ts t vs v n numbered named at =
+    let v_named : is_named (ts ++ t ∷ []) v ≡ true = sym (named v) ∙ there_is vs v n (numbered n v at) in
+    let has : has_version vs (nil_of v.key) ≡ true = named (nil_of v.key) ∙ nil_named_in v (ts ++ t ∷ []) v_named in
+    elim (cases_number version_eq (nil_of v.key) vs) [
+      | inl there ↦ (there.0, number_at version_eq version_eq-same (nil_of v.key) vs there.0 there.1)
+      | inr none ↦ absurd (false≢true (ap is_some (sym none) ∙ number_there version_eq (nil_of v.key) vs ∙ has))
+    ]
+
+map_both : {A B C : Type 0} (g : B → C) (f : A → B) (xs : List A) → map g (map f xs) ≡ map (λ x. g (f x)) xs
+map_both g f [] = refl
+map_both {A} {B} {C} g f (x ∷ xs) = ap (λ (ys : List C). g (f x) ∷ ys) (map_both g f xs)
+
+one_more :
+    (vs us : List Version) (stay : (n : ℕ) (v : Version) → slice_get vs n ≡ Some v → slice_get us n ≡ Some v) (g : Transaction → List Version)
+    (ts : List Transaction) (t : Transaction) (nss : List (List ℕ)) (f : Accessed → List ℕ) (accesses : List Accessed) (a : Accessed)
+    → nss ≡ map f accesses → map (versions_at vs) nss ≡ map (λ u. map Some (g u)) ts → versions_at us (f a) ≡ map Some (g t)
+    → map (versions_at us) (map f (accesses ++ a ∷ [])) ≡ map (λ u. map Some (g u)) (ts ++ t ∷ [])
+one_more vs us stay g ts t nss f accesses a is old new =
+    ap (map (versions_at us)) (map_push f accesses a ∙ ap (λ (xs : List (List ℕ)). xs ++ f a ∷ []) (sym is))
+    ∙ map_push (versions_at us) nss (f a)
+    ∙ ap (λ (xs : List (List (Option Version))). xs ++ versions_at us (f a) ∷ []) (lists_stay vs us stay g nss ts old)
+    ∙ ap (λ (x : List (Option Version)). map (λ u. map Some (g u)) ts ++ x ∷ []) new
+    ∙ sym (map_push (λ u. map Some (g u)) ts t)
+
+pub grown_enough : (n : ℕ) (rows : List Known) → n ≤ length (grown n rows)
+grown_enough n rows = omega (arith, length-append rows (replicate (n - length rows) unknown), length-replicate (n - length rows) unknown)
+
 -- The table of one transaction more tells of it.
 pub told :
     (ts : List Transaction) (t : Transaction) (vs us : List Version) (rows : List Known) (accesses : List Accessed) (rs ws : List Access)
@@ -318,4 +350,28 @@ told ts t vs us rows accesses rs ws is grew read wrote =
     let count : length (rows_after (length accesses) rs ws (grown (length us) rows)) ≡ length us = length-after (length accesses) rs ws (grown (length us) rows) ∙ length-grown (length us) rows more in
     let named : (v : Version) → has_version us v ≡ is_named (ts ++ t ∷ []) v =
       λ v. ap (λ (xs : List Version). has_version xs v) grew ∙ has_versions vs (named_in t.mops) v ∙ ap (λ b. b || has_version (named_in t.mops) v) (is.named v) ∙ sym (named-push ts t v) in
-    ?
+    let rows_now = rows_after (length accesses) rs ws (grown (length us) rows) in
+    let each : (n : ℕ) (y : Known) (v : Version) → slice_get rows_now n ≡ Some y → slice_get us n ≡ Some v → IsRowOf (ts ++ t ∷ []) us v y =
+      λ n y v row at.
+      let below : n < length (grown (length us) rows) = subst (λ k. n < k) (sym (length-grown (length us) rows more)) (slice_get_within us n v at) in
+      let x = is_at (grown (length us) rows) n below in
+      let old : IsRowOf ts us v x.0 =
+        subst (λ (xs : List Version). IsRowOf ts xs v x.0) (sym grew)
+        (old_row ts vs (named_in t.mops) rows accesses is (length us) n v x.0 (ap (λ (xs : List Version). slice_get xs n) (sym grew) ∙ at) x.1) in
+      let nil = nil_number ts t us v n numbered named at in
+      let made = row_is (length accesses) n nil.0 (grown (length us) rows) rs ws x.0 (have_nil t us numbered rs ws read wrote (read_by t) rs read v n nil.0 at nil.1) x.1 in
+      let same : row_after (length ts) n nil.0 x.0 rs ws ≡ y = ap (λ p. row_after p n nil.0 x.0 rs ws) (sym place) ∙ same_item _ y (sym made ∙ row) in
+      subst (IsRowOf (ts ++ t ∷ []) us v) same (new_row t us numbered rs ws read wrote ts n nil.0 v x.0 at nil.1 old) in
+    record {
+      distinct = numbered;
+      named = named;
+      writers = maps_agree (λ (r : Known). r.writer) (writer_of (ts ++ t ∷ [])) rows_now us count (λ n y v row at. (each n y v row at).writer);
+      readers = maps_agree (λ (r : Known). r.readers) (readers_of (ts ++ t ∷ [])) rows_now us count (λ n y v row at. (each n y v row at).readers);
+      followers =
+          map_both (followers_at us) (λ (r : Known). r.followers) rows_now
+          ∙ maps_agree (λ (r : Known). followers_at us r.followers) (λ v. map as_found (followers_of (ts ++ t ∷ []) v)) rows_now us count (λ n y v row at. (each n y v row at).followers);
+      reads = one_more vs us stay read_by ts t (map (λ (a : Accessed). a.reads) accesses) (λ (a : Accessed). a.reads) accesses (accessed rs ws) refl is.reads (numbers_are us (read_by t) rs read);
+      installs =
+          one_more vs us stay installed_by ts t (map (λ (a : Accessed). a.installs) accesses) (λ (a : Accessed). a.installs) accesses (accessed rs ws) refl is.installs
+          (numbers_are us (installed_by t) (lasts ws) (lasts_are us numbered (writes_of t.mops) ws wrote));
+    }
