@@ -1,7 +1,7 @@
 -- The numbers in a list that has one item more.
 use Rattle.std.proofs.Common.{◌≡◌, ◌⊎◌, inl, inr, ℕ, zero, suc, ◌+◌, List, [], ◌∷◌, ◌++◌, length, Bool, true, false, cond, Option, Some, None, refl, sym, ◌∙◌, ap, subst, arith}
-use Rattle.std.specs.Prelude.{slice_get, ◌==◌}
-use Rattle.std.specs.Option.{option_or, is_some}
+use Rattle.std.specs.Prelude.{slice_get, ◌==◌, nat_eq}
+use Rattle.std.specs.Option.{option_or, option_eq, is_some}
 use Rattle.std.specs.List.{position_from, list_any}
 use Rattle.std.proofs.lemmas.Bool.{cases_Bool, and_from, eq-eqb}
 use Rattle.std.proofs.lemmas.Iterator.Adapters.{position_from-zero}
@@ -67,7 +67,7 @@ same_item : {A : Type 0} (x y : A) → Some x ≡ Some y → x ≡ y
 same_item x y e = cc
 
 -- an item of the longer list was there, or is the last
-item_pushed : {A : Type 0} (xs : List A) (y : A) (i : ℕ) (x : A) → slice_get (xs ++ y ∷ []) i ≡ Some x → (slice_get xs i ≡ Some x) ⊎ ((i ≡ length xs) × (x ≡ y))
+pub item_pushed : {A : Type 0} (xs : List A) (y : A) (i : ℕ) (x : A) → slice_get (xs ++ y ∷ []) i ≡ Some x → (slice_get xs i ≡ Some x) ⊎ ((i ≡ length xs) × (x ≡ y))
 item_pushed [] y zero x h = inr (refl, sym (same_item y x h))
 item_pushed [] y (suc i) x h = absurd (no_item x h)
 item_pushed (z ∷ xs) y zero x h = inl h
@@ -95,7 +95,7 @@ is_there test i (x ∷ xs) = elim (cases_Bool (test x)) [
   | inr is_not ↦ rw is_not (is_there test (i + 1) xs)
 ]
 
-has_number : {A : Type 0} (eq : A → A → Bool) (x : A) (items : List A) → is_some (number_in eq x items) ≡ list_any (eq x) items
+pub has_number : {A : Type 0} (eq : A → A → Bool) (x : A) (items : List A) → is_some (number_in eq x items) ≡ list_any (eq x) items
 has_number eq x items = ap is_some (position_from-zero (eq x) items) ∙ is_there (eq x) 0 items
 
 -- what an insertion leaves
@@ -109,5 +109,9 @@ inserted_numbered {A} eq items x itself numbered = by (number_in eq x items) ref
     by None e = subst (λ (o : Option ℕ). AreNumbered eq (cond (is_some o) items (items ++ x ∷ []))) (sym e) (numbered_push eq items x itself numbered e)
     by (Some n) e = subst (λ (o : Option ℕ). AreNumbered eq (cond (is_some o) items (items ++ x ∷ []))) (sym e) numbered
 
-pub pair_eq-itself : (p : ℕ × ℕ) → pair_eq p p ≡ true
-pair_eq-itself p = and_from (p.0 == p.0) (p.1 == p.1) (eq-eqb p.0 p.0 refl) (eq-eqb p.1 p.1 refl)
+value_itself : (value : Option ℕ) → option_eq nat_eq value value ≡ true
+value_itself None = refl
+value_itself (Some n) = eq-eqb n n refl
+
+pub pair_eq-itself : (p : ℕ × Option ℕ) → pair_eq p p ≡ true
+pair_eq-itself p = and_from (p.0 == p.0) (option_eq nat_eq p.1 p.1) (eq-eqb p.0 p.0 refl) (value_itself p.1)
