@@ -1,5 +1,5 @@
 pub mod Histories
 pub mod Labels
-pub mod Leaving
+pub mod OutEdges
 pub mod Tables
 pub mod Reads

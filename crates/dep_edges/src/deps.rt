@@ -3,7 +3,7 @@
 ghost use Rattle.std.specs.Prelude.{◌≡◌, map, vec_len, OnOk, OnErr};
 ghost use Rattle.hist_types.specs.Phenomena.{g1a, g1b, stray};
 ghost use Rattle.hist_types.specs.Transactions.{is_node};
-ghost use Rattle.dep_edges.specs.Leaving.{AddsEdgesFrom};
+ghost use Rattle.dep_edges.specs.OutEdges.{AddsEdgesFrom};
 ghost use Rattle.dep_edges.specs.Tables.{IsPlace, txn_at};
 
 use crate::bad_reads::{first_aborted, first_intermediate};

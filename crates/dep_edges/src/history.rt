@@ -16,7 +16,7 @@ use txn_pairs::types::{Txn, Txns};
 
 /// Transactions go by their place, versions by their number.
 #[derive(Drop)]
-pub(crate) struct History<'v, 'a> {
+pub struct History<'v, 'a> {
     txns: &'v Txns<'a>,
     versions: &'v Versions<'a>,
 }
@@ -33,13 +33,13 @@ impl<'v, 'a> Model for History<'v, 'a> {
 
 /// A version that a transaction wrote.
 #[derive(Drop)]
-pub(crate) struct Written<'a> {
+pub struct Written<'a> {
     pub key: Atom<'a>,
     pub value: Atom<'a>,
 }
 
 impl<'v, 'a> History<'v, 'a> {
-    pub fn new(txns: &'v Txns<'a>, versions: &'v Versions<'a>) -> Self
+    pub(crate) fn new(txns: &'v Txns<'a>, versions: &'v Versions<'a>) -> Self
         requires kept { AreOfHistory txns.now }
         requires versions { IsTableOf txns.now versions.now }
         ensures { result ≡ record { txns = txns.now; table = versions.now } }

@@ -5,7 +5,7 @@ ghost use Rattle.hist_types.specs.Edges.{ww, wr, rw};
 ghost use Rattle.hist_types.specs.Transactions.{is_node, installed_by};
 ghost use Rattle.key_versions.specs.Histories.{read_by};
 ghost use Rattle.dep_edges.specs.Tables.{IsPlace, IsNumber, txn_at, version_at};
-ghost use Rattle.dep_edges.specs.Leaving.{reader_edges, later_edges, written_edges, read_edges, each_once, leaving, Begins};
+ghost use Rattle.dep_edges.specs.OutEdges.{reader_edges, later_edges, written_edges, read_edges, each_once, leaving, Begins};
 
 use crate::history::History;
 use crate::types::{Edge, Label};

@@ -8,7 +8,7 @@ ghost use Rattle.dep_edges.specs.Histories.{AreOfHistory};
 
 mod bad_reads;
 pub mod deps;
-mod history;
+pub mod history;
 mod leaving;
 mod nodes;
 pub mod types;

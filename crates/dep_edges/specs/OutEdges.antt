@@ -24,16 +24,16 @@ AddsEdgesFrom ts t before after = (es : List Edge) × (after ≡ before ++ es) �
 
 -- ---- how they are found
 
--- an edge from the transaction of this index, unless it leads back to it
+-- an edge from the transaction of this index, unless it leads back to it, and where it leads to a node
 abbrev pub edge_to : ℕ → Transaction → Label → List Edge
 edge_to from u label = if from == u.invocation then [] else record { from = from; to = u.invocation; label = label } ∷ []
 
 abbrev pub node_edge : List Transaction → ℕ → Transaction → Label → List Edge
 node_edge ts from u label = if is_node ts u then edge_to from u label else []
 
--- to each transaction that reads the version
+-- to each node that reads the version
 abbrev pub reader_edges : List Transaction → ℕ → Version → List Edge
-reader_edges ts from v = flat_map (λ (u : Transaction). if reads u v then edge_to from u (wr v) else []) ts
+reader_edges ts from v = flat_map (λ (u : Transaction). if reads u v then node_edge ts from u (wr v) else []) ts
 
 -- to each node that installs a version behind this one, labelled by that version
 abbrev pub later_edges : List Transaction → ℕ → (Version → Label) → Version → List Edge

@@ -1,0 +1,5 @@
+mod Lists
+mod Places
+mod Apart
+mod Out
+mod Writers
