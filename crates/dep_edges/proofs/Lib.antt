@@ -3,3 +3,5 @@ mod Places
 mod Apart
 mod Out
 mod Writers
+mod Found
+mod Marks

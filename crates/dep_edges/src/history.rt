@@ -1,11 +1,12 @@
 //! A history's transactions with the table of their versions.
 
 ghost use Rattle.std.specs.Prelude.{◌≡◌, length, map, IsSome, All, Some};
-ghost use Rattle.hist_types.specs.Phenomena.{is_stray};
-ghost use Rattle.hist_types.specs.Transactions.{installed_by};
+ghost use Rattle.hist_types.specs.Phenomena.{aborted_writers, intermediate_writers, is_stray};
+ghost use Rattle.hist_types.specs.Transactions.{Transaction, installed_by};
 ghost use Rattle.key_versions.specs.Histories.{read_by, writer_of, readers_of, followers_of};
 ghost use Rattle.key_versions.specs.Tables.{IsTableOf};
 ghost use Rattle.dep_edges.specs.Histories.{AreOfHistory};
+ghost use Rattle.dep_edges.specs.Reads.{failed_one, other_over};
 ghost use Rattle.dep_edges.specs.Tables.{IsPlace, IsNumber, txn_at, version_at, IsWriterPlace, later_in, IsBehind};
 
 use key_versions::table::Versions;
@@ -48,14 +49,16 @@ impl<'v, 'a> History<'v, 'a> {
     }
 
     pub fn txns(&self) -> &'v [Txn<'a>]
-        ensures { result.now ≡ self.now.txns }
+        ensures value { result.now ≡ self.now.txns }
+        ensures kept { AreOfHistory self.now.txns }
     {
         self.txns.as_slice()
     }
 
     /// How many versions there are.
     pub fn versions(&self) -> usize
-        ensures { result ≡ length self.now.table.versions }
+        ensures value { result ≡ length self.now.table.versions }
+        ensures table { IsTableOf self.now.txns self.now.table }
     {
         self.versions.len()
     }
@@ -92,6 +95,8 @@ impl<'v, 'a> History<'v, 'a> {
         requires { IsNumber self.now.table number }
         ensures value { result ≡ writer_of self.now.txns (version_at self.now.table number) }
         ensures within { IsWriterPlace self.now.txns result }
+        ensures aborted { aborted_writers self.now.txns (version_at self.now.table number) ≡ failed_one self.now.txns result }
+        ensures intermediate { (reader : Transaction) → intermediate_writers self.now.txns reader (version_at self.now.table number) ≡ other_over self.now.txns reader result }
     {
         self.versions.writer(number)
     }
@@ -132,6 +137,7 @@ impl<'v, 'a> History<'v, 'a> {
         self.versions.installs(place)
     }
 
+    #[tactic(auto, using(crate::proofs::Writers::stray_by_writer))]
     /// Whether the version isn't nil and nobody wrote it.
     pub fn is_stray(&self, number: usize) -> bool
         requires { IsNumber self.now.table number }

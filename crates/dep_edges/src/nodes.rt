@@ -20,6 +20,17 @@ pub fn is_failed(txn: &Txn<'_>) -> bool
     txn.status() == Status::Fail
 }
 
+/// A mark for each transaction, whether it is ok.
+fn ok_marks(alloc: Global, txns: &[Txn<'_>]) -> Result<Vec<bool>, AllocError>
+    ensures { IfOk result (λ marks. marks.items ≡ map is_ok txns.now) }
+{
+    let mut marks = Vec::with_capacity(alloc, txns.len())?;
+    for txn in txns {
+        marks.push(is_ok(txn))?;
+    }
+    Ok(marks)
+}
+
 /// Marks the transaction that wrote the version, if the version was read and the transaction didn't fail.
 fn mark(history: &History<'_, '_>, number: usize, nodes: &mut [bool])
     requires number { IsNumber history.now.table number }
@@ -39,7 +50,7 @@ fn mark(history: &History<'_, '_>, number: usize, nodes: &mut [bool])
 pub fn nodes(alloc: Global, history: &History<'_, '_>) -> Result<Vec<bool>, AllocError>
     ensures { IfOk result (λ nodes. nodes.items ≡ map (is_node history.now.txns) history.now.txns) }
 {
-    let mut nodes: Vec<bool> = history.txns().iter().map(is_ok).collect(alloc)?;
+    let mut nodes = ok_marks(alloc, history.txns())?;
     for number in 0..history.versions() {
         mark(history, number, &mut nodes);
     }
