@@ -5,3 +5,4 @@ mod Out
 mod Writers
 mod Found
 mod Marks
+mod Adding

@@ -3,7 +3,7 @@ use Rattle.std.proofs.Common.{◌≡◌, ℕ, zero, suc, ◌+◌, ◌<◌, List,
 use Rattle.std.specs.Option.{is_some}
 use Rattle.std.proofs.lemmas.Bool.{and_parts, cases_Bool}
 use Rattle.std.proofs.lemmas.List.Concat.{flat_map-append}
-use Rattle.std.proofs.lemmas.Option.{none-some, same_Some}
+use Rattle.std.proofs.lemmas.Option.{none-some, same_Some, slice_get-get_or}
 use Rattle.hist_types.specs.Atoms.{Atom, Value, integer, atom_eq, value_eq}
 use Rattle.hist_types.specs.Transactions.{Transaction, Version, Open, installed_by, reads, installs, writes, writes_over}
 use Rattle.hist_types.specs.Versions.{nil_of, pair, is_change}
@@ -15,7 +15,7 @@ use Rattle.key_versions.specs.Histories.{read_by, is_followed, installs_behind, 
 use Rattle.key_versions.specs.Tables.{Table, IsTableOf, versions_at, followers_at}
 use Rattle.key_versions.specs.declared.types.Writer.{Writer}
 use Rattle.key_versions.specs.declared.types.Follower.{Follower}
-use Rattle.dep_edges.specs.Tables.{IsPlace, IsNumber, txn_at, version_at, IsWriterPlace, later_in, IsBehind}
+use Rattle.dep_edges.specs.Tables.{IsPlace, IsNumber, IsWritten, AreNamedOnce, txn_at, version_at, IsWriterPlace, later_in, IsBehind}
 use Rattle.dep_edges.proofs.Lists.{all_in, alike_at, items_at, places_within, within_at}
 
 -- ---- by place
@@ -219,3 +219,26 @@ pub numbers_within :
     → All (IsNumber table) ns
 numbers_within f ts table lists place ns is at =
     all_in (IsNumber table) ns (places_within table.versions ns (f (txn_at ts place)) (told_at f ts table lists place ns is at))
+
+pub installed_are_written :
+    (ts : List Transaction) (table : Table) (place : ℕ) (ns : List ℕ)
+    → IsTableOf ts table
+    → slice_get table.installs place ≡ Some ns
+    → All (IsWritten table) ns
+installed_are_written ts table place ns is at =
+    all_in (IsWritten table) ns (λ n i.
+    installed_some (txn_at ts place) (version_at table n)
+    (subst (In (version_at table n)) (versions_told installed_by ts table table.installs place ns is.installs at) (in_mapped (version_at table) n ns i)))
+
+named_at : (table : Table) (n : ℕ) → IsNumber table n → slice_get table.versions n ≡ Some (version_at table n)
+named_at table n below = at (slice_get table.versions n) refl
+  where
+    at : (o : Option Version) → slice_get table.versions n ≡ o → slice_get table.versions n ≡ Some (version_at table n)
+    at (Some v) e = e ∙ ap Some (sym (ap (λ o. unwrap_or o (nil_of (integer (pos 0)))) e))
+    at None e = let none : ⊥ = cc (e, slice_get-get_or table.versions n (version_at table n) below) in elim none [ ]
+
+pub named_once : (ts : List Transaction) (table : Table) → IsTableOf ts table → AreNamedOnce table
+named_once ts table is m n first second same =
+    same_Some m n
+    (sym (is.distinct m (version_at table m) (named_at table m first))
+    ∙ is.distinct n (version_at table m) (named_at table n second ∙ ap Some (sym same)))

@@ -23,6 +23,14 @@ txn_at ts place =
 abbrev pub version_at : Table → ℕ → Version
 version_at table number = unwrap_or (slice_get table.versions number) (nil_of (integer (pos 0)))
 
+-- the version isn't nil
+abbrev pub IsWritten : Table → ℕ → Type 0
+IsWritten table number = IsSome (version_at table number).value
+
+-- no version has two numbers
+abbrev pub AreNamedOnce : Table → Type 0
+AreNamedOnce table = (m n : ℕ) → IsNumber table m → IsNumber table n → version_at table m ≡ version_at table n → m ≡ n
+
 -- a transaction that wrote a version, if there is one
 abbrev pub IsWriterPlace : List Transaction → Option Writer → Type 0
 IsWriterPlace ts None = Unit {0}

@@ -7,7 +7,7 @@ ghost use Rattle.key_versions.specs.Histories.{read_by, writer_of, readers_of, f
 ghost use Rattle.key_versions.specs.Tables.{IsTableOf};
 ghost use Rattle.dep_edges.specs.Histories.{AreOfHistory};
 ghost use Rattle.dep_edges.specs.Reads.{failed_one, other_over};
-ghost use Rattle.dep_edges.specs.Tables.{IsPlace, IsNumber, txn_at, version_at, IsWriterPlace, later_in, IsBehind};
+ghost use Rattle.dep_edges.specs.Tables.{IsPlace, IsNumber, IsWritten, AreNamedOnce, txn_at, version_at, IsWriterPlace, later_in, IsBehind};
 
 use key_versions::table::Versions;
 use key_versions::types::{Follower, VersionRef, Writer};
@@ -80,7 +80,7 @@ impl<'v, 'a> History<'v, 'a> {
     /// A version that isn't nil.
     pub fn written(&self, number: usize) -> Written<'a>
         requires number { IsNumber self.now.table number }
-        requires written { IsSome (version_at self.now.table number).value }
+        requires written { IsWritten self.now.table number }
         ensures { version_at self.now.table number ≡ record { key = result.key; value = Some result.value } }
     {
         let version = self.version(number);
@@ -124,6 +124,7 @@ impl<'v, 'a> History<'v, 'a> {
         requires { IsPlace self.now.txns place }
         ensures value { map (version_at self.now.table) result.now ≡ read_by (txn_at self.now.txns place) }
         ensures within { All (IsNumber self.now.table) result.now }
+        ensures apart { AreNamedOnce self.now.table }
     {
         self.versions.reads(place)
     }
@@ -133,6 +134,7 @@ impl<'v, 'a> History<'v, 'a> {
         requires { IsPlace self.now.txns place }
         ensures value { map (version_at self.now.table) result.now ≡ installed_by (txn_at self.now.txns place) }
         ensures within { All (IsNumber self.now.table) result.now }
+        ensures written { All (IsWritten self.now.table) result.now }
     {
         self.versions.installs(place)
     }

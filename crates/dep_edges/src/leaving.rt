@@ -1,11 +1,12 @@
 //! The edges that leave a transaction.
 
-ghost use Rattle.std.specs.Prelude.{◌≡◌, ◌++◌, Bool, not, ◌&&◌, ◌==◌, if◌then◌else◌, length, map, Some, None, IsSome, OnOk, OnErr, flat_map};
+ghost use Rattle.std.specs.Prelude.{◌≡◌, ◌++◌, map, OnOk, OnErr, flat_map};
 ghost use Rattle.hist_types.specs.Edges.{ww, wr, rw};
 ghost use Rattle.hist_types.specs.Transactions.{is_node, installed_by};
 ghost use Rattle.key_versions.specs.Histories.{read_by};
-ghost use Rattle.dep_edges.specs.Tables.{IsPlace, IsNumber, txn_at, version_at};
-ghost use Rattle.dep_edges.specs.OutEdges.{reader_edges, later_edges, written_edges, read_edges, each_once, leaving, Begins};
+ghost use Rattle.dep_edges.specs.Labels.{label_of};
+ghost use Rattle.dep_edges.specs.Tables.{IsPlace, IsNumber, IsWritten, txn_at, version_at};
+ghost use Rattle.dep_edges.specs.OutEdges.{node_edge, reader_edges, later_edges, written_edges, read_edges, each_once, leaving, Begins};
 
 use crate::history::History;
 use crate::types::{Edge, Label};
@@ -53,31 +54,39 @@ impl<'v, 'a> Marked<'v, 'a> {
         self.nodes[place]
     }
 
-    /// The transaction at the place, by the index of its invocation, if it is a node and another one than `from`.
-    fn other_node(&self, from: u64, place: usize) -> Option<u64>
+    /// Adds an edge from the transaction `from` to the one at the place, if that is another node.
+    fn add_edge(
+        &self,
+        from: u64,
+        place: usize,
+        label: Label<'a>,
+        out: &mut Vec<Edge<'a>>,
+    ) -> Result<(), AllocError>
         requires { IsPlace self.now.txns place }
-        ensures { result ≡ (if is_node self.now.txns (txn_at self.now.txns place) && not (from == (txn_at self.now.txns place).invocation) then Some (txn_at self.now.txns place).invocation else None) }
+        ensures ok { OnOk result (out.new.items ≡ out.old.items ++ node_edge self.now.txns from (txn_at self.now.txns place) (label_of label.entry)) }
+        ensures err { OnErr result (out.new.items ≡ out.old.items) }
     {
         let to = self.history.txn(place).invocation();
-        (self.is_node(place) && to != from).then_some(to)
+        if self.is_node(place) && from != to {
+            out.push(Edge::new(from, to, label))?;
+        }
+        Ok(())
     }
 
     /// Adds the wr edges out of a version that the transaction `from` installs.
     fn add_wr(&self, from: u64, number: usize, out: &mut Vec<Edge<'a>>) -> Result<(), AllocError>
         requires number { IsNumber self.now.table number }
-        requires written { IsSome (version_at self.now.table number).value }
+        requires written { IsWritten self.now.table number }
         ensures ok { OnOk result (out.new.items ≡ out.old.items ++ reader_edges self.now.txns from (version_at self.now.table number)) }
         ensures err { OnErr result (Begins out.old.items out.new.items) }
     {
         let version = self.history.written(number);
         for place in self.history.readers(number) {
-            if let Some(to) = self.other_node(from, *place as usize) {
-                let label = Label::Wr {
-                    key: version.key.copy(),
-                    value: version.value.copy(),
-                };
-                out.push(Edge::new(from, to, label))?;
-            }
+            let label = Label::Wr {
+                key: version.key.copy(),
+                value: version.value.copy(),
+            };
+            self.add_edge(from, *place as usize, label, out)?;
         }
         Ok(())
     }
@@ -85,21 +94,19 @@ impl<'v, 'a> Marked<'v, 'a> {
     /// Adds the ww edges out of a version that the transaction `from` installs.
     fn add_ww(&self, from: u64, number: usize, out: &mut Vec<Edge<'a>>) -> Result<(), AllocError>
         requires number { IsNumber self.now.table number }
-        requires written { IsSome (version_at self.now.table number).value }
+        requires written { IsWritten self.now.table number }
         ensures ok { OnOk result (out.new.items ≡ out.old.items ++ later_edges self.now.txns from (ww (version_at self.now.table number)) (version_at self.now.table number)) }
         ensures err { OnErr result (Begins out.old.items out.new.items) }
     {
         let earlier = self.history.written(number);
         for follower in self.history.followers(number) {
-            if let Some(to) = self.other_node(from, follower.txn as usize) {
-                let later = self.history.written(follower.version as usize);
-                let label = Label::Ww {
-                    key: later.key,
-                    earlier: earlier.value.copy(),
-                    later: later.value,
-                };
-                out.push(Edge::new(from, to, label))?;
-            }
+            let later = self.history.written(follower.version as usize);
+            let label = Label::Ww {
+                key: later.key,
+                earlier: earlier.value.copy(),
+                later: later.value,
+            };
+            self.add_edge(from, follower.txn as usize, label, out)?;
         }
         Ok(())
     }
@@ -112,15 +119,13 @@ impl<'v, 'a> Marked<'v, 'a> {
     {
         let earlier = self.history.version(number);
         for follower in self.history.followers(number) {
-            if let Some(to) = self.other_node(from, follower.txn as usize) {
-                let later = self.history.written(follower.version as usize);
-                let label = Label::Rw {
-                    key: later.key,
-                    earlier: earlier.value(),
-                    later: later.value,
-                };
-                out.push(Edge::new(from, to, label))?;
-            }
+            let later = self.history.written(follower.version as usize);
+            let label = Label::Rw {
+                key: later.key,
+                earlier: earlier.value(),
+                later: later.value,
+            };
+            self.add_edge(from, follower.txn as usize, label, out)?;
         }
         Ok(())
     }
