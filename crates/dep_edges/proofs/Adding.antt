@@ -77,7 +77,7 @@ pub all_added :
     → after ≡ before ++ all
 all_added f xs n before after all e over is = e ∙ ap (λ ys. before ++ flat_map f ys) (take_all n xs over) ∙ ap (λ es. before ++ es) is
 
-pub by_numbers : (f : Version → List Edge) (table : Table) (ns : List ℕ) (vs : List Version) → map (version_at table) ns ≡ vs → flat_map (λ n. f (version_at table n)) ns ≡ flat_map f vs
+pub by_numbers : {A : Type 0} (f : Version → List A) (table : Table) (ns : List ℕ) (vs : List Version) → map (version_at table) ns ≡ vs → flat_map (λ n. f (version_at table n)) ns ≡ flat_map f vs
 by_numbers f table ns vs told = sym (flat_map-map f (version_at table) ns) ∙ ap (flat_map f) told
 
 -- ---- each version once
@@ -99,50 +99,38 @@ has_by_number table n (m ∷ ns) one =
     (λ e. subst (λ k. version_eq (version_at table n) (version_at table k) ≡ true) (sym (eqb-true m n e)) (version_eq-itself (version_at table n))))
     ∙ ap (λ b. (m == n) || b) (has_by_number table n ns (λ k i. one k (inr i)))
 
-in_drop : (k : ℕ) (ns : List ℕ) (m : ℕ) → In m (drop k ns) → In m ns
-in_drop zero ns m i = i
-in_drop (suc k) [] m i = i
-in_drop (suc k) (n ∷ ns) m i = inr (in_drop k ns m i)
-
--- the versions that are left, with the first of them
+-- the versions that are left, without the first of them
 pub once_more :
-    (table : Table) (ns : List ℕ) (i n : ℕ)
+    (table : Table) (n : ℕ) (ns : List ℕ)
     → AreNamedOnce table
-    → All (IsNumber table) ns
-    → i < length ns
-    → get_or ns i n ≡ n
-    → each_once (map (version_at table) (drop i ns))
-    ≡ (if list_any (λ m. m == n) (drop (i + 1) ns)
-    then each_once (map (version_at table) (drop (i + 1) ns))
-    else version_at table n ∷ each_once (map (version_at table) (drop (i + 1) ns)))
-once_more table ns i n once within below is =
-    let next : suc i ≡ i + 1 = omega arith in
-    let cut : drop i ns ≡ n ∷ drop (i + 1) ns = drop-cons ns i n below ∙ ap (λ m. m ∷ drop (suc i) ns) is ∙ ap (λ k. n ∷ drop k ns) next in
-    let here : IsNumber table n = subst (IsNumber table) is (within i n below) in
-    ap (λ ms. each_once (map (version_at table) ms)) cut
-    ∙ ap (λ b. if b then each_once (map (version_at table) (drop (i + 1) ns)) else version_at table n ∷ each_once (map (version_at table) (drop (i + 1) ns)))
-    (has_by_number table n (drop (i + 1) ns) (λ m j same.
-    once m n (All-contains (IsNumber table) ns m within (Contains_from_in m ns (in_drop (i + 1) ns m j))) here same))
+    → All (IsNumber table) (n ∷ ns)
+    → each_once (map (version_at table) (n ∷ ns))
+    ≡ (if list_any (λ m. m == n) ns then each_once (map (version_at table) ns) else version_at table n ∷ each_once (map (version_at table) ns))
+once_more table n ns once within =
+    ap (λ b. if b then each_once (map (version_at table) ns) else version_at table n ∷ each_once (map (version_at table) ns))
+    (has_by_number table n ns (λ m i same.
+    once m n (number m (inr i)) (number n (inl refl)) same))
+  where
+    number : (m : ℕ) → In m (n ∷ ns) → IsNumber table m
+    number m i = All-contains (IsNumber table) (n ∷ ns) m within (Contains_from_in m (n ∷ ns) i)
 
 -- what is left to add, after the first of them was added or passed over
 pub left_after :
-    (f : Version → List Edge) (table : Table) (ns : List ℕ) (i n : ℕ) (out out' all : List Edge) (again : Bool)
+    (f : Version → List Edge) (table : Table) (n : ℕ) (ns : List ℕ) (out out' all : List Edge) (again : Bool)
     → AreNamedOnce table
-    → All (IsNumber table) ns
-    → i < length ns
-    → get_or ns i n ≡ n
-    → list_any (λ m. m == n) (drop (i + 1) ns) ≡ again
+    → All (IsNumber table) (n ∷ ns)
+    → list_any (λ m. m == n) ns ≡ again
     → out' ≡ (if again then out else out ++ f (version_at table n))
-    → out ++ flat_map f (each_once (map (version_at table) (drop i ns))) ≡ all
-    → out' ++ flat_map f (each_once (map (version_at table) (drop (i + 1) ns))) ≡ all
-left_after f table ns i n out out' all true once within below is e added before =
-    let rest : List Version = each_once (map (version_at table) (drop (i + 1) ns)) in
+    → out ++ flat_map f (each_once (map (version_at table) (n ∷ ns))) ≡ all
+    → out' ++ flat_map f (each_once (map (version_at table) ns)) ≡ all
+left_after f table n ns out out' all true once within e added before =
+    let rest : List Version = each_once (map (version_at table) ns) in
     ap (λ es. es ++ flat_map f rest) added
-    ∙ ap (λ vs. out ++ flat_map f vs) (sym (once_more table ns i n once within below is ∙ ap (λ b. if b then rest else version_at table n ∷ rest) e))
+    ∙ ap (λ vs. out ++ flat_map f vs) (sym (once_more table n ns once within ∙ ap (λ b. if b then rest else version_at table n ∷ rest) e))
     ∙ before
-left_after f table ns i n out out' all false once within below is e added before =
-    let rest : List Version = each_once (map (version_at table) (drop (i + 1) ns)) in
+left_after f table n ns out out' all false once within e added before =
+    let rest : List Version = each_once (map (version_at table) ns) in
     ap (λ es. es ++ flat_map f rest) added
     ∙ append_assoc out (f (version_at table n)) (flat_map f rest)
-    ∙ ap (λ vs. out ++ flat_map f vs) (sym (once_more table ns i n once within below is ∙ ap (λ b. if b then rest else version_at table n ∷ rest) e))
+    ∙ ap (λ vs. out ++ flat_map f vs) (sym (once_more table n ns once within ∙ ap (λ b. if b then rest else version_at table n ∷ rest) e))
     ∙ before

@@ -6,3 +6,4 @@ mod Writers
 mod Found
 mod Marks
 mod Adding
+mod Shown

@@ -1,7 +1,8 @@
 //! The edges that leave a transaction.
 
-ghost use Rattle.std.specs.Prelude.{◌≡◌, ◌++◌, map, OnOk, OnErr, flat_map};
-ghost use Rattle.hist_types.specs.Edges.{ww, wr, rw};
+ghost use Rattle.std.specs.Prelude.{◌≡◌, ◌==◌, ◌++◌, map, OnOk, OnErr, flat_map};
+ghost use Rattle.std.specs.List.{list_any};
+ghost use Rattle.hist_types.specs.Edges.{ww};
 ghost use Rattle.hist_types.specs.Transactions.{is_node, installed_by};
 ghost use Rattle.key_versions.specs.Histories.{read_by};
 ghost use Rattle.dep_edges.specs.Labels.{label_of};
@@ -31,6 +32,12 @@ impl<'v, 'a> Model for Marked<'v, 'a> {
     ghost view = { λ m. m.history };
 
     ghost invariant = { λ m. m.nodes.items ≡ map (is_node m.history.txns) m.history.txns };
+}
+
+fn is_among(numbers: &[u32], number: u32) -> bool
+    ensures { result ≡ list_any (λ m. m == number) numbers.now }
+{
+    numbers.contains(&number)
 }
 
 impl<'v, 'a> Marked<'v, 'a> {
@@ -159,11 +166,12 @@ impl<'v, 'a> Marked<'v, 'a> {
         ensures ok { OnOk result (out.new.items ≡ out.old.items ++ flat_map (read_edges self.now.txns from) (each_once (read_by (txn_at self.now.txns place)))) }
         ensures err { OnErr result (Begins out.old.items out.new.items) }
     {
-        let reads = self.history.reads(place);
-        for (i, number) in reads.iter().enumerate() {
-            if !reads[i + 1..].contains(number) {
+        let mut rest = self.history.reads(place);
+        while let Some((number, later)) = rest.split_first() {
+            if !is_among(later, *number) {
                 self.add_rw(from, *number as usize, out)?;
             }
+            rest = later;
         }
         Ok(())
     }
