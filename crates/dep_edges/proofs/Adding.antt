@@ -134,3 +134,9 @@ left_after f table n ns out out' all false once within e added before =
     ∙ append_assoc out (f (version_at table n)) (flat_map f rest)
     ∙ ap (λ vs. out ++ flat_map f vs) (sym (once_more table n ns once within ∙ ap (λ b. if b then rest else version_at table n ∷ rest) e))
     ∙ before
+
+pub begins_more : (before mid after es : List Edge) → Begins before mid → after ≡ mid ++ es → Begins before after
+begins_more before mid after es b e = (b.0 ++ es, e ∙ ap (λ xs. xs ++ es) b.1 ∙ append_assoc before b.0 es)
+
+pub all_later : (P : ℕ → Type 0) (n : ℕ) (ns : List ℕ) → All P (n ∷ ns) → All P ns
+all_later P n ns all = λ k d below. all (suc k) d (omega (arith, below))

@@ -7,8 +7,10 @@ use Rattle.hist_types.specs.Atoms.{integer}
 use Rattle.hist_types.specs.Phenomena.{first_of}
 use Rattle.hist_types.specs.Transactions.{Transaction, Version, Open}
 use Rattle.hist_types.specs.Versions.{nil_of}
+use Rattle.hist_types.proofs.Members.{In}
 use Rattle.key_versions.specs.Tables.{Table}
 use Rattle.dep_edges.specs.Tables.{IsPlace, IsNumber, txn_at, version_at}
+use Rattle.dep_edges.proofs.Writers.{in_at}
 
 both_none : {A : Type 0} (xs ys : List A) → xs ++ ys ≡ [] → (xs ≡ []) × (ys ≡ [])
 both_none [] ys e = (refl, e)
@@ -73,3 +75,7 @@ read_at_number table number below = same (slice_get table.versions number) refl
     same (Some v) e =
         sym (unwrap_or-slice_get table.versions number (version_at table number)) ∙ ap (λ o. unwrap_or o (version_at table number)) e ∙ sym (ap (λ o. unwrap_or o (nil_of (integer (pos 0)))) e)
     same None e = let none : ⊥ = cc (e, slice_get-get_or table.versions number (version_at table number) below) in elim none [ ]
+
+pub among_at_place : (ts : List Transaction) (place : ℕ) → IsPlace ts place → In (txn_at ts place) ts
+among_at_place ts place below =
+    in_at ts place (txn_at ts place) (slice_get-get_or ts place (txn_at ts place) below ∙ ap Some (read_at_place ts place below))

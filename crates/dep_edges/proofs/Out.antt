@@ -1,5 +1,5 @@
 -- The edges that are found out of a transaction are the dependency edges that leave it, each once.
-use Rattle.std.proofs.Common.{◌≡◌, ◌↔◌, ◌⊎◌, ℕ, List, [], ◌∷◌, ◌++◌, Bool, true, false, not, ◌&&◌, ◌||◌, ◌==◌, if◌then◌else◌, Some, None, map, filter, flat_map, Contains, IsTrue, refl, sym, ◌∙◌, ap, subst, inl, inr}
+use Rattle.std.proofs.Common.{◌≡◌, ◌↔◌, ◌⊎◌, ℕ, List, [], ◌∷◌, ◌++◌, Bool, true, false, not, ◌&&◌, ◌||◌, ◌==◌, if◌then◌else◌, Some, None, map, filter, flat_map, Contains, Result, Ok, Err, OnOk, refl, sym, ◌∙◌, ap, subst, inl, inr}
 use Rattle.std.specs.Option.{is_none}
 use Rattle.std.proofs.lemmas.Bool.{false≢true, and_parts, and_from, or_cases, or_left, or_right, cases_Bool, eqb-false, false_from_ne_true, not-true}
 use Rattle.hist_types.specs.Atoms.{Atom, Value, atom_eq, value_eq}
@@ -19,7 +19,8 @@ use Rattle.hist_types.proofs.VersionMembers.{in_from_has, has_from_in, pairs_by_
 use Rattle.hist_types.proofs.WrittenOnce.{AreApart, all_apart, one_writer, nil_unwritten}
 use Rattle.key_versions.specs.Histories.{read_by, is_followed, installs_behind}
 use Rattle.dep_edges.specs.Histories.{AreOfHistory}
-use Rattle.dep_edges.specs.OutEdges.{NoneTwice, AreEdgesFrom, edge_to, node_edge, reader_edges, later_edges, written_edges, read_edges, each_once, edges_out, leaving}
+use Rattle.dep_edges.specs.OutEdges.{AreEdgesFrom, AddsEdgesFrom, edge_to, node_edge, reader_edges, later_edges, written_edges, read_edges, each_once, edges_out, leaving}
+use Rattle.dep_edges.specs.Tables.{txn_at}
 use Rattle.dep_edges.proofs.Apart.{apart_append, apart_each, apart_filter, apart_if, apart_unless, none_twice}
 use Rattle.dep_edges.proofs.Places.{installed_written}
 
@@ -440,3 +441,13 @@ leaving_edges ts of t i = record {
   );
   once = none_twice (leaving ts t) (apart_if (is_node ts t) (edges_out ts t) (apart_out ts of t));
 }
+
+-- what is found, behind what was there before
+pub adds_edges :
+    {E : Type 0} (r : Result (Unit {0}) E) (ts : List Transaction) (place : ℕ) (before after : List Edge)
+    → AreOfHistory ts
+    → In (txn_at ts place) ts
+    → OnOk r (after ≡ before ++ leaving ts (txn_at ts place))
+    → OnOk r (AddsEdgesFrom ts (txn_at ts place) before after)
+adds_edges (Ok x) ts place before after of i e = (leaving ts (txn_at ts place), e, leaving_edges ts of (txn_at ts place) i)
+adds_edges (Err x) ts place before after of i e = tt

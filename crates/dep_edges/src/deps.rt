@@ -3,6 +3,8 @@
 ghost use Rattle.std.specs.Prelude.{◌≡◌, map, vec_len, OnOk, OnErr};
 ghost use Rattle.hist_types.specs.Phenomena.{g1a, g1b, stray};
 ghost use Rattle.hist_types.specs.Transactions.{is_node};
+ghost use Rattle.key_versions.specs.Tables.{IsTableOf};
+ghost use Rattle.dep_edges.specs.Histories.{AreOfHistory};
 ghost use Rattle.dep_edges.specs.OutEdges.{AddsEdgesFrom};
 ghost use Rattle.dep_edges.specs.Tables.{IsPlace, txn_at};
 
@@ -26,16 +28,19 @@ impl<'v, 'a> Model for Deps<'v, 'a> {
     ghost use Rattle.std.specs.Prelude.{◌≡◌, List, vec_len};
     ghost use Rattle.hist_types.specs.Phenomena.{stray};
     ghost use Rattle.hist_types.specs.Transactions.{Transaction};
+    ghost use Rattle.dep_edges.specs.Histories.{IsHistory};
 
     ghost Value = { List Transaction };
 
     ghost view = { λ d. d.marked.txns };
 
-    ghost invariant = { λ d. vec_len d.strays ≡ stray d.marked.txns };
+    ghost invariant = { λ d. IsHistory d.marked.txns d.marked.table × (vec_len d.strays ≡ stray d.marked.txns) };
 }
 
 impl<'v, 'a> Deps<'v, 'a> {
     pub(crate) fn new(history: History<'v, 'a>, nodes: Vec<bool>, strays: Vec<u32>) -> Self
+        requires kept { AreOfHistory history.txns }
+        requires table { IsTableOf history.txns history.table }
         requires nodes { nodes.items ≡ map (is_node history.txns) history.txns }
         requires strays { vec_len strays ≡ stray history.txns }
         ensures { result ≡ history.entry.txns }
@@ -44,6 +49,15 @@ impl<'v, 'a> Deps<'v, 'a> {
             marked: Marked::new(history, nodes),
             strays,
         }
+    }
+
+    /// The transactions with the table of their versions.
+    pub fn history(&self) -> &History<'v, 'a>
+        ensures txns { result.now.txns ≡ self.now }
+        ensures versions { IsTableOf self.now result.now.table }
+        ensures kept { AreOfHistory self.now }
+    {
+        self.marked.history()
     }
 
     /// Whether the transaction is a node: an ok one, or an info or open one that wrote what an ok transaction reads.

@@ -1,5 +1,5 @@
 -- What is left to add comes from the versions that are left.
-use Rattle.std.proofs.Common.{◌≡◌, ◌++◌, List, All, flat_map, map}
+use Rattle.std.proofs.Common.{◌≡◌, ◌++◌, List, All, length, flat_map, map}
 use Rattle.hist_types.specs.Transactions.{Version}
 use Rattle.key_versions.specs.Histories.{read_by}
 use Rattle.dep_edges.specs.OutEdges.{Begins, read_edges, each_once}
@@ -15,3 +15,6 @@ invariant-loop-number l =
       begins : Begins l.initial.out.items l.out.items;
       within : All (IsNumber h.table) l.rest;
     }
+
+abbrev pub decreases-loop-number : goal.decreases-loop-number
+decreases-loop-number l = length l.rest
