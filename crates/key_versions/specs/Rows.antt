@@ -1,10 +1,14 @@
 -- What is known of each version, over numbers alone: versions go by number, transactions by place.
-use Rattle.std.specs.Prelude.{ℕ, suc, zero, ◌+◌, ◌-◌, List, [], ◌∷◌, ◌++◌, Bool, not, ◌&&◌, ◌==◌, if◌then◌else◌, Option, Some, None, filter, map, fold, length, replicate}
+use Rattle.std.specs.Prelude.{◌<◌, ℕ, suc, zero, ◌+◌, ◌-◌, List, [], ◌∷◌, ◌++◌, Bool, not, ◌&&◌, ◌==◌, if◌then◌else◌, Option, Some, None, filter, map, fold, length, replicate}
 use Rattle.std.specs.List.{list_any}
 use Rattle.std.specs.Option.{option_or}
 use Rattle.key_versions.specs.declared.types.Writer.{Writer}
 use Rattle.key_versions.specs.declared.types.Follower.{Follower}
 use Rattle.key_versions.specs.declared.rows.Access.{Access}
+
+-- the versions of an access are among so many
+abbrev pub IsWithin : ℕ → Access → Type 0
+IsWithin n a = (a.nil < n) × (a.version < n)
 
 -- what is known of a version
 pub record Known : Type 0 where

@@ -1,5 +1,14 @@
 //! Numbers for versions.
 
+ghost use Rattle.std.specs.Prelude.{◌≡◌, ◌<◌, ◌∷◌, slice_get, [], Some, length, IfOk, OnOk, map};
+ghost use Rattle.atom_index.specs.Numbers.{number_in, with_item};
+ghost use Rattle.hist_types.specs.Atoms.{atom_eq};
+ghost use Rattle.hist_types.specs.Journal.{writes_of};
+ghost use Rattle.hist_types.specs.Transactions.{Version, version_of, version_eq};
+ghost use Rattle.hist_types.specs.Versions.{nil_of};
+ghost use Rattle.key_versions.specs.Histories.{named_in, read_by};
+ghost use Rattle.key_versions.specs.Numbering.{Numbers, key_at, version_with, versions_in, versions_of, AreInRange, with_versions, IsAccess, AreAccesses};
+
 use crate::rows::{Access, has_key};
 use atom_index::atoms::AtomIndex;
 use atom_index::pairs::PairIndex;
@@ -29,6 +38,16 @@ pub(crate) struct Numbering<'a, S: BuildHasher> {
     nils: Vec<usize>,
 }
 
+impl<'a, S: BuildHasher> Model for Numbering<'a, S> {
+    ghost use Rattle.key_versions.specs.Numbering.{Numbers, IsNumbering};
+
+    ghost Value = { Numbers };
+
+    ghost view = { λ n. record { keys = n.keys.items; values = n.values.items; pairs = n.pairs.items; nils = n.nils.items } };
+
+    ghost invariant = { λ n. IsNumbering n.keys.items n.values.items n.pairs.items n.nils.items };
+}
+
 /// The numbered versions, by the numbers of their keys and values.
 #[derive(Drop)]
 pub(crate) struct Numbered<'a> {
@@ -38,7 +57,9 @@ pub(crate) struct Numbered<'a> {
 }
 
 /// No memory holds as many versions as there are numbers.
-fn number_of(place: usize) -> Result<u32, AllocError> {
+fn number_of(place: usize) -> Result<u32, AllocError>
+    ensures { IfOk result (λ number. number ≡ place) }
+{
     u32::try_from(place).map_err(|_| AllocError)
 }
 
@@ -46,6 +67,7 @@ impl<'a, S: BuildHasher> Numbering<'a, S> {
     pub fn new(alloc: Global, hasher: S) -> Self
     where
         S: Copy,
+        ensures { versions_of result ≡ [] }
     {
         Numbering {
             alloc,
@@ -56,12 +78,18 @@ impl<'a, S: BuildHasher> Numbering<'a, S> {
         }
     }
 
-    pub fn len(&self) -> usize {
+    /// How many versions there are.
+    pub fn len(&self) -> usize
+        ensures { result ≡ length (versions_of self.now) }
+    {
         self.pairs.len()
     }
 
     /// The number of a key. Where it is new, its nil version gets a number too.
-    fn key(&mut self, key: Atom<'a>) -> Result<usize, AllocError> {
+    fn key(&mut self, key: Atom<'a>) -> Result<usize, AllocError>
+        ensures number { IfOk result (λ number. number_in atom_eq key.entry self.new.keys ≡ Some number) }
+        ensures versions { OnOk result (versions_of self.new ≡ with_item version_eq (versions_of self.old) (nil_of key.entry)) }
+    {
         self.pairs.reserve(1)?;
         self.nils.try_reserve(1)?;
         let number = self.keys.insert(key)?;
@@ -72,16 +100,27 @@ impl<'a, S: BuildHasher> Numbering<'a, S> {
         Ok(number)
     }
 
+    /// The version with a value and the key of this number.
+    fn version(&mut self, key: usize, value: Atom<'a>) -> Result<usize, AllocError>
+        requires { key < length self.old.keys }
+        ensures versions { OnOk result (versions_of self.new ≡ with_item version_eq (versions_of self.old) (version_with (key_at self.old.keys key) (Some value.entry))) }
+        ensures number { IfOk result (λ number. slice_get (versions_of self.new) number ≡ Some (version_with (key_at self.old.keys key) (Some value.entry))) }
+    {
+        let value = self.values.insert(value)?;
+        let version = self.pairs.insert(key, Some(value))?;
+        Ok(version)
+    }
+
     /// The version with this key and value, where None stands for nil.
-    fn access(&mut self, key: Atom<'a>, value: Option<Atom<'a>>) -> Result<Access, AllocError> {
+    fn access(&mut self, key: Atom<'a>, value: Option<Atom<'a>>) -> Result<Access, AllocError>
+        ensures versions { OnOk result (versions_of self.new ≡ with_versions (versions_of self.old) (nil_of key.entry ∷ version_with key.entry value.entry ∷ [])) }
+        ensures access { IfOk result (IsAccess (versions_of self.new) (version_with key.entry value.entry)) }
+    {
         let key = self.key(key)?;
         let nil = self.nils[key];
         let version = match value {
             None => nil,
-            Some(value) => {
-                let value = self.values.insert(value)?;
-                self.pairs.insert(key, Some(value))?
-            }
+            Some(value) => self.version(key, value)?,
         };
         Ok(Access {
             nil: number_of(nil)?,
@@ -90,7 +129,11 @@ impl<'a, S: BuildHasher> Numbering<'a, S> {
     }
 
     /// Numbers the versions that a transaction names.
-    pub fn take(&mut self, txn: &Txn<'a>) -> Result<Accessed, AllocError> {
+    pub fn take(&mut self, txn: &Txn<'a>) -> Result<Accessed, AllocError>
+        ensures versions { OnOk result (versions_of self.new ≡ with_versions (versions_of self.old) (named_in txn.now.mops)) }
+        ensures reads { IfOk result (λ a. AreAccesses (versions_of self.new) (read_by txn.now) a.reads.items) }
+        ensures writes { IfOk result (λ a. AreAccesses (versions_of self.new) (map version_of (writes_of txn.now.mops)) a.writes.items) }
+    {
         let is_ok = txn.status() == Status::Ok;
         let mut reads = SmallVec::new(self.alloc);
         let mut writes = SmallVec::new(self.alloc);
@@ -108,6 +151,8 @@ impl<'a, S: BuildHasher> Numbering<'a, S> {
     pub fn finish(self) -> Result<Numbered<'a>, AllocError>
     where
         S: Drop,
+        ensures versions { IfOk result (λ n. versions_in n.keys.items n.values.items n.pairs.items ≡ versions_of self.entry) }
+        ensures in_range { IfOk result (λ n. AreInRange n.keys.items n.values.items n.pairs.items) }
     {
         let pairs = Vec::from_slice(self.alloc, self.pairs.as_slice())?;
         Ok(Numbered {

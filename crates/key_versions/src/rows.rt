@@ -1,7 +1,7 @@
 //! What is known of each version, over numbers alone.
 
 ghost use Rattle.std.specs.Prelude.{◌≡◌, ◌≤◌, ◌<◌, ◌++◌, ◌∷◌, [], length, fold, IfOk, OnOk, All};
-ghost use Rattle.key_versions.specs.Rows.{Known, Accessed, unknown, with_writer, has_nil, lasts, written_rows, with_follower, installed_rows, with_reader, has_number, read_rows, numbers_of, accessed, rows_after, grown};
+ghost use Rattle.key_versions.specs.Rows.{Known, Accessed, unknown, with_writer, has_nil, lasts, written_rows, with_follower, installed_rows, is_behind, with_reader, has_number, read_rows, numbers_of, accessed, rows_after, grown, IsWithin};
 
 use crate::types::{Follower, Writer};
 use smallvec::SmallVec;
@@ -13,6 +13,15 @@ use std::marker::Model;
 pub(crate) struct Access {
     pub nil: u32,
     pub version: u32,
+}
+
+impl Access {
+    /// Whether a version that the transaction installs follows this one, which it reads. What follows nil is known without reads.
+    fn is_followed_by(self, install: Access) -> bool
+        ensures { result ≡ is_behind self install }
+    {
+        self.version != self.nil && install.nil == self.nil && install.version != self.version
+    }
 }
 
 /// What is known of one version.
@@ -82,10 +91,7 @@ impl Row {
     {
         self.readers.push(place)?;
         for install in installs {
-            if read.version != read.nil
-                && install.nil == read.nil
-                && install.version != read.version
-            {
+            if read.is_followed_by(*install) {
                 self.followers.push(Follower {
                     txn: place,
                     version: install.version,
@@ -158,11 +164,66 @@ fn has_version(accesses: &[Access], version: u32) -> bool
     accesses.iter().any(|access| access.version == version)
 }
 
+/// Adds the writes of a transaction, and gives those that it installs.
+fn add_writes(
+    alloc: Global,
+    rows: &mut [Row],
+    place: u32,
+    writes: &[Access],
+) -> Result<SmallVec<Access, 4>, AllocError>
+    requires { All (IsWithin (length rows.old)) writes.now }
+    ensures installs { IfOk result (λ installs. installs.items ≡ lasts writes.now) }
+    ensures rows { OnOk result (rows.new ≡ written_rows place rows.old writes.now) }
+{
+    let mut installs = SmallVec::new(alloc);
+    for (i, write) in writes.iter().enumerate() {
+        let over = has_key(&writes[i + 1..], write.nil);
+        rows[write.version as usize].write(Writer { txn: place, over });
+        if !over {
+            installs.push(*write)?;
+        }
+    }
+    Ok(installs)
+}
+
+/// Adds what a transaction installs behind the nil version of each key.
+fn add_installs(rows: &mut [Row], place: u32, installs: &[Access]) -> Result<(), AllocError>
+    requires { All (IsWithin (length rows.old)) installs.now }
+    ensures { OnOk result (rows.new ≡ installed_rows place rows.old installs.now) }
+{
+    for install in installs {
+        rows[install.nil as usize].follow(Follower {
+            txn: place,
+            version: install.version,
+        })?;
+    }
+    Ok(())
+}
+
+/// Adds the reads of a transaction, and what it installs behind them.
+fn add_reads(
+    rows: &mut [Row],
+    place: u32,
+    reads: &[Access],
+    installs: &[Access],
+) -> Result<(), AllocError>
+    requires { All (IsWithin (length rows.old)) reads.now }
+    ensures { OnOk result (rows.new ≡ read_rows place installs.now rows.old [] reads.now) }
+{
+    for (i, read) in reads.iter().enumerate() {
+        if !has_version(&reads[..i], read.version) {
+            rows[read.version as usize].read(place, *read, installs)?;
+        }
+    }
+    Ok(())
+}
+
 /// A row for each version, and for each transaction what it reads and installs.
 #[derive(Drop)]
 pub(crate) struct Rows {
     alloc: Global,
     pub rows: Vec<Row>,
+    /// By place.
     pub accesses: Vec<Accesses>,
 }
 
@@ -183,60 +244,26 @@ impl Rows {
         ensures rows { OnOk result (self.new.rows.items ≡ grown versions self.old.rows.items) }
         ensures accesses { OnOk result (self.new.accesses.items ≡ self.old.accesses.items) }
     {
-        for _ in self.rows.len()..versions {
+        while self.rows.len() < versions {
             self.rows.push(Row::new(self.alloc))?;
         }
         Ok(())
     }
 
     /// Adds the next transaction.
-    pub fn add(&mut self, reads: &[Access], writes: &[Access]) -> Result<(), AllocError> {
-        // No memory holds more transactions.
+    pub fn add(&mut self, reads: &[Access], writes: &[Access]) -> Result<(), AllocError>
+        requires reads { All (IsWithin (length self.old.rows.items)) reads.now }
+        requires writes { All (IsWithin (length self.old.rows.items)) writes.now }
+        ensures rows { OnOk result (self.new.rows.items ≡ rows_after (length self.old.accesses.items) reads.now writes.now self.old.rows.items) }
+        ensures accesses { OnOk result (self.new.accesses.items ≡ self.old.accesses.items ++ accessed reads.now writes.now ∷ []) }
+    {
+        // No memory holds more transactions than there are places.
         let place = u32::try_from(self.accesses.len()).map_err(|_| AllocError)?;
-        let installs = self.write(place, writes)?;
+        let installs = add_writes(self.alloc, &mut self.rows, place, writes)?;
+        add_installs(&mut self.rows, place, installs.as_slice())?;
+        add_reads(&mut self.rows, place, reads, installs.as_slice())?;
         let accesses = Accesses::new(self.alloc, reads, installs.as_slice())?;
-        self.install(place, installs.as_slice())?;
-        self.read(place, reads, installs.as_slice())?;
         self.accesses.push(accesses)?;
-        Ok(())
-    }
-
-    /// Adds the writes of a transaction, and gives those that it installs.
-    fn write(&mut self, place: u32, writes: &[Access]) -> Result<SmallVec<Access, 4>, AllocError> {
-        let mut installs = SmallVec::new(self.alloc);
-        for (i, write) in writes.iter().enumerate() {
-            let over = has_key(&writes[i + 1..], write.nil);
-            self.rows[write.version as usize].write(Writer { txn: place, over });
-            if !over {
-                installs.push(*write)?;
-            }
-        }
-        Ok(installs)
-    }
-
-    /// Adds what a transaction installs behind the nil version of each key.
-    fn install(&mut self, place: u32, installs: &[Access]) -> Result<(), AllocError> {
-        for install in installs {
-            self.rows[install.nil as usize].follow(Follower {
-                txn: place,
-                version: install.version,
-            })?;
-        }
-        Ok(())
-    }
-
-    /// Adds the reads of a transaction, and what it installs behind them.
-    fn read(
-        &mut self,
-        place: u32,
-        reads: &[Access],
-        installs: &[Access],
-    ) -> Result<(), AllocError> {
-        for (i, read) in reads.iter().enumerate() {
-            if !has_version(&reads[..i], read.version) {
-                self.rows[read.version as usize].read(place, *read, installs)?;
-            }
-        }
         Ok(())
     }
 }

@@ -1,7 +1,8 @@
 //! The finished table.
 
 ghost use Rattle.std.specs.Prelude.{◌≡◌, ◌<◌, length, Some, slice_get};
-ghost use Rattle.key_versions.specs.Views.{versions_in, AreInRange};
+ghost use Rattle.key_versions.specs.Numbering.{versions_in};
+ghost use Rattle.key_versions.specs.Views.{AreVersions, table_by};
 
 use crate::rows::{Accesses, Row};
 use crate::types::{Follower, VersionRef, Writer};
@@ -22,13 +23,13 @@ pub struct Versions<'a> {
 }
 
 impl<'a> Model for Versions<'a> {
-    ghost use Rattle.std.specs.Prelude.{map};
     ghost use Rattle.key_versions.specs.Tables.{Table};
-    ghost use Rattle.key_versions.specs.Views.{versions_in, AreVersions, writer_in, readers_in, followers_in, reads_in, installs_in};
+    ghost use Rattle.key_versions.specs.Numbering.{versions_in};
+    ghost use Rattle.key_versions.specs.Views.{AreVersions, table_by};
 
     ghost Value = { Table };
 
-    ghost view = { λ v. record { versions = versions_in v.keys.items v.values.items v.pairs.items; writers = map writer_in v.rows.items; readers = map readers_in v.rows.items; followers = map followers_in v.rows.items; reads = map reads_in v.accesses.items; installs = map installs_in v.accesses.items } };
+    ghost view = { λ v. table_by (versions_in v.keys.items v.values.items v.pairs.items) v.rows.items v.accesses.items };
 
     ghost invariant = { λ v. AreVersions v.keys.items v.values.items v.pairs.items v.rows.items };
 }
@@ -41,7 +42,10 @@ impl<'a> Versions<'a> {
         pairs: Vec<(usize, Option<usize>)>,
         rows: Vec<Row>,
         accesses: Vec<Accesses>,
-    ) -> Self {
+    ) -> Self
+        requires { AreVersions keys.items values.items pairs.items rows.items }
+        ensures { result ≡ table_by (versions_in keys.entry.items values.entry.items pairs.items) rows.items accesses.items }
+    {
         Versions {
             keys,
             values,
