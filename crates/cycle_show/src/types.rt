@@ -1,0 +1,198 @@
+//! Edges between transactions, closed walks along them, and witnesses.
+
+ghost use Rattle.std.specs.Prelude.{◌≡◌};
+ghost use Rattle.cycle_show.specs.Labels.{label_of};
+
+use op_view::atom::Atom;
+use std::marker::Model;
+
+/// Why there is an edge. Keys and values are borrowed from the journal.
+#[derive(Debug, Drop)]
+pub enum Label<'a> {
+    /// The later version follows the earlier one.
+    Ww {
+        key: Atom<'a>,
+        earlier: Atom<'a>,
+        later: Atom<'a>,
+    },
+    /// The value was written and read.
+    Wr {
+        key: Atom<'a>,
+        value: Atom<'a>,
+    },
+    /// The earlier version, or nil, was read, and the later one follows it.
+    Rw {
+        key: Atom<'a>,
+        earlier: Option<Atom<'a>>,
+        later: Atom<'a>,
+    },
+    /// Both transactions are of this process.
+    Process {
+        process: u64,
+    },
+    /// The index of the first one's completion, and of the second one's invocation.
+    Realtime {
+        completion: u64,
+        invocation: u64,
+    },
+}
+
+impl<'a> Label<'a> {
+    ghost use Rattle.cycle_show.specs.Labels.{label_of};
+
+    /// The same label.
+    pub fn copy(&self) -> Label<'a>
+        ensures { label_of result ≡ label_of self.now }
+    {
+        match self {
+            Label::Ww {
+                key,
+                earlier,
+                later,
+            } => Label::Ww {
+                key: key.copy(),
+                earlier: earlier.copy(),
+                later: later.copy(),
+            },
+            Label::Wr { key, value } => Label::Wr {
+                key: key.copy(),
+                value: value.copy(),
+            },
+            Label::Rw {
+                key,
+                earlier,
+                later,
+            } => Label::Rw {
+                key: key.copy(),
+                earlier: earlier.as_ref().map(|atom| atom.copy()),
+                later: later.copy(),
+            },
+            Label::Process { process } => Label::Process { process: *process },
+            Label::Realtime {
+                completion,
+                invocation,
+            } => Label::Realtime {
+                completion: *completion,
+                invocation: *invocation,
+            },
+        }
+    }
+}
+
+/// An edge from one transaction to another. Both are named by the indexes of their invocations.
+#[derive(Debug, Drop)]
+pub struct Edge<'a> {
+    from: u64,
+    to: u64,
+    label: Label<'a>,
+}
+
+impl<'a> Model for Edge<'a> {
+    ghost use Rattle.hist_types.specs.Edges.{Edge as AnEdge};
+
+    ghost Value = { AnEdge };
+
+    ghost use Rattle.cycle_show.specs.Labels.{label_of};
+
+    ghost view = { λ e. record { from = e.from; to = e.to; label = label_of e.label } };
+}
+
+impl<'a> Edge<'a> {
+    ghost use Rattle.cycle_show.specs.Labels.{label_of};
+
+    pub fn new(from: u64, to: u64, label: Label<'a>) -> Self
+        ensures { result ≡ record { from = from; to = to; label = label_of label.entry } }
+    {
+        Edge { from, to, label }
+    }
+
+    /// The index of the first transaction's invocation.
+    pub fn from(&self) -> u64
+        ensures { result ≡ self.now.from }
+    {
+        self.from
+    }
+
+    /// The index of the second transaction's invocation.
+    pub fn to(&self) -> u64
+        ensures { result ≡ self.now.to }
+    {
+        self.to
+    }
+
+    pub fn label(&self) -> &Label<'a>
+        ensures { label_of result.now ≡ self.now.label }
+    {
+        &self.label
+    }
+
+    /// The same edge.
+    pub fn copy(&self) -> Edge<'a>
+        ensures { result ≡ self.now }
+    {
+        Edge {
+            from: self.from,
+            to: self.to,
+            label: self.label.copy(),
+        }
+    }
+}
+
+/// A closed walk: its edges in order.
+#[derive(Debug, Drop)]
+pub struct Walk<'a> {
+    edges: Vec<Edge<'a>>,
+}
+
+impl<'a> Model for Walk<'a> {
+    ghost use Rattle.std.specs.Prelude.{List};
+    ghost use Rattle.hist_types.specs.Edges.{Edge as AnEdge};
+
+    ghost Value = { List AnEdge };
+
+    ghost view = { λ walk. walk.edges.items };
+}
+
+impl<'a> Walk<'a> {
+    pub fn new(edges: Vec<Edge<'a>>) -> Self
+        ensures { result ≡ edges.entry.items }
+    {
+        Walk { edges }
+    }
+
+    pub fn edges(&self) -> &[Edge<'a>]
+        ensures { result.now ≡ self.now }
+    {
+        &self.edges
+    }
+}
+
+/// A closed walk with no transaction twice and no two order edges side by side, told from its least transaction.
+#[derive(Debug, Drop)]
+pub struct Witness<'a> {
+    edges: Vec<Edge<'a>>,
+}
+
+impl<'a> Model for Witness<'a> {
+    ghost use Rattle.std.specs.Prelude.{List};
+    ghost use Rattle.hist_types.specs.Edges.{Edge as AnEdge};
+
+    ghost Value = { List AnEdge };
+
+    ghost view = { λ witness. witness.edges.items };
+}
+
+impl<'a> Witness<'a> {
+    pub(crate) fn new(edges: Vec<Edge<'a>>) -> Self
+        ensures { result ≡ edges.entry.items }
+    {
+        Witness { edges }
+    }
+
+    /// Its edges, from the least transaction on.
+    pub fn edges(&self) -> &[Edge<'a>]
+        ensures { result.now ≡ self.now }
+    {
+        &self.edges
+    }
+}
