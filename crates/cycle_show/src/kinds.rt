@@ -1,0 +1,60 @@
+//! Kinds of edges, and the edge that a walk cannot do without.
+
+ghost use Rattle.std.specs.Prelude.{◌≡◌, ◌<◌, length, IfSome};
+ghost use Rattle.hist_types.specs.Phenomena.{is_ww as IsWw, is_wr as IsWr, is_rw as IsRw, is_order as IsOrder};
+ghost use Rattle.cycle_show.specs.Paths.{needed_place, joined as joined_edge};
+
+use crate::types::{Edge, Label};
+
+pub fn is_ww(edge: &Edge<'_>) -> bool
+    ensures { result ≡ IsWw edge.now }
+{
+    matches!(edge.label(), Label::Ww { .. })
+}
+
+pub fn is_wr(edge: &Edge<'_>) -> bool
+    ensures { result ≡ IsWr edge.now }
+{
+    matches!(edge.label(), Label::Wr { .. })
+}
+
+pub fn is_rw(edge: &Edge<'_>) -> bool
+    ensures { result ≡ IsRw edge.now }
+{
+    matches!(edge.label(), Label::Rw { .. })
+}
+
+pub fn is_order(edge: &Edge<'_>) -> bool
+    ensures { result ≡ IsOrder edge.now }
+{
+    matches!(edge.label(), Label::Process { .. } | Label::Realtime { .. })
+}
+
+/// The one order edge for two that follow each other.
+pub fn joined<'a>(first: &Edge<'a>, second: &Edge<'a>) -> Edge<'a>
+    ensures { result ≡ joined_edge first.now second.now }
+{
+    let label = match (first.label(), second.label()) {
+        (Label::Realtime { completion, .. }, Label::Realtime { invocation, .. }) => {
+            Label::Realtime {
+                completion: *completion,
+                invocation: *invocation,
+            }
+        }
+        (label, _) => label.copy(),
+    };
+    Edge::new(first.from(), second.to(), label)
+}
+
+/// The place of an edge that the walk cannot do without, whichever phenomenon it shows: an rw if it has one, else a wr,
+/// else a ww.
+pub fn needed(edges: &[Edge<'_>]) -> Option<usize>
+    ensures place { result ≡ needed_place edges.now }
+    ensures within { IfSome result (λ place. place < length edges.now) }
+{
+    edges
+        .iter()
+        .position(is_rw)
+        .or_else(|| edges.iter().position(is_wr))
+        .or_else(|| edges.iter().position(is_ww))
+}

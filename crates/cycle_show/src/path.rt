@@ -1,0 +1,118 @@
+//! A walk that is followed without what it does twice.
+
+ghost use Rattle.std.specs.Prelude.{◌≡◌, ◌<◌, ◌≤◌, ◌+◌, ◌∷◌, [], ◌++◌, ℕ, length, fold, take, drop, nat_eq, OnOk, IfOk, EachIndex, slice_index};
+ghost use Rattle.std.specs.HashMap.{get};
+ghost use Rattle.hist_types.specs.Witness.{ends_in_order as EndsInOrder, stations};
+ghost use Rattle.cycle_show.specs.Paths.{path_to, last_joined, followed, HavePlaces, short_round};
+
+use crate::kinds::{is_order, joined, needed};
+use crate::types::Edge;
+use std::alloc::{AllocError, Global};
+use std::collections::HashMap;
+
+/// A walk as far as it has been followed: no transaction twice, and no two order edges side by side.
+#[derive(Drop)]
+struct Path<'a> {
+    edges: Vec<Edge<'a>>,
+    /// The place of each transaction of the path. What has left the path may still be in here.
+    places: HashMap<u64, usize>,
+}
+
+/// Whether the last edge is an order edge.
+fn ends_in_order(edges: &[Edge<'_>]) -> bool
+    ensures { result ≡ EndsInOrder edges.now }
+{
+    edges.last().is_some_and(is_order)
+}
+
+/// Joins an order edge to the last edge.
+fn join_last<'a>(edges: &mut [Edge<'a>], next: &Edge<'a>)
+    requires { 0 < length edges.old }
+    ensures { edges.new ≡ last_joined edges.old next.now }
+{
+    let last = edges.len() - 1;
+    edges[last] = joined(&edges[last], next);
+}
+
+impl<'a> Path<'a> {
+    fn new(alloc: Global) -> Self
+        ensures { result.edges.items ≡ [] }
+    {
+        Path {
+            edges: Vec::new(alloc),
+            places: HashMap::new(alloc),
+        }
+    }
+
+    /// Goes back to the transaction, if the path has come from there.
+    fn go_back(&mut self, transaction: u64)
+        requires { HavePlaces (get nat_eq self.old.places) 0 self.old.edges.items }
+        ensures edges { self.new.edges.items ≡ path_to transaction self.old.edges.items }
+        ensures places { HavePlaces (get nat_eq self.new.places) 0 self.new.edges.items }
+    {
+        let Some(place) = self.places.get(&transaction).copied() else {
+            return;
+        };
+        let is_there = self
+            .edges
+            .get(place)
+            .is_some_and(|edge| edge.from() == transaction);
+        if is_there {
+            self.edges.truncate(place);
+        }
+    }
+
+    /// Follows the walk along one more edge.
+    fn follow(&mut self, next: &Edge<'a>) -> Result<(), AllocError>
+        requires { HavePlaces (get nat_eq self.old.places) 0 self.old.edges.items }
+        ensures edges { OnOk result (self.new.edges.items ≡ followed self.old.edges.items next.now) }
+        ensures places { OnOk result (HavePlaces (get nat_eq self.new.places) 0 self.new.edges.items) }
+    {
+        self.go_back(next.from());
+        if is_order(next) && ends_in_order(&self.edges) {
+            join_last(&mut self.edges, next);
+            return Ok(());
+        }
+        self.places.insert(next.from(), self.edges.len())?;
+        self.edges.push(next.copy())?;
+        Ok(())
+    }
+
+    fn follow_all(&mut self, walk: &[Edge<'a>]) -> Result<(), AllocError>
+        requires { HavePlaces (get nat_eq self.old.places) 0 self.old.edges.items }
+        ensures edges { OnOk result (self.new.edges.items ≡ fold followed self.old.edges.items walk.now) }
+        ensures places { OnOk result (HavePlaces (get nat_eq self.new.places) 0 self.new.edges.items) }
+    {
+        for next in walk {
+            self.follow(next)?;
+        }
+        Ok(())
+    }
+}
+
+/// The closed walk without what it does twice. It begins and ends where an edge ends that it cannot do without.
+pub fn short_round_of<'a>(alloc: Global, walk: &[Edge<'a>]) -> Result<Vec<Edge<'a>>, AllocError>
+    ensures { IfOk result (λ edges. edges.items ≡ short_round walk.now) }
+{
+    let behind = needed(walk).map_or(0, |place| place + 1);
+    let (front, back) = walk.split_at(behind);
+    let mut path = Path::new(alloc);
+    path.follow_all(back)?;
+    path.follow_all(front)?;
+    let Path { edges, places: _ } = path;
+    Ok(edges)
+}
+
+/// The place of an edge that begins no later than any.
+pub fn least_place(edges: &[Edge<'_>]) -> usize
+    ensures within { result ≤ length edges.now }
+    ensures least { EachIndex (stations edges.now) (λ place. slice_index (stations edges.now) result ≤ slice_index (stations edges.now) place) }
+{
+    let mut least = 0;
+    for (place, edge) in edges.iter().enumerate() {
+        if edge.from() < edges[least].from() {
+            least = place;
+        }
+    }
+    least
+}
