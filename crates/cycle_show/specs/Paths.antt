@@ -1,6 +1,7 @@
 -- How a closed walk becomes short: it is followed from behind an edge that it needs, and where it comes back to a transaction,
 -- what lies between is left out. Two order edges side by side become one.
-use Rattle.std.specs.Prelude.{◌≡◌, ℕ, ◌+◌, List, [], ◌∷◌, ◌++◌, Bool, ◌&&◌, ◌==◌, if◌then◌else◌, Option, Some, take, drop, fold, position, ⊤}
+use Rattle.std.specs.Prelude.{◌≡◌, ℕ, ◌+◌, List, [], ◌∷◌, ◌++◌, Bool, ◌&&◌, ◌==◌, if◌then◌else◌, Option, Some, take, drop, fold, ⊤}
+use Rattle.std.specs.List.{position_from}
 use Rattle.std.specs.Option.{option_or, option_map_or}
 use Rattle.hist_types.specs.Edges.{Label, realtime, Edge}
 use Rattle.hist_types.specs.Phenomena.{is_ww, is_wr, is_rw, is_order}
@@ -44,7 +45,7 @@ HavePlaces place_of first (e ∷ path) = (place_of e.from ≡ Some first) × Hav
 
 -- the place of an edge that the walk cannot do without: an rw if it has one, else a wr, else a ww
 abbrev pub needed_place : List Edge → Option ℕ
-needed_place walk = option_or (position is_rw walk) (option_or (position is_wr walk) (position is_ww walk))
+needed_place walk = option_or (position_from is_rw 0 walk) (option_or (position_from is_wr 0 walk) (position_from is_ww 0 walk))
 
 -- the place behind it
 abbrev pub place_behind : List Edge → ℕ

@@ -1,6 +1,7 @@
 //! Kinds of edges, and the edge that a walk cannot do without.
 
 ghost use Rattle.std.specs.Prelude.{◌≡◌, ◌<◌, length, IfSome};
+ghost use Rattle.std.specs.List.{position_from};
 ghost use Rattle.hist_types.specs.Phenomena.{is_ww as IsWw, is_wr as IsWr, is_rw as IsRw, is_order as IsOrder};
 ghost use Rattle.cycle_show.specs.Paths.{needed_place, joined as joined_edge};
 
@@ -46,15 +47,41 @@ pub fn joined<'a>(first: &Edge<'a>, second: &Edge<'a>) -> Edge<'a>
     Edge::new(first.from(), second.to(), label)
 }
 
+/// The place of the first rw edge.
+fn place_of_rw(edges: &[Edge<'_>]) -> Option<usize>
+    ensures place { result ≡ position_from IsRw 0 edges.now }
+    ensures within { IfSome result (λ place. place < length edges.now) }
+{
+    edges.iter().position(is_rw)
+}
+
+/// The place of the first wr edge.
+fn place_of_wr(edges: &[Edge<'_>]) -> Option<usize>
+    ensures place { result ≡ position_from IsWr 0 edges.now }
+    ensures within { IfSome result (λ place. place < length edges.now) }
+{
+    edges.iter().position(is_wr)
+}
+
+/// The place of the first ww edge.
+fn place_of_ww(edges: &[Edge<'_>]) -> Option<usize>
+    ensures place { result ≡ position_from IsWw 0 edges.now }
+    ensures within { IfSome result (λ place. place < length edges.now) }
+{
+    edges.iter().position(|edge| is_ww(edge))
+}
+
 /// The place of an edge that the walk cannot do without, whichever phenomenon it shows: an rw if it has one, else a wr,
 /// else a ww.
 pub fn needed(edges: &[Edge<'_>]) -> Option<usize>
     ensures place { result ≡ needed_place edges.now }
     ensures within { IfSome result (λ place. place < length edges.now) }
 {
-    edges
-        .iter()
-        .position(is_rw)
-        .or_else(|| edges.iter().position(is_wr))
-        .or_else(|| edges.iter().position(is_ww))
+    if let Some(place) = place_of_rw(edges) {
+        return Some(place);
+    }
+    if let Some(place) = place_of_wr(edges) {
+        return Some(place);
+    }
+    place_of_ww(edges)
 }

@@ -1,6 +1,6 @@
 //! A walk that is followed without what it does twice.
 
-ghost use Rattle.std.specs.Prelude.{◌≡◌, ◌<◌, ◌≤◌, ◌+◌, ◌∷◌, [], ◌++◌, ℕ, length, fold, take, drop, nat_eq, OnOk, IfOk, EachIndex, slice_index};
+ghost use Rattle.std.specs.Prelude.{◌≡◌, ◌<◌, ◌≤◌, ◌+◌, ◌-◌, ◌∷◌, [], ◌++◌, ℕ, length, fold, take, drop, nat_eq, OnOk, IfOk, EachIndex, slice_index};
 ghost use Rattle.std.specs.HashMap.{get};
 ghost use Rattle.hist_types.specs.Witness.{ends_in_order as EndsInOrder, stations};
 ghost use Rattle.cycle_show.specs.Paths.{path_to, last_joined, followed, HavePlaces, short_round};
@@ -22,16 +22,10 @@ struct Path<'a> {
 fn ends_in_order(edges: &[Edge<'_>]) -> bool
     ensures { result ≡ EndsInOrder edges.now }
 {
-    edges.last().is_some_and(is_order)
-}
-
-/// Joins an order edge to the last edge.
-fn join_last<'a>(edges: &mut [Edge<'a>], next: &Edge<'a>)
-    requires { 0 < length edges.old }
-    ensures { edges.new ≡ last_joined edges.old next.now }
-{
-    let last = edges.len() - 1;
-    edges[last] = joined(&edges[last], next);
+    match edges {
+        [.., last] => is_order(last),
+        [] => false,
+    }
 }
 
 impl<'a> Path<'a> {
@@ -53,13 +47,19 @@ impl<'a> Path<'a> {
         let Some(place) = self.places.get(&transaction).copied() else {
             return;
         };
-        let is_there = self
-            .edges
-            .get(place)
-            .is_some_and(|edge| edge.from() == transaction);
-        if is_there {
+        if place < self.edges.len() && self.edges[place].from() == transaction {
             self.edges.truncate(place);
         }
+    }
+
+    /// Joins an order edge to the last edge.
+    fn join_last(&mut self, next: &Edge<'a>)
+        requires { 0 < length self.old.edges.items }
+        ensures edges { self.new.edges.items ≡ last_joined self.old.edges.items next.now }
+        ensures places { (transaction : ℕ) → get nat_eq self.new.places transaction ≡ get nat_eq self.old.places transaction }
+    {
+        let last = self.edges.len() - 1;
+        self.edges[last] = joined(&self.edges[last], next);
     }
 
     /// Follows the walk along one more edge.
@@ -70,7 +70,7 @@ impl<'a> Path<'a> {
     {
         self.go_back(next.from());
         if is_order(next) && ends_in_order(&self.edges) {
-            join_last(&mut self.edges, next);
+            self.join_last(next);
             return Ok(());
         }
         self.places.insert(next.from(), self.edges.len())?;
@@ -105,7 +105,7 @@ pub fn short_round_of<'a>(alloc: Global, walk: &[Edge<'a>]) -> Result<Vec<Edge<'
 
 /// The place of an edge that begins no later than any.
 pub fn least_place(edges: &[Edge<'_>]) -> usize
-    ensures within { result ≤ length edges.now }
+    ensures within { result ≤ length edges.now - 1 }
     ensures least { EachIndex (stations edges.now) (λ place. slice_index (stations edges.now) result ≤ slice_index (stations edges.now) place) }
 {
     let mut least = 0;
