@@ -1,2 +1,5 @@
 pub mod Places
 pub mod Shortening
+pub mod Joining
+pub mod Needed
+pub mod Tightening

@@ -43,7 +43,7 @@ JoinsTwo es p =
 
 -- ---- a path without what is done twice
 
-abbrev Passes : List Edge → (Edge → Bool) → Edge → Type 0
+abbrev pub Passes : List Edge → (Edge → Bool) → Edge → Type 0
 Passes es p e = In e es × (p e ≡ true)
 
 pub record IsShort (es : List Edge) (p : Edge → Bool) (from at : ℕ) (path : List Edge) : Type 0 where
