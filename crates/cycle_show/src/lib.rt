@@ -14,6 +14,7 @@ ghost use Rattle.std.specs.Prelude.{List};
 mod kinds;
 mod path;
 pub mod types;
+pub mod write;
 
 use crate::path::{least_place, short_round_of};
 use crate::types::{Walk, Witness};

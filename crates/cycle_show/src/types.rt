@@ -1,9 +1,13 @@
 //! Edges between transactions, closed walks along them, and witnesses.
 
-ghost use Rattle.std.specs.Prelude.{◌≡◌};
+ghost use Rattle.std.specs.Prelude.{◌≡◌, ◌++◌, flat_map, OnOk, OnErr};
+ghost use Rattle.hist_types.specs.Edges.{Edge as AnEdge};
+ghost use Rattle.hist_types.specs.Texts.{edge_text, indented};
 ghost use Rattle.cycle_show.specs.Labels.{label_of};
 
+use crate::write::write_lines;
 use op_view::atom::Atom;
+use std::alloc::AllocError;
 use std::marker::Model;
 
 /// Why there is an edge. Keys and values are borrowed from the journal.
@@ -194,5 +198,13 @@ impl<'a> Witness<'a> {
         ensures { result.now ≡ self.now }
     {
         &self.edges
+    }
+
+    /// Appends an indented line for each edge. Out of memory leaves the Vec as it was.
+    pub fn write(&self, out: &mut Vec<u8>) -> Result<(), AllocError>
+        ensures ok { OnOk result (out.new.items ≡ out.old.items ++ flat_map (λ (e : AnEdge). indented (edge_text e)) self.now) }
+        ensures err { OnErr result (out.new.items ≡ out.old.items) }
+    {
+        write_lines(out, &self.edges)
     }
 }
