@@ -13,6 +13,8 @@ ghost use Rattle.std.specs.Prelude.{List};
 
 mod kinds;
 mod path;
+#[cfg(test)]
+mod tests;
 pub mod types;
 pub mod write;
 
