@@ -1,10 +1,8 @@
 -- Two order edges of a history that follow each other are one, with the first one's completion and the second one's invocation.
-use Rattle.std.proofs.Common.{◌≡◌, inl, inr, ℕ, ◌<◌, List, [], ◌∷◌, ◌++◌, Bool, true, false, not, ◌&&◌, ◌||◌, if◌then◌else◌, Option, Some, None, refl, sym, ◌∙◌, ap, subst, arith}
-use Rattle.std.proofs.lemmas.Option.{same_Some}
+use Rattle.std.proofs.Common.{◌≡◌, inl, inr, ℕ, ◌<◌, List, [], ◌∷◌, Bool, true, false, ◌&&◌, if◌then◌else◌, Option, Some, None, refl, sym, ◌∙◌, ap, subst, arith}
 use Rattle.hist_types.specs.Operations.{Operation}
 use Rattle.hist_types.specs.Transactions.{Transaction, nodes, transactions_of}
 use Rattle.hist_types.specs.Edges.{Label, process, realtime, Edge, edge, is_ok_before, same_process, realtime_label, order_labels, dependency_edges, order_edges, edges_at}
-use Rattle.hist_types.specs.Phenomena.{is_ww, is_wr, is_rw, is_order}
 use Rattle.hist_types.specs.Thinning.{order_edges_between, may_lead_back}
 use Rattle.hist_types.specs.declared.types.Level.{Level}
 use Rattle.hist_types.specs.declared.types.Level.TheVariants.{Plain, Process, Realtime}

@@ -3,3 +3,4 @@ pub mod Shortening
 pub mod Joining
 pub mod Needed
 pub mod Tightening
+pub mod Fewer

@@ -1,13 +1,13 @@
 -- The places of a path's transactions, as it goes back and on.
-use Rattle.std.proofs.Common.{◌≡◌, inl, inr, ℕ, zero, suc, ◌+◌, ◌-◌, ◌<◌, ◌≤◌, List, [], ◌∷◌, ◌++◌, length, get_or, slice_index, take, Bool, true, false, ◌==◌, nat_eq, if◌then◌else◌, Option, Some, None, refl, sym, ◌∙◌, ap, subst, below_more, arith}
+use Rattle.std.proofs.Common.{◌≡◌, inl, inr, ℕ, zero, suc, ◌+◌, ◌-◌, ◌<◌, ◌≤◌, List, [], ◌∷◌, ◌++◌, length, get_or, slice_index, take, true, ◌==◌, nat_eq, if◌then◌else◌, Option, Some, None, refl, sym, ◌∙◌, ap, subst, below_more, arith}
 use Rattle.std.specs.List.{list_any, slice_set}
-use Rattle.std.proofs.lemmas.Bool.{false≢true, cases_Bool, eqb-true, eqb-false, eq-eqb, ne_eqb, or_from, or_parts}
+use Rattle.std.proofs.lemmas.Bool.{false≢true, cases_Bool, eqb-false, eq-eqb, ne_eqb, or_from, or_parts}
 use Rattle.std.proofs.lemmas.Option.{same_Some}
 use Rattle.hist_types.specs.Edges.{process, Edge}
 use Rattle.hist_types.specs.Phenomena.{is_order}
 use Rattle.hist_types.specs.Witness.{stations, ends_in_order}
 use Rattle.hist_types.proofs.ThinningWitnesses.{IsOff}
-use Rattle.cycle_show.specs.Paths.{joined, last_joined, path_to, extended, followed, HavePlaces}
+use Rattle.cycle_show.specs.Paths.{joined, last_joined, path_to, HavePlaces}
 
 -- ---- the last edge
 

@@ -1,8 +1,8 @@
 -- A closed walk that is followed from behind an edge that it needs, without what it does twice, shows what it showed.
-use Rattle.std.proofs.Common.{◌≡◌, ◌⊎◌, inl, inr, ℕ, zero, suc, ◌+◌, ◌-◌, ◌<◌, ◌≤◌, List, [], ◌∷◌, ◌++◌, length, get_or, slice_index, take, drop, fold, Bool, true, false, not, ◌&&◌, ◌||◌, ◌==◌, nat_eq, if◌then◌else◌, cond, Option, Some, None, refl, sym, ◌∙◌, ap, subst, arith}
-use Rattle.std.specs.List.{AllByRecursion, list_any, list_all, position_from}
-use Rattle.std.proofs.lemmas.Bool.{false≢true, and_parts, and_from, and_right, cases_Bool, eqb-true, eqb-false, ne_eqb, or_from, or_parts, or_cases, not-true, not_from_false}
-use Rattle.hist_types.specs.Edges.{Label, process, realtime, Edge}
+use Rattle.std.proofs.Common.{◌≡◌, inl, inr, ℕ, List, [], ◌∷◌, ◌++◌, fold, Bool, true, false, not, ◌&&◌, ◌||◌, ◌==◌, nat_eq, if◌then◌else◌, refl, sym, ◌∙◌, ap, subst}
+use Rattle.std.specs.List.{AllByRecursion, list_any}
+use Rattle.std.proofs.lemmas.Bool.{false≢true, and_parts, and_from, cases_Bool, eqb-true, eqb-false, ne_eqb, or_from, or_parts, not-true, not_from_false}
+use Rattle.hist_types.specs.Edges.{Label, Edge}
 use Rattle.hist_types.specs.Phenomena.{Leads, is_ww_label, is_wr_label, is_rw_label, is_order}
 use Rattle.hist_types.specs.Witness.{stations, all_different, alternates, ends_in_order}
 use Rattle.hist_types.proofs.Members.{In}

@@ -1,13 +1,13 @@
 -- What a closed walk comes down to is a witness of what it shows.
-use Rattle.std.proofs.Common.{◌≡◌, inl, inr, ℕ, zero, suc, ◌+◌, ◌-◌, ◌<◌, ◌≤◌, List, [], ◌∷◌, ◌++◌, length, get_or, slice_index, take, drop, fold, Bool, true, false, refl, sym, ◌∙◌, ap, subst, arith}
-use Rattle.std.specs.List.{AllByRecursion, list_all}
+use Rattle.std.proofs.Common.{◌≡◌, ℕ, zero, suc, ◌-◌, ◌<◌, ◌≤◌, List, [], ◌∷◌, ◌++◌, length, get_or, slice_index, take, drop, fold, Bool, true, refl, sym, ◌∙◌, ap, subst, arith}
+use Rattle.std.specs.List.{AllByRecursion}
 use Rattle.std.proofs.lemmas.List.{length-map}
 use Rattle.std.proofs.lemmas.List.Sums.{fold-append}
 use Rattle.hist_types.specs.Operations.{Operation}
 use Rattle.hist_types.specs.Transactions.{Transaction, transactions_of}
 use Rattle.hist_types.specs.Edges.{Edge, edges_at}
-use Rattle.hist_types.specs.Phenomena.{Leads, Shows, is_order, makes}
-use Rattle.hist_types.specs.Thinning.{is_needed, may_lead_back}
+use Rattle.hist_types.specs.Phenomena.{Leads, Shows, makes}
+use Rattle.hist_types.specs.Thinning.{may_lead_back}
 use Rattle.hist_types.specs.Witness.{stations, IsWitness}
 use Rattle.hist_types.specs.declared.types.Level.{Level}
 use Rattle.hist_types.specs.declared.types.Phenomenon.{Phenomenon}
@@ -20,7 +20,7 @@ use Rattle.cycle_show.specs.Paths.{path_to, followed, place_behind, short_round}
 use Rattle.cycle_show.proofs.Places.{station_at}
 use Rattle.cycle_show.proofs.Shortening.{IsShort, Passes, short_all, short_none, simple_before, closed_by}
 use Rattle.cycle_show.proofs.Joining.{edges_joined}
-use Rattle.cycle_show.proofs.Needed.{IsSplit, about_needed}
+use Rattle.cycle_show.proofs.Needed.{about_needed}
 
 -- ---- the round
 

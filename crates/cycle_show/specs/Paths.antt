@@ -1,6 +1,6 @@
 -- How a closed walk becomes short: it is followed from behind an edge that it needs, and where it comes back to a transaction,
 -- what lies between is left out. Two order edges side by side become one.
-use Rattle.std.specs.Prelude.{◌≡◌, ℕ, ◌+◌, List, [], ◌∷◌, ◌++◌, Bool, ◌&&◌, ◌==◌, if◌then◌else◌, Option, Some, take, drop, fold, ⊤}
+use Rattle.std.specs.Prelude.{◌≡◌, ℕ, ◌+◌, List, [], ◌∷◌, ◌++◌, ◌&&◌, ◌==◌, if◌then◌else◌, Option, Some, take, drop, fold, ⊤}
 use Rattle.std.specs.List.{position_from}
 use Rattle.std.specs.Option.{option_or, option_map_or}
 use Rattle.hist_types.specs.Edges.{Label, realtime, Edge}

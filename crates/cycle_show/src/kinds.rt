@@ -2,38 +2,38 @@
 
 ghost use Rattle.std.specs.Prelude.{◌≡◌, ◌<◌, length, IfSome};
 ghost use Rattle.std.specs.List.{position_from};
-ghost use Rattle.hist_types.specs.Phenomena.{is_ww as IsWw, is_wr as IsWr, is_rw as IsRw, is_order as IsOrder};
-ghost use Rattle.cycle_show.specs.Paths.{needed_place, joined as joined_edge};
+ghost use Rattle.hist_types.specs.Phenomena.{is_ww, is_wr, is_rw, is_order};
+ghost use Rattle.cycle_show.specs.Paths.{needed_place, joined};
 
 use crate::types::{Edge, Label};
 
 pub fn is_ww(edge: &Edge<'_>) -> bool
-    ensures { result ≡ IsWw edge.now }
+    ensures { result ≡ is_ww edge.now }
 {
     matches!(edge.label(), Label::Ww { .. })
 }
 
 pub fn is_wr(edge: &Edge<'_>) -> bool
-    ensures { result ≡ IsWr edge.now }
+    ensures { result ≡ is_wr edge.now }
 {
     matches!(edge.label(), Label::Wr { .. })
 }
 
 pub fn is_rw(edge: &Edge<'_>) -> bool
-    ensures { result ≡ IsRw edge.now }
+    ensures { result ≡ is_rw edge.now }
 {
     matches!(edge.label(), Label::Rw { .. })
 }
 
 pub fn is_order(edge: &Edge<'_>) -> bool
-    ensures { result ≡ IsOrder edge.now }
+    ensures { result ≡ is_order edge.now }
 {
     matches!(edge.label(), Label::Process { .. } | Label::Realtime { .. })
 }
 
 /// The one order edge for two that follow each other.
 pub fn joined<'a>(first: &Edge<'a>, second: &Edge<'a>) -> Edge<'a>
-    ensures { result ≡ joined_edge first.now second.now }
+    ensures { result ≡ joined first.now second.now }
 {
     let label = match (first.label(), second.label()) {
         (Label::Realtime { completion, .. }, Label::Realtime { invocation, .. }) => {
@@ -49,7 +49,7 @@ pub fn joined<'a>(first: &Edge<'a>, second: &Edge<'a>) -> Edge<'a>
 
 /// The place of the first rw edge.
 fn place_of_rw(edges: &[Edge<'_>]) -> Option<usize>
-    ensures place { result ≡ position_from IsRw 0 edges.now }
+    ensures place { result ≡ position_from is_rw 0 edges.now }
     ensures within { IfSome result (λ place. place < length edges.now) }
 {
     edges.iter().position(is_rw)
@@ -57,7 +57,7 @@ fn place_of_rw(edges: &[Edge<'_>]) -> Option<usize>
 
 /// The place of the first wr edge.
 fn place_of_wr(edges: &[Edge<'_>]) -> Option<usize>
-    ensures place { result ≡ position_from IsWr 0 edges.now }
+    ensures place { result ≡ position_from is_wr 0 edges.now }
     ensures within { IfSome result (λ place. place < length edges.now) }
 {
     edges.iter().position(is_wr)
@@ -65,10 +65,10 @@ fn place_of_wr(edges: &[Edge<'_>]) -> Option<usize>
 
 /// The place of the first ww edge.
 fn place_of_ww(edges: &[Edge<'_>]) -> Option<usize>
-    ensures place { result ≡ position_from IsWw 0 edges.now }
+    ensures place { result ≡ position_from is_ww 0 edges.now }
     ensures within { IfSome result (λ place. place < length edges.now) }
 {
-    edges.iter().position(|edge| is_ww(edge))
+    edges.iter().position(is_ww)
 }
 
 /// The place of an edge that the walk cannot do without, whichever phenomenon it shows: an rw if it has one, else a wr,

@@ -1,8 +1,8 @@
-//! A walk that is followed without what it does twice.
+//! A walk, followed without what it does twice.
 
-ghost use Rattle.std.specs.Prelude.{◌≡◌, ◌<◌, ◌≤◌, ◌+◌, ◌-◌, ◌∷◌, [], ◌++◌, ℕ, length, fold, take, drop, nat_eq, OnOk, IfOk, EachIndex, slice_index};
+ghost use Rattle.std.specs.Prelude.{◌≡◌, ℕ, ◌-◌, ◌<◌, ◌≤◌, [], length, fold, nat_eq, OnOk, IfOk, EachIndex, slice_index};
 ghost use Rattle.std.specs.HashMap.{get};
-ghost use Rattle.hist_types.specs.Witness.{ends_in_order as EndsInOrder, stations};
+ghost use Rattle.hist_types.specs.Witness.{ends_in_order, stations};
 ghost use Rattle.cycle_show.specs.Paths.{path_to, last_joined, followed, HavePlaces, short_round};
 
 use crate::kinds::{is_order, joined, needed};
@@ -10,17 +10,17 @@ use crate::types::Edge;
 use std::alloc::{AllocError, Global};
 use std::collections::HashMap;
 
-/// A walk as far as it has been followed: no transaction twice, and no two order edges side by side.
+/// A walk as far as it has been followed, with no transaction twice and no two order edges side by side.
 #[derive(Drop)]
 struct Path<'a> {
     edges: Vec<Edge<'a>>,
-    /// The place of each transaction of the path. What has left the path may still be in here.
+    /// The place of each transaction of the path. Those that have left the path may still be in here.
     places: HashMap<u64, usize>,
 }
 
 /// Whether the last edge is an order edge.
 fn ends_in_order(edges: &[Edge<'_>]) -> bool
-    ensures { result ≡ EndsInOrder edges.now }
+    ensures { result ≡ ends_in_order edges.now }
 {
     match edges {
         [.., last] => is_order(last),
@@ -38,7 +38,7 @@ impl<'a> Path<'a> {
         }
     }
 
-    /// Goes back to the transaction, if the path has come from there.
+    /// Goes back to the transaction, if the path has been there.
     fn go_back(&mut self, transaction: u64)
         requires { HavePlaces (get nat_eq self.old.places) 0 self.old.edges.items }
         ensures edges { self.new.edges.items ≡ path_to transaction self.old.edges.items }
@@ -90,8 +90,9 @@ impl<'a> Path<'a> {
     }
 }
 
-/// The closed walk without what it does twice. It begins and ends where an edge ends that it cannot do without.
-pub fn short_round_of<'a>(alloc: Global, walk: &[Edge<'a>]) -> Result<Vec<Edge<'a>>, AllocError>
+/// The closed walk without what it does twice. Its last edge is one that it cannot do without, since no later visit of a
+/// transaction can cut out the last edge.
+pub fn short_round<'a>(alloc: Global, walk: &[Edge<'a>]) -> Result<Vec<Edge<'a>>, AllocError>
     ensures { IfOk result (λ edges. edges.items ≡ short_round walk.now) }
 {
     let behind = needed(walk).map_or(0, |place| place + 1);

@@ -1,8 +1,10 @@
-use Rattle.std.proofs.Common.{◌≡◌, ◌∙◌, ℕ, ◌-◌, ◌<◌, ◌≤◌, List, length, slice_index, subst, sym, ap}
+use Rattle.std.proofs.Common.{◌∙◌, ℕ, ◌-◌, ◌<◌, ◌≤◌, List, length, slice_index, subst, sym, ap}
 use Rattle.hist_types.specs.Edges.{Edge}
 use Rattle.hist_types.specs.Transactions.{transactions_of}
 use Rattle.hist_types.specs.Witness.{IsWitness, stations}
+use Rattle.cycle_show.specs.Counts.{dependencies}
 use Rattle.cycle_show.specs.Paths.{short_round}
+use Rattle.cycle_show.proofs.Fewer.{fewer_turned}
 use Rattle.cycle_show.proofs.Tightening.{tightened}
 use Rattle.cycle_show.proofs.tighten.Goals as goal
 
@@ -17,3 +19,9 @@ returns-clause-witness c phenomenon level events shows =
     (subst (λ (es : List Edge). least ≤ length es - 1) c.deref.ensures.value c.least_place.ensures.within)
     (subst IsLeast c.deref.ensures.value c.least_place.ensures.least)
     shows)
+
+pub returns-clause-dependencies : goal.returns-clause-dependencies
+returns-clause-dependencies c =
+    let is = c.in_ok-edges.ensures ∙ ap short_round c.edges.ensures in
+    subst (λ es. dependencies es ≤ dependencies c.args.walk.now) (sym (c.new.ensures ∙ c.rotate_left.ensures.items))
+    (fewer_turned c.args.walk.now c.in_ok-edges.edges.items c.least_place.result is)

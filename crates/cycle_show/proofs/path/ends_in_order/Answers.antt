@@ -1,4 +1,4 @@
-use Rattle.std.proofs.Common.{◌∙◌, ◌-◌, length, get_or, ap, sym, arith}
+use Rattle.std.proofs.Common.{◌∙◌, ap, sym, arith}
 use Rattle.hist_types.specs.Phenomena.{is_order}
 use Rattle.cycle_show.proofs.Places.{ends_at_last}
 use Rattle.cycle_show.proofs.path.ends_in_order.Goals as goal

@@ -1,10 +1,10 @@
-use Rattle.std.proofs.Common.{◌≡◌, ◌∙◌, ◌+◌, [], ◌∷◌, ◌++◌, length, nat_eq, Some, None, subst, sym, ap, arith}
+use Rattle.std.proofs.Common.{◌≡◌, ◌∙◌, ◌+◌, [], ◌∷◌, ◌++◌, List, length, nat_eq, Some, subst, sym, ap, arith}
 use Rattle.std.specs.HashMap.{get}
 use Rattle.std.proofs.lemmas.Bool.{ne_eqb}
 use Rattle.hist_types.specs.Edges.{Edge}
 use Rattle.hist_types.specs.Witness.{stations}
 use Rattle.hist_types.proofs.ThinningWitnesses.{IsOff}
-use Rattle.cycle_show.specs.Paths.{path_to, HavePlaces}
+use Rattle.cycle_show.specs.Paths.{HavePlaces}
 use Rattle.cycle_show.proofs.Places.{places_joined, places_pushed, places_alike, path_to_off}
 use Rattle.cycle_show.proofs.path.Path.follow.Goals as goal
 
@@ -17,7 +17,7 @@ returns-then-ends_in_order-clause-places c =
 
 pub returns-clause-places : goal.returns-clause-places
 returns-clause-places c =
-    let path = c.go_back.new.self.edges.items in
+    let path : List Edge = c.go_back.new.self.edges.items in
     let next = c.args.next.now in
     let key : c.from-2.result ≡ next.from = c.from-2.ensures in
     let place : c.len.result ≡ 0 + length path = let size : c.len.result ≡ length path = c.len.ensures ∙ c.go_back.new.self.edges.ok.0 in omega (arith, size) in
@@ -30,5 +30,7 @@ returns-clause-places c =
     (subst (λ n. IsOff n (stations path)) c.from.ensures off)
     (subst (λ n. after n ≡ Some (0 + length path)) key found)
     (λ q other. c.in_ok-insert.ensures.updates.2 q (ne_eqb c.from-2.result q (λ same. other (sym same ∙ key)))) in
-    subst (λ es. HavePlaces after 0 es) (sym c.in_ok-push.ensures.items)
+    let longer : List Edge = c.push.new.self.items in
+    let is : longer ≡ path ++ c.copy.result ∷ [] = c.in_ok-push.ensures.items in
+    subst (λ es. HavePlaces after 0 es) (sym is)
     (subst (λ (e : Edge). HavePlaces after 0 (path ++ e ∷ [])) (sym c.copy.ensures) pushed)

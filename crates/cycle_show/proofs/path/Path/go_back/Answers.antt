@@ -1,7 +1,7 @@
-use Rattle.std.proofs.Common.{◌≡◌, ◌∙◌, ◌<◌, length, get_or, nat_eq, ap, sym, subst, arith}
+use Rattle.std.proofs.Common.{◌≡◌, ◌∙◌, ◌<◌, List, length, nat_eq, ap, sym, subst, arith}
 use Rattle.std.specs.HashMap.{get}
 use Rattle.hist_types.specs.Edges.{Edge, process}
-use Rattle.cycle_show.specs.Paths.{HavePlaces}
+use Rattle.cycle_show.specs.Paths.{path_to, HavePlaces}
 use Rattle.cycle_show.proofs.Places.{path_to_place, places_before, not_looked_up, not_at_place}
 use Rattle.cycle_show.proofs.path.Path.go_back.Goals as goal
 use Rattle.cycle_show.proofs.path.Path.go_back.Goals.{else-place-len-via-then-place-len+else-from-transaction, else-place-len-via-else-place-len}
@@ -22,8 +22,9 @@ returns-then-from-transaction-clause-edges c =
 pub returns-then-from-transaction-clause-places : goal.returns-then-from-transaction-clause-places
 returns-then-from-transaction-clause-places c =
     let place_of = get nat_eq c.args.self.now.places in
-    subst (λ path. HavePlaces place_of 0 path) (sym (returns-then-from-transaction-clause-edges c))
-    (places_before place_of 0 c.args.transaction c.args.self.now.edges.items c.requires)
+    let cut : List Edge = c.truncate.new.self.items in
+    let is : cut ≡ path_to c.args.transaction c.args.self.now.edges.items = returns-then-from-transaction-clause-edges c in
+    subst (λ path. HavePlaces place_of 0 path) (sym is) (places_before place_of 0 c.args.transaction c.args.self.now.edges.items c.requires)
 
 pub returns-else-place-len-clause-edges : goal.returns-else-place-len-clause-edges
 returns-else-place-len-clause-edges c =
