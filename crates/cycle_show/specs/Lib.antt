@@ -1,3 +1,3 @@
 pub mod Labels
 pub mod Paths
-pub mod Counts
+pub mod Reductions

@@ -1,15 +1,9 @@
 //! Witnesses of cycles: closed walks reduced to what a reader needs, and their text.
 #![tactic(auto)]
 
-ghost use Rattle.std.specs.Prelude.{◌≡◌, ◌≤◌, List, IfOk, IfErr};
-ghost use Rattle.hist_types.specs.Operations.{Operation};
-ghost use Rattle.hist_types.specs.Phenomena.{Shows};
+ghost use Rattle.std.specs.Prelude.{◌≡◌, ◌≤◌, IfOk, IfErr};
 ghost use Rattle.hist_types.specs.Refusals.{memory_fault};
-ghost use Rattle.hist_types.specs.Transactions.{transactions_of};
-ghost use Rattle.hist_types.specs.Witness.{IsWitness};
-ghost use Rattle.hist_types.specs.declared.types.Level.{Level};
-ghost use Rattle.hist_types.specs.declared.types.Phenomenon.{Phenomenon};
-ghost use Rattle.cycle_show.specs.Counts.{dependencies};
+ghost use Rattle.cycle_show.specs.Reductions.{IsWitnessOf, dependencies};
 
 mod kinds;
 mod path;
@@ -30,8 +24,8 @@ use std::alloc::Global;
 /// than the walk has. The walk's order edges may be thinned ones. It takes time and memory linear in the walk's length; only
 /// memory can run out.
 pub fn tighten<'a>(alloc: Global, walk: &Walk<'a>) -> Result<Witness<'a>, Fault>
-    ensures witness { (phenomenon : Phenomenon) → (level : Level) → (events : List Operation) → Shows phenomenon level (transactions_of events) walk.now → IfOk result (IsWitness phenomenon level (transactions_of events)) }
-    ensures dependencies { IfOk result (λ witness. dependencies witness ≤ dependencies walk.now) }
+    ensures witness { IfOk result (IsWitnessOf walk.now) }
+    ensures dependencies { IfOk result (λ told. dependencies told ≤ dependencies walk.now) }
     ensures err { IfErr result (λ fault. fault ≡ memory_fault) }
 {
     let mut edges = short_round(alloc, walk.edges())?;

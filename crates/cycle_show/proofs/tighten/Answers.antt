@@ -2,7 +2,7 @@ use Rattle.std.proofs.Common.{◌∙◌, ℕ, ◌-◌, ◌<◌, ◌≤◌, List,
 use Rattle.hist_types.specs.Edges.{Edge}
 use Rattle.hist_types.specs.Transactions.{transactions_of}
 use Rattle.hist_types.specs.Witness.{IsWitness, stations}
-use Rattle.cycle_show.specs.Counts.{dependencies}
+use Rattle.cycle_show.specs.Reductions.{dependencies}
 use Rattle.cycle_show.specs.Paths.{short_round}
 use Rattle.cycle_show.proofs.Fewer.{fewer_turned}
 use Rattle.cycle_show.proofs.Tightening.{tightened}
