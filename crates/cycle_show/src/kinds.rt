@@ -1,8 +1,9 @@
-//! Kinds of edges, and the edge that a walk cannot do without.
+//! Kinds of edges, edges made of others, and the edge that a walk cannot do without.
 
 ghost use Rattle.std.specs.Prelude.{◌≡◌, ◌<◌, length, IfSome};
 ghost use Rattle.std.specs.List.{position_from};
 ghost use Rattle.hist_types.specs.Phenomena.{is_ww, is_wr, is_rw, is_order};
+ghost use Rattle.cycle_show.specs.Labels.{label_of};
 ghost use Rattle.cycle_show.specs.Paths.{needed_place, joined};
 
 use crate::types::{Edge, Label};
@@ -31,6 +32,51 @@ pub fn is_order(edge: &Edge<'_>) -> bool
     matches!(edge.label(), Label::Process { .. } | Label::Realtime { .. })
 }
 
+/// The same label.
+fn copy_of_label<'a>(label: &Label<'a>) -> Label<'a>
+    ensures { label_of result ≡ label_of label.now }
+{
+    match label {
+        Label::Ww {
+            key,
+            earlier,
+            later,
+        } => Label::Ww {
+            key: key.copy(),
+            earlier: earlier.copy(),
+            later: later.copy(),
+        },
+        Label::Wr { key, value } => Label::Wr {
+            key: key.copy(),
+            value: value.copy(),
+        },
+        Label::Rw {
+            key,
+            earlier,
+            later,
+        } => Label::Rw {
+            key: key.copy(),
+            earlier: earlier.as_ref().map(|atom| atom.copy()),
+            later: later.copy(),
+        },
+        Label::Process { process } => Label::Process { process: *process },
+        Label::Realtime {
+            completion,
+            invocation,
+        } => Label::Realtime {
+            completion: *completion,
+            invocation: *invocation,
+        },
+    }
+}
+
+/// The same edge.
+pub fn copy<'a>(edge: &Edge<'a>) -> Edge<'a>
+    ensures { result ≡ edge.now }
+{
+    Edge::new(edge.from(), edge.to(), copy_of_label(edge.label()))
+}
+
 /// The one order edge for two that follow each other.
 pub fn joined<'a>(first: &Edge<'a>, second: &Edge<'a>) -> Edge<'a>
     ensures { result ≡ joined first.now second.now }
@@ -42,7 +88,7 @@ pub fn joined<'a>(first: &Edge<'a>, second: &Edge<'a>) -> Edge<'a>
                 invocation: *invocation,
             }
         }
-        (label, _) => label.copy(),
+        (label, _) => copy_of_label(label),
     };
     Edge::new(first.from(), second.to(), label)
 }

@@ -5,7 +5,7 @@ ghost use Rattle.std.specs.HashMap.{get};
 ghost use Rattle.hist_types.specs.Witness.{ends_in_order, stations};
 ghost use Rattle.cycle_show.specs.Paths.{path_to, last_joined, followed, HavePlaces, short_round};
 
-use crate::kinds::{is_order, joined, needed};
+use crate::kinds::{copy, is_order, joined, needed};
 use crate::types::Edge;
 use std::alloc::{AllocError, Global};
 use std::collections::HashMap;
@@ -74,7 +74,7 @@ impl<'a> Path<'a> {
             return Ok(());
         }
         self.places.insert(next.from(), self.edges.len())?;
-        self.edges.push(next.copy())?;
+        self.edges.push(copy(next))?;
         Ok(())
     }
 

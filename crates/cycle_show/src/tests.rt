@@ -1,5 +1,6 @@
 //! Worked closed walks, each begun at each of its edges, and the text of their witnesses.
 
+use crate::kinds::copy;
 use crate::tighten;
 use crate::types::{Edge, Label, Walk, Witness};
 use crate::write::write_edge;
@@ -75,7 +76,7 @@ fn realtime(from: u64, completion: u64, invocation: u64, to: u64) -> Edge<'stati
 fn begun_at<'a>(alloc: Global, edges: &[Edge<'a>], place: usize) -> Result<Walk<'a>, Fault> {
     let mut turned = Vec::new(alloc);
     for edge in edges.iter().skip(place).chain(edges.iter().take(place)) {
-        turned.push(edge.copy())?;
+        turned.push(copy(edge))?;
     }
     Ok(Walk::new(turned))
 }

@@ -11,7 +11,7 @@ use std::alloc::AllocError;
 use std::marker::Model;
 
 /// Why there is an edge. Keys and values are borrowed from the journal.
-#[derive(Debug, Drop)]
+#[derive(Drop)]
 pub enum Label<'a> {
     /// The later version follows the earlier one.
     Ww {
@@ -41,50 +41,8 @@ pub enum Label<'a> {
     },
 }
 
-impl<'a> Label<'a> {
-    ghost use Rattle.cycle_show.specs.Labels.{label_of};
-
-    /// The same label.
-    pub fn copy(&self) -> Label<'a>
-        ensures { label_of result ≡ label_of self.now }
-    {
-        match self {
-            Label::Ww {
-                key,
-                earlier,
-                later,
-            } => Label::Ww {
-                key: key.copy(),
-                earlier: earlier.copy(),
-                later: later.copy(),
-            },
-            Label::Wr { key, value } => Label::Wr {
-                key: key.copy(),
-                value: value.copy(),
-            },
-            Label::Rw {
-                key,
-                earlier,
-                later,
-            } => Label::Rw {
-                key: key.copy(),
-                earlier: earlier.as_ref().map(|atom| atom.copy()),
-                later: later.copy(),
-            },
-            Label::Process { process } => Label::Process { process: *process },
-            Label::Realtime {
-                completion,
-                invocation,
-            } => Label::Realtime {
-                completion: *completion,
-                invocation: *invocation,
-            },
-        }
-    }
-}
-
 /// An edge from one transaction to another. Both are named by the indexes of their invocations.
-#[derive(Debug, Drop)]
+#[derive(Drop)]
 pub struct Edge<'a> {
     from: u64,
     to: u64,
@@ -102,8 +60,6 @@ impl<'a> Model for Edge<'a> {
 }
 
 impl<'a> Edge<'a> {
-    ghost use Rattle.cycle_show.specs.Labels.{label_of};
-
     pub fn new(from: u64, to: u64, label: Label<'a>) -> Self
         ensures { result ≡ record { from = from; to = to; label = label_of label.entry } }
     {
@@ -129,21 +85,10 @@ impl<'a> Edge<'a> {
     {
         &self.label
     }
-
-    /// The same edge.
-    pub fn copy(&self) -> Edge<'a>
-        ensures { result ≡ self.now }
-    {
-        Edge {
-            from: self.from,
-            to: self.to,
-            label: self.label.copy(),
-        }
-    }
 }
 
 /// A closed walk: its edges in order.
-#[derive(Debug, Drop)]
+#[derive(Drop)]
 pub struct Walk<'a> {
     edges: Vec<Edge<'a>>,
 }
@@ -172,7 +117,7 @@ impl<'a> Walk<'a> {
 }
 
 /// A closed walk with no transaction twice and no two order edges side by side, told from its least transaction.
-#[derive(Debug, Drop)]
+#[derive(Drop)]
 pub struct Witness<'a> {
     edges: Vec<Edge<'a>>,
 }
