@@ -136,6 +136,13 @@ fn tells_dependency_cycles(rt: HostRuntime) -> Result<(), Fail> {
         &dirty_writes,
         "  T0 -ww :x 1 2-> T1\n  T1 -ww :y 1 2-> T0\n",
     )?;
+    let read_and_written_over = [ww(&rt, 1, ":y", "1", "2", 0), wr(&rt, 0, ":x", "1", 1)];
+    check(
+        &rt,
+        rt.alloc(),
+        &read_and_written_over,
+        "  T0 -wr :x 1-> T1\n  T1 -ww :y 1 2-> T0\n",
+    )?;
     Ok(())
 }
 
