@@ -83,11 +83,11 @@ has_above phenomenon lower higher ts up h =
 
 -- ---- a walk about one of its edges
 
-record IsAbout (p : Edge → Bool) (walk front : List Edge) (e : Edge) (back : List Edge) : Type 0 where
-  is : walk ≡ front ++ e ∷ back
-  passes : p e ≡ true
+pub record IsAbout (p : Edge → Bool) (walk front : List Edge) (e : Edge) (back : List Edge) : Type 0 where
+  pub is : walk ≡ front ++ e ∷ back
+  pub passes : p e ≡ true
 
-about_one :
+pub about_one :
     (p : Edge → Bool) (walk : List Edge)
     → list_any p walk ≡ true
     → (front : List Edge) × (e : Edge) × (back : List Edge) × IsAbout p walk front e back
@@ -99,7 +99,7 @@ about_one p (d ∷ walk) e = elim (or_cases (p d) (list_any p walk) e) [
       (d ∷ front, f, back, record { is = ap (λ es. d ∷ es) about.is; passes = about.passes })
 ]
 
-leads_apart :
+pub leads_apart :
     (from to : ℕ) (front : List Edge) (e : Edge) (back : List Edge)
     → Leads from (front ++ e ∷ back) to
     → Leads from front e.from × Leads e.to back to
@@ -115,7 +115,7 @@ pub all_apart :
 all_apart P [] ys all = (tt, all)
 all_apart P (x ∷ xs) ys all = let rest = all_apart P xs ys all.1 in ((all.0, rest.0), rest.1)
 
-passes_apart :
+pub passes_apart :
     (p : Edge → Bool) (xs ys : List Edge)
     → list_all p (xs ++ ys) ≡ true
     → (list_all p xs ≡ true) × (list_all p ys ≡ true)
@@ -125,7 +125,7 @@ passes_apart p (x ∷ xs) ys e =
     let rest = passes_apart p xs ys both.1 in
     (and_from (p x) (list_all p xs) both.0 rest.0, rest.1)
 
-passes_both :
+pub passes_both :
     (p : Edge → Bool) (xs ys : List Edge)
     → list_all p xs ≡ true
     → list_all p ys ≡ true
@@ -161,7 +161,7 @@ only_one front e back one is =
     let none : count_by is_rw (back ++ front) ≡ 0 = omega (arith, n, m, k, one) in
     all_uncounted (λ e. not (is_rw e)) is_rw is_rw (λ d f g. not_from_false (is_rw d) f) (back ++ front) none none
 
-rest_leads_back :
+pub rest_leads_back :
     (phenomenon : Phenomenon) (front : List Edge) (e : Edge) (back : List Edge)
     → makes phenomenon (front ++ e ∷ back) ≡ true
     → is_needed phenomenon e ≡ true
@@ -175,7 +175,7 @@ rest_leads_back G1c front e back made is =
 rest_leads_back GSingle front e back made is = only_one front e back (eqb-true (count_by is_rw (front ++ e ∷ back)) 1 made) is
 rest_leads_back G2Item front e back made is = all_pass (back ++ front)
 
-some_needed :
+pub some_needed :
     (phenomenon : Phenomenon) (walk : List Edge)
     → makes phenomenon walk ≡ true
     → list_any (is_needed phenomenon) walk ≡ true

@@ -117,7 +117,7 @@ alike_both a b c d first second = record {
 
 -- ---- kinds of edges
 
-only_ww-wr :
+pub only_ww-wr :
     (l : Label)
     → (is_ww_label l || not (is_ww_label l || is_wr_label l || is_rw_label l)) ≡ true
     → is_wr_label l ≡ false
@@ -127,7 +127,7 @@ only_ww-wr (Label.rw v w) e = refl
 only_ww-wr (Label.process p) e = refl
 only_ww-wr (Label.realtime c i) e = refl
 
-only_ww-rw :
+pub only_ww-rw :
     (l : Label)
     → (is_ww_label l || not (is_ww_label l || is_wr_label l || is_rw_label l)) ≡ true
     → is_rw_label l ≡ false
@@ -148,7 +148,7 @@ ww_only (Label.rw v w) e f = elim (false≢true (sym f)) [ ]
 ww_only (Label.process p) e f = refl
 ww_only (Label.realtime c i) e f = refl
 
-no_rw-rw :
+pub no_rw-rw :
     (l : Label)
     → (is_ww_label l || is_wr_label l || not (is_ww_label l || is_wr_label l || is_rw_label l)) ≡ true
     → is_rw_label l ≡ false

@@ -22,24 +22,24 @@ use Rattle.hist_types.proofs.ThinningCycles.{closing_makes, closed_is_led, all_a
 -- ---- a way without turns
 
 -- the number is none of the stations
-abbrev IsOff : ℕ → List ℕ → Type 0
+abbrev pub IsOff : ℕ → List ℕ → Type 0
 IsOff n ns = list_any (nat_eq n) ns ≡ false
 
 -- From one transaction to another, along edges of the list that all pass: no station twice, the last one none of them, and no
 -- two order edges side by side.
-record IsSimple (es : List Edge) (p : Edge → Bool) (from to : ℕ) (walk : List Edge) : Type 0 where
-  leads : Leads from walk to
-  within : AllByRecursion (λ e. In e es) walk
-  passes : AllByRecursion (λ e. p e ≡ true) walk
-  different : all_different (stations walk) ≡ true
-  off_end : IsOff to (stations walk)
-  apart : alternates false walk ≡ true
+pub record IsSimple (es : List Edge) (p : Edge → Bool) (from to : ℕ) (walk : List Edge) : Type 0 where
+  pub leads : Leads from walk to
+  pub within : AllByRecursion (λ e. In e es) walk
+  pub passes : AllByRecursion (λ e. p e ≡ true) walk
+  pub different : all_different (stations walk) ≡ true
+  pub off_end : IsOff to (stations walk)
+  pub apart : alternates false walk ≡ true
 
 -- Two edges side by side may be one order edge: what is asked of the edges and of the test.
 abbrev Joins : List Edge → (Edge → Bool) → Type 0
 Joins es p = (e f : Edge) → In e es → In f es → is_order e ≡ true → is_order f ≡ true → f.from ≡ e.to → (d : Edge) × In d es × (d.from ≡ e.from) × (d.to ≡ f.to) × (is_order d ≡ true) × (p d ≡ true)
 
-alternates_less : (after : Bool) (walk : List Edge) → alternates after walk ≡ true → alternates false walk ≡ true
+pub alternates_less : (after : Bool) (walk : List Edge) → alternates after walk ≡ true → alternates false walk ≡ true
 alternates_less after [] e = refl
 alternates_less after (f ∷ walk) e = (and_parts (not (after && is_order f)) (alternates (is_order f) walk) e).1
 
@@ -175,12 +175,12 @@ dependency_label pairs t u label i = elim (in_append label (ww_labels pairs t u 
       subst IsDependency found.2 refl
 ]
 
-dependency_edge : (ts : List Transaction) (e : Edge) → In e (dependency_edges ts) → is_order e ≡ false
+pub dependency_edge : (ts : List Transaction) (e : Edge) → In e (dependency_edges ts) → is_order e ≡ false
 dependency_edge ts e i =
     let (t, u, label, ends) = ends_of (nodes ts) (dependency_labels (version_pairs ts)) e i in
     subst (λ (d : Edge). is_order d ≡ false) (sym ends.is) (dependency_label (version_pairs ts) t u label ends.labelled)
 
-order_edge :
+pub order_edge :
     (level : Level) (ts : List Transaction) (e : Edge)
     → In e (edges_at level ts)
     → is_order e ≡ true
@@ -190,7 +190,7 @@ order_edge level ts e i order = elim (in_append e (dependency_edges ts) (order_e
   | inr j ↦ j
 ]
 
-none_of_three : (a b c : Bool) → a ≡ false → b ≡ false → c ≡ false → not (a || b || c) ≡ true
+pub none_of_three : (a b c : Bool) → a ≡ false → b ≡ false → c ≡ false → not (a || b || c) ≡ true
 none_of_three true b c e f g = absurd (false≢true (sym e))
 none_of_three false true c e f g = absurd (false≢true (sym f))
 none_of_three false false c e f g = not_from_false c g
@@ -200,7 +200,7 @@ third_holds true b c e = refl
 third_holds false true c e = refl
 third_holds false false c e = e
 
-order_may :
+pub order_may :
     (phenomenon : Phenomenon) (e : Edge)
     → is_order e ≡ true
     → is_rw e ≡ false
@@ -223,14 +223,14 @@ edges_join phenomenon level events e f i j order order' meet =
 -- ---- round walks
 
 -- what a witness is but for where it begins
-record IsRound (phenomenon : Phenomenon) (es walk : List Edge) : Type 0 where
-  closed : IsClosedWalk walk
-  within : AllByRecursion (λ e. In e es) walk
-  kinds : makes phenomenon walk ≡ true
-  different : all_different (stations walk) ≡ true
-  apart : alternates (ends_in_order walk) walk ≡ true
+pub record IsRound (phenomenon : Phenomenon) (es walk : List Edge) : Type 0 where
+  pub closed : IsClosedWalk walk
+  pub within : AllByRecursion (λ e. In e es) walk
+  pub kinds : makes phenomenon walk ≡ true
+  pub different : all_different (stations walk) ≡ true
+  pub apart : alternates (ends_in_order walk) walk ≡ true
 
-needed_dependency : (phenomenon : Phenomenon) (e : Edge) → is_needed phenomenon e ≡ true → is_order e ≡ false
+pub needed_dependency : (phenomenon : Phenomenon) (e : Edge) → is_needed phenomenon e ≡ true → is_order e ≡ false
 needed_dependency G0 e is = by (is_ww e) (is_wr e) (is_rw e) is
   where
     by : (a b c : Bool) → a ≡ true → not (a || b || c) ≡ false
@@ -245,13 +245,30 @@ needed_dependency G1c e is = by (is_ww e) (is_wr e) (is_rw e) is
 needed_dependency GSingle e is = not_from_true (is_ww e || is_wr e || is_rw e) (third_holds (is_ww e) (is_wr e) (is_rw e) is)
 needed_dependency G2Item e is = not_from_true (is_ww e || is_wr e || is_rw e) (third_holds (is_ww e) (is_wr e) (is_rw e) is)
 
-passes_list : (p : Edge → Bool) (walk : List Edge) → list_all p walk ≡ true → AllByRecursion (λ e. p e ≡ true) walk
+pub passes_list : (p : Edge → Bool) (walk : List Edge) → list_all p walk ≡ true → AllByRecursion (λ e. p e ≡ true) walk
 passes_list p [] e = tt
 passes_list p (d ∷ walk) e = let both = and_parts (p d) (list_all p walk) e in (both.0, passes_list p walk both.1)
 
 list_passes : (p : Edge → Bool) (walk : List Edge) → AllByRecursion (λ e. p e ≡ true) walk → list_all p walk ≡ true
 list_passes p [] all = refl
 list_passes p (d ∷ walk) all = and_from (p d) (list_all p walk) all.0 (list_passes p walk all.1)
+
+-- an edge of the needed kind, with a simple way back along edges that may lead back
+pub round_of_simple :
+    (phenomenon : Phenomenon) (es : List Edge) (e : Edge) (walk : List Edge)
+    → In e es
+    → is_needed phenomenon e ≡ true
+    → IsSimple es (may_lead_back phenomenon) e.to e.from walk
+    → IsRound phenomenon es (e ∷ walk)
+round_of_simple phenomenon es e walk i needed s =
+    let itself : is_order e ≡ false = needed_dependency phenomenon e needed in
+    let last : Bool = ends_in_order (e ∷ walk) in record {
+      closed = s.leads;
+      within = (i, s.within);
+      kinds = closing_makes phenomenon e walk needed (list_passes (may_lead_back phenomenon) walk s.passes);
+      different = and_from (not (list_any (nat_eq e.from) (stations walk))) (all_different (stations walk)) (not_from_false (list_any (nat_eq e.from) (stations walk)) s.off_end) s.different;
+      apart = and_from (not (last && is_order e)) (alternates (is_order e) walk) (not_from_false (last && is_order e) (and_right last (is_order e) itself)) (subst (λ b. alternates b walk ≡ true) (sym itself) s.apart);
+    }
 
 round_walk :
     (phenomenon : Phenomenon) (level : Level) (events : List Operation)
@@ -261,26 +278,16 @@ round_walk phenomenon level events r =
     let es : List Edge = edges_at level (transactions_of events) in
     let e : Edge = r.0 in
     let (walk, s) = simple_way es (may_lead_back phenomenon) e.to e.from r.3 (edges_join phenomenon level events) r.4.leads (within_in es r.3 r.4.within) (passes_list (may_lead_back phenomenon) r.3 r.4.kinds) in
-    let itself : is_order e ≡ false = needed_dependency phenomenon e r.2 in
-    let last : Bool = ends_in_order (e ∷ walk) in (
-      e ∷ walk,
-      record {
-        closed = s.leads;
-        within = (in_from_Contains e es r.1, s.within);
-        kinds = closing_makes phenomenon e walk r.2 (list_passes (may_lead_back phenomenon) walk s.passes);
-        different = and_from (not (list_any (nat_eq e.from) (stations walk))) (all_different (stations walk)) (not_from_false (list_any (nat_eq e.from) (stations walk)) s.off_end) s.different;
-        apart = and_from (not (last && is_order e)) (alternates (is_order e) walk) (not_from_false (last && is_order e) (and_right last (is_order e) itself)) (subst (λ b. alternates b walk ≡ true) (sym itself) s.apart);
-      },
-    )
+    (e ∷ walk, round_of_simple phenomenon es e walk (in_from_Contains e es r.1) r.2 s)
 
 -- ---- turned to begin at the least
 
-off_not_in : (n : ℕ) (ns : List ℕ) → IsOff n ns → ¬ In n ns
+pub off_not_in : (n : ℕ) (ns : List ℕ) → IsOff n ns → ¬ In n ns
 off_not_in n [] off i = i
 off_not_in n (m ∷ ns) off (inl same) = eqb-false n m (or_parts (n == m) (list_any (nat_eq n) ns) off).0 (sym same)
 off_not_in n (m ∷ ns) off (inr i) = off_not_in n ns (or_parts (n == m) (list_any (nat_eq n) ns) off).1 i
 
-off_from : (n : ℕ) (ns : List ℕ) → ¬ In n ns → IsOff n ns
+pub off_from : (n : ℕ) (ns : List ℕ) → ¬ In n ns → IsOff n ns
 off_from n [] out = refl
 off_from n (m ∷ ns) out =
     or_from (n == m) (list_any (nat_eq n) ns) (ne_eqb n m (λ same. out (inl (sym same)))) (off_from n ns (λ i. out (inr i)))
@@ -320,17 +327,17 @@ different_turned ms ns e =
     apart_both ns ms (record { front = a.back; back = a.front; across = λ n i j. a.across n j i })
 
 -- whether the last edge is an order edge, or what was before them where there is none
-abbrev after : Bool → List Edge → Bool
+abbrev pub after : Bool → List Edge → Bool
 after before [] = before
 after before (e ∷ walk) = after (is_order e) walk
 
-after-append :
+pub after-append :
     (before : Bool) (front back : List Edge)
     → after before (front ++ back) ≡ after (after before front) back
 after-append before [] back = refl
 after-append before (e ∷ front) back = after-append (is_order e) front back
 
-ends_after : (e : Edge) (walk : List Edge) → ends_in_order (e ∷ walk) ≡ after (is_order e) walk
+pub ends_after : (e : Edge) (walk : List Edge) → ends_in_order (e ∷ walk) ≡ after (is_order e) walk
 ends_after e [] = refl
 ends_after e (f ∷ walk) = ends_after f walk
 
@@ -340,7 +347,7 @@ ends_after_both :
 ends_after_both [] e back = ends_after e back
 ends_after_both (d ∷ front) e back = ends_after d (front ++ e ∷ back) ∙ after-append (is_order d) front (e ∷ back)
 
-alternate_apart :
+pub alternate_apart :
     (before : Bool) (front back : List Edge)
     → alternates before (front ++ back) ≡ true
     → (alternates before front ≡ true) × (alternates (after before front) back ≡ true)
@@ -350,7 +357,7 @@ alternate_apart before (d ∷ front) back e =
     let rest = alternate_apart (is_order d) front back parts.1 in
     (and_from (not (before && is_order d)) (alternates (is_order d) front) parts.0 rest.0, rest.1)
 
-alternate_both :
+pub alternate_both :
     (before : Bool) (front back : List Edge)
     → alternates before front ≡ true
     → alternates (after before front) back ≡ true
@@ -371,7 +378,7 @@ alternate_turned front e back given =
     let ends : ends_in_order (e ∷ back ++ front) ≡ c = ends_after e (back ++ front) ∙ after-append (is_order e) back front in
     subst (λ x. alternates x (e ∷ back ++ front) ≡ true) (sym ends) (alternate_both c (e ∷ back) front parts.1 parts.0)
 
-leads_parts :
+pub leads_parts :
     (from to : ℕ) (front back : List Edge)
     → Leads from (front ++ back) to
     → (mid : ℕ) × Leads from front mid × Leads mid back to
@@ -383,10 +390,10 @@ leads_parts from to (e ∷ front) back l =
 counts_turned : (p : Edge → Bool) (front back : List Edge) → count_by p (front ++ back) ≡ count_by p (back ++ front)
 counts_turned p front back = omega (arith, count-append p front back, count-append p back front)
 
-stations-append : (front back : List Edge) → stations (front ++ back) ≡ stations front ++ stations back
+pub stations-append : (front back : List Edge) → stations (front ++ back) ≡ stations front ++ stations back
 stations-append front back = map-append (λ (e : Edge). e.from) front back
 
-turned_round :
+pub turned_round :
     (phenomenon : Phenomenon) (es front : List Edge) (e : Edge) (back : List Edge)
     → IsRound phenomenon es (front ++ e ∷ back)
     → IsRound phenomenon es (e ∷ back ++ front)
@@ -443,7 +450,7 @@ least_of e (d ∷ walk) =
       )
     ]
 
-all_later :
+pub all_later :
     (n : ℕ) (walk : List Edge)
     → ((d : Edge) → In d walk → n ≤ d.from)
     → list_all (nat_le n) (stations walk) ≡ true
@@ -453,6 +460,25 @@ all_later n (d ∷ walk) each =
 
 -- ---- the law
 
+-- a round walk about its edge that begins no later than any, told from that edge
+pub turned_witness :
+    (phenomenon : Phenomenon) (level : Level) (ts : List Transaction) (front : List Edge) (e : Edge) (back : List Edge)
+    → IsRound phenomenon (edges_at level ts) (front ++ e ∷ back)
+    → ((d : Edge) → In d (front ++ e ∷ back) → e.from ≤ d.from)
+    → IsWitness phenomenon level ts (e ∷ back ++ front)
+turned_witness phenomenon level ts front e back r least =
+    let es : List Edge = edges_at level ts in
+    let turned : IsRound phenomenon es (e ∷ back ++ front) = turned_round phenomenon es front e back r in
+    let later = λ (c : Edge) (i : In c (back ++ front)). least c (elim (in_append c back front i) [
+      | inl j ↦ in_back c front (e ∷ back) (inr j)
+      | inr j ↦ in_front c front (e ∷ back) j
+    ]) in record {
+      shows = record { closed = turned.closed; within = within_contains es (e ∷ back ++ front) turned.within; kinds = turned.kinds };
+      different = turned.different;
+      apart = turned.apart;
+      least = all_later e.from (back ++ front) later;
+    }
+
 witness_of_round :
     (phenomenon : Phenomenon) (level : Level) (ts : List Transaction) (walk : List Edge)
     → IsRound phenomenon (edges_at level ts) walk
@@ -461,19 +487,7 @@ witness_of_round phenomenon level ts [] r = elim r.closed [ ]
 witness_of_round phenomenon level ts (d ∷ walk) r =
     let es : List Edge = edges_at level ts in
     let (front, e, back, l) = least_of d walk in
-    let turned : IsRound phenomenon es (e ∷ back ++ front) = turned_round phenomenon es front e back (subst (IsRound phenomenon es) l.is r) in
-    let later = λ (c : Edge) (i : In c (back ++ front)). l.least c (subst (In c) (sym l.is) (elim (in_append c back front i) [
-      | inl j ↦ in_back c front (e ∷ back) (inr j)
-      | inr j ↦ in_front c front (e ∷ back) j
-    ])) in (
-      e ∷ back ++ front,
-      record {
-        shows = record { closed = turned.closed; within = within_contains es (e ∷ back ++ front) turned.within; kinds = turned.kinds };
-        different = turned.different;
-        apart = turned.apart;
-        least = all_later e.from (back ++ front) later;
-      },
-    )
+    (e ∷ back ++ front, turned_witness phenomenon level ts front e back (subst (IsRound phenomenon es) l.is r) (λ c i. l.least c (subst (In c) (sym l.is) i)))
 
 pub has_witness :
     (phenomenon : Phenomenon) (level : Level) (events : List Operation)

@@ -1,0 +1,57 @@
+-- How a closed walk becomes short: it is followed from behind an edge that it needs, and where it comes back to a transaction,
+-- what lies between is left out. Two order edges side by side become one.
+use Rattle.std.specs.Prelude.{◌≡◌, ℕ, ◌+◌, List, [], ◌∷◌, ◌++◌, ◌&&◌, ◌==◌, if◌then◌else◌, Option, Some, take, drop, fold, ⊤}
+use Rattle.std.specs.List.{position_from}
+use Rattle.std.specs.Option.{option_or, option_map_or}
+use Rattle.hist_types.specs.Edges.{Label, realtime, Edge}
+use Rattle.hist_types.specs.Phenomena.{is_ww, is_wr, is_rw, is_order}
+use Rattle.hist_types.specs.Witness.{ends_in_order}
+
+-- ---- one edge in the place of two
+
+abbrev pub joined_label : Label → Label → Label
+joined_label (realtime completion i) (realtime c invocation) = realtime completion invocation
+joined_label first second = first
+
+-- the order edge between the ends of two that follow each other
+abbrev pub joined : Edge → Edge → Edge
+joined first second = record { from = first.from; to = second.to; label = joined_label first.label second.label }
+
+abbrev pub last_joined : List Edge → Edge → List Edge
+last_joined [] next = []
+last_joined (e ∷ []) next = joined e next ∷ []
+last_joined (e ∷ f ∷ es) next = e ∷ last_joined (f ∷ es) next
+
+-- ---- paths
+
+-- the path as far as the transaction, or all of it
+abbrev pub path_to : ℕ → List Edge → List Edge
+path_to transaction [] = []
+path_to transaction (e ∷ path) = if e.from == transaction then [] else e ∷ path_to transaction path
+
+abbrev pub extended : List Edge → Edge → List Edge
+extended path next = if is_order next && ends_in_order path then last_joined path next else path ++ next ∷ []
+
+-- the path, one edge further along the walk
+abbrev pub followed : List Edge → Edge → List Edge
+followed path next = extended (path_to next.from path) next
+
+-- Each transaction of the path has its place: the first has this one, and so on.
+abbrev pub HavePlaces : (ℕ → Option ℕ) → ℕ → List Edge → Type 0
+HavePlaces place_of first [] = ⊤
+HavePlaces place_of first (e ∷ path) = (place_of e.from ≡ Some first) × HavePlaces place_of (first + 1) path
+
+-- ---- the whole walk
+
+-- the place of an edge that the walk cannot do without: an rw if it has one, else a wr, else a ww
+abbrev pub needed_place : List Edge → Option ℕ
+needed_place walk = option_or (position_from is_rw 0 walk) (option_or (position_from is_wr 0 walk) (position_from is_ww 0 walk))
+
+-- the place behind it
+abbrev pub place_behind : List Edge → ℕ
+place_behind walk = option_map_or (λ place. place + 1) (needed_place walk) 0
+
+-- the walk from there on, and round to there
+abbrev pub short_round : List Edge → List Edge
+short_round walk =
+    fold followed (fold followed [] (drop (place_behind walk) walk)) (take (place_behind walk) walk)

@@ -1,0 +1,20 @@
+-- What a closed walk is reduced to: a witness of whatever the walk shows, with no more dependency edges.
+use Rattle.std.specs.Prelude.{ℕ, List, not, count_by}
+use Rattle.hist_types.specs.Operations.{Operation}
+use Rattle.hist_types.specs.Transactions.{transactions_of}
+use Rattle.hist_types.specs.Edges.{Edge}
+use Rattle.hist_types.specs.Phenomena.{Shows, is_order}
+use Rattle.hist_types.specs.Witness.{IsWitness}
+use Rattle.hist_types.specs.declared.types.Level.{Level}
+use Rattle.hist_types.specs.declared.types.Phenomenon.{Phenomenon}
+
+-- Each phenomenon that the walk shows at a level, over all pairs of transactions in order, has this witness there.
+abbrev pub IsWitnessOf : (walk witness : List Edge) → Type 0
+IsWitnessOf walk witness =
+    (phenomenon : Phenomenon) (level : Level) (events : List Operation)
+    → Shows phenomenon level (transactions_of events) walk
+    → IsWitness phenomenon level (transactions_of events) witness
+
+-- how many edges are no order edges
+abbrev pub dependencies : List Edge → ℕ
+dependencies walk = count_by (λ e. not (is_order e)) walk

@@ -1,0 +1,34 @@
+//! Witnesses of cycles: closed walks reduced to what a reader needs, and their text.
+#![tactic(auto)]
+
+ghost use Rattle.std.specs.Prelude.{◌≡◌, ◌≤◌, IfOk, IfErr};
+ghost use Rattle.hist_types.specs.Refusals.{memory_fault};
+ghost use Rattle.cycle_show.specs.Reductions.{IsWitnessOf, dependencies};
+
+mod kinds;
+mod path;
+#[cfg(test)]
+mod tests;
+pub mod types;
+pub mod write;
+
+use crate::path::{least_place, short_round};
+use crate::types::{Walk, Witness};
+use hist_types::types::Fault;
+use std::alloc::Global;
+
+/// Reduces a closed walk to a witness. It leaves out what lies between two visits of a transaction, joins order edges that
+/// follow each other into the one between their ends, and begins at the least transaction.
+///
+/// Whatever phenomenon the walk shows, at whatever level, the witness shows it at that level, with no more dependency edges
+/// than the walk has. The walk's order edges may be thinned ones. It takes time and memory linear in the walk's length; only
+/// memory can run out.
+pub fn tighten<'a>(alloc: Global, walk: &Walk<'a>) -> Result<Witness<'a>, Fault>
+    ensures witness { IfOk result (IsWitnessOf walk.now) }
+    ensures dependencies { IfOk result (λ told. dependencies told ≤ dependencies walk.now) }
+    ensures err { IfErr result (λ fault. fault ≡ memory_fault) }
+{
+    let mut edges = short_round(alloc, walk.edges())?;
+    edges.rotate_left(least_place(&edges));
+    Ok(Witness::new(edges))
+}

@@ -1,0 +1,119 @@
+//! A walk, followed without what it does twice.
+
+ghost use Rattle.std.specs.Prelude.{◌≡◌, ℕ, ◌-◌, ◌<◌, ◌≤◌, [], length, fold, nat_eq, OnOk, IfOk, EachIndex, slice_index};
+ghost use Rattle.std.specs.HashMap.{get};
+ghost use Rattle.hist_types.specs.Witness.{ends_in_order, stations};
+ghost use Rattle.cycle_show.specs.Paths.{path_to, last_joined, followed, HavePlaces, short_round};
+
+use crate::kinds::{copy, is_order, joined, needed};
+use crate::types::Edge;
+use std::alloc::{AllocError, Global};
+use std::collections::HashMap;
+
+/// A walk as far as it has been followed, with no transaction twice and no two order edges side by side.
+#[derive(Drop)]
+struct Path<'a> {
+    edges: Vec<Edge<'a>>,
+    /// The place of each transaction of the path. Those that have left the path may still be in here.
+    places: HashMap<u64, usize>,
+}
+
+/// Whether the last edge is an order edge.
+fn ends_in_order(edges: &[Edge<'_>]) -> bool
+    ensures { result ≡ ends_in_order edges.now }
+{
+    match edges {
+        [.., last] => is_order(last),
+        [] => false,
+    }
+}
+
+impl<'a> Path<'a> {
+    fn new(alloc: Global) -> Self
+        ensures { result.edges.items ≡ [] }
+    {
+        Path {
+            edges: Vec::new(alloc),
+            places: HashMap::new(alloc),
+        }
+    }
+
+    /// Goes back to the transaction, if the path has been there.
+    fn go_back(&mut self, transaction: u64)
+        requires { HavePlaces (get nat_eq self.old.places) 0 self.old.edges.items }
+        ensures edges { self.new.edges.items ≡ path_to transaction self.old.edges.items }
+        ensures places { HavePlaces (get nat_eq self.new.places) 0 self.new.edges.items }
+    {
+        let Some(place) = self.places.get(&transaction).copied() else {
+            return;
+        };
+        if place < self.edges.len() && self.edges[place].from() == transaction {
+            self.edges.truncate(place);
+        }
+    }
+
+    /// Joins an order edge to the last edge.
+    fn join_last(&mut self, next: &Edge<'a>)
+        requires { 0 < length self.old.edges.items }
+        ensures edges { self.new.edges.items ≡ last_joined self.old.edges.items next.now }
+        ensures places { (transaction : ℕ) → get nat_eq self.new.places transaction ≡ get nat_eq self.old.places transaction }
+    {
+        let last = self.edges.len() - 1;
+        self.edges[last] = joined(&self.edges[last], next);
+    }
+
+    /// Follows the walk along one more edge.
+    fn follow(&mut self, next: &Edge<'a>) -> Result<(), AllocError>
+        requires { HavePlaces (get nat_eq self.old.places) 0 self.old.edges.items }
+        ensures edges { OnOk result (self.new.edges.items ≡ followed self.old.edges.items next.now) }
+        ensures places { OnOk result (HavePlaces (get nat_eq self.new.places) 0 self.new.edges.items) }
+    {
+        self.go_back(next.from());
+        if is_order(next) && ends_in_order(&self.edges) {
+            self.join_last(next);
+            return Ok(());
+        }
+        self.places.insert(next.from(), self.edges.len())?;
+        self.edges.push(copy(next))?;
+        Ok(())
+    }
+
+    fn follow_all(&mut self, walk: &[Edge<'a>]) -> Result<(), AllocError>
+        requires { HavePlaces (get nat_eq self.old.places) 0 self.old.edges.items }
+        ensures edges { OnOk result (self.new.edges.items ≡ fold followed self.old.edges.items walk.now) }
+        ensures places { OnOk result (HavePlaces (get nat_eq self.new.places) 0 self.new.edges.items) }
+    {
+        for next in walk {
+            self.follow(next)?;
+        }
+        Ok(())
+    }
+}
+
+/// The closed walk without what it does twice. It is followed from behind an edge that it cannot do without: what comes
+/// last is never left out.
+pub fn short_round<'a>(alloc: Global, walk: &[Edge<'a>]) -> Result<Vec<Edge<'a>>, AllocError>
+    ensures { IfOk result (λ edges. edges.items ≡ short_round walk.now) }
+{
+    let behind = needed(walk).map_or(0, |place| place + 1);
+    let (front, back) = walk.split_at(behind);
+    let mut path = Path::new(alloc);
+    path.follow_all(back)?;
+    path.follow_all(front)?;
+    let Path { edges, places: _ } = path;
+    Ok(edges)
+}
+
+/// The place of an edge that begins no later than any.
+pub fn least_place(edges: &[Edge<'_>]) -> usize
+    ensures within { result ≤ length edges.now - 1 }
+    ensures least { EachIndex (stations edges.now) (λ place. slice_index (stations edges.now) result ≤ slice_index (stations edges.now) place) }
+{
+    let mut least = 0;
+    for (place, edge) in edges.iter().enumerate() {
+        if edge.from() < edges[least].from() {
+            least = place;
+        }
+    }
+    least
+}
