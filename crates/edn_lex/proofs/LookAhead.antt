@@ -8,7 +8,7 @@ use Rattle.std.proofs.lemmas.Bool.{and_from}
 use Rattle.std.specs.List.{slice_get}
 use Rattle.std.proofs.lemmas.List.{get_or-drop, reverse-append, length-reverse, length-map}
 use Rattle.std.proofs.lemmas.Str.{utf8_valid_len-IsUtf8, IsUtf8-from_ascii}
-use Rattle.hist_types.specs.Bytes.{is_blank, open_square, close_square, close_brace}
+use Rattle.hist_types.specs.Bytes.{is_blank, open_square, close_square, open_brace, close_brace}
 use Rattle.hist_types.specs.Tokens.{ItemKind, Blank, Opener, Closer, Nil, True, False, Int, Keyword, Symbol, Other, first_byte, closer_of, front, is_token, is_int, is_keyword, is_symbol, run_kind, nesting_refusal, open_after}
 use Rattle.hist_types.specs.declared.limits.TheConstants.{MAX_OPEN_COLLECTIONS}
 use Rattle.hist_types.specs.declared.types.Refusal.TheVariants.{TooDeep}
@@ -125,23 +125,41 @@ room_is n h = grind (arith, nat_tests)
 ascii_byte : (b : ℕ) → b < 128 → IsAscii (b ∷ [])
 ascii_byte b low = IsAscii_from_low (b ∷ []) (and_from (is_low b) true (grind (arith, nat_tests)) refl)
 
-pub opener_given :
-    (text : List ℕ) (offset start : ℕ) → offset ≤ start → start < length text → ((k : ℕ) → offset ≤ k → k < start → is_blank (get_or text k 0) ≡ true) →
-    get_or text start 0 ≡ open_square → GivesOpener text offset (record { kind = kinds.Open; start = start; end = start + 1 })
-opener_given text offset start low within blanks e =
+-- the token of one byte that opens what waits for the closer
+opens_by :
+    (text : List ℕ) (offset start byte closer : ℕ) → offset ≤ start → start < length text → ((k : ℕ) → offset ≤ k → k < start → is_blank (get_or text k 0) ≡ true) → byte < 128 →
+    (front (first_byte (drop start text)) (drop 1 (drop start text)) ≡ (Opener, Some 1)) × (take 1 (drop start text) ≡ byte ∷ []) → closer_of (byte ∷ []) ≡ closer →
+    GivesOpener text offset byte closer (record { kind = kinds.Open; start = start; end = start + 1 })
+opens_by text offset start byte closer low within blanks ascii found waits =
     let t : Token = record { kind = kinds.Open; start = start; end = start + 1 } in
     let xs = drop start text in
-    let some : 0 < length xs = omega (arith, length-drop start text) in
-    let found = opens_square xs some (first_at text start open_square e) in
     let one : start + 1 - start ≡ 1 = omega arith in
     record {
       kind = refl;
-      square = ap (λ n. take n xs) one ∙ found.1;
+      bytes = ap (λ n. take n xs) one ∙ found.1;
       gives = λ closers room.
-          given_at text offset start xs Opener 1 t closers (close_square ∷ closers) (gapped text closers offset start low (omega arith) blanks) refl (omega arith) (omega arith) (omega arith) found.0
-          (subst IsAscii (sym found.1) (ascii_byte open_square (lit< tt)))
-          (sym (ap (λ b. cond b (Some TooDeep) None) (room_is (length closers) room))) (sym (ap (λ bytes. closer_of bytes ∷ closers) found.1)) (refl, refl, refl);
+          given_at text offset start xs Opener 1 t closers (closer ∷ closers) (gapped text closers offset start low (omega arith) blanks) refl (omega arith) (omega arith) (omega (arith, length-drop start text)) found.0
+          (subst IsAscii (sym found.1) (ascii_byte byte ascii))
+          (sym (ap (λ b. cond b (Some TooDeep) None) (room_is (length closers) room))) (sym (ap (λ bytes. closer_of bytes ∷ closers) found.1 ∙ ap (λ c. c ∷ closers) waits)) (refl, refl, refl);
     }
+
+pub opener_given :
+    (text : List ℕ) (offset start : ℕ) → offset ≤ start → start < length text → ((k : ℕ) → offset ≤ k → k < start → is_blank (get_or text k 0) ≡ true) →
+    get_or text start 0 ≡ open_square → GivesOpener text offset open_square close_square (record { kind = kinds.Open; start = start; end = start + 1 })
+opener_given text offset start low within blanks e =
+    let some : 0 < length (drop start text) = omega (arith, length-drop start text) in
+    opens_by text offset start open_square close_square low within blanks (lit< tt) (opens_square (drop start text) some (first_at text start open_square e)) refl
+
+opens_brace : (xs : List ℕ) → 0 < length xs → first_byte xs ≡ open_brace → (front (first_byte xs) (drop 1 xs) ≡ (Opener, Some 1)) × (take 1 xs ≡ open_brace ∷ [])
+opens_brace [] some e = absurd (omega arith)
+opens_brace (b ∷ rest) some e = (ap (λ x. front x rest) e, ap (λ x. x ∷ []) e)
+
+pub map_opener_given :
+    (text : List ℕ) (offset start : ℕ) → offset ≤ start → start < length text → ((k : ℕ) → offset ≤ k → k < start → is_blank (get_or text k 0) ≡ true) →
+    get_or text start 0 ≡ open_brace → GivesOpener text offset open_brace close_brace (record { kind = kinds.Open; start = start; end = start + 1 })
+map_opener_given text offset start low within blanks e =
+    let some : 0 < length (drop start text) = omega (arith, length-drop start text) in
+    opens_by text offset start open_brace close_brace low within blanks (lit< tt) (opens_brace (drop start text) some (first_at text start open_brace e)) refl
 
 -- the token of one byte that closes what waits for it
 closes_by :

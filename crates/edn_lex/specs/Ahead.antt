@@ -32,13 +32,12 @@ pub record HasGivenLone (s : State) (token : Token) (t : State) : Type 0 where
   pub lone : is_lone (kind_of token.kind) ≡ true
   pub gives : GivesToken s token t
 
--- the token that is given from the offset on opens a vector
-pub record GivesOpener (text : List ℕ) (offset : ℕ) (token : Token) : Type 0 where
+-- the token that is given from the offset on is this one byte, and opens a collection that waits for the closer
+pub record GivesOpener (text : List ℕ) (offset : ℕ) (byte closer : ℕ) (token : Token) : Type 0 where
   pub kind : kind_of token.kind ≡ Opener
-  pub square : (item_of text token).bytes ≡ open_square ∷ []
+  pub bytes : (item_of text token).bytes ≡ byte ∷ []
   pub gives :
-      (closers : List ℕ) → length closers < MAX_OPEN_COLLECTIONS →
-      GivesToken (going_at text offset closers) token (going_at text token.end (close_square ∷ closers))
+      (closers : List ℕ) → length closers < MAX_OPEN_COLLECTIONS → GivesToken (going_at text offset closers) token (going_at text token.end (closer ∷ closers))
 
 -- the token that is given from the offset on closes a collection that waits for this byte
 pub record GivesCloser (text : List ℕ) (offset : ℕ) (byte : ℕ) (token : Token) : Type 0 where
@@ -47,7 +46,7 @@ pub record GivesCloser (text : List ℕ) (offset : ℕ) (byte : ℕ) (token : To
 
 -- the five tokens that are given from the offset on are a vector of three forms by themselves
 pub record GivesTriple (text : List ℕ) (offset : ℕ) (triple : Triple) : Type 0 where
-  pub opener : GivesOpener text offset triple.opener
+  pub opener : GivesOpener text offset open_square close_square triple.opener
   pub first : GivesLone text triple.opener.end triple.first
   pub second : GivesLone text triple.first.end triple.second
   pub third : GivesLone text triple.second.end triple.third
@@ -60,8 +59,14 @@ pub record HasGivenTriple (s : State) (triple : Triple) (t : State) : Type 0 whe
   pub gives : GivesTriple s.text s.offset triple
   pub after : t ≡ going_at s.text triple.closer.end s.closers
 
--- a lexer goes on from the offset in a map or a set, and two more collections may be opened
+-- a lexer goes on from the offset, and three more collections may be opened
 pub record LooksAhead (s : State) (offset : ℕ) : Type 0 where
+  pub going : s ≡ going_at s.text offset s.closers
+  pub room : length s.closers + 3 ≤ MAX_OPEN_COLLECTIONS
+  pub within : offset ≤ length s.text
+
+-- a lexer goes on from the offset in a map or a set, and two more collections may be opened
+pub record LooksAheadInMap (s : State) (offset : ℕ) : Type 0 where
   pub going : s ≡ going_at s.text offset s.closers
   pub outer : List ℕ
   pub in_map : s.closers ≡ close_brace ∷ outer

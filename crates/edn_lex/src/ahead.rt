@@ -1,7 +1,7 @@
 //! Tokens by looking ahead, as printers write most of them: runs of ASCII and square brackets, behind blanks alone.
 
 ghost use Rattle.std.specs.Prelude.{◌≡◌, ℕ, ◌≤◌, ◌<◌, length, get_or, true, IfSome};
-ghost use Rattle.hist_types.specs.Bytes.{is_blank as is_blank_byte, close_square, close_brace};
+ghost use Rattle.hist_types.specs.Bytes.{is_blank as is_blank_byte, open_square, close_square, open_brace, close_brace};
 ghost use Rattle.edn_lex.specs.Ahead.{GivesLone, GivesOpener, GivesCloser, GivesTriple};
 
 use crate::pieces::run_piece;
@@ -56,11 +56,30 @@ pub fn lone_token(text: &[u8], offset: usize) -> Option<Token>
 #[inline(always)]
 pub fn vector_opener(text: &[u8], offset: usize) -> Option<Token>
     requires { offset ≤ length text.now }
-    ensures gives { IfSome result (GivesOpener text.now offset) }
+    ensures gives { IfSome result (GivesOpener text.now offset open_square close_square) }
     ensures fits { IfSome result (λ token. token.end ≤ length text.now) }
 {
     let start = behind_blanks(text, offset);
     if start < text.len() && text[start] == b'[' {
+        Some(Token {
+            kind: TokenKind::Open,
+            start,
+            end: start + 1,
+        })
+    } else {
+        None
+    }
+}
+
+/// The next token, if it opens a map.
+#[inline(always)]
+pub fn map_opener(text: &[u8], offset: usize) -> Option<Token>
+    requires { offset ≤ length text.now }
+    ensures gives { IfSome result (GivesOpener text.now offset open_brace close_brace) }
+    ensures fits { IfSome result (λ token. token.end ≤ length text.now) }
+{
+    let start = behind_blanks(text, offset);
+    if start < text.len() && text[start] == b'{' {
         Some(Token {
             kind: TokenKind::Open,
             start,

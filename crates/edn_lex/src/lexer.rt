@@ -7,7 +7,7 @@ ghost use Rattle.hist_types.specs.declared.types.Fault.{Fault};
 ghost use Rattle.edn_lex.specs.Pieces.{kind_of_piece};
 ghost use Rattle.edn_lex.specs.Collections.{closer_byte, closers_of};
 ghost use Rattle.edn_lex.specs.State.{state_at_start, Rest, Passes};
-ghost use Rattle.edn_lex.specs.Ahead.{HasGivenLone, HasGivenTriple, LooksAhead};
+ghost use Rattle.edn_lex.specs.Ahead.{HasGivenLone, HasGivenTriple, LooksAhead, LooksAheadInMap};
 
 use crate::ahead::{Triple, lone_token, three_tokens};
 use crate::pieces::{PieceKind, first_piece};
@@ -181,11 +181,24 @@ impl<'a> Lexer<'a> {
         Some(triple)
     }
 
+    /// The offset from which tokens can be looked for ahead: none after a fault, or where fewer than three more collections may be
+    /// opened.
+    #[inline(always)]
+    pub fn ahead(&self) -> Option<usize>
+        ensures { IfSome result (LooksAhead self.now) }
+    {
+        if self.ended || self.collections.len() + 3 > MAX_OPEN_COLLECTIONS {
+            None
+        } else {
+            Some(self.offset)
+        }
+    }
+
     /// The offset from which the rest of a map can be looked for ahead: none after a fault, where the innermost open collection
     /// is no map or set, or where fewer than two more may be opened.
     #[inline(always)]
     pub fn ahead_in_map(&self) -> Option<usize>
-        ensures { IfSome result (LooksAhead self.now) }
+        ensures { IfSome result (LooksAheadInMap self.now) }
     {
         if self.ended || self.collections.len() + 2 > MAX_OPEN_COLLECTIONS {
             return None;
@@ -194,6 +207,15 @@ impl<'a> Lexer<'a> {
             Some(Collection::Brace) => Some(self.offset),
             _ => None,
         }
+    }
+
+    /// Goes on from this offset, where the same collections are open.
+    #[inline(always)]
+    pub fn jump(&mut self, offset: usize)
+        requires { offset ≤ length self.old.text }
+        ensures { self.new ≡ record self.old { offset = offset } }
+    {
+        self.offset = offset;
     }
 
     /// Goes on from this offset, behind the innermost open collection.

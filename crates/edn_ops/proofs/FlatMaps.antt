@@ -4,7 +4,7 @@ use Rattle.std.specs.List.{slice_get}
 use Rattle.std.specs.Prelude.{IfSome, map, slice_range}
 use Rattle.std.specs.Option.{MatchOption, is_some}
 use Rattle.hist_types.specs.AtomTokens.{int_value, process_of}
-use Rattle.hist_types.specs.Bytes.{close_brace, close_square}
+use Rattle.hist_types.specs.Bytes.{close_brace, open_square, close_square}
 use Rattle.hist_types.specs.Entries.{◌>>=◌, or_refuse, the_one, is_named, int_of, kind_of as kind_of_form, micro_op_of, micro_ops_of, transaction_of, client_operation, entry_by, entry_of}
 use Rattle.hist_types.specs.Forms.{Form, plain, collection, forms_of, place_of, is_map}
 use Rattle.hist_types.specs.Tokens.{Item}
@@ -12,7 +12,7 @@ use Rattle.hist_types.specs.declared.limits.TheConstants.{MAX_OPEN_COLLECTIONS, 
 use Rattle.hist_types.specs.declared.types.Fault.{Fault}
 use Rattle.hist_types.specs.declared.types.OpKind.{OpKind}
 use Rattle.hist_types.specs.declared.types.Refusal.TheVariants.{NotTxn}
-use Rattle.edn_lex.specs.Ahead.{going_at, GivesLone, GivesOpener, GivesCloser, GivesTriple, LooksAhead}
+use Rattle.edn_lex.specs.Ahead.{going_at, GivesLone, GivesOpener, GivesCloser, GivesTriple, LooksAheadInMap}
 use Rattle.edn_lex.specs.Kinds.{item_of}
 use Rattle.edn_lex.specs.State.{State}
 use Rattle.edn_lex.specs.declared.ahead.Triple.{Triple}
@@ -21,9 +21,10 @@ use Rattle.edn_ops.specs.declared.flat.FlatFields.{FlatFields}
 use Rattle.edn_ops.specs.declared.outline.Outline.{Outline}
 use Rattle.edn_ops.specs.declared.types.MopShape.{MopShape}
 use Rattle.edn_ops.specs.declared.types.OpShape.{OpShape}
+use Rattle.edn_ops.specs.declared.types.Span.{Span}
 use Rattle.edn_ops.specs.Collections.{ReadsMembers, ReadsMap}
 use Rattle.edn_ops.specs.Fields.{fields_named, members_of, mop_result, mops_result, result_outline, IsEntry}
-use Rattle.edn_ops.specs.Flat.{ReadsAhead, ReadsFlatMop, ReadsFlatTransaction, ReadsFlatField, HasKind, HasProcess, HasMops, AreFlat, AddsFlat, ReadsFlatMap, HasTransaction}
+use Rattle.edn_ops.specs.Flat.{ReadsAhead, ReadsFlatMop, ReadsFlatTransaction, ReadsFlatField, HasKind, HasProcess, HasMops, AreFlat, AddsFlat, ReadsFlatMap, IsFlatShape, HasTransaction}
 use Rattle.edn_ops.specs.Outlines.{outline, outline_of, number_of}
 use Rattle.edn_ops.proofs.ByMember.{nothing_read, one_read}
 use Rattle.edn_ops.proofs.Closing.{IsAt, by_process, entry_from, entry_is, has_value, is_operation, value_mops, bind_ok}
@@ -170,12 +171,12 @@ one_inside text opener members shapes more at end front r =
     }
 
 pub transaction_ahead :
-    (text : List ℕ) (offset : ℕ) (opener closer : Token) (members : List Form) (shapes : List MopShape) (at : ℕ) → GivesOpener text offset opener → ReadsInside text opener members shapes at →
+    (text : List ℕ) (offset : ℕ) (opener closer : Token) (members : List Form) (shapes : List MopShape) (at : ℕ) → GivesOpener text offset open_square close_square opener → ReadsInside text opener members shapes at →
     GivesCloser text at close_square closer → closer.end ≤ length text →
     (form : Form) × ReadsAhead text 2 offset form closer.end × (Ok shapes ≡ mops_result (transaction_of form))
 transaction_ahead text offset opener closer members shapes at opens inside closes fits =
     let form = collection (item_of text opener) (item_of text closer) (forms_of members) in
-    let here = elements (item_of text opener) (item_of text closer) members (square_is (item_of text opener) opens.square) in (
+    let here = elements (item_of text opener) (item_of text closer) members (square_is (item_of text opener) opens.bytes) in (
       form,
       record {
         within = fits;
@@ -257,50 +258,67 @@ flat_entry opener closer start end pairs kind process shape at k p v has short i
     (is_operation number (place_of p.0.1) process start end pairs (outline k.0.1) kind shape (record { process_is = p.4; short = short }) type_one (k.2 ∙ sym (kind_of-outline k.0.1))
     (value_mops kind start pairs (outline v.0.1) (Ok shape.mops.items) (has_value kind has) value_one first) is_span is_kind is_process)
 
--- a map that was read
+-- a map that was read gives an operation of this shape
+pub flat_is :
+    (text : List ℕ) (opener : Token) (fields : FlatFields) (kind : OpKind) (process end : ℕ) (shape : OpShape) → ReadsFlatMap text opener.end fields shape.mops.items end →
+    fields.kind ≡ Some kind → fields.process ≡ Some process → fields.has_value ≡ true → HasTransaction kind → nat_lt MAX_OPERATION_BYTES (end - opener.start) ≡ false →
+    shape.span ≡ record { start = opener.start; end = end } → shape.kind ≡ kind → shape.process ≡ process → IsFlatShape text opener shape
+flat_is text opener fields kind process end shape read kind_is process_is value_is has short is_span is_kind is_process =
+    let i = item_of text opener in
+    let closer = read.closer in
+    let flat = read.flat in
+    let gives = read.closes.gives [] in
+    let at : IsAt i (item_of text closer) opener.start end =
+    record { start_is = refl; end_is = token_end text closer (token_in (going_at text read.inner (close_brace ∷ [])) (going_at text closer.end []) closer gives) ∙ sym read.end_is } in
+    let end_is : shape.span.end ≡ end = ap (λ (span : Span). span.end) is_span in
+    record {
+      members = members_of read.pairs None;
+      inner = read.inner;
+      closer = closer;
+      reads = λ closers room. read.reads i closers room;
+      closes = read.closes;
+      end_is = end_is ∙ read.end_is;
+      within = subst (λ (n : ℕ). n ≤ length text) (sym end_is) read.within;
+      entry =
+          flat_entry i (item_of text closer) opener.start end read.pairs kind process shape at
+          (subst (λ (o : Option OpKind). HasKind o (fields_named (codes ":type") read.pairs)) kind_is flat.kind)
+          (subst (λ (o : Option ℕ). HasProcess o (fields_named (codes ":process") read.pairs)) process_is flat.process)
+          (subst (λ (b : Bool). HasMops b shape.mops.items (fields_named (codes ":value") read.pairs)) value_is flat.value) has short is_span is_kind is_process;
+    }
+
+-- reading goes on behind it
+pub flat_map_read :
+    (text : List ℕ) (opener : Token) (shape : OpShape) (outer : List ℕ) → IsFlatShape text opener shape → is_map (item_of text opener) ≡ true → length outer + 3 ≤ MAX_OPEN_COLLECTIONS →
+    ReadsMap (going_at text opener.end (close_brace ∷ outer)) (item_of text opener) (Ok (Some shape)) (going_at text shape.span.end outer)
+flat_map_read text opener shape outer flat is_a_map room =
+    let i = item_of text opener in
+    let closer = flat.closer in
+    let within = close_brace ∷ outer in
+    let s = going_at text opener.end within in
+    let t = going_at text flat.inner within in
+    let u = going_at text closer.end outer in
+    let last = GivesMember-first t u closer (flat.closes.gives outer) (ap is_mark_kind flat.closes.kind) in
+    subst (λ (n : ℕ). ReadsMap s i (Ok (Some shape)) (going_at text n outer)) (sym flat.end_is)
+    (map_closed s t u text (bare_token closer) i flat.members (Ok (Some shape)) is_a_map (flat.reads within (omega arith)) last flat.closes.kind refl flat.entry)
+
+-- the same of a lexer in a map
 pub flat_reads :
-    (s t : State) (offset : ℕ) (opener : Token) (fields : FlatFields) (kind : OpKind) (process end : ℕ) (shape : OpShape) → LooksAhead s offset → ReadsFlatMap s.text offset fields shape.mops.items end →
-    is_map (item_of s.text opener) ≡ true → fields.kind ≡ Some kind → fields.process ≡ Some process → fields.has_value ≡ true → HasTransaction kind → nat_lt MAX_OPERATION_BYTES (end - opener.start) ≡ false →
-    shape.span ≡ record { start = opener.start; end = end } → shape.kind ≡ kind → shape.process ≡ process → t ≡ record s { offset = end; closers = drop 1 s.closers } →
-    ReadsMap s (item_of s.text opener) (Ok (Some shape)) t
-flat_reads s t offset opener fields kind process end shape looks map_read is_a_map kind_is process_is value_is has short is_span is_kind is_process after =
-    let text = s.text in
+    (s t : State) (text : List ℕ) (opener : Token) (shape : OpShape) → text ≡ s.text → LooksAheadInMap s opener.end → IsFlatShape text opener shape → is_map (item_of text opener) ≡ true →
+    t ≡ record s { offset = shape.span.end; closers = drop 1 s.closers } → ReadsMap s (item_of text opener) (Ok (Some shape)) t
+flat_reads s t text opener shape same looks flat is_a_map after =
     let outer = looks.outer in
     let within = close_brace ∷ outer in
-    let i = item_of text opener in
-    let closer = map_read.closer in
-    let s0 = going_at text offset within in
-    let t0 = going_at text map_read.inner within in
-    let u0 = going_at text closer.end outer in
+    let s0 = going_at text opener.end within in
+    let u0 = going_at text shape.span.end outer in
     let depth : length s.closers ≡ length within = ap length looks.in_map in
-    let room : length within + 2 ≤ MAX_OPEN_COLLECTIONS = (let few = looks.room in omega arith) in
-    let gives = map_read.closes.gives outer in
-    let last = GivesMember-first t0 u0 closer gives (ap is_mark_kind map_read.closes.kind) in
-    let at : IsAt i (item_of text closer) opener.start end = record { start_is = refl; end_is = token_end text closer (token_in t0 u0 closer gives) ∙ sym map_read.end_is } in
-    let flat = map_read.flat in
-    let entry : IsEntry (Ok (Some shape)) (entry_of i (item_of text closer) (members_of map_read.pairs None)) =
-    flat_entry i (item_of text closer) opener.start end map_read.pairs kind process shape at
-    (subst (λ (o : Option OpKind). HasKind o (fields_named (codes ":type") map_read.pairs)) kind_is flat.kind)
-    (subst (λ (o : Option ℕ). HasProcess o (fields_named (codes ":process") map_read.pairs)) process_is flat.process)
-    (subst (λ (b : Bool). HasMops b shape.mops.items (fields_named (codes ":value") map_read.pairs)) value_is flat.value) has short is_span is_kind is_process in
-    let read : ReadsMap s0 i (Ok (Some shape)) u0 =
-    map_closed s0 t0 u0 text (bare_token closer) i (members_of map_read.pairs None) (Ok (Some shape)) is_a_map (map_read.reads i within room) last map_read.closes.kind refl entry in
-    let first : s ≡ s0 = looks.going ∙ ap (going_at text offset) looks.in_map in
+    let room : length outer + 3 ≤ MAX_OPEN_COLLECTIONS = (let few = looks.room in omega arith) in
+    let first : s ≡ s0 = looks.going ∙ ap (going_at s.text opener.end) looks.in_map ∙ ap (λ (xs : List ℕ). going_at xs opener.end within) (sym same) in
     let going : s.ended ≡ false = ap (λ (x : State). x.ended) looks.going in
     let left : t ≡ u0 =
-    after ∙ ap (λ (b : Bool). let x : State = record { text = text; offset = end; closers = drop 1 s.closers; ended = b } in x) going
-    ∙ ap (λ (cs : List ℕ). going_at text end (drop 1 cs)) looks.in_map ∙ ap (λ (n : ℕ). going_at text n outer) map_read.end_is in
-    subst (ReadsMap s i (Ok (Some shape))) (sym left) (subst (λ (x : State). ReadsMap x i (Ok (Some shape)) u0) (sym first) read)
-
--- the same, where the text has a word of its own
-pub flat_reads_in :
-    (s t : State) (text : List ℕ) (offset : ℕ) (opener : Token) (fields : FlatFields) (kind : OpKind) (process end : ℕ) (shape : OpShape) → text ≡ s.text → LooksAhead s offset → ReadsFlatMap text offset fields shape.mops.items end →
-    is_map (item_of text opener) ≡ true → fields.kind ≡ Some kind → fields.process ≡ Some process → fields.has_value ≡ true → HasTransaction kind → nat_lt MAX_OPERATION_BYTES (end - opener.start) ≡ false →
-    shape.span ≡ record { start = opener.start; end = end } → shape.kind ≡ kind → shape.process ≡ process → t ≡ record s { offset = end; closers = drop 1 s.closers } →
-    ReadsMap s (item_of text opener) (Ok (Some shape)) t
-flat_reads_in s t text offset opener fields kind process end shape same looks map_read is_a_map kind_is process_is value_is has short is_span is_kind is_process after =
-    let P : List ℕ → Type 0 = λ xs. ReadsFlatMap xs offset fields shape.mops.items end → is_map (item_of xs opener) ≡ true → ReadsMap s (item_of xs opener) (Ok (Some shape)) t in
-    subst P (sym same) (λ m i. flat_reads s t offset opener fields kind process end shape looks m i kind_is process_is value_is has short is_span is_kind is_process after) map_read is_a_map
+    after ∙ ap (λ (b : Bool). let x : State = record { text = s.text; offset = shape.span.end; closers = drop 1 s.closers; ended = b } in x) going
+    ∙ ap (λ (cs : List ℕ). going_at s.text shape.span.end (drop 1 cs)) looks.in_map ∙ ap (λ (xs : List ℕ). going_at xs shape.span.end outer) (sym same) in
+    subst (ReadsMap s (item_of text opener) (Ok (Some shape))) (sym left)
+    (subst (λ (x : State). ReadsMap x (item_of text opener) (Ok (Some shape)) u0) (sym first) (flat_map_read text opener shape outer flat is_a_map room))
 
 -- a value that is a form by itself
 pub lone_ahead : (text : List ℕ) (offset : ℕ) (token : Token) → token.end ≤ length text → GivesLone text offset token → ReadsAhead text 2 offset (plain (item_of text token)) token.end

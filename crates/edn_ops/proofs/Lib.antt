@@ -18,6 +18,7 @@ pub mod Reached
 pub mod Triples
 pub mod Ahead
 pub mod FlatMaps
+pub mod FlatPlaces
 pub mod ReadsBack
 mod Tokens
 mod Decimals

@@ -254,7 +254,7 @@ skips-more (suc n) = ap (λ xs. skipped ∷ xs) (skips-more n)
 abbrev pub LeadsOn : State → Option Token → List Entry → State → Option Token → Type 0
 LeadsOn s list given t list' = (o : Open) → AreOpen s list o → (q : Open) × OpenWith s.text list' q × Leads s o given t q
 
-Goes-on : (s t : State) (list list' : Option Token) (given : List Entry) → LeadsOn s list given t list' → Goes s list given t list'
+pub Goes-on : (s t : State) (list list' : Option Token) (given : List Entry) → LeadsOn s list given t list' → Goes s list given t list'
 Goes-on s t list list' given leads =
     λ o is.
     let x = leads o is in

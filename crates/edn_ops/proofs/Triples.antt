@@ -95,7 +95,7 @@ square_is item e = ap (λ (bs : List ℕ). bytes_eq bs (open_square ∷ []) || b
 
 -- a vector whose members were read
 pub vector_reads :
-    (text : List ℕ) (offset inner : ℕ) (opener closer : Token) (members : List Form) (closers : List ℕ) → length closers < MAX_OPEN_COLLECTIONS → GivesOpener text offset opener →
+    (text : List ℕ) (offset inner : ℕ) (opener closer : Token) (members : List Form) (closers : List ℕ) → length closers < MAX_OPEN_COLLECTIONS → GivesOpener text offset open_square close_square opener →
     ReadsMembers (going_at text opener.end (close_square ∷ closers)) (item_of text opener) members (going_at text inner (close_square ∷ closers)) → GivesCloser text inner close_square closer →
     ReadsMember (going_at text offset closers) (collection (item_of text opener) (item_of text closer) (forms_of members)) (going_at text closer.end closers)
 vector_reads text offset inner opener closer members closers room opens read closes =
@@ -134,7 +134,7 @@ triple_mop text offset triple mop h is =
     let within : AllByRecursion (IsOutlineIn text) (three_of triple) =
     (lone_in text triple.opener.end triple.first h.first, (lone_in text triple.first.end triple.second h.second, (lone_in text triple.second.end triple.third h.third, tt))) in
     let forms : AreFirstForms text (three_of triple) (three_forms text triple) = record { outlines_are = refl; within = within } in
-    micro_op_is text mop triple.opener.start (three_of triple) (item_of text triple.opener) (item_of text triple.closer) (three_forms text triple) is forms (square_is (item_of text triple.opener) h.opener.square) refl
+    micro_op_is text mop triple.opener.start (three_of triple) (item_of text triple.opener) (item_of text triple.closer) (three_forms text triple) is forms (square_is (item_of text triple.opener) h.opener.bytes) refl
 
 -- a vector that was read at once is a member of a transaction
 pub triple_read :

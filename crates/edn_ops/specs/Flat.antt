@@ -2,7 +2,7 @@
 use Rattle.std.specs.Prelude.{◌≡◌, ◌⊎◌, ℕ, ℤ, ◌+◌, ◌≤◌, List, [], ◌∷◌, ◌++◌, length, Bool, true, false, codes, Option, Some, None, Result, Ok, Err}
 use Rattle.hist_types.specs.AtomTokens.{process_of}
 use Rattle.hist_types.specs.Bytes.{close_brace}
-use Rattle.hist_types.specs.Entries.{int_of, kind_of, micro_ops_of, transaction_of}
+use Rattle.hist_types.specs.Entries.{entry_of, int_of, kind_of, micro_ops_of, transaction_of}
 use Rattle.hist_types.specs.Forms.{Form, plain}
 use Rattle.hist_types.specs.Refusals.{memory_fault}
 use Rattle.hist_types.specs.Tokens.{Item}
@@ -18,7 +18,7 @@ use Rattle.edn_ops.specs.declared.flat.FlatFields.{FlatFields}
 use Rattle.edn_ops.specs.declared.types.MopShape.{MopShape}
 use Rattle.edn_ops.specs.declared.types.OpShape.{OpShape}
 use Rattle.edn_ops.specs.Collections.{ReadsMember, ReadsMembers, ReadsMap}
-use Rattle.edn_ops.specs.Fields.{fields_named, members_of, mops_result}
+use Rattle.edn_ops.specs.Fields.{IsEntry, fields_named, members_of, mops_result}
 
 -- ---- members
 
@@ -101,6 +101,25 @@ abbrev pub GivesFlatMap : List ℕ → ℕ → Result (Option ℕ) Fault → Fla
 GivesFlatMap text offset (Ok None) fields shapes = Unit {0}
 GivesFlatMap text offset (Ok (Some end)) fields shapes = ReadsFlatMap text offset fields shapes end
 GivesFlatMap text offset (Err fault) fields shapes = fault ≡ memory_fault
+
+-- behind its opener a map gives an operation of this shape, which ends behind its closer
+pub record IsFlatShape (text : List ℕ) (opener : Token) (shape : OpShape) : Type 0 where
+  pub members : List Form
+  pub inner : ℕ
+  pub closer : Token
+  pub reads :
+      (closers : List ℕ) → length closers + 2 ≤ MAX_OPEN_COLLECTIONS →
+      ReadsMembers (going_at text opener.end closers) (item_of text opener) members (going_at text inner closers)
+  pub closes : GivesCloser text inner close_brace closer
+  pub end_is : shape.span.end ≡ closer.end
+  pub within : shape.span.end ≤ length text
+  pub entry : IsEntry (Ok (Some shape)) (entry_of (item_of text opener) (item_of text closer) members)
+
+-- a call gave such a shape, or none
+abbrev pub GivesFlatShape : List ℕ → Token → Result (Option OpShape) Fault → Type 0
+GivesFlatShape text opener (Ok None) = Unit {0}
+GivesFlatShape text opener (Ok (Some shape)) = IsFlatShape text opener shape
+GivesFlatShape text opener (Err fault) = fault ≡ memory_fault
 
 -- a call read the map of an operation, or left it
 abbrev pub ReadsFlatOperation : State → Item → Result (Option OpShape) Fault → State → Type 0

@@ -1,6 +1,7 @@
 -- What a call that reads the next operation gives.
-use Rattle.std.specs.Prelude.{◌≡◌, ◌+◌, ℕ, List, [], ◌∷◌, ◌++◌, Bool, true, false, Option, Some, None, Result, Ok, Err}
+use Rattle.std.specs.Prelude.{◌≡◌, ◌≤◌, ◌+◌, ℕ, List, [], ◌∷◌, ◌++◌, Bool, true, false, Option, Some, None, Result, Ok, Err}
 use Rattle.hist_types.specs.Entries.{Entry, operation, PlacedOperation}
+use Rattle.hist_types.specs.Refusals.{memory_fault}
 use Rattle.hist_types.specs.declared.types.Fault.{Fault}
 use Rattle.edn_lex.specs.State.{State, state_at_start, Rest}
 use Rattle.edn_ops.specs.declared.reader.Place.{Place}
@@ -36,6 +37,12 @@ abbrev pub NextOp : Place → Result (Option OpShape) Fault → Place → Type 0
 NextOp old (Ok (Some shape)) new = ReadsOp old shape new
 NextOp old (Ok None) new = ReadsEnd old new
 NextOp old (Err fault) new = UnlessMemory fault (ReadsFault old fault)
+
+-- what a call gives that reads an operation at once, or leaves the place as it is
+abbrev pub FlatOp : Place → Result (Option OpShape) Fault → Place → Type 0
+FlatOp old (Ok None) new = new ≡ old
+FlatOp old (Ok (Some shape)) new = ReadsOp old shape new × (new.skipped ≤ new.lexer.offset)
+FlatOp old (Err fault) new = (fault ≡ memory_fault) × (new ≡ old)
 
 -- ---- where a reader is in its text
 

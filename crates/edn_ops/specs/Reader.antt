@@ -11,7 +11,7 @@ use Rattle.edn_lex.specs.Kinds.{item_of}
 use Rattle.edn_lex.specs.State.{State, Rest, state_at_start}
 use Rattle.edn_ops.specs.declared.types.OpShape.{OpShape}
 use Rattle.edn_ops.specs.Leads.{SameDepth, Leads, ReadsAs, inside}
-use Rattle.edn_ops.specs.Shapes.{IsShapeOf}
+use Rattle.edn_ops.specs.Shapes.{IsShapeOf, IsShapeIn}
 
 -- ---- what is open between two operations
 
@@ -89,3 +89,9 @@ abbrev pub NextOf : Reader → Result (Option OpShape) Fault → Reader → Type
 NextOf old (Ok (Some shape)) new = HasRead old shape new
 NextOf old (Ok None) new = HasEnded old new
 NextOf old (Err fault) new = ((fault ≡ memory_fault) × (new ≡ old)) ⊎ ((fault ≢ memory_fault) × HasFailed old fault new)
+
+-- what a call gives that reads an operation at once, or leaves the reader as it is
+abbrev pub FlatNext : Reader → Result (Option OpShape) Fault → Reader → Type 0
+FlatNext old (Ok None) new = new ≡ old
+FlatNext old (Ok (Some shape)) new = (old.failed ≡ None) × HasRead old shape new × IsShapeIn old.state.text shape × (new.state.text ≡ old.state.text)
+FlatNext old (Err fault) new = (old.failed ≡ None) × (fault ≡ memory_fault) × (new ≡ old)

@@ -7,7 +7,7 @@ ghost use Rattle.hist_types.specs.Entries.{int_of};
 ghost use Rattle.hist_types.specs.Forms.{Form, plain, is_map};
 ghost use Rattle.edn_lex.specs.Kinds.{item_of};
 ghost use Rattle.edn_ops.specs.Outlines.{outline_of, IsTokenIn, IsOutlineIn};
-ghost use Rattle.edn_ops.specs.Flat.{ReadsFlatMop, ReadsFlatTransaction, AreFlat, AddsFlat, ReadsFlatField, GivesFlatMap, ReadsFlatOperation, HasTransaction};
+ghost use Rattle.edn_ops.specs.Flat.{ReadsFlatMop, ReadsFlatTransaction, AreFlat, AddsFlat, ReadsFlatField, GivesFlatMap, GivesFlatShape, ReadsFlatOperation, HasTransaction};
 
 use crate::atoms;
 use crate::fields::kind_of;
@@ -174,6 +174,41 @@ fn flat_map(
     }
 }
 
+/// The operation that a map gives behind this opener, if it can be read so.
+#[inline(always)]
+pub(crate) fn flat_shape(
+    alloc: Global,
+    text: &[u8],
+    opener: Token,
+) -> Result<Option<OpShape>, Fault>
+    requires { opener.end ≤ length text.now }
+    ensures { GivesFlatShape text.now opener result }
+{
+    let mut fields = FlatFields::new();
+    let mut mops = SmallVec::new(alloc);
+    let Some(end) = flat_map(text, opener.end, &mut fields, &mut mops)? else {
+        return Ok(None);
+    };
+    let (Some(kind), Some(process)) = (fields.kind, fields.process) else {
+        return Ok(None);
+    };
+    if !has_transaction(kind) || !fields.has_value {
+        return Ok(None);
+    }
+    if end.saturating_sub(opener.start) > MAX_OPERATION_BYTES {
+        return Ok(None);
+    }
+    Ok(Some(OpShape {
+        span: Span {
+            start: opener.start,
+            end,
+        },
+        kind,
+        process,
+        mops,
+    }))
+}
+
 /// Reads the map of an operation, whose opener has just been given, if it can be read so and gives an operation. Else the lexer
 /// stays where it is.
 pub(crate) fn flat_operation(
@@ -189,28 +224,14 @@ pub(crate) fn flat_operation(
     let Some(offset) = lexer.ahead_in_map() else {
         return Ok(None);
     };
-    let mut fields = FlatFields::new();
-    let mut mops = SmallVec::new(alloc);
-    let Some(end) = flat_map(text, offset, &mut fields, &mut mops)? else {
-        return Ok(None);
-    };
-    let (Some(kind), Some(process)) = (fields.kind, fields.process) else {
-        return Ok(None);
-    };
-    if !has_transaction(kind) || !fields.has_value {
+    if offset != opener.end {
         return Ok(None);
     }
-    if end.saturating_sub(opener.start) > MAX_OPERATION_BYTES {
-        return Ok(None);
+    match flat_shape(alloc, text, opener) {
+        Ok(Some(shape)) => {
+            lexer.leave(shape.span.end);
+            Ok(Some(shape))
+        }
+        other => other,
     }
-    lexer.leave(end);
-    Ok(Some(OpShape {
-        span: Span {
-            start: opener.start,
-            end,
-        },
-        kind,
-        process,
-        mops,
-    }))
 }

@@ -6,15 +6,17 @@ ghost use Rattle.hist_types.specs.Reading.{Reads};
 ghost use Rattle.hist_types.specs.Forms.{is_map, is_vector_or_list};
 ghost use Rattle.edn_lex.specs.declared.types.TokenKind.TheVariants.{Open};
 ghost use Rattle.edn_lex.specs.Kinds.{item_of};
-ghost use Rattle.edn_ops.specs.Reader.{reader_at_start, Left, NextOf};
-ghost use Rattle.edn_ops.specs.Places.{NextOp};
+ghost use Rattle.edn_ops.specs.Reader.{reader_at_start, Left, NextOf, FlatNext};
+ghost use Rattle.edn_ops.specs.Places.{NextOp, FlatOp};
 ghost use Rattle.edn_ops.specs.Shapes.{IsShapeIn};
 
 use crate::faults::fault_at;
+use crate::flat::flat_shape;
 use crate::forms::next_member;
 use crate::maps::read_map;
 use crate::marks::{closes, opens};
 use crate::types::OpShape;
+use edn_lex::ahead::map_opener;
 use edn_lex::lexer::Lexer;
 use edn_lex::types::Token;
 use hist_types::types::{Fault, Refusal};
@@ -74,6 +76,27 @@ impl<'a> Place<'a> {
             lexer: self.lexer.copy(),
             list: self.list,
             skipped: self.skipped,
+        }
+    }
+
+    /// The next operation, if it is a map that can be read in one pass. Else the place stays the same, and out of memory too.
+    fn flat_op(&mut self, alloc: Global) -> Result<Option<OpShape>, Fault>
+        requires { self.old.skipped ≤ self.old.lexer.offset }
+        ensures { FlatOp self.old result self.new }
+    {
+        let Some(offset) = self.lexer.ahead() else {
+            return Ok(None);
+        };
+        let text = self.lexer.text();
+        let Some(opener) = map_opener(text, offset) else {
+            return Ok(None);
+        };
+        match flat_shape(alloc, text, opener) {
+            Ok(Some(shape)) => {
+                self.lexer.jump(shape.span.end);
+                Ok(Some(shape))
+            }
+            other => other,
         }
     }
 
@@ -156,6 +179,31 @@ impl<'a> OpReader<'a> {
     /// The next operation, or none at the text's end. A fault ends the reading, and each later call gives it again; but
     /// where memory is refused (`Memory`) the reader is unchanged, and the call can be made again.
     pub fn next_op(&mut self) -> Result<Option<OpShape>, Fault>
+        ensures again { IfSome self.old.failed (λ fault. (result ≡ Err fault) × (self.new ≡ self.old)) }
+        ensures next { self.old.failed ≡ None → NextOf self.old result self.new }
+        ensures shape { IfOk result (λ found. IfSome found (IsShapeIn self.old.state.text)) }
+        ensures text { self.new.state.text ≡ self.old.state.text }
+    {
+        match self.flat_op() {
+            Ok(None) => self.any_op(),
+            Ok(Some(shape)) => Ok(Some(shape)),
+            Err(fault) => Err(fault),
+        }
+    }
+
+    /// The same, if it is a map that can be read in one pass. Else the reader stays the same.
+    fn flat_op(&mut self) -> Result<Option<OpShape>, Fault>
+        ensures { FlatNext self.old result self.new }
+    {
+        if self.ended || self.failed.is_some() {
+            return Ok(None);
+        }
+        self.place.flat_op(self.alloc)
+    }
+
+    /// The same, whatever it is.
+    #[inline(never)]
+    fn any_op(&mut self) -> Result<Option<OpShape>, Fault>
         ensures again { IfSome self.old.failed (λ fault. (result ≡ Err fault) × (self.new ≡ self.old)) }
         ensures next { self.old.failed ≡ None → NextOf self.old result self.new }
         ensures shape { IfOk result (λ found. IfSome found (IsShapeIn self.old.state.text)) }

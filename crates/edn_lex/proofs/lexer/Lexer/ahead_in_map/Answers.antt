@@ -1,7 +1,7 @@
 use Rattle.std.proofs.Common.{◌≡◌, ◌+◌, ◌-◌, ◌≤◌, Bool, List, length, Some, ap, arith, subst, sym, ◌∙◌}
 use Rattle.std.specs.List.{slice_get}
 use Rattle.hist_types.specs.declared.limits.TheConstants.{MAX_OPEN_COLLECTIONS}
-use Rattle.edn_lex.specs.Ahead.{LooksAhead}
+use Rattle.edn_lex.specs.Ahead.{LooksAheadInMap}
 use Rattle.edn_lex.specs.Collections.{closers_of}
 use Rattle.edn_lex.specs.State.{State}
 use Rattle.edn_lex.specs.declared.lexer.Collection.{Collection}
@@ -17,7 +17,7 @@ returns-in-Some-Brace c =
     sym (ap (λ (xs : List Collection). slice_get xs (length xs - 1)) c.as_slice.ensures.value) ∙ sym c.in-Some-Brace.ensures.value ∙ ap (λ (x : Collection). Some x) c.in-Some-Brace.field-0-is in
     let last = closers_last items Brace is in
     let few : length (closers_of items) + 2 ≤ MAX_OPEN_COLLECTIONS = (let n = closers_count items in let len = c.len.ensures.value in let room = c.if-len-gt-MAX_OPEN_COLLECTIONS.false in omega arith) in
-    subst (λ (x : State). LooksAhead x a.offset) c.self.view_is
+    subst (λ (x : State). LooksAheadInMap x a.offset) c.self.view_is
     (record {
       going = ap (λ (b : Bool). let x : State = record { text = a.text.now; offset = a.offset; closers = closers_of items; ended = b } in x) c.if-self.false;
       outer = last.0;

@@ -5,7 +5,7 @@ use Rattle.edn_ops.specs.Places.{NextOp}
 use Rattle.edn_ops.specs.Reader.{Reader}
 use Rattle.edn_ops.specs.Shapes.{IsShapeIn}
 use Rattle.edn_ops.proofs.Reached.{next-text, next-shape, next-up_to, has_ended}
-use Rattle.edn_ops.proofs.reader.OpReader.next_op.Goals as goal
+use Rattle.edn_ops.proofs.reader.OpReader.any_op.Goals as goal
 
 pub returns-then-self-clause-next : goal.returns-then-self-clause-next
 returns-then-self-clause-next c =
