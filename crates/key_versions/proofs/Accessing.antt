@@ -1,15 +1,15 @@
 -- What a transaction reads and writes, with one micro-operation more.
-use Rattle.std.proofs.Common.{◌≡◌, ◌⊎◌, inl, inr, ℕ, zero, suc, List, [], ◌∷◌, ◌++◌, map, Bool, true, false, cond, Option, Some, None, refl, sym, ◌∙◌, ap, subst, arith}
-use Rattle.std.specs.Prelude.{slice_get, ◌==◌, ◌||◌, fold, flat_map}
+use Rattle.std.proofs.Common.{◌≡◌, inl, inr, ℕ, List, [], ◌∷◌, ◌++◌, map, Bool, true, false, cond, Some, refl, sym, ◌∙◌, ap, subst}
+use Rattle.std.specs.Prelude.{slice_get, ◌==◌, ◌||◌}
 use Rattle.std.specs.List.{list_any}
 use Rattle.std.proofs.lemmas.Bool.{cases_Bool, true≢false, false≢true, false_from_ne_true, eqb-true, eq-eqb}
-use Rattle.std.proofs.lemmas.List.{append_assoc, append-nil}
+use Rattle.std.proofs.lemmas.List.{append-nil}
 use Rattle.hist_types.specs.Atoms.{Atom, Value, atom_eq}
 use Rattle.hist_types.specs.Operations.{Mop, read, write}
-use Rattle.hist_types.specs.Journal.{Write, writes_of}
+use Rattle.hist_types.specs.Journal.{writes_of}
 use Rattle.hist_types.specs.Transactions.{Version, version_eq, version_of, reads_after}
 use Rattle.hist_types.specs.Versions.{nil_of}
-use Rattle.hist_types.proofs.Equality.{atom_eq-same, atom_eq-itself, version_eq-same, version_eq-itself}
+use Rattle.hist_types.proofs.Equality.{atom_eq-same, atom_eq-itself, version_eq-itself}
 use Rattle.atom_index.specs.Numbers.{number_in, with_item, AreNumbered}
 use Rattle.atom_index.proofs.Pushed.{inserted_numbered}
 use Rattle.edn_ops.specs.Shapes.{is_write}
@@ -17,7 +17,7 @@ use Rattle.op_view.specs.Mops.{key_of, value_of}
 use Rattle.key_versions.specs.declared.rows.Access.{Access}
 use Rattle.key_versions.specs.Histories.{version_in, named_in}
 use Rattle.key_versions.specs.Numbering.{version_with, with_versions, IsAccess, AreAccesses}
-use Rattle.key_versions.specs.Rows.{has_nil, is_of_key}
+use Rattle.key_versions.specs.Rows.{has_nil}
 use Rattle.key_versions.proofs.Places.{same_item, slice_get-with_item}
 
 -- ---- versions that are inserted
@@ -75,9 +75,9 @@ same_nil vs numbered v u i j here there = elim (cases_Bool (j == i)) [
       let keys : v.key ≡ u.key = ap (λ (w : Version). w.key) same in
       is ∙ sym (ap (atom_eq v.key) (sym keys) ∙ atom_eq-itself v.key))
   | inr differ ↦ differ ∙ sym (false_from_ne_true _ (λ equal.
-        let keys : v.key ≡ u.key = atom_eq-same v.key u.key equal in
-        let place : j ≡ i = same_item j i (sym (numbered j (nil_of u.key) there) ∙ ap (λ k. number_in version_eq (nil_of k) vs) (sym keys) ∙ numbered i (nil_of v.key) here) in
-        true≢false (sym (eq-eqb j i place) ∙ differ)))
+      let keys : v.key ≡ u.key = atom_eq-same v.key u.key equal in
+      let place : j ≡ i = same_item j i (sym (numbered j (nil_of u.key) there) ∙ ap (λ k. number_in version_eq (nil_of k) vs) (sym keys) ∙ numbered i (nil_of v.key) here) in
+      true≢false (sym (eq-eqb j i place) ∙ differ)))
 ]
 
 pub has_nil_key :
@@ -206,12 +206,12 @@ taken_read base numbered is_ok ms vs us ws rs (read key value) a old grown is re
     let first : writes_key key ms ≡ false = sym (own base numbered is_ok ms vs us ws rs m a old grown is) ∙ external in
     let before : AreAccesses us (reads_after [] ms) rs = subst (λ b. AreAccesses us (cond b (reads_after [] ms) []) rs) ok kept.1 in
     let after : reads_after [] (ms ++ m ∷ []) ≡ reads_after [] ms ++ version_with key value ∷ [] =
-      reads-read [] ms key value ∙ ap (λ b. reads_after [] ms ++ cond b [] (version_with key value ∷ [])) first in
+    reads-read [] ms key value ∙ ap (λ b. reads_after [] ms ++ cond b [] (version_with key value ∷ [])) first in
     record {
       versions = taken_versions base numbered is_ok ms vs us ws rs m a old.versions grown;
       writes = subst (λ (xs : List Version). AreAccesses us xs ws) (sym (writes-read ms key value)) kept.0;
       reads = subst (λ b. AreAccesses us (cond b (reads_after [] (ms ++ m ∷ [])) []) (rs ++ a ∷ [])) (sym ok)
-        (subst (λ (xs : List Version). AreAccesses us xs (rs ++ a ∷ [])) (sym after) (accesses_push us (reads_after [] ms) rs (version_with key value) a before is));
+          (subst (λ (xs : List Version). AreAccesses us xs (rs ++ a ∷ [])) (sym after) (accesses_push us (reads_after [] ms) rs (version_with key value) a before is));
     }
 
 -- a read of what the transaction wrote itself
@@ -225,7 +225,7 @@ taken_own base numbered is_ok ms vs us ws rs (read key value) a old grown is rea
     let kept = still base numbered is_ok ms vs us ws rs m a old grown in
     let second : writes_key key ms ≡ true = sym (own base numbered is_ok ms vs us ws rs m a old grown is) ∙ internal in
     let after : reads_after [] (ms ++ m ∷ []) ≡ reads_after [] ms =
-      reads-read [] ms key value ∙ ap (λ b. reads_after [] ms ++ cond b [] (version_with key value ∷ [])) second ∙ append-nil (reads_after [] ms) in
+    reads-read [] ms key value ∙ ap (λ b. reads_after [] ms ++ cond b [] (version_with key value ∷ [])) second ∙ append-nil (reads_after [] ms) in
     record {
       versions = taken_versions base numbered is_ok ms vs us ws rs m a old.versions grown;
       writes = subst (λ (xs : List Version). AreAccesses us xs ws) (sym (writes-read ms key value)) kept.0;

@@ -1,18 +1,14 @@
 -- The followers that a transaction adds to a version.
-use Rattle.std.proofs.Common.{◌≡◌, ◌⊎◌, inl, inr, ◌<◌, ℕ, zero, suc, List, [], ◌∷◌, ◌++◌, length, map, Bool, true, false, cond, Option, Some, None, refl, sym, ◌∙◌, ap, subst, arith}
+use Rattle.std.proofs.Common.{◌≡◌, ℕ, List, [], ◌∷◌, ◌++◌, map, Bool, true, false, cond, Option, Some, None, refl, sym, ◌∙◌, ap}
 use Rattle.std.specs.Prelude.{slice_get, filter, not, ◌&&◌, ◌||◌, ◌==◌}
-use Rattle.std.specs.Option.{is_none}
-use Rattle.std.proofs.lemmas.Bool.{cases_Bool, true≢false, eqb-true, eq-eqb}
-use Rattle.std.proofs.lemmas.List.{append_assoc, append-nil, map-append}
-use Rattle.hist_types.specs.Atoms.{Atom, Value, atom_eq, value_eq}
-use Rattle.hist_types.specs.Journal.{Write, writes_of}
-use Rattle.hist_types.specs.Transactions.{Transaction, Version, version_eq, version_of, has_version, is_ok, external_reads, last_writes, installed_by, reads}
+use Rattle.std.proofs.lemmas.List.{append-nil}
+use Rattle.hist_types.specs.Atoms.{Atom, atom_eq, value_eq}
+use Rattle.hist_types.specs.Journal.{Write}
+use Rattle.hist_types.specs.Transactions.{Version, version_eq, version_of}
 use Rattle.hist_types.specs.Versions.{nil_of, pair, is_change}
-use Rattle.hist_types.proofs.Equality.{atom_eq-itself, version_eq-itself}
+use Rattle.hist_types.proofs.Equality.{version_eq-itself}
 use Rattle.atom_index.specs.Numbers.{AreNumbered}
 use Rattle.key_versions.specs.declared.rows.Access.{Access}
-use Rattle.key_versions.specs.declared.types.Follower.{Follower}
-use Rattle.key_versions.specs.Histories.{is_followed, installs_behind}
 use Rattle.key_versions.specs.Numbering.{version_with, IsAccess, AreAccesses}
 use Rattle.key_versions.specs.Rows.{follower, is_behind}
 use Rattle.key_versions.specs.Tables.{followers_at}
@@ -78,9 +74,9 @@ module _ (vs : List Version) (numbered : AreNumbered version_eq vs) (n nil place
       let v = version_with key None in
       let place_same : (n == nil) ≡ true = same_version vs numbered v v nil n there at ∙ version_eq-itself v in
       let first = filtered vs place (is_of n) (λ (u : Version). (true || r) && is_change (pair v u)) wr accesses
-        (λ w a is. same_nil vs numbered v (version_of w) n a.nil at is.0 ∙ sym (and_true (atom_eq key w.key))) are in
+      (λ w a is. same_nil vs numbered v (version_of w) n a.nil at is.0 ∙ sym (and_true (atom_eq key w.key))) are in
       let none : filter (is_behind (access_by nil n)) accesses ≡ [] =
-        same_filter (is_behind (access_by nil n)) (λ (a : Access). false) (λ a. ap (λ t. (not t && (a.nil == nil)) && not (a.version == n)) place_same) accesses ∙ none_pass accesses in
+      same_filter (is_behind (access_by nil n)) (λ (a : Access). false) (λ a. ap (λ t. (not t && (a.nil == nil)) && not (a.version == n)) place_same) accesses ∙ none_pass accesses in
       ap (λ (xs : List Access). followers_at vs (map (follower place) (filter (is_of n) accesses)) ++ followers_at vs (map (follower place) xs)) (neither b (filter (is_behind (access_by nil n)) accesses) none)
       ∙ append-nil (followers_at vs (map (follower place) (filter (is_of n) accesses))) ∙ first
 
@@ -100,12 +96,12 @@ module _ (vs : List Version) (numbered : AreNumbered version_eq vs) (n nil place
       let apart : (n == nil) ≡ false = same_version vs numbered (version_with key None) v nil n there at ∙ and_false (atom_eq key key) in
       ap (λ (xs : List (ℕ × Option Version)). xs ++ followers_at vs (map (follower place) (filter (is_behind (access_by nil n)) accesses))) (none_at key x at)
       ∙ filtered vs place (is_behind (access_by nil n)) (λ (u : Version). is_change (pair v u)) wr accesses
-        (λ w a is.
-          ap (λ t. (not t && (a.nil == nil)) && not (a.version == n)) apart
-          ∙ ap (λ t. t && not (a.version == n)) (same_nil vs numbered (version_with key None) (version_of w) nil a.nil there is.0)
-          ∙ ap (λ t. atom_eq key w.key && not t) (same_version vs numbered v (version_of w) n a.version at is.1)
-          ∙ and_twice (atom_eq key w.key) (value_eq (Some x) (Some w.value)))
-        are
+      (λ w a is.
+      ap (λ t. (not t && (a.nil == nil)) && not (a.version == n)) apart
+      ∙ ap (λ t. t && not (a.version == n)) (same_nil vs numbered (version_with key None) (version_of w) nil a.nil there is.0)
+      ∙ ap (λ t. atom_eq key w.key && not t) (same_version vs numbered v (version_of w) n a.version at is.1)
+      ∙ and_twice (atom_eq key w.key) (value_eq (Some x) (Some w.value)))
+      are
 
   -- behind another version that it does not read
   pub behind_unread :

@@ -1,11 +1,11 @@
 -- A history with one transaction more.
-use Rattle.std.proofs.Common.{◌≡◌, ◌+◌, ℕ, List, [], ◌∷◌, ◌++◌, length, map, Bool, true, false, cond, Option, Some, None, refl, sym, ◌∙◌, ap, arith}
-use Rattle.std.specs.Prelude.{slice_get, filter, ◌&&◌, ◌||◌}
+use Rattle.std.proofs.Common.{◌≡◌, ◌+◌, ℕ, List, [], ◌∷◌, ◌++◌, length, map, Bool, true, false, cond, Some, None, refl, sym, ◌∙◌, ap, arith}
+use Rattle.std.specs.Prelude.{slice_get, ◌||◌}
 use Rattle.std.specs.List.{list_any}
 use Rattle.std.specs.Option.{option_or}
 use Rattle.std.proofs.lemmas.List.{append_assoc, append-nil}
-use Rattle.hist_types.specs.Transactions.{Transaction, Version, installed_by, reads, writes, writes_over, has_version}
-use Rattle.key_versions.specs.Histories.{from_place, named_in, is_named, writers_of, writer_of, readers_of, followers_of, installs_behind}
+use Rattle.hist_types.specs.Transactions.{Transaction, Version, reads, writes, writes_over, has_version}
+use Rattle.key_versions.specs.Histories.{from_place, named_in, is_named, writer_of, readers_of, followers_of, installs_behind}
 use Rattle.key_versions.specs.declared.types.Writer.{Writer}
 
 from_place-push :

@@ -1,28 +1,21 @@
 -- The row of a version, in the words of the history.
-use Rattle.std.proofs.Common.{◌≡◌, ◌⊎◌, inl, inr, ◌<◌, ◌≤◌, ◌+◌, ◌-◌, ℕ, zero, suc, List, [], ◌∷◌, ◌++◌, length, map, All, Bool, true, false, cond, Option, Some, None, refl, sym, ◌∙◌, ap, subst, arith}
-use Rattle.std.specs.Prelude.{slice_get, filter, not, ◌&&◌, ◌||◌, ◌==◌}
+use Rattle.std.proofs.Common.{◌≡◌, inl, inr, ℕ, List, [], ◌∷◌, map, Bool, true, false, cond, Option, Some, None, refl, sym, ◌∙◌, ap}
+use Rattle.std.specs.Prelude.{slice_get, ◌&&◌, ◌||◌, ◌==◌}
 use Rattle.std.specs.List.{list_any}
-use Rattle.std.specs.Option.{option_or, is_none, is_some}
-use Rattle.std.proofs.lemmas.Bool.{cases_Bool, true≢false, false≢true, false_from_ne_true, eqb-true, eqb-false, eq-eqb, and_parts, or_parts}
-use Rattle.std.proofs.lemmas.List.{append_assoc, append-nil, map-append}
-use Rattle.std.proofs.lemmas.Option.{slice_get_within}
-use Rattle.hist_types.specs.Atoms.{Atom, Value, atom_eq, value_eq}
-use Rattle.hist_types.specs.Journal.{Write, writes_of}
-use Rattle.hist_types.specs.Transactions.{Transaction, Version, version_eq, version_of, has_version, has_key, is_ok, external_reads, last_writes, overwritten, installed_by, reads, writes, writes_over}
-use Rattle.hist_types.specs.Versions.{nil_of, pair, is_change}
-use Rattle.hist_types.proofs.Equality.{atom_eq-same, atom_eq-itself, version_eq-same, version_eq-itself}
-use Rattle.atom_index.specs.Numbers.{number_in, with_item, AreNumbered}
-use Rattle.atom_index.proofs.Pushed.{has_number as number_there}
+use Rattle.std.specs.Option.{option_or}
+use Rattle.std.proofs.lemmas.Bool.{cases_Bool, true≢false, false≢true, false_from_ne_true, eqb-true, eq-eqb, and_parts, or_parts}
+use Rattle.hist_types.specs.Atoms.{Atom, atom_eq, value_eq}
+use Rattle.hist_types.specs.Journal.{Write}
+use Rattle.hist_types.specs.Transactions.{Version, version_eq, version_of, has_version, has_key, last_writes, overwritten}
+use Rattle.hist_types.proofs.Equality.{atom_eq-same, version_eq-same, version_eq-itself}
+use Rattle.atom_index.specs.Numbers.{number_in, AreNumbered}
 use Rattle.key_versions.specs.declared.rows.Access.{Access}
 use Rattle.key_versions.specs.declared.types.Writer.{Writer}
-use Rattle.key_versions.specs.declared.types.Follower.{Follower}
-use Rattle.key_versions.specs.Histories.{read_by, is_followed, installs_behind}
-use Rattle.key_versions.specs.Numbering.{with_versions, IsAccess, AreAccesses}
-use Rattle.key_versions.specs.Rows.{Known, with_writer, has_nil, lasts, follower, is_behind, has_number, IsWithin, numbers_of}
-use Rattle.key_versions.specs.Tables.{versions_at, followers_at}
-use Rattle.key_versions.proofs.Accessing.{has_nil_key, same_nil}
-use Rattle.key_versions.proofs.Known.{written_at, writer_by, HaveNil, access_by, is_of}
-use Rattle.key_versions.proofs.Places.{same_item, no_item, number_at, cases_number, with_item-there, with_item-new}
+use Rattle.key_versions.specs.Numbering.{IsAccess, AreAccesses}
+use Rattle.key_versions.specs.Rows.{Known, with_writer, has_nil, lasts, has_number}
+use Rattle.key_versions.proofs.Accessing.{has_nil_key}
+use Rattle.key_versions.proofs.Known.{written_at, writer_by}
+use Rattle.key_versions.proofs.Places.{same_item}
 
 -- numbers are equal where their versions are
 pub same_version :
@@ -33,9 +26,9 @@ same_version vs numbered v u i j here there = elim (cases_Bool (j == i)) [
       let same : v ≡ u = same_item v u (sym here ∙ sym (ap (slice_get vs) place) ∙ there) in
       is ∙ sym (ap (version_eq v) (sym same) ∙ version_eq-itself v))
   | inr differ ↦ differ ∙ sym (false_from_ne_true _ (λ equal.
-        let same : v ≡ u = version_eq-same v u equal in
-        let place : j ≡ i = same_item j i (sym (numbered j u there) ∙ ap (λ w. number_in version_eq w vs) (sym same) ∙ numbered i v here) in
-        true≢false (sym (eq-eqb j i place) ∙ differ)))
+      let same : v ≡ u = version_eq-same v u equal in
+      let place : j ≡ i = same_item j i (sym (numbered j u there) ∙ ap (λ w. number_in version_eq w vs) (sym same) ∙ numbered i v here) in
+      true≢false (sym (eq-eqb j i place) ∙ differ)))
 ]
 
 module _ (vs : List Version) (numbered : AreNumbered version_eq vs) (v : Version) (n : ℕ) (at : slice_get vs n ≡ Some v) where

@@ -1,17 +1,15 @@
 -- One row after a transaction.
-use Rattle.std.proofs.Common.{◌≡◌, ◌⊎◌, inl, inr, ◌<◌, ◌≤◌, ◌+◌, ◌-◌, ℕ, zero, suc, List, [], ◌∷◌, ◌++◌, length, map, replicate, Bool, true, false, cond, Option, Some, None, refl, sym, ◌∙◌, ap, subst, arith}
+use Rattle.std.proofs.Common.{◌≡◌, ◌⊎◌, inl, inr, ◌<◌, ◌≤◌, ◌-◌, ℕ, zero, suc, List, [], ◌∷◌, ◌++◌, length, map, replicate, Bool, true, false, cond, Some, refl, sym, ◌∙◌, ap, subst, arith}
 use Rattle.std.specs.Prelude.{slice_get, filter, not, ◌&&◌, ◌||◌, ◌==◌}
 use Rattle.std.specs.List.{list_any}
-use Rattle.std.specs.Option.{option_or}
 use Rattle.std.proofs.lemmas.Bool.{cases_Bool, cases_lt, eqb-true, eqb-false}
 use Rattle.std.proofs.lemmas.List.{append_assoc, append-nil, length-append, length-replicate}
-use Rattle.std.proofs.lemmas.Option.{slice_get_within}
 use Rattle.key_versions.specs.declared.rows.Access.{Access}
 use Rattle.key_versions.specs.declared.types.Writer.{Writer}
 use Rattle.key_versions.specs.declared.types.Follower.{Follower}
 use Rattle.key_versions.specs.Rows.{Known, unknown, change, with_writer, has_nil, lasts, written_rows, follower, with_follower, installed_rows, is_behind, with_reader, has_number, read_rows, rows_after, grown}
 use Rattle.key_versions.proofs.Lists.{change_here, change_elsewhere, get_behind, get_replicate}
-use Rattle.key_versions.proofs.Places.{slice_get_front, same_item}
+use Rattle.key_versions.proofs.Places.{slice_get_front}
 use Rattle.key_versions.proofs.Changed.{length-change, length-written}
 
 -- a row where a change is made at a place
@@ -99,7 +97,7 @@ read_row place n nil installs rows before (r ∷ rs) x are h = elim (cases_Bool 
       let first : has_number r.version before ≡ has_number n before = ap (λ m. has_number m before) same in
       let f = with_reader place r installs in
       let one : slice_get (cond (has_number r.version before) rows (change f r.version rows)) n ≡ Some (cond (has_number n before) x (f x)) =
-        by_first (has_number r.version before) (has_number n before) f r.version n rows x first h is in
+      by_first (has_number r.version before) (has_number n before) f r.version n rows x first h is in
       read_row place n nil installs (cond (has_number r.version before) rows (change f r.version rows)) (before ++ r ∷ []) rs (cond (has_number n before) x (f x)) are.1 one
       ∙ ap (λ b. Some (cond (has_number n rs && not b) (with_reader place (access_by nil n) installs (cond (has_number n before) x (f x))) (cond (has_number n before) x (f x)))) seen
       ∙ ap (λ b. Some (cond b (with_reader place (access_by nil n) installs (cond (has_number n before) x (f x))) (cond (has_number n before) x (f x)))) (and_false (has_number n rs))
@@ -107,7 +105,7 @@ read_row place n nil installs rows before (r ∷ rs) x are h = elim (cases_Bool 
       ∙ sym (ap (λ b. Some (cond (b && not (has_number n before)) (with_reader place (access_by nil n) installs x) x)) there))
   | inr differ ↦ (
       let seen : has_number n (before ++ r ∷ []) ≡ has_number n before =
-        any_push (λ (a : Access). a.version == n) before r ∙ ap (λ b. has_number n before || b) differ ∙ or_false (has_number n before) in
+      any_push (λ (a : Access). a.version == n) before r ∙ ap (λ b. has_number n before || b) differ ∙ or_false (has_number n before) in
       let there : has_number n (r ∷ rs) ≡ has_number n rs = ap (λ b. b || has_number n rs) differ in
       let f = with_reader place r installs in
       let one : slice_get (cond (has_number r.version before) rows (change f r.version rows)) n ≡ Some x = by_other (has_number r.version before) f r.version n rows x h differ in
@@ -119,14 +117,17 @@ read_row place n nil installs rows before (r ∷ rs) x are h = elim (cases_Bool 
     and_false : (b : Bool) → (b && false) ≡ false
     and_false true = refl
     and_false false = refl
+
     turned : (b : Bool) (x y : Known) → cond b x y ≡ cond (not b) y x
     turned true x y = refl
     turned false x y = refl
+
     by_first :
         (b b' : Bool) (f : Known → Known) (k n : ℕ) (rows : List Known) (x : Known) → b ≡ b' → slice_get rows n ≡ Some x → (k == n) ≡ true
         → slice_get (cond b rows (change f k rows)) n ≡ Some (cond b' x (f x))
     by_first true b' f k n rows x e h is = h ∙ ap (λ c. Some (cond c x (f x))) e
     by_first false b' f k n rows x e h is = change_if f k n rows x h ∙ ap (λ c. Some (cond c (f x) x)) is ∙ ap (λ c. Some (cond c x (f x))) e
+
     by_other :
         (b : Bool) (f : Known → Known) (k n : ℕ) (rows : List Known) (x : Known) → slice_get rows n ≡ Some x → (k == n) ≡ false
         → slice_get (cond b rows (change f k rows)) n ≡ Some x
@@ -241,14 +242,15 @@ pub row_parts :
     → ((row_after place n nil x rs ws).writer ≡ (written_at place n x ws).writer)
     × ((row_after place n nil x rs ws).readers ≡ x.readers ++ cond (has_number n rs) (place ∷ []) [])
     × ((row_after place n nil x rs ws).followers
-      ≡ (x.followers ++ map (follower place) (filter (is_of n) (lasts ws))) ++ map (follower place) (cond (has_number n rs) (filter (is_behind (access_by nil n)) (lasts ws)) []))
+    ≡ (x.followers ++ map (follower place) (filter (is_of n) (lasts ws))) ++ map (follower place) (cond (has_number n rs) (filter (is_behind (access_by nil n)) (lasts ws)) []))
 row_parts place n nil x rs ws =
     let w = written_at place n x ws in
     let y = installed_at place n w (lasts ws) in
     let first = written_readers place n x ws in
     let second = installed_parts place n w (lasts ws) in
-    let third = read_parts (has_number n rs) place (access_by nil n) (lasts ws) y in
-    (third.0 ∙ second.0,
-     third.1 ∙ ap (λ (xs : List ℕ). xs ++ cond (has_number n rs) (place ∷ []) []) (second.1 ∙ first.0),
-     third.2 ∙ ap (λ (xs : List Follower). xs ++ map (follower place) (cond (has_number n rs) (filter (is_behind (access_by nil n)) (lasts ws)) []))
-     (second.2 ∙ ap (λ (xs : List Follower). xs ++ map (follower place) (filter (is_of n) (lasts ws))) first.1))
+    let third = read_parts (has_number n rs) place (access_by nil n) (lasts ws) y in (
+      third.0 ∙ second.0,
+      third.1 ∙ ap (λ (xs : List ℕ). xs ++ cond (has_number n rs) (place ∷ []) []) (second.1 ∙ first.0),
+      third.2 ∙ ap (λ (xs : List Follower). xs ++ map (follower place) (cond (has_number n rs) (filter (is_behind (access_by nil n)) (lasts ws)) []))
+          (second.2 ∙ ap (λ (xs : List Follower). xs ++ map (follower place) (filter (is_of n) (lasts ws))) first.1),
+    )

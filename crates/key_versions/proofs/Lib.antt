@@ -9,3 +9,4 @@ mod Known
 mod Joined
 mod Followed
 mod Told
+pub mod Callers

@@ -1,5 +1,5 @@
 -- Lists that are compared place by place.
-use Rattle.std.proofs.Common.{◌≡◌, ◌<◌, ◌≤◌, ◌+◌, ◌-◌, ℕ, zero, suc, List, [], ◌∷◌, ◌++◌, length, map, replicate, Bool, true, false, cond, Option, Some, None, option_map, refl, sym, ◌∙◌, ap, arith}
+use Rattle.std.proofs.Common.{◌≡◌, ◌<◌, ◌≤◌, ◌-◌, ℕ, zero, suc, List, [], ◌∷◌, ◌++◌, length, map, replicate, Bool, false, cond, Some, refl, sym, ◌∙◌, ap, arith}
 use Rattle.std.specs.Prelude.{slice_get, filter}
 use Rattle.std.specs.List.{list_any}
 use Rattle.std.proofs.lemmas.Bool.{or_parts}
@@ -65,6 +65,6 @@ get_replicate (suc m) (suc n) x y h = get_replicate m n x y h
 
 pub none_filtered : {A : Type 0} (p q : A → Bool) → ((x : A) → p x ≡ false → q x ≡ false) → (xs : List A) → list_any p xs ≡ false → filter q xs ≡ []
 none_filtered p q less [] none = refl
-none_filtered {A} p q less (x ∷ xs) none = 
+none_filtered {A} p q less (x ∷ xs) none =
     let parts = or_parts (p x) (list_any p xs) none in
     ap (λ b. cond b (x ∷ filter q xs) (filter q xs)) (less x parts.0) ∙ none_filtered p q less xs parts.1

@@ -1,19 +1,19 @@
 -- Versions that are numbered by the numbers of their keys and values.
-use Rattle.std.proofs.Common.{◌≡◌, ◌⊎◌, inl, inr, ◌<◌, ◌+◌, ℕ, zero, suc, List, [], ◌∷◌, ◌++◌, length, map, get_or, Bool, true, false, cond, Option, Some, None, option_map, pos, refl, sym, ◌∙◌, ap, subst, arith}
+use Rattle.std.proofs.Common.{◌≡◌, inl, inr, ◌<◌, ◌+◌, ℕ, zero, suc, List, [], ◌∷◌, ◌++◌, length, map, get_or, true, cond, Option, Some, None, option_map, pos, refl, sym, ◌∙◌, ap, subst, arith}
 use Rattle.std.specs.Prelude.{slice_get, ◌==◌, ◌&&◌, nat_eq}
 use Rattle.std.specs.Option.{is_some, option_eq}
-use Rattle.std.proofs.lemmas.Bool.{cases_Bool, cases_lt, and_parts, eqb-true, false≢true}
+use Rattle.std.proofs.lemmas.Bool.{cases_lt, and_parts, eqb-true, false≢true}
 use Rattle.std.proofs.lemmas.List.{get_or_append_left, length_push, get_or_read}
 use Rattle.std.proofs.lemmas.Option.{slice_get-get_or, get_or_from_slice_get, slice_get-map}
 use Rattle.hist_types.specs.Atoms.{Atom, integer, atom_eq, value_eq}
 use Rattle.hist_types.specs.Transactions.{Version, version_eq}
 use Rattle.hist_types.specs.Versions.{nil_of}
-use Rattle.hist_types.proofs.Equality.{atom_eq-same, atom_eq-itself, version_eq-same, version_eq-itself}
+use Rattle.hist_types.proofs.Equality.{atom_eq-same, atom_eq-itself}
 use Rattle.atom_index.specs.Numbers.{number_in, with_item, AreNumbered, pair_eq}
-use Rattle.atom_index.proofs.Pushed.{number_last, number_kept, number_first, numbered_push, inserted_numbered, pair_eq-itself, item_pushed}
-use Rattle.key_versions.specs.Numbering.{Numbers, IsNumbering, IsBelow, IsInRange, AreInRange, key_at, version_with, version_by, versions_in, versions_of, with_key, with_versions, IsAccess}
+use Rattle.atom_index.proofs.Pushed.{number_last, number_first, numbered_push, inserted_numbered, pair_eq-itself, item_pushed}
+use Rattle.key_versions.specs.Numbering.{Numbers, IsNumbering, IsBelow, IsInRange, AreInRange, key_at, version_with, version_by, versions_in, versions_of, with_versions, IsAccess}
 use Rattle.key_versions.specs.declared.rows.Access.{Access}
-use Rattle.key_versions.proofs.Places.{same_item, no_item, number_within, number_at, same_places, map_same, number_in-map, with_item-map, with_item-there, with_item-new, cases_number, inserted, with_item-twice, slice_get-with_item, slice_get_front, slice_get_last}
+use Rattle.key_versions.proofs.Places.{same_item, no_item, number_within, number_at, same_places, map_same, number_in-map, with_item-map, with_item-there, with_item-new, cases_number, slice_get-with_item, slice_get_front, slice_get_last}
 
 abbrev none : Atom
 none = integer (pos 0)
@@ -36,6 +36,12 @@ access_by nil version = record { nil = nil; version = version }
 
 abbrev pub numbers : List Atom → List Atom → List (ℕ × Option ℕ) → List ℕ → Numbers
 numbers keys values pairs nils = record { keys = keys; values = values; pairs = pairs; nils = nils }
+
+-- numbers with a key, whose nil version is numbered with it
+abbrev pub with_key : Numbers → Atom → Numbers
+with_key s key =
+    cond (is_some (number_in atom_eq key s.keys)) s
+    (numbers (s.keys ++ key ∷ []) s.values (with_item pair_eq s.pairs (length s.keys, None)) (s.nils ++ length s.pairs ∷ []))
 
 -- ---- versions by numbers
 
@@ -378,10 +384,14 @@ pub access_versions :
     → (last ≡ with_versions before (nil_of key ∷ version_with key value ∷ []))
     × IsAccess last (version_with key value) (access_by nil version)
 access_versions before s key value number nil version last is keyed numbered read grown found =
-    let at = kept_nil s key number nil is numbered read in
-    (grown ∙ ap (λ (vs : List Version). with_item version_eq vs (version_with key value)) keyed,
-     (ap (λ (vs : List Version). slice_get vs nil) grown
-      ∙ slice_get-with_item version_eq (versions_of s) (version_with key value) (nil_of key) nil (nil_at s key number is numbered nil at), found))
+    let at = kept_nil s key number nil is numbered read in (
+      grown ∙ ap (λ (vs : List Version). with_item version_eq vs (version_with key value)) keyed,
+      (
+        ap (λ (vs : List Version). slice_get vs nil) grown
+            ∙ slice_get-with_item version_eq (versions_of s) (version_with key value) (nil_of key) nil (nil_at s key number is numbered nil at),
+        found,
+      ),
+    )
 
 -- nil is inserted with its key
 pub nil_inserted :

@@ -1,26 +1,26 @@
 -- The table of a history with one transaction more.
-use Rattle.std.proofs.Common.{◌≡◌, ◌⊎◌, inl, inr, ◌<◌, ◌≤◌, ◌+◌, ◌-◌, ℕ, zero, suc, List, [], ◌∷◌, ◌++◌, length, map, replicate, All, Bool, true, false, cond, Option, Some, None, option_map, refl, sym, ◌∙◌, ap, subst, arith}
-use Rattle.std.specs.Prelude.{slice_get, filter, not, ◌&&◌, ◌||◌, ◌==◌}
+use Rattle.std.proofs.Common.{◌≡◌, inl, inr, ◌<◌, ◌≤◌, ◌-◌, ℕ, List, [], ◌∷◌, ◌++◌, length, map, replicate, All, Bool, true, false, cond, Option, Some, None, option_map, refl, sym, ◌∙◌, ap, subst, arith}
+use Rattle.std.specs.Prelude.{slice_get, filter, ◌&&◌, ◌||◌}
 use Rattle.std.specs.List.{list_any}
-use Rattle.std.specs.Option.{option_or, is_none, is_some}
-use Rattle.std.proofs.lemmas.Bool.{cases_Bool, true≢false, false≢true, or_parts, and_parts, false_from_ne_true}
-use Rattle.std.proofs.lemmas.List.{append_assoc, append-nil, map-append, map_push, length-map, length_push, length-append, length-replicate}
+use Rattle.std.specs.Option.{option_or, is_some}
+use Rattle.std.proofs.lemmas.Bool.{cases_Bool, false≢true, false_from_ne_true}
+use Rattle.std.proofs.lemmas.List.{append_assoc, map-append, map_push, length-map, length_push, length-append, length-replicate}
 use Rattle.std.proofs.lemmas.Option.{slice_get_within, slice_get-map}
-use Rattle.hist_types.specs.Atoms.{Atom, Value, atom_eq}
+use Rattle.hist_types.specs.Atoms.{Atom, Value}
 use Rattle.hist_types.specs.Operations.{Mop}
-use Rattle.hist_types.specs.Journal.{Write, writes_of}
-use Rattle.hist_types.specs.Transactions.{Transaction, Version, version_eq, version_of, has_version, is_ok, external_reads, last_writes, overwritten, installed_by, reads, writes, writes_over}
+use Rattle.hist_types.specs.Journal.{writes_of}
+use Rattle.hist_types.specs.Transactions.{Transaction, Version, version_eq, version_of, has_version, is_ok, external_reads, last_writes, installed_by, reads, writes, writes_over}
 use Rattle.hist_types.specs.Versions.{nil_of, pair, is_change}
-use Rattle.hist_types.proofs.Equality.{atom_eq-itself, version_eq-same, version_eq-itself}
+use Rattle.hist_types.proofs.Equality.{version_eq-same, version_eq-itself}
 use Rattle.atom_index.specs.Numbers.{number_in, with_item, AreNumbered}
 use Rattle.atom_index.proofs.Pushed.{has_number as number_there}
 use Rattle.key_versions.specs.declared.rows.Access.{Access}
 use Rattle.key_versions.specs.declared.types.Writer.{Writer}
 use Rattle.key_versions.specs.declared.types.Follower.{Follower}
-use Rattle.key_versions.specs.Histories.{version_in, named_in, is_named, read_by, is_followed, installs_behind, writer_of, readers_of, followers_of}
-use Rattle.key_versions.specs.Numbering.{version_with, with_versions, IsAccess, AreAccesses}
+use Rattle.key_versions.specs.Histories.{version_in, named_in, is_named, read_by, installs_behind, writer_of, readers_of, followers_of}
+use Rattle.key_versions.specs.Numbering.{version_with, with_versions, AreAccesses}
 use Rattle.key_versions.specs.Rows.{Known, Accessed, unknown, lasts, follower, is_behind, has_number, IsWithin, numbers_of, accessed, rows_after, grown}
-use Rattle.key_versions.specs.Tables.{Table, IsTableOf, versions_at, followers_at}
+use Rattle.key_versions.specs.Tables.{IsTableOf, versions_at, followers_at}
 use Rattle.key_versions.specs.Views.{table_by}
 use Rattle.key_versions.proofs.Accessing.{versions_numbered, versions_stay}
 use Rattle.key_versions.proofs.Changed.{all_cons}
@@ -29,7 +29,7 @@ use Rattle.key_versions.proofs.Growing.{writer-push, readers-push, followers-pus
 use Rattle.key_versions.proofs.Joined.{has_number_version, lasts_are, writer_is, writer_if}
 use Rattle.key_versions.proofs.Known.{HaveNil, access_by, is_of, row_after, row_is, row_parts, grown_row, length-after, length-grown}
 use Rattle.key_versions.proofs.Lists.{maps_agree, agree_at, is_at}
-use Rattle.key_versions.proofs.Places.{same_item, no_item, number_at, number_within, cases_number, with_item-there, with_item-new}
+use Rattle.key_versions.proofs.Places.{same_item, number_at, number_within, cases_number, with_item-there, with_item-new}
 use Rattle.key_versions.proofs.Unnamed.{unnamed_writer, unnamed_readers, unnamed_followers}
 
 -- ---- versions that are named
@@ -96,6 +96,7 @@ nil_named v (m ∷ ms) h = elim (cases_Bool (version_eq v (nil_of (version_in m)
   where
     same_nil_of : (v : Version) (m : Mop) → v.key ≡ (version_in m).key → version_eq (nil_of v.key) (nil_of (version_in m).key) ≡ true
     same_nil_of v m key = ap (λ k. version_eq (nil_of v.key) (nil_of k)) (sym key) ∙ version_eq-itself (nil_of v.key)
+
     or_true : (b : Bool) → (b || true) ≡ true
     or_true true = refl
     or_true false = refl
@@ -211,7 +212,7 @@ old_row ts vs ws rows accesses is m n v x at row = elim (grown_row m rows n x ro
         readers = agree_at (λ (r : Known). r.readers) (readers_of ts) rows vs is.readers n x v there here;
         followers =
             let old = agree_at (followers_at vs) (λ u. map as_found (followers_of ts u)) (map (λ (r : Known). r.followers) rows) vs is.followers n x.followers v
-              (slice_get-map (λ (r : Known). r.followers) rows n ∙ ap followers_in there) here in
+            (slice_get-map (λ (r : Known). r.followers) rows n ∙ ap followers_in there) here in
             followers_stay vs (with_versions vs ws) (versions_stay vs ws) x.followers (followers_of ts v) old;
       })
   | inr past ↦ (
@@ -251,12 +252,13 @@ module _
       (us : List Version) (accesses : List Access) → AreAccesses vs us accesses → (v : Version) (n nil : ℕ) → slice_get vs n ≡ Some v → slice_get vs nil ≡ Some (nil_of v.key)
       → HaveNil nil n accesses
   have_nil [] [] are v n nil at there = tt
-  have_nil (u ∷ us) (a ∷ accesses) are v n nil at there =
-      (λ same.
+  have_nil (u ∷ us) (a ∷ accesses) are v n nil at there = (
+    λ same.
         let version : u ≡ v = same_item u v (sym are.0.1 ∙ ap (slice_get vs) same ∙ at) in
         let here : slice_get vs a.nil ≡ Some (nil_of v.key) = are.0.0 ∙ ap (λ (w : Version). Some (nil_of w.key)) version in
-        same_item a.nil nil (sym (numbered a.nil (nil_of v.key) here) ∙ numbered nil (nil_of v.key) there)
-      , have_nil us accesses are.1 v n nil at there)
+        same_item a.nil nil (sym (numbered a.nil (nil_of v.key) here) ∙ numbered nil (nil_of v.key) there),
+    have_nil us accesses are.1 v n nil at there,
+  )
   have_nil [] (a ∷ accesses) are v n nil at there = absurd are
   have_nil (u ∷ us) [] are v n nil at there = absurd are
 
@@ -349,19 +351,19 @@ told ts t vs us rows accesses rs ws is grew read wrote =
     let more : length rows ≤ length us = subst (λ k. k ≤ length us) (sym (row_count ts vs rows accesses is)) (subst (λ (xs : List Version). length vs ≤ length xs) (sym grew) (longer vs (named_in t.mops))) in
     let count : length (rows_after (length accesses) rs ws (grown (length us) rows)) ≡ length us = length-after (length accesses) rs ws (grown (length us) rows) ∙ length-grown (length us) rows more in
     let named : (v : Version) → has_version us v ≡ is_named (ts ++ t ∷ []) v =
-      λ v. ap (λ (xs : List Version). has_version xs v) grew ∙ has_versions vs (named_in t.mops) v ∙ ap (λ b. b || has_version (named_in t.mops) v) (is.named v) ∙ sym (named-push ts t v) in
+    λ v. ap (λ (xs : List Version). has_version xs v) grew ∙ has_versions vs (named_in t.mops) v ∙ ap (λ b. b || has_version (named_in t.mops) v) (is.named v) ∙ sym (named-push ts t v) in
     let rows_now = rows_after (length accesses) rs ws (grown (length us) rows) in
     let each : (n : ℕ) (y : Known) (v : Version) → slice_get rows_now n ≡ Some y → slice_get us n ≡ Some v → IsRowOf (ts ++ t ∷ []) us v y =
-      λ n y v row at.
-      let below : n < length (grown (length us) rows) = subst (λ k. n < k) (sym (length-grown (length us) rows more)) (slice_get_within us n v at) in
-      let x = is_at (grown (length us) rows) n below in
-      let old : IsRowOf ts us v x.0 =
-        subst (λ (xs : List Version). IsRowOf ts xs v x.0) (sym grew)
-        (old_row ts vs (named_in t.mops) rows accesses is (length us) n v x.0 (ap (λ (xs : List Version). slice_get xs n) (sym grew) ∙ at) x.1) in
-      let nil = nil_number ts t us v n numbered named at in
-      let made = row_is (length accesses) n nil.0 (grown (length us) rows) rs ws x.0 (have_nil t us numbered rs ws read wrote (read_by t) rs read v n nil.0 at nil.1) x.1 in
-      let same : row_after (length ts) n nil.0 x.0 rs ws ≡ y = ap (λ p. row_after p n nil.0 x.0 rs ws) (sym place) ∙ same_item _ y (sym made ∙ row) in
-      subst (IsRowOf (ts ++ t ∷ []) us v) same (new_row t us numbered rs ws read wrote ts n nil.0 v x.0 at nil.1 old) in
+    λ n y v row at.
+    let below : n < length (grown (length us) rows) = subst (λ k. n < k) (sym (length-grown (length us) rows more)) (slice_get_within us n v at) in
+    let x = is_at (grown (length us) rows) n below in
+    let old : IsRowOf ts us v x.0 =
+    subst (λ (xs : List Version). IsRowOf ts xs v x.0) (sym grew)
+    (old_row ts vs (named_in t.mops) rows accesses is (length us) n v x.0 (ap (λ (xs : List Version). slice_get xs n) (sym grew) ∙ at) x.1) in
+    let nil = nil_number ts t us v n numbered named at in
+    let made = row_is (length accesses) n nil.0 (grown (length us) rows) rs ws x.0 (have_nil t us numbered rs ws read wrote (read_by t) rs read v n nil.0 at nil.1) x.1 in
+    let same : row_after (length ts) n nil.0 x.0 rs ws ≡ y = ap (λ p. row_after p n nil.0 x.0 rs ws) (sym place) ∙ same_item _ y (sym made ∙ row) in
+    subst (IsRowOf (ts ++ t ∷ []) us v) same (new_row t us numbered rs ws read wrote ts n nil.0 v x.0 at nil.1 old) in
     record {
       distinct = numbered;
       named = named;

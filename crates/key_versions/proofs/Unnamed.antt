@@ -1,13 +1,12 @@
 -- A version that no micro-operation names.
-use Rattle.std.proofs.Common.{◌≡◌, ℕ, ◌+◌, List, [], ◌∷◌, ◌++◌, map, Bool, true, false, cond, Option, Some, None, refl, sym, ◌∙◌, ap, subst}
-use Rattle.std.specs.Prelude.{slice_get, filter, not, ◌&&◌, ◌||◌}
+use Rattle.std.proofs.Common.{◌≡◌, ℕ, ◌+◌, List, [], ◌∷◌, ◌++◌, map, Bool, true, false, cond, Some, None, refl, sym, ◌∙◌, ap}
+use Rattle.std.specs.Prelude.{slice_get, not, ◌&&◌, ◌||◌}
 use Rattle.std.specs.List.{list_any}
-use Rattle.std.specs.Option.{is_none}
-use Rattle.std.proofs.lemmas.Bool.{or_parts, cases_Bool}
+use Rattle.std.proofs.lemmas.Bool.{or_parts}
 use Rattle.hist_types.specs.Atoms.{Atom, Value, atom_eq, value_eq}
 use Rattle.hist_types.specs.Operations.{Mop, read, write}
 use Rattle.hist_types.specs.Journal.{Write, writes_of}
-use Rattle.hist_types.specs.Transactions.{Transaction, Version, version_eq, version_of, has_version, has_key, is_ok, reads_after, external_reads, last_writes, installed_by, reads, writes, writes_over}
+use Rattle.hist_types.specs.Transactions.{Transaction, Version, version_eq, version_of, has_version, has_key, is_ok, reads_after, last_writes, installed_by, reads, writes, writes_over}
 use Rattle.hist_types.specs.Versions.{nil_of, pair, is_change}
 use Rattle.key_versions.specs.declared.types.Writer.{Writer}
 use Rattle.key_versions.specs.Histories.{version_in, named_in, is_named, is_followed, installs_behind, from_place, writer_of, readers_of, followers_of}

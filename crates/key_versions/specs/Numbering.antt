@@ -1,5 +1,5 @@
 -- Versions that are numbered by the numbers of their keys and values.
-use Rattle.std.specs.Prelude.{◌≡◌, ◌<◌, ℕ, pos, List, [], ◌∷◌, ◌++◌, length, get_or, slice_get, Contains, Option, Some, None, map, fold, option_map, is_some, if◌then◌else◌, ⊤}
+use Rattle.std.specs.Prelude.{◌≡◌, ◌<◌, ℕ, pos, List, [], ◌∷◌, length, get_or, slice_get, Option, Some, None, map, fold, option_map, ⊤}
 use Rattle.hist_types.specs.Atoms.{Atom, integer, atom_eq}
 use Rattle.hist_types.specs.Transactions.{Version, version_eq}
 use Rattle.hist_types.specs.Versions.{nil_of}
@@ -47,18 +47,6 @@ pub record IsNumbering (keys values : List Atom) (pairs : List (ℕ × Option �
 
 abbrev pub versions_of : Numbers → List Version
 versions_of s = versions_in s.keys s.values s.pairs
-
--- with a key, whose nil version is numbered with it
-abbrev pub with_key : Numbers → Atom → Numbers
-with_key s key =
-    if is_some (number_in atom_eq key s.keys)
-    then s
-    else record {
-      keys = s.keys ++ key ∷ [];
-      values = s.values;
-      pairs = with_item pair_eq s.pairs (length s.keys, None);
-      nils = s.nils ++ length s.pairs ∷ [];
-    }
 
 -- the versions once these are among them
 abbrev pub with_versions : List Version → List Version → List Version

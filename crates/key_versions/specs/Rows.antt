@@ -1,5 +1,5 @@
 -- What is known of each version, over numbers alone: versions go by number, transactions by place.
-use Rattle.std.specs.Prelude.{◌<◌, ℕ, suc, zero, ◌+◌, ◌-◌, List, [], ◌∷◌, ◌++◌, Bool, not, ◌&&◌, ◌==◌, if◌then◌else◌, Option, Some, None, filter, map, fold, length, replicate}
+use Rattle.std.specs.Prelude.{◌<◌, ℕ, suc, zero, ◌-◌, List, [], ◌∷◌, ◌++◌, Bool, not, ◌&&◌, ◌==◌, if◌then◌else◌, Option, Some, None, filter, map, length, replicate}
 use Rattle.std.specs.List.{list_any}
 use Rattle.std.specs.Option.{option_or}
 use Rattle.key_versions.specs.declared.types.Writer.{Writer}

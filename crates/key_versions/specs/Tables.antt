@@ -1,5 +1,5 @@
 -- A table of the versions that a history names. A version is named by its place among the versions.
-use Rattle.std.specs.Prelude.{◌≡◌, ℕ, List, Bool, Option, Some, slice_get, map}
+use Rattle.std.specs.Prelude.{◌≡◌, ℕ, List, Option, Some, slice_get, map}
 use Rattle.atom_index.specs.Numbers.{AreNumbered}
 use Rattle.hist_types.specs.Transactions.{Transaction, Version, version_eq, has_version, installed_by}
 use Rattle.key_versions.specs.Histories.{read_by, is_named, writer_of, readers_of, followers_of}

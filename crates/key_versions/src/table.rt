@@ -62,6 +62,14 @@ impl<'a> Versions<'a> {
         self.pairs.len()
     }
 
+    /// How many transactions the history has.
+    pub fn transactions(&self) -> usize
+        ensures reads { result ≡ length self.now.reads }
+        ensures installs { result ≡ length self.now.installs }
+    {
+        self.accesses.len()
+    }
+
     /// The version with this number.
     pub fn version(&self, number: usize) -> VersionRef<'a>
         requires { number < length self.now.versions }

@@ -1,4 +1,4 @@
-use Rattle.std.proofs.Common.{◌≡◌, ◌<◌, ◌+◌, ◌∙◌, List, length, drop, get_or, sym, ap, subst}
+use Rattle.std.proofs.Common.{◌<◌, ◌+◌, ◌∙◌, List, length, drop, get_or, sym, ap, subst}
 use Rattle.std.proofs.lemmas.List.{at_drop_more}
 use Rattle.key_versions.specs.Rows.{Known, follower, with_follower, installed_rows}
 use Rattle.key_versions.proofs.Changed.{change_set}

@@ -1,4 +1,4 @@
-use Rattle.std.proofs.Common.{◌≡◌, ◌<◌, ◌+◌, ◌++◌, ◌∙◌, List, Bool, true, false, length, drop, get_or, sym, ap, subst}
+use Rattle.std.proofs.Common.{◌≡◌, ◌<◌, ◌+◌, ◌++◌, ◌∙◌, List, true, false, length, drop, get_or, sym, ap, subst}
 use Rattle.std.proofs.lemmas.List.{at_drop_more, take_rest}
 use Rattle.key_versions.specs.declared.rows.Access.{Access}
 use Rattle.key_versions.specs.Rows.{Known, has_nil, with_writer, written_rows, lasts, change}

@@ -1,5 +1,3 @@
-use Rattle.std.proofs.Common.{◌≡◌, ◌∙◌, List, ℕ, Option, sym, ap}
-use Rattle.hist_types.specs.Atoms.{Atom}
 use Rattle.key_versions.specs.Numbering.{AreInRange}
 use Rattle.key_versions.proofs.numbering.Numbering.finish.Goals as goal
 

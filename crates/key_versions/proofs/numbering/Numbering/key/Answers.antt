@@ -3,7 +3,7 @@ use Rattle.hist_types.specs.Atoms.{Atom}
 use Rattle.atom_index.specs.Numbers.{with_item, pair_eq}
 use Rattle.hist_types.specs.Transactions.{version_eq}
 use Rattle.hist_types.specs.Versions.{nil_of}
-use Rattle.key_versions.specs.Numbering.{Numbers, versions_in, versions_of, with_key}
+use Rattle.key_versions.specs.Numbering.{Numbers, versions_in, versions_of}
 use Rattle.key_versions.proofs.Numbered.{numbers, new_key, known_key, keyed_versions}
 use Rattle.key_versions.proofs.numbering.Numbering.key.Goals as goal
 
@@ -30,7 +30,7 @@ pub returns-else-number-len-clause-versions : goal.returns-else-number-len-claus
 returns-else-number-len-clause-versions g c =
     let s = numbers c.self.inside.keys.items c.self.inside.values.items c.self.inside.pairs.items c.self.inside.nils.items in
     let known = known_key s c.args.key c.in_ok-number.number c.insert.new.self.items c.self.invariant c.in_ok-number.ensures.items c.in_ok-number.ensures.number
-      (λ same. c.if-number-len.false (same ∙ sym (c.len.ensures ∙ c.try_reserve.ensures.len ∙ c.self.inside.nils.ok.0))) in
+    (λ same. c.if-number-len.false (same ∙ sym (c.len.ensures ∙ c.try_reserve.ensures.len ∙ c.self.inside.nils.ok.0))) in
     ap (λ (keys : List Atom). versions_in keys s.values c.reserve.new.self.items) known.0 ∙ ap (versions_in s.keys s.values) c.reserve.ensures.items
     ∙ ap versions_of known.1 ∙ keyed_versions s c.args.key c.self.invariant
     ∙ ap (λ (n : Numbers). with_item version_eq (versions_of n) (nil_of c.args.key)) c.self.view_is

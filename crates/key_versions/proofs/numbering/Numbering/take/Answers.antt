@@ -1,4 +1,4 @@
-use Rattle.std.proofs.Common.{◌≡◌, ◌∙◌, ◌++◌, ◌∷◌, [], List, Bool, true, false, Option, sym, ap, subst}
+use Rattle.std.proofs.Common.{◌≡◌, ◌∙◌, ◌++◌, ◌∷◌, [], List, true, false, Option, sym, ap, subst}
 use Rattle.std.proofs.lemmas.List.{append_assoc}
 use Rattle.hist_types.specs.Atoms.{Atom}
 use Rattle.hist_types.specs.Operations.{Mop}
@@ -10,7 +10,7 @@ use Rattle.op_view.specs.Mops.{key_of, value_of}
 use Rattle.key_versions.specs.Numbering.{Numbers, versions_of, version_with, with_versions, IsAccess}
 use Rattle.key_versions.specs.Rows.{has_nil}
 use Rattle.key_versions.proofs.Numbered.{numbers, numbered_versions}
-use Rattle.key_versions.proofs.Accessing.{AreTaken, taken_write, taken_read, taken_own, taken_unknown}
+use Rattle.key_versions.proofs.Accessing.{taken_write, taken_read, taken_own, taken_unknown}
 use Rattle.key_versions.proofs.numbering.Numbering.take.Goals.{else-is_ok-via-then-is_ok+else-not-has_key, else-is_ok-via-else-is_ok}
 use Rattle.key_versions.proofs.numbering.Numbering.take.Goals as goal
 
@@ -28,11 +28,11 @@ loop-mop-preserved-in-Continue-branch-2 g c =
     let rs = c.loop-mop.reads.items in
     let left : (ms ++ m ∷ []) ++ c.next.new.self ≡ c.args.txn.now.mops = append_assoc ms (m ∷ []) c.next.new.self ∙ ap (λ (xs : List Mop). ms ++ xs) (sym c.in-Some.ensures.steps) ∙ c.loop-mop.invariant.0 in
     let grown : us ≡ with_versions vs (nil_of (key_of m) ∷ version_with (key_of m) (value_of m) ∷ []) =
-      c.in_ok-access.ensures.versions ∙ ap (λ (k : Atom). with_versions vs (nil_of k ∷ version_with k c.value.result ∷ [])) c.key.ensures
-      ∙ ap (λ (v : Option Atom). with_versions vs (nil_of (key_of m) ∷ version_with (key_of m) v ∷ [])) c.value.ensures in
+    c.in_ok-access.ensures.versions ∙ ap (λ (k : Atom). with_versions vs (nil_of k ∷ version_with k c.value.result ∷ [])) c.key.ensures
+    ∙ ap (λ (v : Option Atom). with_versions vs (nil_of (key_of m) ∷ version_with (key_of m) v ∷ [])) c.value.ensures in
     let is : IsAccess us (version_with (key_of m) (value_of m)) a =
-      subst (λ (v : Option Atom). IsAccess us (version_with (key_of m) v) a) c.value.ensures
-      (subst (λ (k : Atom). IsAccess us (version_with k c.value.result) a) c.key.ensures c.in_ok-access.ensures.access) in
+    subst (λ (v : Option Atom). IsAccess us (version_with (key_of m) v) a) c.value.ensures
+    (subst (λ (k : Atom). IsAccess us (version_with k c.value.result) a) c.key.ensures c.in_ok-access.ensures.access) in
     let writes : is_write m ≡ true = sym c.is_write.ensures ∙ c.if-is_write.true in
     (left, rw c.in_ok-push.ensures.ok (taken_write base numbered c.eq-is_ok.result ms vs us ws rs m a c.loop-mop.invariant.1 grown is writes))
 
@@ -50,11 +50,11 @@ loop-mop-preserved-then-not-has_key g c =
     let rs = c.loop-mop.reads.items in
     let left : (ms ++ m ∷ []) ++ c.next.new.self ≡ c.args.txn.now.mops = append_assoc ms (m ∷ []) c.next.new.self ∙ ap (λ (xs : List Mop). ms ++ xs) (sym c.in-Some.ensures.steps) ∙ c.loop-mop.invariant.0 in
     let grown : us ≡ with_versions vs (nil_of (key_of m) ∷ version_with (key_of m) (value_of m) ∷ []) =
-      c.in_ok-access.ensures.versions ∙ ap (λ (k : Atom). with_versions vs (nil_of k ∷ version_with k c.value.result ∷ [])) c.key.ensures
-      ∙ ap (λ (v : Option Atom). with_versions vs (nil_of (key_of m) ∷ version_with (key_of m) v ∷ [])) c.value.ensures in
+    c.in_ok-access.ensures.versions ∙ ap (λ (k : Atom). with_versions vs (nil_of k ∷ version_with k c.value.result ∷ [])) c.key.ensures
+    ∙ ap (λ (v : Option Atom). with_versions vs (nil_of (key_of m) ∷ version_with (key_of m) v ∷ [])) c.value.ensures in
     let is : IsAccess us (version_with (key_of m) (value_of m)) a =
-      subst (λ (v : Option Atom). IsAccess us (version_with (key_of m) v) a) c.value.ensures
-      (subst (λ (k : Atom). IsAccess us (version_with k c.value.result) a) c.key.ensures c.in_ok-access.ensures.access) in
+    subst (λ (v : Option Atom). IsAccess us (version_with (key_of m) v) a) c.value.ensures
+    (subst (λ (k : Atom). IsAccess us (version_with k c.value.result) a) c.key.ensures c.in_ok-access.ensures.access) in
     let reads : is_write m ≡ false = sym c.is_write.ensures ∙ c.if-is_write.false in
     let external : has_nil a.nil ws ≡ false = ap (has_nil a.nil) (sym c.as_slice.ensures) ∙ sym c.has_key.ensures ∙ c.if-not-has_key.true in
     (left, rw c.in_ok-push-2.ensures.ok (taken_read base numbered c.eq-is_ok.result ms vs us ws rs m a c.loop-mop.invariant.1 grown is reads c.if-is_ok.true external))
@@ -73,11 +73,11 @@ loop-mop-preserved g c =
     let rs = c.loop-mop.reads.items in
     let left : (ms ++ m ∷ []) ++ c.next.new.self ≡ c.args.txn.now.mops = append_assoc ms (m ∷ []) c.next.new.self ∙ ap (λ (xs : List Mop). ms ++ xs) (sym c.in-Some.ensures.steps) ∙ c.loop-mop.invariant.0 in
     let grown : us ≡ with_versions vs (nil_of (key_of m) ∷ version_with (key_of m) (value_of m) ∷ []) =
-      c.in_ok-access.ensures.versions ∙ ap (λ (k : Atom). with_versions vs (nil_of k ∷ version_with k c.value.result ∷ [])) c.key.ensures
-      ∙ ap (λ (v : Option Atom). with_versions vs (nil_of (key_of m) ∷ version_with (key_of m) v ∷ [])) c.value.ensures in
+    c.in_ok-access.ensures.versions ∙ ap (λ (k : Atom). with_versions vs (nil_of k ∷ version_with k c.value.result ∷ [])) c.key.ensures
+    ∙ ap (λ (v : Option Atom). with_versions vs (nil_of (key_of m) ∷ version_with (key_of m) v ∷ [])) c.value.ensures in
     let is : IsAccess us (version_with (key_of m) (value_of m)) a =
-      subst (λ (v : Option Atom). IsAccess us (version_with (key_of m) v) a) c.value.ensures
-      (subst (λ (k : Atom). IsAccess us (version_with k c.value.result) a) c.key.ensures c.in_ok-access.ensures.access) in
+    subst (λ (v : Option Atom). IsAccess us (version_with (key_of m) v) a) c.value.ensures
+    (subst (λ (k : Atom). IsAccess us (version_with k c.value.result) a) c.key.ensures c.in_ok-access.ensures.access) in
     let reads : is_write m ≡ false = sym c.is_write.ensures ∙ c.if-is_write.false in
     elim c.else-is_ok.branch [
       | else-is_ok-via-then-is_ok+else-not-has_key w ↦ (

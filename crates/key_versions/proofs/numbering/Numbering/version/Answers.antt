@@ -1,9 +1,8 @@
-use Rattle.std.proofs.Common.{◌≡◌, ◌<◌, ◌∙◌, ◌++◌, ◌∷◌, [], List, ℕ, Option, Some, None, sym, ap, subst, length}
+use Rattle.std.proofs.Common.{◌≡◌, ◌<◌, Some, sym, subst, length}
 use Rattle.std.specs.Prelude.{slice_get}
-use Rattle.hist_types.specs.Atoms.{Atom, atom_eq}
 use Rattle.hist_types.specs.Transactions.{version_eq}
 use Rattle.atom_index.specs.Numbers.{with_item}
-use Rattle.key_versions.specs.Numbering.{Numbers, IsNumbering, versions_in, versions_of, key_at, version_with}
+use Rattle.key_versions.specs.Numbering.{Numbers, versions_in, versions_of, key_at, version_with}
 use Rattle.key_versions.proofs.Numbered.{numbers, new_version, one_value}
 use Rattle.key_versions.proofs.numbering.Numbering.version.Goals as goal
 

@@ -1,4 +1,4 @@
-use Rattle.std.proofs.Common.{◌≡◌, ◌<◌, ◌+◌, ◌++◌, ◌∷◌, [], ◌∙◌, List, length, map, take, drop, get_or, sym, ap, subst}
+use Rattle.std.proofs.Common.{◌+◌, ◌++◌, ◌∙◌, List, map, drop, get_or, sym}
 use Rattle.std.specs.Prelude.{filter}
 use Rattle.std.proofs.lemmas.List.{at_drop_more}
 use Rattle.key_versions.specs.declared.rows.Access.{Access}

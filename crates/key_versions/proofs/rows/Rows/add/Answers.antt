@@ -1,7 +1,7 @@
-use Rattle.std.proofs.Common.{◌≡◌, ◌∙◌, ◌<◌, List, sym, ap, subst, length, All}
+use Rattle.std.proofs.Common.{◌≡◌, ◌∙◌, List, sym, subst, length, All}
 use Rattle.key_versions.specs.declared.rows.Access.{Access}
-use Rattle.key_versions.specs.Rows.{Known, IsWithin, lasts}
-use Rattle.key_versions.proofs.Changed.{lasts_within, length-written}
+use Rattle.key_versions.specs.Rows.{IsWithin, lasts}
+use Rattle.key_versions.proofs.Changed.{lasts_within}
 use Rattle.key_versions.proofs.rows.Rows.add.Goals as goal
 
 pub add_installs-requires : goal.add_installs-requires

@@ -1,5 +1,5 @@
-use Rattle.std.proofs.Common.{◌≡◌, ◌∙◌, ◌≤◌, ◌<◌, ◌++◌, ◌∷◌, [], List, sym, ap, subst, length, arith}
-use Rattle.key_versions.specs.Rows.{Known, grown, unknown}
+use Rattle.std.proofs.Common.{◌≡◌, ◌∙◌, ◌≤◌, ◌<◌, ◌++◌, ◌∷◌, [], sym, ap, subst, length}
+use Rattle.key_versions.specs.Rows.{Known, grown}
 use Rattle.key_versions.proofs.Changed.{one_grown, all_grown}
 use Rattle.key_versions.proofs.rows.Rows.grow.Goals as goal
 

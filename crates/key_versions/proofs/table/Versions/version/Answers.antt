@@ -1,7 +1,7 @@
-use Rattle.std.proofs.Common.{◌≡◌, ◌<◌, ◌∙◌, List, ℕ, Option, Some, None, sym, ap, subst, length, map}
+use Rattle.std.proofs.Common.{◌≡◌, ◌<◌, ◌∙◌, ℕ, Option, Some, sym, ap, subst, length}
 use Rattle.std.specs.Prelude.{slice_get}
 use Rattle.std.proofs.lemmas.List.{length-map}
-use Rattle.key_versions.specs.Numbering.{version_by, versions_in, version_with}
+use Rattle.key_versions.specs.Numbering.{version_by, version_with}
 use Rattle.key_versions.specs.Tables.{Table}
 use Rattle.key_versions.proofs.Numbered.{version_read, IsRead}
 use Rattle.key_versions.proofs.table.Versions.version.Goals.{in-None, in-Some}
