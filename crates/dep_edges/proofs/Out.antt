@@ -25,7 +25,7 @@ use Rattle.dep_edges.proofs.Places.{installed_written}
 
 -- ---- one transaction by its invocation, and by what it writes
 
-one_by_invocation : (ts : List Transaction) → AreOfHistory ts → (t u : Transaction) → In t ts → In u ts → t.invocation ≡ u.invocation → t ≡ u
+pub one_by_invocation : (ts : List Transaction) → AreOfHistory ts → (t u : Transaction) → In t ts → In u ts → t.invocation ≡ u.invocation → t ≡ u
 one_by_invocation ts (events, kept, of) t u i j same =
     (timed_from 0 events).times.apart t u (subst (In t) of i) (subst (In u) of j) same
 
