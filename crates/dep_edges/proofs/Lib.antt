@@ -1,0 +1,7 @@
+mod Lists
+mod Places
+mod Apart
+mod Out
+mod Writers
+mod Found
+mod Marks

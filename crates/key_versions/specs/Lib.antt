@@ -1,0 +1,4 @@
+pub mod Histories
+pub mod Tables
+pub mod Rows
+pub mod Views
