@@ -11,6 +11,7 @@ pub mod EdgeOrder
 pub mod VersionMembers
 pub mod DependencyEdges
 pub mod PrintedEdges
+pub mod EdgesByTransaction
 pub mod WrittenOnce
 pub mod BadReads
 pub mod OneCut

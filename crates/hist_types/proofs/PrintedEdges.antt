@@ -172,7 +172,7 @@ one_transaction index (event ∷ events) t u i j same =
 abbrev the_edge : ℕ → ℕ → Label → Edge
 the_edge from to label = record { from = from; to = to; label = label }
 
-one_edge : (events : List Operation) (e f : Edge) → In e (dependency_edges (transactions_of events)) → In f (dependency_edges (transactions_of events)) → edge_cmp e f ≡ Equal → e ≡ f
+pub one_edge : (events : List Operation) (e f : Edge) → In e (dependency_edges (transactions_of events)) → In f (dependency_edges (transactions_of events)) → edge_cmp e f ≡ Equal → e ≡ f
 one_edge events e f i j same =
     let ts : List Transaction = transactions_of events in
     let pairs : List VersionPair = version_pairs ts in

@@ -1,4 +1,5 @@
 pub mod Lists
+pub mod Leaving
 pub mod Lookups
 pub mod Noting
 pub mod Values

@@ -6,13 +6,14 @@ use Rattle.hist_types.specs.Operations.{Operation}
 use Rattle.hist_types.specs.Entries.{operations_of}
 use Rattle.hist_types.specs.Laws.{HasOne}
 use Rattle.hist_types.specs.Reading.{Reads}
-use Rattle.hist_types.specs.Texts.{reads_text, has_bad_read, refusal_line}
+use Rattle.hist_types.specs.Texts.{reads_text, edges_text, has_bad_read, refusal_line}
 use Rattle.hist_types.specs.declared.types.Fault.{Fault}
-use Rattle.jepcheck.specs.Answers.{GivesOperations, GivesFault, GivesEvents, journal_fault, IsRefused, IsReport, IsAnswer}
+use Rattle.jepcheck.specs.Answers.{GivesOperations, GivesFault, GivesEvents, journal_fault, IsRefused, Reports, IsReport, IsAnswer}
 use Rattle.jepcheck.specs.Statuses.{status_by}
 use Rattle.jepcheck.specs.declared.answer.Status.{Status}
 use Rattle.jepcheck.specs.declared.answer.Status.TheVariants as statuses
-use Rattle.jepcheck.specs.declared.run.Command.TheVariants.{Reads as the_command}
+use Rattle.jepcheck.specs.declared.run.Command.{Command}
+use Rattle.jepcheck.specs.declared.run.Command.TheVariants.{Reads as the_reads, Edges as the_edges}
 
 module _ (text : List ℕ) (one_reading : HasOne (Reads text)) where
   same_operations : (ops others : List Operation) → GivesOperations text ops → GivesOperations text others → ops ≡ others
@@ -54,22 +55,28 @@ record Refuses (text : List ℕ) (status : Status) (printed : List ℕ) : Type 0
   by : status ≡ statuses.Refused
   line : printed ≡ refusal_line fault
 
-judged : (text : List ℕ) (status : Status) (printed : List ℕ) → status ≢ statuses.Memory → IsAnswer the_command text status printed → IsReport the_command text status printed ⊎ Refuses text status printed
-judged text statuses.NoPhenomenon printed given a = inl a
-judged text statuses.SomePhenomenon printed given a = inl a
-judged text statuses.Refused printed given a = inr (record { fault = a.0; refused = a.1; by = refl; line = a.2 })
-judged text statuses.DeviceFault printed given a = absurd a
-judged text statuses.Memory printed given a = absurd (given refl)
+judged : (command : Command) (text : List ℕ) (status : Status) (printed : List ℕ) → status ≢ statuses.Memory → IsAnswer command text status printed → IsReport command text status printed ⊎ Refuses text status printed
+judged command text statuses.NoPhenomenon printed given a = inl a
+judged command text statuses.SomePhenomenon printed given a = inl a
+judged command text statuses.Refused printed given a = inr (record { fault = a.0; refused = a.1; by = refl; line = a.2 })
+judged command text statuses.DeviceFault printed given a = absurd a
+judged command text statuses.Memory printed given a = absurd (given refl)
+
+-- events have one report
+one_report : (command : Command) (events others : List Operation) (status other : Status) (printed lines : List ℕ) → events ≡ others
+    → Reports command events status printed → Reports command others other lines → (status ≡ other) × (printed ≡ lines)
+one_report the_reads events others status other printed lines same one two =
+    (one.0 ∙ (ap (λ (es : List Operation). status_by (has_bad_read es)) same ∙ sym two.0), one.1 ∙ (ap reads_text same ∙ sym two.1))
+one_report the_edges events others status other printed lines same one two = (one.0 ∙ sym two.0, one.1 ∙ (ap edges_text same ∙ sym two.1))
 
 -- a text that has one reading has one answer
-pub one_answer : ((text : List ℕ) → HasOne (Reads text)) → (text : List ℕ) (status other : Status) (printed others : List ℕ) → status ≢ statuses.Memory → other ≢ statuses.Memory
-    → IsAnswer the_command text status printed → IsAnswer the_command text other others → (status ≡ other) × (printed ≡ others)
-one_answer one_reading text status other printed others given too one two = by_kind (judged text status printed given one) (judged text other others too two)
+pub one_answer : ((text : List ℕ) → HasOne (Reads text)) → (command : Command) (text : List ℕ) (status other : Status) (printed others : List ℕ) → status ≢ statuses.Memory → other ≢ statuses.Memory
+    → IsAnswer command text status printed → IsAnswer command text other others → (status ≡ other) × (printed ≡ others)
+one_answer one_reading command text status other printed others given too one two = by_kind (judged command text status printed given one) (judged command text other others too two)
   where
-    by_kind : IsReport the_command text status printed ⊎ Refuses text status printed → IsReport the_command text other others ⊎ Refuses text other others → (status ≡ other) × (printed ≡ others)
+    by_kind : IsReport command text status printed ⊎ Refuses text status printed → IsReport command text other others ⊎ Refuses text other others → (status ≡ other) × (printed ≡ others)
     by_kind (inl r) (inl s) =
-        let same = same_operations text (one_reading text) r.events s.events r.given.given s.given.given in
-        (r.reported.0 ∙ (ap (λ (events : List Operation). status_by (has_bad_read events)) same ∙ sym s.reported.0), r.reported.1 ∙ (ap reads_text same ∙ sym s.reported.1))
+        one_report command r.events s.events status other printed others (same_operations text (one_reading text) r.events s.events r.given.given s.given.given) r.reported s.reported
     by_kind (inl r) (inr s) = absurd (not_refused text (one_reading text) r.events s.fault r.given s.refused)
     by_kind (inr r) (inl s) = absurd (not_refused text (one_reading text) s.events r.fault s.given r.refused)
     by_kind (inr r) (inr s) =

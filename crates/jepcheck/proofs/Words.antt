@@ -1,5 +1,6 @@
 -- What the parse takes.
 use Rattle.std.proofs.Common.{◌≡◌, ◌∙◌, ℕ, List, [], ◌∷◌, Option, Some, None, option_map, refl, sym, ap, subst, codes, true, inl, inr}
+use Rattle.std.specs.Prelude.{◌≢◌}
 use Rattle.clap.specs.Words.{App, is_simple, is_simple_and_free, subcommand_rows_of, HasMatchesOf, HasKind, Kinds, fault_of, kind_of}
 use Rattle.clap.specs.Matches.{subcommand_name_of}
 use Rattle.clap.specs.declared.error.Error.{Error}
@@ -7,10 +8,11 @@ use Rattle.clap.specs.declared.error.kind.ErrorKind.TheVariants.{OutOfMemory}
 use Rattle.clap.specs.declared.parser.matches.ArgMatches.{ArgMatches}
 use Rattle.clap.specs.declared.parser.matches.ArgMatches.TheViews.{out-ArgMatches}
 use Rattle.clap.proofs.OnLiterals.{clap_on_literals}
-use Rattle.jepcheck.specs.Lines.{program_app, NameSubcommand, AskFor}
+use Rattle.jepcheck.specs.Lines.{word_of, program_app, NameSubcommand, AskFor}
 use Rattle.jepcheck.specs.declared.command_line.Asked.{Asked}
 use Rattle.jepcheck.specs.declared.command_line.Asked.TheVariants.{Run}
-use Rattle.jepcheck.specs.declared.run.Command.TheVariants.{Reads}
+use Rattle.jepcheck.specs.declared.run.Command.{Command}
+use Rattle.jepcheck.specs.declared.run.Command.TheVariants.{Reads, Edges}
 
 -- clap's definitions speak of the program's lines
 program_is_simple : is_simple program_app ≡ true
@@ -21,14 +23,27 @@ program_is_free : is_simple_and_free program_app ≡ true
 unfolding clap_on_literals
 program_is_free = refl
 
--- what is asked for is `reads`
-pub asked_names_reads : (asked : Asked) (words : List (List ℕ)) → AskFor asked words → NameSubcommand (codes "reads") words
-asked_names_reads (Run Reads) words asks = asks
+-- the command that is asked for
+abbrev pub command_in : Asked → Command
+command_in (Run command) = command
 
--- a name and `reads` ask for `reads`
-pub reads_is_asked : (name : List ℕ) → NameSubcommand (codes "reads") (name ∷ codes "reads" ∷ [])
+pub asked_names : (asked : Asked) (words : List (List ℕ)) → AskFor asked words → NameSubcommand (word_of (command_in asked)) words
+asked_names (Run command) words asks = asks
+
+-- a name and a command's word ask for the command
+pub command_is_asked : (command : Command) (name : List ℕ) → NameSubcommand (word_of command) (name ∷ word_of command ∷ [])
 unfolding clap_on_literals
-reads_is_asked name = record { no_fault = refl; named = refl }
+command_is_asked Reads name = record { no_fault = refl; named = refl }
+command_is_asked Edges name = record { no_fault = refl; named = refl }
+
+-- words that were not taken for a command name none
+pub no_command : (command : Command) (word : List ℕ) → word ≢ codes "reads" → word ≢ codes "edges" → word ≡ word_of command → ⊥
+no_command Reads word reads edges e = reads e
+no_command Edges word reads edges e = edges e
+
+pub some_command : (command : Command) → Some (word_of command) ≡ None → ⊥
+some_command Reads e = absurd cc
+some_command Edges e = absurd cc
 
 -- the firsts of pairs that may be there
 firsts : {A B C : Type 0} (f : A → B) (g : A → C) (o : Option A) → option_map (λ (p : B × C). p.0) (option_map (λ (x : A). (f x, g x)) o) ≡ option_map f o

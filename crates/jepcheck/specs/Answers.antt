@@ -5,7 +5,7 @@ use Rattle.hist_types.specs.Entries.{Entry, operations_of}
 use Rattle.hist_types.specs.Reading.{Reads}
 use Rattle.hist_types.specs.Journal.{first_broken}
 use Rattle.hist_types.specs.Refusals.{event_fault, memory_fault}
-use Rattle.hist_types.specs.Texts.{reads_text, has_bad_read, refusal_line}
+use Rattle.hist_types.specs.Texts.{reads_text, edges_text, has_bad_read, refusal_line}
 use Rattle.hist_types.specs.declared.types.Fault.{Fault}
 use Rattle.jepcheck.specs.Statuses.{status_by}
 use Rattle.jepcheck.specs.declared.answer.Status.{Status}
@@ -40,6 +40,7 @@ IsRefused text fault = GivesFault text fault ⊎ ((operations : List Operation) 
 -- what a command prints of the events, and the status with it
 abbrev pub Reports : Command → List Operation → Status → List ℕ → Type 0
 Reports commands.Reads events status printed = (status ≡ status_by (has_bad_read events)) × (printed ≡ reads_text events)
+Reports commands.Edges events status printed = (status ≡ statuses.NoPhenomenon) × (printed ≡ edges_text events)
 
 -- the report of a command on the events that the text gives
 pub record IsReport (command : Command) (text : List ℕ) (status : Status) (printed : List ℕ) : Type 0 where

@@ -1,6 +1,7 @@
 pub mod Answers
 pub mod Blocks
 pub mod Pieces
+pub mod Printing
 pub mod Writers
 pub mod Statuses
 pub mod Lines

@@ -6,15 +6,24 @@ use Rattle.jepcheck.specs.declared.command_line.Asked.TheVariants.{Run}
 use Rattle.jepcheck.specs.declared.command_line.LineFault.{LineFault}
 use Rattle.jepcheck.specs.declared.command_line.LineFault.TheVariants.{Usage, Memory}
 use Rattle.jepcheck.specs.declared.command_line.TheConstants.{HELP}
-use Rattle.jepcheck.specs.declared.run.Command.TheVariants.{Reads}
+use Rattle.jepcheck.specs.declared.run.Command.{Command}
+use Rattle.jepcheck.specs.declared.run.Command.TheVariants.{Reads, Edges}
 
 -- a command of which one of the subcommands has to be named
 abbrev pub with_required : App → App
 with_required a = record a { top = record a.top { subcommand_required = true } }
 
--- one subcommand, `reads`
+-- the subcommand of a command
+abbrev pub word_of : Command → List ℕ
+word_of Reads = codes "reads"
+word_of Edges = codes "edges"
+
+abbrev pub with_command : App → Command → App
+with_command a command = with_subcommand a (new_app (word_of command)).top
+
+-- a subcommand for each command
 abbrev pub program_app : App
-program_app = with_subcommand (with_required (new_app (codes "jepcheck"))) (new_app (codes "reads")).top
+program_app = with_command (with_command (with_required (new_app (codes "jepcheck"))) Reads) Edges
 
 -- by the definitions of the library that parses the words nothing is at fault in them, and they name this subcommand
 pub record NameSubcommand (name : List ℕ) (words : List (List ℕ)) : Type 0 where
@@ -23,7 +32,7 @@ pub record NameSubcommand (name : List ℕ) (words : List (List ℕ)) : Type 0 w
 
 -- what the words of a command line ask for
 abbrev pub AskFor : Asked → List (List ℕ) → Type 0
-AskFor (Run Reads) words = NameSubcommand (codes "reads") words
+AskFor (Run command) words = NameSubcommand (word_of command) words
 
 -- the text of a fault ends with the help
 abbrev pub Helps : LineFault → Type 0

@@ -46,9 +46,12 @@ Commands:
   reads    print the first read of a value that a failed transaction wrote (G1a), the first read of a value
            that another transaction wrote and wrote over in itself (G1b), and how many reads return a value
            that nobody wrote
+  edges    print the dependency edges between transactions: which of them wrote after another one wrote (ww),
+           read what it wrote (wr), or wrote after it read (rw)
 
 The history is read from standard input. The status is 0 where nothing was found, 1 where something was,
 2 where the history or the command line was refused, 3 where a device failed and 4 where memory ran out.
+`edges` looks for nothing, and ends with 0 unless it was refused or failed.
 
 Example:
   jepcheck reads < examples/aborted-read.edn
@@ -59,8 +62,9 @@ fn program<'a>(alloc: Global) -> Result<clap::Command<'a>, AllocError>
     ensures { IfOk result (λ program. app_of program ≡ program_app) }
 {
     let reads = clap::Command::new(alloc, "reads");
+    let edges = clap::Command::new(alloc, "edges");
     let program = clap::Command::new(alloc, "jepcheck").subcommand_required(true);
-    program.subcommand(reads)
+    program.subcommand(reads)?.subcommand(edges)
 }
 
 /// A message, which may be empty, and the help behind it.
@@ -120,6 +124,7 @@ pub fn command_line<'a>(alloc: Global, words: &'a [String]) -> Result<Asked, Lin
     };
     match matches.subcommand_name() {
         Some("reads") => Ok(Asked::Run(Command::Reads)),
+        Some("edges") => Ok(Asked::Run(Command::Edges)),
         _ => Err(usage(Ok(String::new(alloc)))),
     }
 }

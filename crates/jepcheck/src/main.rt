@@ -7,6 +7,8 @@ mod blocks;
 mod command_line;
 mod devices;
 mod dispatch;
+mod edge_lines;
+mod edges;
 mod inputs;
 mod laws;
 mod reads;

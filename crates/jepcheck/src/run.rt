@@ -11,7 +11,7 @@ ghost use Rattle.jepcheck.specs.Statuses.{code_of};
 use crate::answer::{Answer, Status, refuse};
 use crate::devices::{ReadFault, read_all, write_all};
 use crate::inputs::{journal_of, read_blocks};
-use crate::reads;
+use crate::{edges, reads};
 use hist_types::device::{Failed, Sink, Source};
 use hist_types::types::{Fault, Refusal};
 use std::alloc::{AllocError, Global};
@@ -21,6 +21,8 @@ use std::alloc::{AllocError, Global};
 pub enum Command {
     /// Print the aborted and the intermediate reads, and how many reads return what nobody wrote.
     Reads,
+    /// Print the dependency edges between transactions.
+    Edges,
 }
 
 /// The report of a command on a text, unless that is refused.
@@ -32,6 +34,7 @@ fn judge(alloc: Global, command: Command, text: &[u8]) -> Result<Answer, Fault>
     let events = journal_of(alloc, &blocks)?;
     match command {
         Command::Reads => reads::report(alloc, &events),
+        Command::Edges => edges::report(alloc, &events),
     }
 }
 

@@ -258,18 +258,87 @@ impl Sink for Sipping {
 }
 
 /// Runs over memory. A run that is out of memory says so, and a second one has the answer.
-fn answers<R: Abort + AllocGlobal>(rt: &R, history: &[u8], status: u8, text: &[u8]) {
+fn answers_by<R: Abort + AllocGlobal>(
+    rt: &R,
+    command: Command,
+    history: &[u8],
+    status: u8,
+    text: &[u8],
+) {
     let mut sink = Sipping::new(512, 512);
     let mut source = MemorySource::new(history);
-    let mut ended = run(rt.alloc(), Command::Reads, &mut source, &mut sink).code();
+    let mut ended = run(rt.alloc(), command, &mut source, &mut sink).code();
     if ended == 4 {
         assert_eq!(rt; sink.taken.as_slice(), MEMORY_LINE);
         let mut again = MemorySource::new(history);
         sink = Sipping::new(512, 512);
-        ended = run(rt.alloc(), Command::Reads, &mut again, &mut sink).code();
+        ended = run(rt.alloc(), command, &mut again, &mut sink).code();
     }
     assert_eq!(rt; ended, status);
     assert_eq!(rt; sink.taken.as_slice(), text);
+}
+
+fn answers<R: Abort + AllocGlobal>(rt: &R, history: &[u8], status: u8, text: &[u8]) {
+    answers_by(rt, Command::Reads, history, status, text);
+}
+
+/// Each of two transactions read what the other wrote, and wrote over it.
+const CROSSED: &[u8] = b"{:type :invoke, :process 0, :value [[:w :x 1] [:r :y nil] [:w :y 2]]}
+{:type :invoke, :process 1, :value [[:w :y 1] [:r :x nil] [:w :x 2]]}
+{:type :ok, :process 0, :value [[:w :x 1] [:r :y 1] [:w :y 2]]}
+{:type :ok, :process 1, :value [[:w :y 1] [:r :x 1] [:w :x 2]]}
+";
+
+/// The first transaction read nil and wrote over it itself, which is no edge.
+const ONE_AFTER_THE_OTHER: &[u8] = b"{:type :invoke, :process 0, :value [[:r :x nil] [:w :x 1]]}
+{:type :ok, :process 0, :value [[:r :x nil] [:w :x 1]]}
+{:type :invoke, :process 1, :value [[:r :x nil] [:w :x 2]]}
+{:type :ok, :process 1, :value [[:r :x 1] [:w :x 2]]}
+";
+
+/// A key of each kind, out of order.
+const KEYS_OF_EACH_KIND: &[u8] =
+    b"{:type :invoke, :process 0, :value [[:w x 1] [:w \"x\" 1] [:w :x 1] [:w 10 1] [:w 9 1]]}
+{:type :ok, :process 0, :value [[:w x 1] [:w \"x\" 1] [:w :x 1] [:w 10 1] [:w 9 1]]}
+{:type :invoke, :process 1, :value [[:r x nil] [:r \"x\" nil] [:r :x nil] [:r 10 nil] [:r 9 nil]]}
+{:type :ok, :process 1, :value [[:r x 1] [:r \"x\" 1] [:r :x 1] [:r 10 1] [:r 9 1]]}
+";
+
+/// One transaction read nil and the first value, of which nil comes first.
+const NIL_FIRST: &[u8] = b"{:type :invoke, :process 0, :value [[:w :x 1]]}
+{:type :ok, :process 0, :value [[:w :x 1]]}
+{:type :invoke, :process 1, :value [[:r :x nil] [:r :x nil]]}
+{:type :ok, :process 1, :value [[:r :x 1] [:r :x nil]]}
+{:type :invoke, :process 0, :value [[:r :x nil] [:w :x 2]]}
+{:type :ok, :process 0, :value [[:r :x 1] [:w :x 2]]}
+";
+
+#[test]
+fn edges_in_order(rt: HostRuntime) -> Result<(), Fail> {
+    let histories: [(&[u8], &[u8]); 5] = [
+        (b"", b"prefix 0\ntxns 0\nedges 0\n"),
+        (
+            CROSSED,
+            b"prefix 4\ntxns 2\nT0 -ww :x 1 2-> T1\nT0 -wr :x 1-> T1\nT1 -ww :y 1 2-> T0\nT1 -wr :y 1-> T0\nedges 4\n",
+        ),
+        (
+            ONE_AFTER_THE_OTHER,
+            b"prefix 4\ntxns 2\nT0 -ww :x 1 2-> T2\nT0 -wr :x 1-> T2\nT0 -rw :x nil 2-> T2\nedges 3\n",
+        ),
+        (
+            KEYS_OF_EACH_KIND,
+            b"prefix 4\ntxns 2\nT0 -wr 9 1-> T2\nT0 -wr 10 1-> T2\nT0 -wr :x 1-> T2\nT0 -wr \"x\" 1-> T2\nT0 -wr x 1-> T2\nedges 5\n",
+        ),
+        (
+            NIL_FIRST,
+            b"prefix 6\ntxns 3\nT0 -wr :x 1-> T2\nT0 -ww :x 1 2-> T4\nT0 -wr :x 1-> T4\nT2 -rw :x nil 1-> T0\nT2 -rw :x nil 2-> T4\nT2 -rw :x 1 2-> T4\nedges 6\n",
+        ),
+    ];
+    for (history, text) in histories {
+        answers_by(&rt, Command::Edges, history, 0, text);
+    }
+    answers_by(&rt, Command::Edges, BUSY, 2, b"refused 1 Busy event 1\n");
+    Ok(())
 }
 
 #[test]

@@ -36,7 +36,7 @@ fn unread(alloc: Global, kind: io::ErrorKind) -> LineFault {
 fn laws_return() {
     laws::one_answer_to_a_text();
     laws::an_answer_to_each_text();
-    laws::reads_is_a_command();
+    laws::commands_are_asked_for();
 }
 
 #[test]

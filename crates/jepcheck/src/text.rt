@@ -1,7 +1,7 @@
 //! What is printed.
 
 ghost use Rattle.std.specs.Prelude.{◌≡◌, ◌++◌, OnOk, option_map};
-ghost use Rattle.hist_types.specs.Texts.{number_line, bad_read_lines, reads_lines, bad_read_text, indented, refusal_line};
+ghost use Rattle.hist_types.specs.Texts.{number_line, head_lines, bad_read_lines, reads_lines, bad_read_text, indented, refusal_line};
 ghost use Rattle.jepcheck.specs.Writers.{bad_read_of};
 
 use crate::bad_reads::{BadRead, BadReads};
@@ -10,11 +10,29 @@ use hist_types::types::Fault;
 use std::alloc::{AllocError, Global};
 
 /// Appends a line of a word and a number.
-fn write_number(alloc: Global, out: &mut Vec<u8>, word: &str, number: u64) -> Result<(), AllocError>
+pub fn write_number(
+    alloc: Global,
+    out: &mut Vec<u8>,
+    word: &str,
+    number: u64,
+) -> Result<(), AllocError>
     ensures { OnOk result (out.new.items ≡ out.old.items ++ number_line word.now number) }
 {
     let line = format!(in alloc; "{word} {number}\n")?;
     out.extend_from_slice(line.as_bytes())
+}
+
+/// Appends the lines of the number of events and the number of transactions.
+pub fn write_head(
+    alloc: Global,
+    out: &mut Vec<u8>,
+    events: u64,
+    txns: u64,
+) -> Result<(), AllocError>
+    ensures { OnOk result (out.new.items ≡ out.old.items ++ head_lines events txns) }
+{
+    write_number(alloc, out, "prefix", events)?;
+    write_number(alloc, out, "txns", txns)
 }
 
 /// Appends the indented line of a bad read.
@@ -63,8 +81,7 @@ pub fn write_reads(
 ) -> Result<(), AllocError>
     ensures { OnOk result (out.new.items ≡ out.old.items ++ reads_lines events txns (option_map bad_read_of found.now.aborted) (option_map bad_read_of found.now.intermediate) found.now.stray) }
 {
-    write_number(alloc, out, "prefix", events)?;
-    write_number(alloc, out, "txns", txns)?;
+    write_head(alloc, out, events, txns)?;
     write_bad_read(alloc, out, "G1a", &found.aborted)?;
     write_bad_read(alloc, out, "G1b", &found.intermediate)?;
     write_number(alloc, out, "stray", found.stray)

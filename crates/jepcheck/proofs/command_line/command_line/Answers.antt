@@ -1,24 +1,30 @@
-use Rattle.std.proofs.Common.{◌≡◌, ◌∙◌, Some, None, sym, ap, codes}
-use Rattle.jepcheck.proofs.Words.{asked_names_reads, names_subcommand, meets_subcommand, fails_for_memory}
+use Rattle.std.proofs.Common.{◌≡◌, ◌∙◌, Some, None, sym, ap}
+use Rattle.std.proofs.lemmas.Option.{same_Some}
+use Rattle.jepcheck.specs.Lines.{word_of}
+use Rattle.jepcheck.proofs.Words.{command_in, asked_names, no_command, some_command, names_subcommand, meets_subcommand, fails_for_memory}
 use Rattle.jepcheck.proofs.command_line.command_line.Goals as goal
 use Rattle.jepcheck.proofs.command_line.command_line.Goals.{in_default-via-in-Some+in_default, in_default-via-in_default}
 
 pub returns-in-Err-clause-asked : goal.returns-in-Err-clause-asked
 returns-in-Err-clause-asked c = λ asked asks.
-    c.line_fault.ensures.memory (fails_for_memory _ _ c.in-Err.error _ c.in_ok-program.ensures c.in-Err.ensures.kinds (asked_names_reads asked _ asks))
+    c.line_fault.ensures.memory (fails_for_memory _ _ c.in-Err.error _ c.in_ok-program.ensures c.in-Err.ensures.kinds (asked_names asked _ asks))
 
 pub returns-in-Some-reads-clause-only : goal.returns-in-Some-reads-clause-only
 returns-in-Some-reads-clause-only c =
     names_subcommand _ _ _ _ c.in_ok-program.ensures c.in-Ok.ensures.matches c.in-Ok.ensures.kinds (sym c.in-Some-reads.ensures ∙ ap Some c.in-Some-reads.is-reads)
 
+pub returns-in-Some-edges-clause-only : goal.returns-in-Some-edges-clause-only
+returns-in-Some-edges-clause-only c =
+    names_subcommand _ _ _ _ c.in_ok-program.ensures c.in-Ok.ensures.matches c.in-Ok.ensures.kinds (sym c.in-Some-edges.ensures ∙ ap Some c.in-Some-edges.is-edges)
+
 pub returns-clause-asked : goal.returns-clause-asked
-returns-clause-asked c = λ asked asks. let met = meets_subcommand _ _ _ _ c.in_ok-program.ensures c.in-Ok.ensures.matches (asked_names_reads asked _ asks) in
+returns-clause-asked c = λ asked asks. let met = meets_subcommand _ _ _ _ c.in_ok-program.ensures c.in-Ok.ensures.matches (asked_names asked _ asks) in
     elim c.in_default.branch [
       | in_default-via-in-Some+in_default w ↦
           let other = w.in_default in
-          let same : Some other.field-0.now ≡ Some (codes "reads") = rw other.is at (c.subcommand_name.ensures ∙ met) in
-          absurd (other.not-reads cc)
+          let same : Some other.field-0.now ≡ Some (word_of (command_in asked)) = rw other.is at (c.subcommand_name.ensures ∙ met) in
+          absurd (no_command (command_in asked) other.field-0.now (λ e. other.not-reads cc) (λ e. other.not-edges cc) (same_Some _ _ same))
       | in_default-via-in_default w ↦
-          let none : None ≡ Some (codes "reads") = rw w.in_default.is at (c.subcommand_name.ensures ∙ met) in
-          absurd cc
+          let none : None ≡ Some (word_of (command_in asked)) = rw w.in_default.is at (c.subcommand_name.ensures ∙ met) in
+          absurd (some_command (command_in asked) (sym none))
     ]

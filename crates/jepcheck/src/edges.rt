@@ -1,0 +1,81 @@
+//! The command `edges`.
+
+ghost use Rattle.std.specs.Prelude.{◌≡◌, ◌++◌, length, IfOk, IfErr, OnOk};
+ghost use Rattle.hist_types.specs.Edges.{dependency_edges};
+ghost use Rattle.hist_types.specs.Refusals.{memory_fault};
+ghost use Rattle.hist_types.specs.Texts.{in_order};
+ghost use Rattle.dep_edges.specs.Histories.{AreOfHistory};
+ghost use Rattle.dep_edges.specs.Tables.{IsPlace, txn_at};
+ghost use Rattle.jepcheck.specs.Answers.{Reports};
+ghost use Rattle.jepcheck.specs.Printing.{edges_leaving, edge_lines};
+ghost use Rattle.jepcheck.specs.declared.run.Command.TheVariants.{Edges};
+
+use crate::answer::{Answer, Status};
+use crate::edge_lines::{sort_edges, write_edges};
+use crate::text::{write_head, write_number};
+use dep_edges::deps::Deps;
+use dep_edges::edges;
+use dep_edges::types::Edge;
+use hist_types::types::Fault;
+use journal_core::prefix::Prefix;
+use key_versions::versions;
+use std::alloc::{AllocError, Global};
+use std::hash::{BuildHasherDefault, FoldHasher};
+use txn_pairs::pair;
+
+/// Makes the list that of the edges that leave the transaction at the place, in order.
+fn find_leaving<'a>(
+    deps: &Deps<'_, 'a>,
+    place: usize,
+    leaving: &mut Vec<Edge<'a>>,
+) -> Result<(), AllocError>
+    requires history { AreOfHistory deps.now }
+    requires place { IsPlace deps.now place }
+    ensures { OnOk result (leaving.new.items ≡ edges_leaving deps.now (txn_at deps.now place)) }
+{
+    leaving.clear();
+    deps.edges_from(place, leaving)?;
+    sort_edges(leaving);
+    Ok(())
+}
+
+/// Appends the lines of all edges, transaction by transaction, and returns how many there are.
+fn write_all_edges(
+    alloc: Global,
+    deps: &Deps<'_, '_>,
+    txns: usize,
+    out: &mut Vec<u8>,
+) -> Result<u64, AllocError>
+    requires history { AreOfHistory deps.now }
+    requires txns { txns ≡ length deps.now }
+    ensures { IfOk result (λ count. (out.new.items ≡ out.old.items ++ edge_lines (in_order (dependency_edges deps.now))) × (count ≡ length (in_order (dependency_edges deps.now)))) }
+{
+    let mut leaving = Vec::new(alloc);
+    let mut count = 0;
+    for place in 0..txns {
+        find_leaving(deps, place, &mut leaving)?;
+        write_edges(out, &leaving)?;
+        count += leaving.len() as u64;
+    }
+    Ok(count)
+}
+
+/// What `edges` prints of a journal. It fails only where it is out of memory.
+pub fn report(alloc: Global, events: &Prefix<'_>) -> Result<Answer, Fault>
+    ensures ok { IfOk result (λ answer. Reports Edges events.now answer.status answer.printed.items) }
+    ensures err { IfErr result (λ fault. fault ≡ memory_fault) }
+{
+    let prefix = events.events();
+    let txns = pair(alloc, events)?;
+    let versions = versions(alloc, &txns, BuildHasherDefault::<FoldHasher>::new())?;
+    let deps = edges(alloc, &txns, &versions)?;
+    let count = txns.as_slice().len();
+    let mut printed = Vec::new(alloc);
+    write_head(alloc, &mut printed, prefix, count as u64)?;
+    let number = write_all_edges(alloc, &deps, count, &mut printed)?;
+    write_number(alloc, &mut printed, "edges", number)?;
+    Ok(Answer {
+        status: Status::NoPhenomenon,
+        printed,
+    })
+}
