@@ -161,7 +161,10 @@ fn tally_of(alloc: Global, blocks: &[Block], work: Work) -> Result<u64, AllocErr
 fn print_mop(rt: &HostRuntime, mop: &MopShape) -> io::Result<()> {
     let name = if mop.is_write { "w" } else { "r" };
     let (key, value) = (mop.key, mop.value);
-    println!(rt; " {name} {}..{} {}..{}", key.start, key.end, value.start, value.end)
+    println!(rt;
+        " {name} {}..{} {}..{}",
+        key.start, key.end, value.start, value.end
+    )
 }
 
 /// Prints each operation, and where it and its keys and values are.
