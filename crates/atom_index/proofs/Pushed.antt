@@ -95,7 +95,7 @@ is_there test i (x ∷ xs) = elim (cases_Bool (test x)) [
   | inr is_not ↦ rw is_not (is_there test (i + 1) xs)
 ]
 
-has_number : {A : Type 0} (eq : A → A → Bool) (x : A) (items : List A) → is_some (number_in eq x items) ≡ list_any (eq x) items
+pub has_number : {A : Type 0} (eq : A → A → Bool) (x : A) (items : List A) → is_some (number_in eq x items) ≡ list_any (eq x) items
 has_number eq x items = ap is_some (position_from-zero (eq x) items) ∙ is_there (eq x) 0 items
 
 -- what an insertion leaves
