@@ -15,6 +15,7 @@ pub mod LeftOut
 pub mod PassedOver
 pub mod Places
 pub mod Reached
+pub mod OpenMaps
 pub mod Triples
 pub mod Ahead
 pub mod FlatMaps

@@ -6,7 +6,7 @@ use Rattle.std.proofs.lemmas.Slice.Eq.{bytes_eq-Decides}
 use Rattle.hist_types.specs.Bytes.{open_round, open_square, open_brace}
 use Rattle.hist_types.specs.Entries.{Entry, PlacedOperation, operation, skipped}
 use Rattle.hist_types.specs.Forms.{Form, collection, forms_of, Open, is_map, is_vector_or_list, leave_out, with_form, with_opener}
-use Rattle.hist_types.specs.Reading.{step, step_by, may_open, is_place_in, in_operation_place, goes_on, nothing_open}
+use Rattle.hist_types.specs.Reading.{step, step_by, may_open, is_place_in, in_operation_place, goes_on, nothing_open, Reading, reading_from}
 use Rattle.hist_types.specs.Tokens.{Item, Opener, Closer, byte_fault, nesting_refusal}
 use Rattle.hist_types.specs.declared.types.Fault.{Fault}
 use Rattle.hist_types.specs.declared.types.Refusal.TheVariants.{NotAMap, Unclosed}
@@ -21,7 +21,8 @@ use Rattle.edn_ops.specs.Leads.{SameDepth, Leads, ReadsAs, Stops, inside, behind
 use Rattle.edn_ops.specs.Fields.{IsEntry}
 use Rattle.edn_ops.specs.Shapes.{IsShapeOf}
 use Rattle.edn_ops.specs.Collections.{ReadsMap}
-use Rattle.edn_ops.specs.Reader.{OpenWith, AreOpen, skips, Goes, EndsWith}
+use Rattle.edn_ops.specs.Reader.{OpenWith, AreOpen, skips, Goes, EndsWith, NeverEnds}
+use Rattle.edn_ops.proofs.OpenMaps.{front_nothing, never_nothing}
 use Rattle.edn_ops.proofs.Steps.{Leads-refl, Leads-append, Leads-then, Leads-stops, Leads-reads, Leads-depth, Leads-step, Stops-step, closer-depth, token-some}
 use Rattle.edn_ops.proofs.Levels.{nothing_waits, with_form-behind, step-opener, Leads-closer}
 
@@ -368,3 +369,30 @@ pub refuses_on :
     (o : Open) → AreOpen s list o → ReadsAs s o (record { entries = []; fault = Some (byte_fault NotAMap m.token.start) })
 refuses_on s t m h list closer map vector =
     stops_with s list (byte_fault NotAMap m.token.start) (λ o is. not_a_map s t m h list o is closer map (λ at none. not_vector_at m s list vector at none))
+
+-- ---- what never reads as nothing
+
+-- a map in an operation's place is open
+pub map_never :
+    (s t : State) (m : Member) (h : GivesMember s m t) (list : Option Token) → kind_of m.token.kind ≡ Opener → is_map (item_of s.text m.token) ≡ true → NeverEnds s list
+map_never s t m h list kind map o is tokens ending rest reads =
+    let i = item_of s.text m.token in
+    let p = with_marks h.tags o in
+    let may : may_open p i ≡ true = rw map (may_map (in_operation_place p) _) in
+    let goes : step p i ≡ Ok (goes_on (with_opener i p)) = step-opener i.kind i p kind may in
+    let first : Leads h.before p [] t (with_opener i p) = Leads-step h.before t m.token p (goes_on (with_opener i p)) h.token (ap (step p) (same_item s t m h) ∙ goes) in
+    let all : Leads s o [] t (with_opener i p) = Leads-then s h.before t o p (with_opener i p) [] (to_token s t m h list o is.0) first in
+    let x = all.reads tokens ending rest in
+    never_nothing (with_opener i p) x.0 ending (inl (map, in_place_behind s.text list o h.tags is.0 h.no_drop)) (sym x.2 ∙ reads)
+
+-- behind what was passed
+pub Passed-never : (s t : State) (a b : Option Token) (n m : ℕ) → Passed s a n t b m → NeverEnds t b → NeverEnds s a
+Passed-never s t a b n m p never o is tokens ending rest reads =
+    let x = p.goes o is in
+    let y = x.2.reads tokens ending rest in
+    never x.0 x.1 y.0 ending y.1 (front_nothing (skips p.more) (reading_from x.0 y.0 ending) (sym y.2 ∙ reads)).1
+
+-- what reads as a fault
+pub ends_never : (s : State) (list : Option Token) (es : List Entry) (fault : Fault) → EndsWith s list es (Some fault) → NeverEnds s list
+ends_never s list es fault ends o is tokens ending rest reads =
+    let clash : Some fault ≡ None = ap (λ (r : Reading). r.fault) (sym (ends o is tokens ending rest) ∙ reads) in cc

@@ -8,7 +8,7 @@ use Rattle.edn_ops.specs.declared.reader.Place.{Place}
 use Rattle.edn_ops.specs.declared.types.OpShape.{OpShape}
 use Rattle.edn_lex.specs.declared.types.Token.{Token}
 use Rattle.edn_ops.specs.Collections.{UnlessMemory}
-use Rattle.edn_ops.specs.Reader.{skips, Goes, EndsWith}
+use Rattle.edn_ops.specs.Reader.{skips, Goes, EndsWith, NeverEnds}
 use Rattle.edn_ops.specs.Shapes.{IsShapeOf}
 
 -- Some operations were skipped, and then this one was read.
@@ -42,7 +42,7 @@ NextOp old (Err fault) new = UnlessMemory fault (ReadsFault old fault)
 abbrev pub FlatOp : Place → Result (Option OpShape) Fault → Place → Type 0
 FlatOp old (Ok None) new = new ≡ old
 FlatOp old (Ok (Some shape)) new = ReadsOp old shape new × (new.skipped ≤ new.lexer.offset)
-FlatOp old (Err fault) new = (fault ≡ memory_fault) × (new ≡ old)
+FlatOp old (Err fault) new = (fault ≡ memory_fault) × (new ≡ old) × NeverEnds old.lexer old.list
 
 -- ---- where a reader is in its text
 

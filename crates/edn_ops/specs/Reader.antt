@@ -2,7 +2,7 @@
 use Rattle.std.specs.Prelude.{◌≡◌, ◌≢◌, ◌⊎◌, ◌+◌, ℕ, zero, suc, List, [], ◌∷◌, ◌++◌, true, false, Option, Some, None, Result, Ok, Err}
 use Rattle.hist_types.specs.Entries.{Entry, operation, skipped, PlacedOperation}
 use Rattle.hist_types.specs.Forms.{Form, Open, leave_out, is_vector_or_list}
-use Rattle.hist_types.specs.Reading.{nothing_open}
+use Rattle.hist_types.specs.Reading.{nothing_open, reading_from}
 use Rattle.hist_types.specs.Refusals.{memory_fault}
 use Rattle.hist_types.specs.Tokens.{Item}
 use Rattle.hist_types.specs.declared.types.Fault.{Fault}
@@ -41,6 +41,12 @@ Goes s list entries t list' = (o : Open) → AreOpen s list o → (p : Open) × 
 -- What is left from s, where the list is open, reads as these entries and the fault.
 abbrev pub EndsWith : State → Option Token → List Entry → Option Fault → Type 0
 EndsWith s list entries fault = (o : Open) → AreOpen s list o → ReadsAs s o (record { entries = entries; fault = fault })
+
+-- What is left from s, where the list is open, reads as some entry or some fault.
+abbrev pub NeverEnds : State → Option Token → Type 0
+NeverEnds s list =
+    (o : Open) → AreOpen s list o → (tokens : List Item) (ending : Option Fault) → Rest s tokens ending →
+    reading_from o tokens ending ≢ record { entries = []; fault = None }
 
 -- ---- readers
 
@@ -93,5 +99,5 @@ NextOf old (Err fault) new = ((fault ≡ memory_fault) × (new ≡ old)) ⊎ ((f
 -- what a call gives that reads an operation at once, or leaves the reader as it is
 abbrev pub FlatNext : Reader → Result (Option OpShape) Fault → Reader → Type 0
 FlatNext old (Ok None) new = new ≡ old
-FlatNext old (Ok (Some shape)) new = (old.failed ≡ None) × HasRead old shape new × IsShapeIn old.state.text shape × (new.state.text ≡ old.state.text)
-FlatNext old (Err fault) new = (old.failed ≡ None) × (fault ≡ memory_fault) × (new ≡ old)
+FlatNext old (Ok (Some shape)) new = (old.failed ≡ None) × HasRead old shape new × IsShapeIn old.state.text shape × (new.state.text ≡ old.state.text) × (Left old [] None → ⊥)
+FlatNext old (Err fault) new = (old.failed ≡ None) × (fault ≡ memory_fault) × (new ≡ old) × (Left old [] None → ⊥)

@@ -1,12 +1,13 @@
 //! The operations of a text, one after the other.
 
-ghost use Rattle.std.specs.Prelude.{◌≡◌, ◌≢◌, ◌+◌, ◌≤◌, ◌<◌, length, true, false, List, Option, IfOk, IfSome};
+ghost use Rattle.std.specs.Prelude.{◌≡◌, ◌≢◌, ◌+◌, ◌≤◌, ◌<◌, length, true, false, List, [], Option, None, Ok, IfOk, IfErr, IfSome};
 ghost use Rattle.hist_types.specs.Entries.{Entry};
 ghost use Rattle.hist_types.specs.Reading.{Reads};
 ghost use Rattle.hist_types.specs.Forms.{is_map, is_vector_or_list};
 ghost use Rattle.edn_lex.specs.declared.types.TokenKind.TheVariants.{Open};
+ghost use Rattle.hist_types.specs.Refusals.{memory_fault};
 ghost use Rattle.edn_lex.specs.Kinds.{item_of};
-ghost use Rattle.edn_ops.specs.Reader.{reader_at_start, Left, NextOf, FlatNext};
+ghost use Rattle.edn_ops.specs.Reader.{reader_at_start, Left, NextOf, FlatNext, NeverEnds};
 ghost use Rattle.edn_ops.specs.Places.{NextOp, FlatOp};
 ghost use Rattle.edn_ops.specs.Shapes.{IsShapeIn};
 
@@ -96,7 +97,8 @@ impl<'a> Place<'a> {
                 self.lexer.jump(shape.span.end);
                 Ok(Some(shape))
             }
-            other => other,
+            Ok(None) => Ok(None),
+            Err(fault) => Err(fault),
         }
     }
 
@@ -105,6 +107,7 @@ impl<'a> Place<'a> {
         requires { self.old.skipped ≤ self.old.lexer.offset }
         ensures next { NextOp self.old result self.new }
         ensures few { IfOk result (λ _. self.new.skipped ≤ self.new.lexer.offset) }
+        ensures memory { IfErr result (λ fault. fault ≡ memory_fault → NeverEnds self.old.lexer self.old.list) }
     {
         while let Some(member) = next_member(&mut self.lexer)? {
             let text = self.lexer.text();
@@ -183,6 +186,7 @@ impl<'a> OpReader<'a> {
         ensures next { self.old.failed ≡ None → NextOf self.old result self.new }
         ensures shape { IfOk result (λ found. IfSome found (IsShapeIn self.old.state.text)) }
         ensures text { self.new.state.text ≡ self.old.state.text }
+        ensures end { self.old.failed ≡ None → Left self.old [] None → result ≡ Ok None }
     {
         match self.flat_op() {
             Ok(None) => self.any_op(),
@@ -208,6 +212,7 @@ impl<'a> OpReader<'a> {
         ensures next { self.old.failed ≡ None → NextOf self.old result self.new }
         ensures shape { IfOk result (λ found. IfSome found (IsShapeIn self.old.state.text)) }
         ensures text { self.new.state.text ≡ self.old.state.text }
+        ensures end { self.old.failed ≡ None → Left self.old [] None → result ≡ Ok None }
     {
         if let Some(fault) = self.failed {
             return Err(fault);

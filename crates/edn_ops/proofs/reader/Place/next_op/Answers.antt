@@ -12,7 +12,7 @@ use Rattle.edn_ops.specs.Leads.{NextMember, ReadsAs}
 use Rattle.edn_ops.specs.Collections.{ReadsMap}
 use Rattle.edn_ops.specs.Reader.{AreOpen, OpenWith}
 use Rattle.edn_ops.proofs.Levels.{GivesMember-shorter, GivesMember-end}
-use Rattle.edn_ops.proofs.Places.{Passed, Passed-list, Passed-skipped, Passed-op, Passed-ends, closes_on, opens_on, op_on, skip_on, stops_with, refuses_on, member_stops, map_stops, end_reads, end_unclosed}
+use Rattle.edn_ops.proofs.Places.{Passed, Passed-list, Passed-skipped, Passed-op, Passed-ends, closes_on, opens_on, op_on, skip_on, stops_with, refuses_on, member_stops, map_stops, end_reads, end_unclosed, Passed-never, ends_never, map_never}
 use Rattle.edn_ops.proofs.reader.Place.next_op.Goals as goal
 use Rattle.edn_ops.proofs.reader.Place.next_op.Goals.{else-is_none-via-then-is_none+else-opens_list, else-is_none-via-else-is_none}
 
@@ -183,3 +183,25 @@ returns-in-None-clause-few c =
     let few = c.loop-member.invariant.few in
     let forward = h.forward in
     omega arith
+
+pub returns-in_err-member-clause-memory : goal.returns-in_err-member-clause-memory
+returns-in_err-member-clause-memory c =
+    let p = err_from_is_err_and c.from_residual.result c.from_residual.ensures.1 in
+    let place = c.loop-member.self in
+    let fault = c.in_err-member.field-0.0 in
+    rw (p.1, p.2) (λ memory.
+    Passed-never _ _ _ _ _ _ c.loop-member.invariant
+    (ends_never place.lexer place.list [] fault (stops_with place.lexer place.list fault (λ o is. member_stops place.lexer place.list o fault is c.in_err-member.ensures))))
+
+pub returns-in_err-shape-clause-memory : goal.returns-in_err-shape-clause-memory
+returns-in_err-shape-clause-memory c =
+    let P : Option Member → Type 0 = λ x. NextMember c.loop-member.self.lexer (Ok x) c.next_member.new.lexer in
+    let h = subst P c.in-Some.is c.in_ok-member.ensures in
+    let short = GivesMember-shorter c.loop-member.self.lexer c.next_member.new.lexer c.in-Some.member h in
+    let text : c.text-text.result.now ≡ c.loop-member.self.lexer.text = c.text-text.ensures ∙ short.2 in
+    let same : item_of c.text-text.result.now c.in-Some.member.token ≡ item_of c.loop-member.self.lexer.text c.in-Some.member.token = ap (λ (xs : List ℕ). item_of xs c.in-Some.member.token) text in
+    let kind = ap kind_of (c.opens_map.ensures.yes c.if-not-opens_map.false) in
+    let map = subst (λ (i : Item). is_map i ≡ true) same (c.opens_map.ensures.map c.if-not-opens_map.false) in
+    let p = err_from_is_err_and c.from_residual-in_err-shape.result c.from_residual-in_err-shape.ensures.1 in
+    rw (p.1, p.2) (λ memory.
+    Passed-never _ _ _ _ _ _ c.loop-member.invariant (map_never c.loop-member.self.lexer c.next_member.new.lexer c.in-Some.member h c.loop-member.self.list kind map))
