@@ -1,0 +1,80 @@
+-- The arcs of one vertex, one after another.
+use Rattle.std.proofs.Common.{◌≡◌, ℕ, ◌+◌, ◌<◌, List, [], ◌∷◌, ◌++◌, length, Bool, true, false, get_or, set, subst, sym, ap, refl, ◌∙◌, inl, inr, arith, IsTrue, below_more, length-set}
+use Rattle.std.proofs.lemmas.List.{get_or_default, set-get_or}
+use Rattle.std.proofs.lemmas.Bool.{false≢true}
+use Rattle.graph_search.specs.Graphs.{Graph, VertexSet, HasArcInto}
+use Rattle.graph_search.specs.Visits.{vertex_at, IsMarked, AreReached, Extends, IsOpened}
+use Rattle.graph_search.specs.declared.breadth_first.Visit.{Visit}
+use Rattle.graph_search.proofs.Reaching.{visit, marked_same, marked_more, marked_cases, reach, extend, open_all}
+
+-- what the vertex's first arcs lead to is marked
+pub record IsOpening (g : Graph) (allowed : VertexSet) (marks : List Bool) (queue : List Visit) (v to i : ℕ) (marks' : List Bool) (queue' : List Visit) : Type 0 where
+  pub reached : AreReached (HasArcInto g allowed) marks' queue'
+  pub extends : Extends marks queue marks' queue'
+  pub opened : (k : ℕ) → k < i → IsTrue (allowed.has (get_or (g.successors v) k 0)) → IsMarked marks' (get_or (g.successors v) k 0)
+  pub unfound : IsMarked marks' to → ⊥
+
+-- an arc to a vertex that is allowed
+pub leads : (g : Graph) (allowed : VertexSet) (v w i : ℕ) → v < g.count → i < length (g.successors v) → w ≡ get_or (g.successors v) i 0 → IsTrue (allowed.has w)
+    → HasArcInto g allowed v w
+leads g allowed v w i in-graph h e is = ((in-graph, (i, h, get_or_default (g.successors v) i w 0 h ∙ sym e)), is)
+
+one_more : (allowed : VertexSet) (ws : List ℕ) (marks marks' : List Bool) (w i : ℕ) → w ≡ get_or ws i 0
+    → ((k : ℕ) → k < i → IsTrue (allowed.has (get_or ws k 0)) → IsMarked marks (get_or ws k 0))
+    → ((u : ℕ) → IsMarked marks u → IsMarked marks' u) → (IsTrue (allowed.has w) → IsMarked marks' w)
+    → (k : ℕ) → k < i + 1 → IsTrue (allowed.has (get_or ws k 0)) → IsMarked marks' (get_or ws k 0)
+one_more allowed ws marks marks' w i e opened grow here =
+    below_more (λ k. IsTrue (allowed.has (get_or ws k 0)) → IsMarked marks' (get_or ws k 0)) i
+    (λ k h is. grow (get_or ws k 0) (opened k h is))
+    (subst (λ u. IsTrue (allowed.has u) → IsMarked marks' u) e here)
+
+-- a vertex that was not marked
+pub reached_one : (g : Graph) (allowed : VertexSet) (marks marks' : List Bool) (queue queue' : List Visit) (v to i w at : ℕ)
+    → IsOpening g allowed marks queue v to i marks' queue' → at < length queue → v ≡ vertex_at queue at → w < length marks'
+    → HasArcInto g allowed v w → get_or marks' w false ≡ false
+    → AreReached (HasArcInto g allowed) (set marks' w true) (queue' ++ visit w at ∷ [])
+reached_one g allowed marks marks' queue queue' v to i w at is h e in-marks leads new =
+    let same : v ≡ vertex_at queue' at = e ∙ sym (is.extends.same at h) in
+    reach (HasArcInto g allowed) marks' queue' at w is.reached (omega (arith, h, is.extends.longer)) in-marks (subst (λ u. HasArcInto g allowed u w) same leads) new
+
+pub after_one : (g : Graph) (allowed : VertexSet) (marks marks' : List Bool) (queue queue' : List Visit) (v to i w at : ℕ)
+    → IsOpening g allowed marks queue v to i marks' queue' → at < length queue → v ≡ vertex_at queue at → w < length marks'
+    → HasArcInto g allowed v w → get_or marks' w false ≡ false → w ≡ get_or (g.successors v) i 0 → (w ≡ to → ⊥)
+    → IsOpening g allowed marks queue v to (i + 1) (set marks' w true) (queue' ++ visit w at ∷ [])
+after_one g allowed marks marks' queue queue' v to i w at is h e in-marks leads new here other = record {
+  reached = reached_one g allowed marks marks' queue queue' v to i w at is h e in-marks leads new;
+  extends = extend marks marks' queue queue' at w in-marks is.extends;
+  opened = one_more allowed (g.successors v) marks' (set marks' w true) w i here is.opened (λ u m. marked_more marks' w u in-marks m)
+      (λ yes. marked_same marks' w in-marks);
+  unfound = λ m. elim (marked_cases marks' w to m) [ inl old ↦ is.unfound old | inr same ↦ other (sym same) ];
+}
+
+-- a vertex that was marked before
+pub after_marked : (g : Graph) (allowed : VertexSet) (marks marks' : List Bool) (queue queue' : List Visit) (v to i w : ℕ)
+    → IsOpening g allowed marks queue v to i marks' queue' → IsMarked marks' w → w ≡ get_or (g.successors v) i 0
+    → IsOpening g allowed marks queue v to (i + 1) (set marks' w true) queue'
+after_marked g allowed marks marks' queue queue' v to i w is old here =
+    let same : marks' ≡ set marks' w true = sym (ap (λ b. set marks' w b) (sym old) ∙ set-get_or marks' w false) in
+    let next : IsOpening g allowed marks queue v to (i + 1) marks' queue' = record {
+      reached = is.reached;
+      extends = is.extends;
+      opened = one_more allowed (g.successors v) marks' marks' w i here is.opened (λ u m. m) (λ yes. old);
+      unfound = is.unfound;
+    } in
+    subst (λ ms. IsOpening g allowed marks queue v to (i + 1) ms queue') same next
+
+-- a vertex that isn't allowed
+pub after_disallowed : (g : Graph) (allowed : VertexSet) (marks marks' : List Bool) (queue queue' : List Visit) (v to i w : ℕ)
+    → IsOpening g allowed marks queue v to i marks' queue' → allowed.has w ≡ false → w ≡ get_or (g.successors v) i 0
+    → IsOpening g allowed marks queue v to (i + 1) marks' queue'
+after_disallowed g allowed marks marks' queue queue' v to i w is not-allowed here = record {
+  reached = is.reached;
+  extends = is.extends;
+  opened = one_more allowed (g.successors v) marks' marks' w i here is.opened (λ u m. m) (λ yes. absurd (false≢true (sym not-allowed ∙ yes)));
+  unfound = is.unfound;
+}
+
+pub all_opened : (g : Graph) (allowed : VertexSet) (marks marks' : List Bool) (queue queue' : List Visit) (v to i : ℕ)
+    → IsOpening g allowed marks queue v to i marks' queue' → length (g.successors v) ≡ i → IsOpened (HasArcInto g allowed) marks' v
+all_opened g allowed marks marks' queue queue' v to i is all =
+    open_all g allowed marks' v (λ k h. is.opened k (subst (λ n. k < n) all h))

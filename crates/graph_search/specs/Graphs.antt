@@ -1,0 +1,35 @@
+-- Directed graphs, walks in them, and ranks of their vertices.
+--
+-- The vertices of a graph are the numbers below its count. A walk is a list of vertices, at least one, each of which leads to
+-- the next; a vertex alone is a walk from itself to itself. Ranks are numbers that don't fall along any arc, as those of the
+-- strongly connected components in a topological order.
+use Rattle.std.specs.Prelude.{◌≡◌, ℕ, ◌+◌, ◌-◌, ◌<◌, ◌≤◌, List, length, slice_index, Contains, Bool, IsTrue}
+
+pub record Graph : Type 0 where
+  pub count : ℕ
+  pub successors : ℕ → List ℕ
+
+-- an arc from one vertex to another
+abbrev pub HasArc : Graph → ℕ → ℕ → Type 0
+HasArc g v w = (v < g.count) × Contains (g.successors v) w
+
+-- some of the vertices below a count
+pub record VertexSet : Type 0 where
+  pub count : ℕ
+  pub has : ℕ → Bool
+
+-- an arc into a set of vertices
+abbrev pub HasArcInto : Graph → VertexSet → ℕ → ℕ → Type 0
+HasArcInto g set v w = HasArc g v w × IsTrue (set.has w)
+
+-- a walk, where some vertices lead to others
+pub record IsWalk (Leads : ℕ → ℕ → Type 0) (from to : ℕ) (walk : List ℕ) : Type 0 where
+  pub some : 0 < length walk
+  pub begins : slice_index walk 0 ≡ from
+  pub ends : slice_index walk (length walk - 1) ≡ to
+  pub joined : (k : ℕ) → k + 1 < length walk → Leads (slice_index walk k) (slice_index walk (k + 1))
+
+-- a rank for each vertex, none of which falls along an arc
+pub record AreRanks (g : Graph) (ranks : List ℕ) : Type 0 where
+  pub one_each : length ranks ≡ g.count
+  pub rising : (v w : ℕ) → HasArc g v w → slice_index ranks v ≤ slice_index ranks w

@@ -1,0 +1,97 @@
+//! Ranks of vertices, which don't fall along any arc.
+
+ghost use Rattle.std.specs.Prelude.{◌≡◌, ◌↔◌, ℕ, ◌<◌, ◌≤◌, List, length, slice_index, IfOk, IsTrue};
+ghost use Rattle.graph_search.specs.Graphs.{AreRanks, HasArc};
+
+use crate::arcs::{Arcs, Vertices};
+use crate::components::component_ranks;
+use std::alloc::{AllocError, Global};
+use std::marker::Model;
+
+/// A rank for each vertex of a graph.
+#[derive(Drop)]
+pub struct Ranks {
+    ranks: Vec<usize>,
+}
+
+impl Model for Ranks {
+    ghost Value = { List ℕ };
+
+    ghost view = { λ ranks. ranks.ranks.items };
+}
+
+impl Ranks {
+    /// Ranks that don't fall along any arc, and that are the same only in one strongly connected component.
+    ///
+    /// The first of these two promises is checked here, on all arcs, and is part of the contract. The second one is that of a
+    /// search for the components which isn't proved: were its ranks ever to fall, all ranks would be 0.
+    pub fn of<G: Arcs>(alloc: Global, graph: &G) -> Result<Ranks, AllocError>
+        ensures { IfOk result (AreRanks (G.graph graph.now)) }
+    {
+        let mut ranks = component_ranks(alloc, graph)?;
+        if !never_fall(graph, &ranks) {
+            ranks.fill(0);
+        }
+        Ok(Ranks { ranks })
+    }
+
+    /// How many vertices have a rank.
+    pub fn len(&self) -> usize
+        ensures { result ≡ length self.now }
+    {
+        self.ranks.len()
+    }
+
+    /// A vertex's rank.
+    pub fn rank(&self, vertex: usize) -> usize
+        requires { vertex < length self.now }
+        ensures { result ≡ slice_index self.now vertex }
+    {
+        self.ranks[vertex]
+    }
+}
+
+/// Whether ranks fall along none of a vertex's arcs.
+fn never_fall_from<G: Arcs>(graph: &G, ranks: &[usize], vertex: usize) -> bool
+    requires ranks { length ranks.now ≡ (G.graph graph.now).count }
+    requires vertex { vertex < (G.graph graph.now).count }
+    ensures { IsTrue result ↔ ((w : ℕ) → HasArc (G.graph graph.now) vertex w → slice_index ranks.now vertex ≤ slice_index ranks.now w) }
+{
+    let rank = ranks[vertex];
+    for index in 0..graph.out_degree(vertex) {
+        if ranks[graph.successor(vertex, index)] < rank {
+            return false;
+        }
+    }
+    true
+}
+
+/// Whether ranks fall along no arc.
+fn never_fall<G: Arcs>(graph: &G, ranks: &[usize]) -> bool
+    requires { length ranks.now ≡ (G.graph graph.now).count }
+    ensures { IsTrue result ↔ AreRanks (G.graph graph.now) ranks.now }
+{
+    for vertex in 0..graph.vertices() {
+        if !never_fall_from(graph, ranks, vertex) {
+            return false;
+        }
+    }
+    true
+}
+
+/// The vertices of one rank.
+#[derive(Clone, Copy)]
+pub struct OfRank<'a> {
+    pub ranks: &'a Ranks,
+    pub rank: usize,
+}
+
+impl Vertices for OfRank<'_> {
+    ghost use Rattle.std.specs.Prelude.{◌==◌};
+
+    ghost members = { λ set. record { count = length set.ranks.now; has = λ vertex. slice_index set.ranks.now vertex == set.rank } };
+
+    fn contains(&self, vertex: usize) -> bool {
+        self.ranks.rank(vertex) == self.rank
+    }
+}

@@ -1,0 +1,279 @@
+ghost use Rattle.std.specs.Prelude.{◌≡◌, ◌<◌, ◌∷◌, [], All, map, length, false, slice_index_or, IfOk};
+
+use crate::arcs::{Arcs, Vertices};
+use crate::breadth_first::Search;
+use crate::ranks::{OfRank, Ranks};
+use std::alloc::{AllocError, Global};
+use std::process::Abort;
+
+/// A graph as a list of successors for each vertex.
+#[derive(Drop)]
+struct Lists {
+    lists: Vec<Vec<usize>>,
+    ghost within: { All (λ (list : _). All (λ w. w < length lists.items) list.items) lists.items },
+}
+
+impl Lists {
+    fn new(alloc: Global, vertices: usize) -> Result<Lists, AllocError>
+        ensures { IfOk result (λ graph. length graph.lists.items ≡ vertices) }
+    {
+        let mut lists = Vec::new(alloc);
+        for _ in 0..vertices {
+            lists.push(Vec::new(alloc))?;
+        }
+        Ok(Lists { lists })
+    }
+
+    fn add(&mut self, from: usize, to: usize) -> Result<(), AllocError>
+        requires from { from < length self.old.lists.items }
+        requires to { to < length self.old.lists.items }
+        ensures { length self.new.lists.items ≡ length self.old.lists.items }
+    {
+        self.lists[from].push(to)?;
+        Ok(())
+    }
+}
+
+impl Arcs for Lists {
+    ghost graph = { λ graph. record { count = length graph.lists.items; successors = λ v. slice_index_or (map (λ (list : _). list.items) graph.lists.items) v [] } };
+
+    fn vertices(&self) -> usize {
+        self.lists.len()
+    }
+
+    fn out_degree(&self, vertex: usize) -> usize {
+        self.lists[vertex].len()
+    }
+
+    fn successor(&self, vertex: usize, index: usize) -> usize {
+        self.lists[vertex][index]
+    }
+}
+
+fn graph(rt: &impl Abort, alloc: Global, vertices: usize, arcs: &[(usize, usize)]) -> Lists {
+    let mut graph = Lists::new(alloc, vertices).expect(rt, "memory");
+    for (from, to) in arcs {
+        if *from < graph.vertices() && *to < graph.vertices() {
+            graph.add(*from, *to).expect(rt, "memory");
+        }
+    }
+    graph
+}
+
+/// Ranks of a graph's vertices.
+fn ranks_of(rt: &impl Abort, alloc: Global, graph: &Lists) -> Vec<usize> {
+    let ranks = Ranks::of(alloc, graph).expect(rt, "memory");
+    let mut list = Vec::new(alloc);
+    for vertex in 0..graph.vertices() {
+        list.push(ranks.rank(vertex)).expect(rt, "memory");
+    }
+    list
+}
+
+/// Checks that vertices have one rank exactly where they have one label.
+fn assert_components(rt: &impl Abort, ranks: &[usize], labels: &[usize]) {
+    assert_eq!(rt; ranks.len(), labels.len());
+    for v in 0..ranks.len() {
+        for w in 0..ranks.len() {
+            assert_eq!(rt; ranks[v] == ranks[w], labels[v] == labels[w]);
+        }
+    }
+}
+
+#[test]
+fn ranks_rise_along_a_chain(rt: HostRuntime) {
+    let chain = graph(&rt, rt.alloc(), 4, &[(2, 0), (3, 2), (0, 1)]);
+    let ranks = ranks_of(&rt, rt.alloc(), &chain);
+    assert_eq!(rt; ranks.as_slice(), [2, 3, 1, 0].as_slice());
+}
+
+#[test]
+fn a_graph_without_arcs(rt: HostRuntime) {
+    let empty = graph(&rt, rt.alloc(), 0, &[]);
+    let ranks = Ranks::of(rt.alloc(), &empty).expect(&rt, "memory");
+    assert_eq!(rt; ranks.len(), 0);
+    let apart = graph(&rt, rt.alloc(), 3, &[]);
+    assert_components(&rt, &ranks_of(&rt, rt.alloc(), &apart), &[0, 1, 2]);
+}
+
+#[test]
+fn vertices_of_one_component_have_one_rank(rt: HostRuntime) {
+    // Two cycles that share a vertex, a cycle that leads to them, an arc to itself, and a vertex between.
+    let arcs = [
+        (0, 1),
+        (1, 2),
+        (2, 0),
+        (2, 3),
+        (3, 4),
+        (4, 2),
+        (5, 6),
+        (6, 5),
+        (6, 7),
+        (7, 1),
+        (8, 8),
+        (5, 8),
+        (8, 3),
+    ];
+    let cycles = graph(&rt, rt.alloc(), 9, &arcs);
+    let ranks = ranks_of(&rt, rt.alloc(), &cycles);
+    assert_components(&rt, &ranks, &[0, 0, 0, 0, 0, 1, 1, 2, 3]);
+}
+
+/// An adversary of searches that recurse, or that follow arcs again and again.
+fn chain(rt: &impl Abort, alloc: Global, vertices: usize) -> Lists {
+    let mut chain = Lists::new(alloc, vertices).expect(rt, "memory");
+    for to in 1..chain.vertices() {
+        chain.add(to - 1, to).expect(rt, "memory");
+    }
+    chain
+}
+
+#[test]
+fn a_long_chain(rt: HostRuntime) {
+    let chain = chain(&rt, rt.alloc(), 100_000);
+    let ranks = ranks_of(&rt, rt.alloc(), &chain);
+    for vertex in 0..ranks.len() {
+        assert_eq!(rt; ranks[vertex], vertex);
+    }
+}
+
+#[test]
+fn a_long_cycle(rt: HostRuntime) {
+    let mut cycle = chain(&rt, rt.alloc(), 100_000);
+    assert_eq!(rt; cycle.vertices(), 100_000);
+    cycle.add(99_999, 0).expect(&rt, "memory");
+    let ranks = Ranks::of(rt.alloc(), &cycle).expect(&rt, "memory");
+    assert_eq!(rt; ranks.len(), 100_000);
+    for vertex in 0..100_000 {
+        assert_eq!(rt; ranks.rank(vertex), ranks.rank(0));
+    }
+    assert_ne!(rt; ranks.rank(0), 0);
+    let of_rank = OfRank {
+        ranks: &ranks,
+        rank: ranks.rank(0),
+    };
+    let mut search = Search::new(rt.alloc(), 100_000).expect(&rt, "memory");
+    let found = search.walk(rt.alloc(), &cycle, &of_rank, 50_000, 49_999);
+    let walk = found.expect(&rt, "memory").expect(&rt, "a walk");
+    assert_eq!(rt; walk.len(), 100_000);
+    let found = search.walk(rt.alloc(), &cycle, &of_rank, 7, 9);
+    let walk = found.expect(&rt, "memory").expect(&rt, "a walk");
+    assert_eq!(rt; walk.as_slice(), [7, 8, 9].as_slice());
+}
+
+/// Some of eight vertices.
+#[derive(Drop)]
+struct Chosen([bool; 8]);
+
+impl Vertices for Chosen {
+    ghost members = { λ chosen. record { count = 8; has = λ v. slice_index_or chosen.0 v false } };
+
+    fn contains(&self, vertex: usize) -> bool {
+        self.0[vertex]
+    }
+}
+
+#[test]
+fn walks_are_short_and_stay_where_they_may(rt: HostRuntime) {
+    let arcs = [
+        (0, 1),
+        (1, 2),
+        (2, 3),
+        (3, 7),
+        (0, 4),
+        (4, 3),
+        (7, 0),
+        (5, 6),
+    ];
+    let graph = graph(&rt, rt.alloc(), 8, &arcs);
+    assert_eq!(rt; graph.vertices(), 8);
+    let mut search = Search::new(rt.alloc(), 8).expect(&rt, "memory");
+    let mut allowed = Chosen([true; 8]);
+    let found = search.walk(rt.alloc(), &graph, &allowed, 0, 7);
+    let walk = found.expect(&rt, "memory").expect(&rt, "a walk");
+    assert_eq!(rt; walk.as_slice(), [0, 4, 3, 7].as_slice());
+    // Where it begins needs no leave.
+    allowed.0[0] = false;
+    allowed.0[4] = false;
+    let found = search.walk(rt.alloc(), &graph, &allowed, 0, 7);
+    let walk = found.expect(&rt, "memory").expect(&rt, "a walk");
+    assert_eq!(rt; walk.as_slice(), [0, 1, 2, 3, 7].as_slice());
+    let found = search.walk(rt.alloc(), &graph, &allowed, 3, 0);
+    assert!(rt; found.expect(&rt, "memory").is_none());
+    let found = search.walk(rt.alloc(), &graph, &allowed, 6, 5);
+    assert!(rt; found.expect(&rt, "memory").is_none());
+    let found = search.walk(rt.alloc(), &graph, &allowed, 6, 6);
+    let walk = found.expect(&rt, "memory").expect(&rt, "a walk");
+    assert_eq!(rt; walk.as_slice(), [6].as_slice());
+}
+
+/// Which vertices each one leads to, itself among them, by Warshall's algorithm.
+fn reachable(arcs: &[[bool; 8]; 8]) -> [[bool; 8]; 8] {
+    let mut reachable = *arcs;
+    for v in 0..8 {
+        reachable[v][v] = true;
+    }
+    for middle in 0..8 {
+        for v in 0..8 {
+            for w in 0..8 {
+                if reachable[v][middle] && reachable[middle][w] {
+                    reachable[v][w] = true;
+                }
+            }
+        }
+    }
+    reachable
+}
+
+/// Whether an arc leads from one vertex into the cycles of another one.
+fn leads_into(arcs: &[[bool; 8]; 8], reachable: &[[bool; 8]; 8], v: usize, w: usize) -> bool
+    requires v { v < 8 }
+    requires w { w < 8 }
+{
+    for u in 0..8 {
+        if arcs[v][u] && reachable[u][w] && reachable[w][u] {
+            return true;
+        }
+    }
+    false
+}
+
+#[test]
+fn random_graphs(rt: HostRuntime) {
+    let mut state: u64 = 1;
+    let mut search = Search::new(rt.alloc(), 8).expect(&rt, "memory");
+    for round in 0..300 {
+        let mut arcs = [[false; 8]; 8];
+        let mut graph = graph(&rt, rt.alloc(), 8, &[]);
+        for v in 0..8 {
+            for w in 0..8 {
+                state = state
+                    .wrapping_mul(6_364_136_223_846_793_005)
+                    .wrapping_add(1_442_695_040_888_963_407);
+                if (state >> 33) % 24 < round % 8 {
+                    assert_eq!(rt; graph.vertices(), 8);
+                    graph.add(v, w).expect(&rt, "memory");
+                    arcs[v][w] = true;
+                }
+            }
+        }
+        let reachable = reachable(&arcs);
+        assert_eq!(rt; graph.vertices(), 8);
+        let ranks = Ranks::of(rt.alloc(), &graph).expect(&rt, "memory");
+        let all = Chosen([true; 8]);
+        for v in 0..8 {
+            for w in 0..8 {
+                let in_cycle = reachable[v][w] && reachable[w][v];
+                assert_eq!(rt; ranks.rank(v) == ranks.rank(w), in_cycle);
+                let of_rank = OfRank {
+                    ranks: &ranks,
+                    rank: ranks.rank(w),
+                };
+                let found = search.walk(rt.alloc(), &graph, &of_rank, v, w);
+                assert_eq!(rt; found.expect(&rt, "memory").is_some(), in_cycle || leads_into(&arcs, &reachable, v, w));
+                let found = search.walk(rt.alloc(), &graph, &all, v, w);
+                assert_eq!(rt; found.expect(&rt, "memory").is_some(), reachable[v][w]);
+            }
+        }
+    }
+}
