@@ -1,7 +1,7 @@
 -- The numbers in a list that has one item more.
 use Rattle.std.proofs.Common.{◌≡◌, ◌⊎◌, inl, inr, ℕ, zero, suc, ◌+◌, List, [], ◌∷◌, ◌++◌, length, Bool, true, false, cond, Option, Some, None, refl, sym, ◌∙◌, ap, subst, arith}
-use Rattle.std.specs.Prelude.{slice_get, ◌==◌}
-use Rattle.std.specs.Option.{option_or, is_some}
+use Rattle.std.specs.Prelude.{slice_get, ◌==◌, nat_eq}
+use Rattle.std.specs.Option.{option_or, option_eq, is_some}
 use Rattle.std.specs.List.{position_from, list_any}
 use Rattle.std.proofs.lemmas.Bool.{cases_Bool, and_from, eq-eqb}
 use Rattle.std.proofs.lemmas.Iterator.Adapters.{position_from-zero}
@@ -109,5 +109,9 @@ inserted_numbered {A} eq items x itself numbered = by (number_in eq x items) ref
     by None e = subst (λ (o : Option ℕ). AreNumbered eq (cond (is_some o) items (items ++ x ∷ []))) (sym e) (numbered_push eq items x itself numbered e)
     by (Some n) e = subst (λ (o : Option ℕ). AreNumbered eq (cond (is_some o) items (items ++ x ∷ []))) (sym e) numbered
 
-pub pair_eq-itself : (p : ℕ × ℕ) → pair_eq p p ≡ true
-pair_eq-itself p = and_from (p.0 == p.0) (p.1 == p.1) (eq-eqb p.0 p.0 refl) (eq-eqb p.1 p.1 refl)
+value_itself : (value : Option ℕ) → option_eq nat_eq value value ≡ true
+value_itself None = refl
+value_itself (Some n) = eq-eqb n n refl
+
+pub pair_eq-itself : (p : ℕ × Option ℕ) → pair_eq p p ≡ true
+pair_eq-itself p = and_from (p.0 == p.0) (option_eq nat_eq p.1 p.1) (eq-eqb p.0 p.0 refl) (value_itself p.1)

@@ -8,24 +8,25 @@ use crate::slots::{slot_of, table_of};
 use indexmap::IndexMap;
 use op_view::atom::Atom;
 use std::alloc::{AllocError, Global};
+use std::hash::{BuildHasher, BuildHasherDefault, FoldHasher};
 use std::marker::Model;
 
 /// Numbers atoms from 0 on, in the order in which they are first inserted.
 ///
 /// The small integers, which are most of the atoms of a history, are looked up in a table that grows with the number of
-/// atoms; everything else is looked up by its hash.
+/// atoms; everything else is looked up by its hash. No number depends on the hasher.
 #[derive(Drop)]
-pub struct AtomIndex<'a> {
+pub struct AtomIndex<'a, S: BuildHasher = BuildHasherDefault<FoldHasher>> {
     alloc: Global,
     /// By number.
     atoms: Vec<Atom<'a>>,
     /// The number of each small integer that has one.
     small: Vec<Option<usize>>,
     /// The numbers of the other atoms.
-    others: IndexMap<Atom<'a>, usize>,
+    others: IndexMap<Atom<'a>, usize, S>,
 }
 
-impl<'a> Model for AtomIndex<'a> {
+impl<'a, S: BuildHasher> Model for AtomIndex<'a, S> {
     ghost use Rattle.std.specs.Prelude.{◌-◌, min};
     ghost use Rattle.std.specs.Vec.{vec_len, vec_capacity};
     ghost use Rattle.indexmap.specs.IndexMap.{spare};
@@ -45,15 +46,33 @@ impl<'a> Model for AtomIndex<'a> {
 
 impl<'a> AtomIndex<'a> {
     /// No atom has a number yet.
-    pub fn new(alloc: Global) -> AtomIndex<'a>
+    pub fn new(alloc: Global) -> Self
+        ensures { result.items ≡ [] }
+    {
+        AtomIndex::with_hasher(alloc, BuildHasherDefault::new())
+    }
+}
+
+impl<'a, S: BuildHasher> AtomIndex<'a, S> {
+    /// No atom has a number yet. Atoms are hashed by `hasher`.
+    pub fn with_hasher(alloc: Global, hasher: S) -> Self
         ensures { result.items ≡ [] }
     {
         AtomIndex {
             alloc,
             atoms: Vec::new(alloc),
             small: Vec::new(alloc),
-            others: IndexMap::new(alloc),
+            others: IndexMap::with_hasher(alloc, hasher),
         }
+    }
+
+    /// The atoms that have a number, in the order of their numbers.
+    pub fn into_atoms(self) -> Vec<Atom<'a>>
+    where
+        S: Drop,
+        ensures { result.items ≡ self.entry.items }
+    {
+        self.atoms
     }
 
     /// How many atoms have a number.

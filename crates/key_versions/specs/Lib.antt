@@ -1,0 +1,5 @@
+pub mod Histories
+pub mod Tables
+pub mod Rows
+pub mod Numbering
+pub mod Views

@@ -1,0 +1,68 @@
+-- Versions that are numbered by the numbers of their keys and values.
+use Rattle.std.specs.Prelude.{◌≡◌, ◌<◌, ℕ, pos, List, [], ◌∷◌, ◌++◌, length, get_or, slice_get, Contains, Option, Some, None, map, fold, option_map, is_some, if◌then◌else◌, ⊤}
+use Rattle.hist_types.specs.Atoms.{Atom, integer, atom_eq}
+use Rattle.hist_types.specs.Transactions.{Version, version_eq}
+use Rattle.hist_types.specs.Versions.{nil_of}
+use Rattle.atom_index.specs.Numbers.{AreNumbered, number_in, with_item, pair_eq}
+use Rattle.key_versions.specs.declared.rows.Access.{Access}
+
+-- the version of a key and a value with these numbers
+abbrev pub version_by : List Atom → List Atom → ℕ × Option ℕ → Version
+version_by keys values p = record { key = get_or keys p.0 (integer (pos 0)); value = option_map (λ m. get_or values m (integer (pos 0))) p.1 }
+
+abbrev pub versions_in : List Atom → List Atom → List (ℕ × Option ℕ) → List Version
+versions_in keys values pairs = map (version_by keys values) pairs
+
+abbrev pub IsBelow : ℕ → Option ℕ → Type 0
+IsBelow n None = ⊤
+IsBelow n (Some m) = m < n
+
+-- its key and its value have a number
+abbrev pub IsInRange : List Atom → List Atom → ℕ × Option ℕ → Type 0
+IsInRange keys values p = (p.0 < length keys) × IsBelow (length values) p.1
+
+abbrev pub AreInRange : List Atom → List Atom → List (ℕ × Option ℕ) → Type 0
+AreInRange keys values pairs = (i : ℕ) (p : ℕ × Option ℕ) → slice_get pairs i ≡ Some p → IsInRange keys values p
+
+-- numbered keys and values, the versions by the numbers of theirs, and the nil version of each key
+pub record Numbers : Type 0 where
+  pub keys : List Atom
+  pub values : List Atom
+  pub pairs : List (ℕ × Option ℕ)
+  pub nils : List ℕ
+
+pub record IsNumbering (keys values : List Atom) (pairs : List (ℕ × Option ℕ)) (nils : List ℕ) : Type 0 where
+  pub keys_numbered : AreNumbered atom_eq keys
+  pub values_numbered : AreNumbered atom_eq values
+  pub pairs_numbered : AreNumbered pair_eq pairs
+  pub in_range : AreInRange keys values pairs
+  pub nils_numbered : (k : ℕ) → k < length keys → number_in pair_eq (k, None) pairs ≡ slice_get nils k
+  pub nil_of_each : length nils ≡ length keys
+
+abbrev pub versions_of : Numbers → List Version
+versions_of s = versions_in s.keys s.values s.pairs
+
+-- with a key, whose nil version is numbered with it
+abbrev pub with_key : Numbers → Atom → Numbers
+with_key s key =
+    if is_some (number_in atom_eq key s.keys)
+    then s
+    else record {
+      keys = s.keys ++ key ∷ [];
+      values = s.values;
+      pairs = with_item pair_eq s.pairs (length s.keys, None);
+      nils = s.nils ++ length s.pairs ∷ [];
+    }
+
+-- the versions once these are among them
+abbrev pub with_versions : List Version → List Version → List Version
+with_versions versions vs = fold (with_item version_eq) versions vs
+
+-- the numbers of a version and of the nil version of its key
+abbrev pub IsAccess : List Version → Version → Access → Type 0
+IsAccess versions v a = (slice_get versions a.nil ≡ Some (nil_of v.key)) × (slice_get versions a.version ≡ Some v)
+
+abbrev pub AreAccesses : List Version → List Version → List Access → Type 0
+AreAccesses versions [] [] = ⊤
+AreAccesses versions (v ∷ vs) (a ∷ accesses) = IsAccess versions v a × AreAccesses versions vs accesses
+AreAccesses versions vs accesses = ⊥

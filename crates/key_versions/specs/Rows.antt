@@ -1,0 +1,105 @@
+-- What is known of each version, over numbers alone: versions go by number, transactions by place.
+use Rattle.std.specs.Prelude.{◌<◌, ℕ, suc, zero, ◌+◌, ◌-◌, List, [], ◌∷◌, ◌++◌, Bool, not, ◌&&◌, ◌==◌, if◌then◌else◌, Option, Some, None, filter, map, fold, length, replicate}
+use Rattle.std.specs.List.{list_any}
+use Rattle.std.specs.Option.{option_or}
+use Rattle.key_versions.specs.declared.types.Writer.{Writer}
+use Rattle.key_versions.specs.declared.types.Follower.{Follower}
+use Rattle.key_versions.specs.declared.rows.Access.{Access}
+
+-- the versions of an access are among so many
+abbrev pub IsWithin : ℕ → Access → Type 0
+IsWithin n a = (a.nil < n) × (a.version < n)
+
+-- what is known of a version
+pub record Known : Type 0 where
+  pub writer : Option Writer
+  pub readers : List ℕ
+  pub followers : List Follower
+
+-- what a transaction reads and installs
+pub record Accessed : Type 0 where
+  pub reads : List ℕ
+  pub installs : List ℕ
+
+abbrev pub unknown : Known
+unknown = record { writer = None; readers = []; followers = [] }
+
+-- a list with one of its items changed
+abbrev pub change : {A : Type 0} → (A → A) → ℕ → List A → List A
+change f n [] = []
+change f zero (x ∷ xs) = f x ∷ xs
+change f (suc n) (x ∷ xs) = x ∷ change f n xs
+
+-- ---- writes
+
+abbrev pub with_writer : Writer → Known → Known
+with_writer w known = record { writer = option_or known.writer (Some w); readers = known.readers; followers = known.followers }
+
+-- whether one of them is of the key with this nil version
+abbrev pub is_of_key : ℕ → Access → Bool
+is_of_key nil access = access.nil == nil
+
+abbrev pub has_nil : ℕ → List Access → Bool
+has_nil nil accesses = list_any (is_of_key nil) accesses
+
+-- the writes with no later one of their key
+abbrev pub lasts : List Access → List Access
+lasts [] = []
+lasts (w ∷ ws) = if has_nil w.nil ws then lasts ws else w ∷ lasts ws
+
+-- the rows after the writes of a transaction
+abbrev pub written_rows : ℕ → List Known → List Access → List Known
+written_rows place rows [] = rows
+written_rows place rows (w ∷ ws) = written_rows place (change (with_writer (record { txn = place; over = has_nil w.nil ws })) w.version rows) ws
+
+-- ---- installs
+
+abbrev pub follower : ℕ → Access → Follower
+follower place access = record { txn = place; version = access.version }
+
+abbrev pub with_follower : Follower → Known → Known
+with_follower f known = record { writer = known.writer; readers = known.readers; followers = known.followers ++ f ∷ [] }
+
+-- the rows after the installs of a transaction, each of which follows the nil version of its key
+abbrev pub installed_rows : ℕ → List Known → List Access → List Known
+installed_rows place rows [] = rows
+installed_rows place rows (w ∷ ws) = installed_rows place (change (with_follower (follower place w)) w.nil rows) ws
+
+-- ---- reads
+
+-- whether an install follows what is read, where that is not nil
+abbrev pub is_behind : Access → Access → Bool
+is_behind r w = (not (r.version == r.nil) && (w.nil == r.nil)) && not (w.version == r.version)
+
+abbrev pub with_reader : ℕ → Access → List Access → Known → Known
+with_reader place r installs known =
+    record {
+      writer = known.writer;
+      readers = known.readers ++ place ∷ [];
+      followers = known.followers ++ map (follower place) (filter (is_behind r) installs);
+    }
+
+abbrev pub has_number : ℕ → List Access → Bool
+has_number number accesses = list_any (λ (a : Access). a.version == number) accesses
+
+-- the rows after reads of a transaction, of which those before have been there
+abbrev pub read_rows : ℕ → List Access → List Known → (before : List Access) → List Access → List Known
+read_rows place installs rows before [] = rows
+read_rows place installs rows before (r ∷ rs) =
+    read_rows place installs (if has_number r.version before then rows else change (with_reader place r installs) r.version rows) (before ++ r ∷ []) rs
+
+-- ---- a transaction
+
+abbrev pub numbers_of : List Access → List ℕ
+numbers_of accesses = map (λ (a : Access). a.version) accesses
+
+abbrev pub accessed : List Access → List Access → Accessed
+accessed reads writes = record { reads = numbers_of reads; installs = numbers_of (lasts writes) }
+
+-- the rows after a transaction
+abbrev pub rows_after : ℕ → List Access → List Access → List Known → List Known
+rows_after place reads writes rows = read_rows place (lasts writes) (installed_rows place (written_rows place rows writes) (lasts writes)) [] reads
+
+-- rows for so many versions
+abbrev pub grown : ℕ → List Known → List Known
+grown n rows = rows ++ replicate (n - length rows) unknown

@@ -1,0 +1,66 @@
+//! A table that is told one transaction after another.
+
+ghost use Rattle.std.specs.Prelude.{◌≡◌, ◌++◌, ◌∷◌, [], List, length, OnOk, IfOk};
+ghost use Rattle.hist_types.specs.Transactions.{Transaction};
+ghost use Rattle.key_versions.specs.Tables.{IsTableOf};
+
+use crate::numbering::Numbering;
+use crate::rows::Rows;
+use crate::table::Versions;
+use std::alloc::{AllocError, Global};
+use std::hash::BuildHasher;
+use std::marker::Model;
+use txn_pairs::types::Txn;
+
+/// The table of the transactions so far.
+#[derive(Drop)]
+pub(crate) struct Building<'a, S: BuildHasher> {
+    numbering: Numbering<'a, S>,
+    rows: Rows,
+}
+
+impl<'a, S: BuildHasher> Model for Building<'a, S> {
+    ghost use Rattle.key_versions.specs.Tables.{Table};
+    ghost use Rattle.key_versions.specs.Numbering.{versions_of};
+    ghost use Rattle.key_versions.specs.Views.{table_by};
+
+    ghost Value = { Table };
+
+    ghost view = { λ b. table_by (versions_of b.numbering) b.rows.rows.items b.rows.accesses.items };
+}
+
+impl<'a, S: BuildHasher + Copy> Building<'a, S> {
+    /// No transaction was taken yet.
+    pub fn new(alloc: Global, hasher: S) -> Self
+        ensures { IsTableOf [] result }
+    {
+        Building {
+            numbering: Numbering::new(alloc, hasher),
+            rows: Rows::new(alloc),
+        }
+    }
+
+    /// Takes the next transaction.
+    pub fn take(&mut self, txn: &Txn<'a>) -> Result<(), AllocError>
+        ensures { (ts : List Transaction) → IsTableOf ts self.old → OnOk result (IsTableOf (ts ++ txn.now ∷ []) self.new) }
+    {
+        let accessed = self.numbering.take(txn)?;
+        self.rows.grow(self.numbering.len())?;
+        self.rows
+            .add(accessed.reads.as_slice(), accessed.writes.as_slice())
+    }
+
+    pub fn finish(self) -> Result<Versions<'a>, AllocError>
+        requires { length self.writers ≡ length self.versions }
+        ensures { IfOk result (λ table. table ≡ self.entry) }
+    {
+        let numbered = self.numbering.finish()?;
+        Ok(Versions::new(
+            numbered.keys,
+            numbered.values,
+            numbered.pairs,
+            self.rows.rows,
+            self.rows.accesses,
+        ))
+    }
+}

@@ -1,0 +1,40 @@
+//! The versions of keys that a history's transactions read and write.
+#![tactic(auto)]
+
+ghost use Rattle.std.specs.Prelude.{◌≡◌, IfOk, IfErr};
+ghost use Rattle.hist_types.specs.Refusals.{memory_fault};
+ghost use Rattle.key_versions.specs.Tables.{IsTableOf};
+
+mod building;
+mod numbering;
+mod rows;
+pub mod table;
+#[cfg(test)]
+mod tests;
+pub mod types;
+
+use crate::building::Building;
+use crate::table::Versions;
+use hist_types::types::Fault;
+use std::alloc::Global;
+use std::hash::BuildHasher;
+use txn_pairs::types::Txns;
+
+/// The versions that the transactions name, in time for their micro-operations but for the square of the length of one
+/// transaction. They borrow the journal's blocks. No answer depends on the hasher.
+///
+/// Only memory can be refused.
+pub fn versions<'a, S: BuildHasher + Copy>(
+    alloc: Global,
+    txns: &Txns<'a>,
+    hasher: S,
+) -> Result<Versions<'a>, Fault>
+    ensures ok { IfOk result (IsTableOf txns.now) }
+    ensures err { IfErr result (λ fault. fault ≡ memory_fault) }
+{
+    let mut building = Building::new(alloc, hasher);
+    for txn in txns.as_slice() {
+        building.take(txn)?;
+    }
+    Ok(building.finish()?)
+}

@@ -1,0 +1,153 @@
+//! Numbers for versions.
+
+ghost use Rattle.std.specs.Prelude.{◌≡◌, ◌∷◌, [], Some, length, IfOk, OnOk, map};
+ghost use Rattle.atom_index.specs.Numbers.{number_in};
+ghost use Rattle.hist_types.specs.Atoms.{atom_eq};
+ghost use Rattle.hist_types.specs.Journal.{writes_of};
+ghost use Rattle.hist_types.specs.Transactions.{Version, version_of};
+ghost use Rattle.hist_types.specs.Versions.{nil_of};
+ghost use Rattle.key_versions.specs.Histories.{named_in, read_by};
+ghost use Rattle.key_versions.specs.Numbering.{Numbers, versions_in, versions_of, AreInRange, with_key, with_versions, IsAccess, AreAccesses};
+
+use crate::rows::{Access, has_key};
+use atom_index::atoms::AtomIndex;
+use atom_index::pairs::PairIndex;
+use op_view::atom::Atom;
+use smallvec::SmallVec;
+use std::alloc::{AllocError, Global};
+use std::hash::BuildHasher;
+use std::marker::Model;
+use txn_pairs::types::{Status, Txn};
+
+/// What a transaction reads externally, if it is ok, and what it writes.
+#[derive(Drop)]
+pub(crate) struct Accessed {
+    pub reads: SmallVec<Access, 4>,
+    pub writes: SmallVec<Access, 4>,
+}
+
+/// Numbers versions in the order in which they are first named, each behind the nil version of its key.
+#[derive(Drop)]
+pub(crate) struct Numbering<'a, S: BuildHasher> {
+    alloc: Global,
+    keys: AtomIndex<'a, S>,
+    values: AtomIndex<'a, S>,
+    /// The key and the value of each version, by their numbers.
+    pairs: PairIndex<S>,
+    /// The nil version of each key.
+    nils: Vec<usize>,
+}
+
+impl<'a, S: BuildHasher> Model for Numbering<'a, S> {
+    ghost use Rattle.key_versions.specs.Numbering.{Numbers, IsNumbering};
+
+    ghost Value = { Numbers };
+
+    ghost view = { λ n. record { keys = n.keys.items; values = n.values.items; pairs = n.pairs.items; nils = n.nils.items } };
+
+    ghost invariant = { λ n. IsNumbering n.keys.items n.values.items n.pairs.items n.nils.items };
+}
+
+/// The numbered versions, by the numbers of their keys and values.
+#[derive(Drop)]
+pub(crate) struct Numbered<'a> {
+    pub keys: Vec<Atom<'a>>,
+    pub values: Vec<Atom<'a>>,
+    pub pairs: Vec<(usize, Option<usize>)>,
+}
+
+/// No memory holds as many versions as there are numbers.
+fn number_of(place: usize) -> Result<u32, AllocError>
+    ensures { IfOk result (λ number. number ≡ place) }
+{
+    u32::try_from(place).map_err(|_| AllocError)
+}
+
+impl<'a, S: BuildHasher> Numbering<'a, S> {
+    pub fn new(alloc: Global, hasher: S) -> Self
+    where
+        S: Copy,
+        ensures { versions_of result ≡ [] }
+    {
+        Numbering {
+            alloc,
+            keys: AtomIndex::with_hasher(alloc, hasher),
+            values: AtomIndex::with_hasher(alloc, hasher),
+            pairs: PairIndex::with_hasher(alloc, hasher),
+            nils: Vec::new(alloc),
+        }
+    }
+
+    /// How many versions there are.
+    pub fn len(&self) -> usize
+        ensures { result ≡ length (versions_of self.now) }
+    {
+        self.pairs.len()
+    }
+
+    /// The number of a key. Where it is new, its nil version gets a number too.
+    fn key(&mut self, key: Atom<'a>) -> Result<usize, AllocError>
+        ensures number { IfOk result (λ number. number_in atom_eq key.entry self.new.keys ≡ Some number) }
+        ensures after { OnOk result (self.new ≡ with_key self.old key.entry) }
+    {
+        self.pairs.reserve(1)?;
+        self.nils.try_reserve(1)?;
+        let number = self.keys.insert(key)?;
+        if number == self.nils.len() {
+            let nil = self.pairs.insert_reserved(number, None);
+            self.nils.push_reserved(nil);
+        }
+        Ok(number)
+    }
+
+    /// The version with this key and value, where None stands for nil.
+    fn access(&mut self, key: Atom<'a>, value: Option<Atom<'a>>) -> Result<Access, AllocError> {
+        let key = self.key(key)?;
+        let nil = self.nils[key];
+        let version = match value {
+            None => nil,
+            Some(value) => {
+                let value = self.values.insert(value)?;
+                self.pairs.insert(key, Some(value))?
+            }
+        };
+        Ok(Access {
+            nil: number_of(nil)?,
+            version: number_of(version)?,
+        })
+    }
+
+    /// Numbers the versions that a transaction names.
+    pub fn take(&mut self, txn: &Txn<'a>) -> Result<Accessed, AllocError>
+        ensures versions { OnOk result (versions_of self.new ≡ with_versions (versions_of self.old) (named_in txn.now.mops)) }
+        ensures reads { IfOk result (λ a. AreAccesses (versions_of self.new) (read_by txn.now) a.reads.items) }
+        ensures writes { IfOk result (λ a. AreAccesses (versions_of self.new) (map version_of (writes_of txn.now.mops)) a.writes.items) }
+    {
+        let is_ok = txn.status() == Status::Ok;
+        let mut reads = SmallVec::new(self.alloc);
+        let mut writes = SmallVec::new(self.alloc);
+        for mop in txn.mops() {
+            let access = self.access(mop.key(), mop.value())?;
+            if mop.is_write() {
+                writes.push(access)?;
+            } else if is_ok && !has_key(writes.as_slice(), access.nil) {
+                reads.push(access)?;
+            }
+        }
+        Ok(Accessed { reads, writes })
+    }
+
+    pub fn finish(self) -> Result<Numbered<'a>, AllocError>
+    where
+        S: Drop,
+        ensures versions { IfOk result (λ n. versions_in n.keys.items n.values.items n.pairs.items ≡ versions_of self.entry) }
+        ensures in_range { IfOk result (λ n. AreInRange n.keys.items n.values.items n.pairs.items) }
+    {
+        let pairs = Vec::from_slice(self.alloc, self.pairs.as_slice())?;
+        Ok(Numbered {
+            keys: self.keys.into_atoms(),
+            values: self.values.into_atoms(),
+            pairs,
+        })
+    }
+}
