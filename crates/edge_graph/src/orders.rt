@@ -96,7 +96,8 @@ fn push_to_each(
 }
 
 fn empty_lists(alloc: Global, count: usize) -> Result<Vec<Successors>, AllocError>
-    ensures { IfOk result (λ lists. (length lists.items ≡ count) × ((place : ℕ) → list_at lists.items place ≡ [])) }
+    ensures count { IfOk result (λ lists. length lists.items ≡ count) }
+    ensures empty { IfOk result (λ lists. (place : ℕ) → list_at lists.items place ≡ []) }
 {
     let mut lists = Vec::new(alloc);
     for _ in 0..count {

@@ -1,6 +1,6 @@
 //! What each vertex leads to, in one flat list.
 
-ghost use Rattle.std.specs.Prelude.{◌≡◌, ◌<◌, [], ◌∷◌, ◌++◌, length, IfOk, OnOk};
+ghost use Rattle.std.specs.Prelude.{◌≡◌, ◌<◌, [], ◌∷◌, ◌++◌, length, IfOk, OnOk, OnErr};
 ghost use Rattle.edge_graph.specs.FlatRows.{no_row, row_at, led_to};
 
 use crate::types::Dependencies;
@@ -77,6 +77,16 @@ pub(crate) fn number(place: usize) -> Result<u32, AllocError>
     u32::try_from(place).map_err(|_| AllocError)
 }
 
+/// Adds numbers, and answers where they end.
+fn extend(items: &mut Vec<u32>, more: &[u32]) -> Result<u32, AllocError>
+    ensures ok { IfOk result (λ end. (items.new.items ≡ items.old.items ++ more.now) × (end ≡ length items.new.items)) }
+    ensures err { OnErr result (items.new.items ≡ items.old.items) }
+{
+    let end = number(items.len() + more.len())?;
+    items.extend_from_slice(more)?;
+    Ok(end)
+}
+
 impl Rows {
     pub fn new(alloc: Global) -> Self
         ensures { result ≡ [] }
@@ -98,12 +108,9 @@ impl Rows {
         ensures { OnOk result (self.new ≡ self.old ++ row.now ∷ []) }
     {
         let start = number(self.items.len())?;
-        self.items.extend_from_slice(&row.rw)?;
-        let wr = number(self.items.len())?;
-        self.items.extend_from_slice(&row.wr)?;
-        let ww = number(self.items.len())?;
-        self.items.extend_from_slice(&row.ww)?;
-        let end = number(self.items.len())?;
+        let wr = extend(&mut self.items, &row.rw)?;
+        let ww = extend(&mut self.items, &row.wr)?;
+        let end = extend(&mut self.items, &row.ww)?;
         self.spans.push(Span { start, wr, ww, end })?;
         Ok(())
     }
