@@ -5,3 +5,4 @@ pub mod RowSteps
 pub mod Placed
 pub mod Pushed
 pub mod OrderOut
+pub mod Ordered

@@ -1,11 +1,9 @@
-use Rattle.std.proofs.Common.{rules, ◌≡◌, ◌<◌, ◌++◌, ◌∷◌, [], ℕ, length, map, if◌then◌else◌, OnOk, IfOk, ◌+◌, ◌-◌, ◌*◌, ◌≤◌, ◌/◌, ◌%◌, Bool, true, false, nat_eq, nat_lt, List, slice_index_or, slice_set, bit_and, bit_or, Fits, w8, w32, w64, Bor, MutBor}
+use Rattle.std.proofs.Common.{◌∙◌, sym, subst}
 use Rattle.hist_types.specs.Thinning.{AreInvokedInOrder}
-use Rattle.dep_edges.specs.Histories.{AreOfHistory}
-use Rattle.edge_graph.specs.Parts.{IsOrderOf}
-use Rattle.edge_graph.specs.Successors.{ArePlaces, predecessors_at, HavePlaces, HaveOwnPlaces, has_place, list_at, lists_at, AreSuccessors}
-use Rattle.hist_types.specs.declared.types.Level.TheVariants.{Process, Realtime}
+use Rattle.hist_types.proofs.ThinningTimes.{invoked_in_order}
 use Rattle.edge_graph.proofs.orders.Orders.new.Goals as goal
 
--- src/orders.rt:144:22
 pub places-requires : goal.places-requires
-places-requires c = ?
+places-requires c =
+    let (events, kept, of) = c.history.ensures.kept in
+    subst AreInvokedInOrder (sym (c.txns.ensures ∙ c.history.ensures.txns ∙ of)) (invoked_in_order events)
