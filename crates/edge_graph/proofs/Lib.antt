@@ -6,3 +6,5 @@ pub mod Placed
 pub mod Pushed
 pub mod OrderOut
 pub mod Ordered
+pub mod Txns
+pub mod Leading

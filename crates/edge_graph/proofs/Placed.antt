@@ -14,7 +14,7 @@ pub record ArePlacedFirst (ts : List Transaction) (firsts : ℕ) (places : List 
   pub first : (place : ℕ) (t : Transaction) → place < firsts → slice_get ts place ≡ Some t → slice_get places t.invocation ≡ Some place
   pub below : (place : ℕ) (t : Transaction) → firsts ≤ place → slice_get ts place ≡ Some t → length places ≤ t.invocation
 
-order_at :
+pub order_at :
     (ts : List Transaction) (i j : ℕ) (d : Transaction) → AreInvokedInOrder ts → i < j → j < length ts
     → (get_or ts i d).invocation < (get_or ts j d).invocation
 order_at [] i j d order h k = absurd (omega (arith, k))
