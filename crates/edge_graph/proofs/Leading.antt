@@ -194,3 +194,13 @@ module _ (ts : List Transaction) (kept : AreOfHistory ts) where
         let (j, below, at) = Contains_from_in k numbers among in
         let one : k ≡ number = named_once ts table told k number (subst (IsNumber table) at (within j k below)) h same in
         subst (In (length ts + number)) (sym is) (in_mapped (λ k. length ts + k) number numbers (subst (λ n. In n numbers) one among))
+
+-- a version that is read has a number
+pub read_number :
+    (ts : List Transaction) (table : Table) (t : Transaction) (vertices : List ℕ) → AreVersionVertices ts table (read_by t) vertices
+    → (x : Version) → reads t x ≡ true
+    → (number : ℕ) × (version_at table number ≡ x) × IsNumber table number
+read_number ts table t vertices (numbers, is, versions, within) x read =
+    let (k, among, same) = in_map (version_at table) x numbers (subst (In x) (sym versions) (read_to t x read)) in
+    let (j, below, at) = Contains_from_in k numbers among in
+    (k, same, subst (IsNumber table) at (within j k below))

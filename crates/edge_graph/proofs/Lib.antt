@@ -8,3 +8,6 @@ pub mod OrderOut
 pub mod Ordered
 pub mod Txns
 pub mod Leading
+pub mod OrderTo
+pub mod EdgesOut
+pub mod ArcsOut

@@ -1,6 +1,6 @@
 //! The graph of a history's transactions.
 
-ghost use Rattle.std.specs.Prelude.{◌≡◌, ◌↔◌, ◌++◌, List, filter, All, IfOk, IfErr, OnOk, OnErr};
+ghost use Rattle.std.specs.Prelude.{◌≡◌, ◌↔◌, ◌++◌, List, filter, All, Contains, IfOk, IfErr, OnOk, OnErr};
 ghost use Rattle.dep_edges.specs.OutEdges as out_edges;
 ghost use Rattle.dep_edges.specs.OutEdges.{Begins};
 ghost use Rattle.dep_edges.specs.Tables.{IsPlace, txn_at};
@@ -177,7 +177,7 @@ impl<'g, 'v, 'a> Graph<'g, 'v, 'a> {
     /// An rw edge joins two transactions exactly where the first leads to a version that leads to the second.
     pub fn arcs(&self, dependencies: Dependencies, level: Level) -> GraphArcs<'_>
         ensures arcs { AreArcs self.now (kinds_of dependencies level) result }
-        ensures rw { (t u : Transaction) → HasRw self.now.txns t u ↔ LeadsByVersion self.now t u }
+        ensures rw { (t u : Transaction) → Contains self.now.txns t → Contains self.now.txns u → HasRw self.now.txns t u ↔ LeadsByVersion self.now t u }
     {
         GraphArcs::new(&self.rows, self.orders.at(level), dependencies)
     }
