@@ -1,35 +1,31 @@
 -- The arcs that are laid out are those of the graph.
-use Rattle.std.proofs.Common.{◌≡◌, ◌↔◌, ◌∙◌, ◌<◌, ◌≤◌, ◌+◌, ◌-◌, ◌⊎◌, inl, inr, ℕ, List, [], ◌∷◌, ◌++◌, length, get_or, Bool, true, false, not, ◌&&◌, if◌then◌else◌, Some, Contains, IsTrue, refl, sym, ap, subst, arith}
-use Rattle.std.specs.Prelude.{slice_get}
-use Rattle.std.proofs.lemmas.Bool.{false≢true, and_parts, and_from, not-true, cases_lt}
+use Rattle.std.proofs.Common.{◌≡◌, ◌↔◌, ◌∙◌, ◌<◌, ◌+◌, ◌-◌, ◌⊎◌, inl, inr, ℕ, List, [], ◌++◌, length, get_or, true, not, Some, Contains, refl, sym, ap, subst, arith}
+use Rattle.std.proofs.lemmas.Bool.{false≢true, and_parts, and_from, cases_lt}
 use Rattle.std.proofs.lemmas.List.{get_or_default}
 use Rattle.std.proofs.lemmas.Option.{slice_get_within, get_or_from_slice_get}
-use Rattle.graph_search.specs.Graphs.{HasArc}
-use Rattle.hist_types.specs.Edges.{Label, ww, wr, rw, process, realtime, Edge, edge, dependency_edges}
+use Rattle.hist_types.specs.Edges.{Label, ww, wr, rw, process, realtime, edge, dependency_edges}
 use Rattle.hist_types.specs.Phenomena.{is_rw_label}
 use Rattle.hist_types.specs.Transactions.{Transaction, Version, reads, installs, is_node, nodes}
-use Rattle.hist_types.specs.Versions.{pair, version_pairs}
 use Rattle.hist_types.specs.declared.types.Level.{Level}
-use Rattle.hist_types.specs.declared.types.Level.TheVariants.{Plain, Process, Realtime}
+use Rattle.hist_types.specs.declared.types.Level.TheVariants.{Process, Realtime}
 use Rattle.hist_types.proofs.Members.{In, in_from_Contains, Contains_from_in, in_front, in_back, in_append, in_filtered, passes_filter}
-use Rattle.key_versions.specs.Histories.{read_by}
 use Rattle.key_versions.specs.Tables.{Table, IsTableOf}
 use Rattle.order_frontier.specs.Predecessors.{Before}
 use Rattle.dep_edges.specs.Histories.{AreOfHistory}
 use Rattle.dep_edges.specs.Tables.{IsNumber, txn_at, version_at}
 use Rattle.edge_graph.specs.FlatRows.{Row, row_at, led_to}
-use Rattle.edge_graph.specs.Kinds.{includes, includes_directly, has_wr, has_rw, kinds_of}
-use Rattle.edge_graph.specs.LaidOut.{nodes_behind, readers_behind, writers_behind, if_node, IsTxnRow, AreRows}
+use Rattle.edge_graph.specs.Kinds.{includes, has_wr, has_rw, kinds_of}
+use Rattle.edge_graph.specs.LaidOut.{nodes_behind, IsTxnRow, AreRows}
 use Rattle.edge_graph.specs.Made.{joined, AreWithin}
 use Rattle.edge_graph.specs.Parts.{Parts, IsOrderOf, HasEdge}
 use Rattle.edge_graph.specs.Successors.{list_at, lists_at, AreSuccessors}
-use Rattle.edge_graph.specs.Vertices.{Vertex, txn, version, IsVertex, Follows, LeadsDirectly, LeadsTo, IsArc, graph_by, AreArcs, HasRw, LeadsByVersion}
+use Rattle.edge_graph.specs.Vertices.{Vertex, txn, version, IsVertex, LeadsDirectly, LeadsTo, IsArc, AreArcs, HasRw, LeadsByVersion}
 use Rattle.edge_graph.specs.declared.types.Dependencies.{Dependencies}
 use Rattle.edge_graph.specs.declared.types.Dependencies.TheVariants.{Ww, WrAndWw, All as AllOfThem}
 use Rattle.edge_graph.specs.declared.types.Kinds.{Kinds}
 use Rattle.edge_graph.proofs.EdgesOut.{IsOrderLabel, order_label, order_included}
 use Rattle.edge_graph.proofs.Joined.{length-joined, joined_at}
-use Rattle.edge_graph.proofs.Leading.{IsDependencyTo, dependency_from, dependency_to, wr_from, wr_to, ww_from, ww_to, follower_from, follower_to, read_vertex, vertex_read, read_number}
+use Rattle.edge_graph.proofs.Leading.{dependency_from, dependency_to, wr_from, wr_to, ww_from, ww_to, follower_from, follower_to, read_vertex, vertex_read, read_number}
 use Rattle.edge_graph.proofs.OrderTo.{order_from, order_to, later_from, later_to, none_past}
 use Rattle.edge_graph.proofs.Ordered.{in_at}
 use Rattle.edge_graph.proofs.Txns.{txn_there, txn_of, txn_in, place_by, one_place, version_there, version_of_number, reader_is_node}
@@ -183,8 +179,7 @@ module _ (ts : List Transaction) (order : List Before) (table : Table) (rows : L
     arc_to : (v w : ℕ) (x y : Vertex) → IsVertex parts v x → IsVertex parts w y → LeadsTo parts kinds x y → Arrives v w
     arc_to v w (txn t) (txn u) at at' leads =
         let h = slice_get_within ts v t at in
-        let k = slice_get_within ts w u at' in
-        (
+        let k = slice_get_within ts w u at' in (
           omega (arith, h, are.count),
           direct_arc v w h k
               (subst (λ x. LeadsDirectly parts kinds x (txn_at ts w)) (sym (txn_of ts v t at)) (subst (λ x. LeadsDirectly parts kinds t x) (sym (txn_of ts w u at')) leads)),
@@ -194,8 +189,7 @@ module _ (ts : List Transaction) (order : List Before) (table : Table) (rows : L
         let k = slice_get_within table.versions number x at' in
         let there =
         vertex_read ts kept table told (txn_at ts v) (row_at rows v).rw (are.txns v h).rw number k
-        (subst (λ u. reads u (version_at table number) ≡ true) (sym (txn_of ts v t at)) (subst (λ y. reads t y ≡ true) (sym (version_of_number table number x at')) read)) in
-        (
+        (subst (λ u. reads u (version_at table number) ≡ true) (sym (txn_of ts v t at)) (subst (λ y. reads t y ≡ true) (sym (version_of_number table number x at')) read)) in (
           omega (arith, h, are.count),
           subst (λ n. In n (led_to d (row_at rows v) ++ later v)) (sym is)
               (in_front (length ts + number) (led_to d (row_at rows v)) (later v) (led_by_rw d (row_at rows v) (length ts + number) allowed there)),
@@ -231,8 +225,7 @@ module _ (ts : List Transaction) (order : List Before) (table : Table) (rows : L
                     let k : v < length rows = omega (arith, h, long) in
                     arc_from v w k (subst (In w) (joined_at d rows (lists_at level in_process in_realtime) v k) (in_from_Contains w (list_at all v) c)),
                 λ (x, y, at, at', leads).
-                    let there = arc_to v w x y at at' leads in
-                    (
+                    let there = arc_to v w x y at at' leads in (
                       omega (arith, there.0, long),
                       Contains_from_in w (list_at all v)
                           (subst (In w) (sym (joined_at d rows (lists_at level in_process in_realtime) v there.0)) there.1),
@@ -260,8 +253,7 @@ module _ (ts : List Transaction) (order : List Before) (table : Table) (rows : L
         let is = dependency_from ts kept t u (rw x y) (in_from_Contains t ts i) (in_from_Contains u ts j) c in
         let (paired, read, installed) = is.depends in
         let (place, h, at) = place_by ts t (in_from_Contains t ts i) in
-        let (number, same, below) = named place h x (subst (λ v. reads v x ≡ true) (sym at) read) in
-        (
+        let (number, same, below) = named place h x (subst (λ v. reads v x ≡ true) (sym at) read) in (
           is.other,
           x,
           (number, below, get_or_from_slice_get table.versions number x x (version_there table number below ∙ ap Some same)),

@@ -1,21 +1,16 @@
 -- Where a transaction leads: by wr and ww edges, by the order, and by way of versions.
-use Rattle.std.proofs.Common.{◌≡◌, ◌↔◌, ◌∙◌, ◌<◌, ◌≤◌, ◌+◌, ◌⊎◌, inl, inr, ℕ, List, [], ◌∷◌, ◌++◌, length, map, filter, flat_map, Bool, true, false, not, ◌&&◌, ◌==◌, nat_lt, if◌then◌else◌, Option, Some, None, All, Contains, IsTrue, refl, sym, ap, subst, arith}
-use Rattle.std.specs.List.{list_any, range_with_len}
-use Rattle.std.proofs.lemmas.Bool.{false≢true, and_parts, and_from, not-true, eqb-true, eqb-false, eq-eqb, cases_Bool}
+use Rattle.std.proofs.Common.{◌≡◌, ◌∙◌, ◌<◌, ◌+◌, ℕ, List, [], length, filter, Bool, true, false, not, ◌==◌, if◌then◌else◌, Contains, refl, sym, ap, subst}
+use Rattle.std.proofs.lemmas.Bool.{false≢true, and_parts, not-true, eqb-true, eqb-false}
 use Rattle.hist_types.specs.Atoms.{atom_eq, value_eq}
-use Rattle.hist_types.specs.Dependencies.{Depends, IsDependency}
-use Rattle.hist_types.specs.Edges.{Label, ww, wr, rw, process, realtime, Edge, edge, dependency_edges, order_labels, process_labels, realtime_labels, realtime_label, is_ok_before, same_process}
-use Rattle.hist_types.specs.Laws.{LeadsToOne}
-use Rattle.hist_types.specs.Phenomena.{is_rw_label}
+use Rattle.hist_types.specs.Dependencies.{Depends}
+use Rattle.hist_types.specs.Edges.{Label, ww, wr, Edge, edge, dependency_edges}
 use Rattle.hist_types.specs.Transactions.{Transaction, Version, installed_by, reads, installs, is_node, nodes}
 use Rattle.hist_types.specs.Versions.{pair, is_change, version_pairs}
-use Rattle.hist_types.specs.declared.types.Level.{Level}
-use Rattle.hist_types.specs.declared.types.Level.TheVariants.{Plain, Process, Realtime}
 use Rattle.hist_types.proofs.DependencyEdges.{edges_by_versions}
 use Rattle.hist_types.proofs.Equality.{value_eq-itself}
-use Rattle.hist_types.proofs.Members.{In, in_from_Contains, Contains_from_in, in_front, in_back, in_append, in_each, in_some, in_mapped, in_map, in_filter, in_filtered, passes_filter}
+use Rattle.hist_types.proofs.Members.{In, in_from_Contains, Contains_from_in, in_each, in_some, in_mapped, in_map, in_filter, in_filtered, passes_filter}
 use Rattle.hist_types.proofs.PrintedEdges.{one_installed}
-use Rattle.hist_types.proofs.VersionMembers.{in_from_has, has_from_in, pair_of_one_key}
+use Rattle.hist_types.proofs.VersionMembers.{in_from_has, has_from_in}
 use Rattle.key_versions.specs.Histories.{read_by, is_followed, installs_behind, readers_of}
 use Rattle.key_versions.specs.Tables.{Table, IsTableOf}
 use Rattle.dep_edges.specs.Histories.{AreOfHistory}
@@ -23,7 +18,7 @@ use Rattle.dep_edges.specs.Tables.{IsNumber, txn_at, version_at}
 use Rattle.dep_edges.proofs.Out.{behind_makes_pair, pair_is_behind, one_by_invocation}
 use Rattle.dep_edges.proofs.Places.{named_once, behind_key}
 use Rattle.edge_graph.specs.LaidOut.{nodes_behind, readers_behind, writers_behind, if_node, AreVersionVertices}
-use Rattle.edge_graph.proofs.Txns.{txn_in, place_by, one_place, reader_at, at_reader, node_behind, behind_node, read_from, read_to, reader_is_node}
+use Rattle.edge_graph.proofs.Txns.{txn_in, one_place, reader_at, at_reader, node_behind, behind_node, read_from, read_to, reader_is_node}
 
 -- a dependency edge from one transaction to another
 pub record IsDependencyTo (ts : List Transaction) (t u : Transaction) (label : Label) : Type 0 where
@@ -90,13 +85,16 @@ module _ (ts : List Transaction) (kept : AreOfHistory ts) where
       let (node, among) = if_node_parts (is_node ts t) q (readers_behind ts p) i in
       let (v, installed, j) = in_some (λ v. filter (λ n. not (n == p)) (readers_of ts v)) q (installed_by t) among in
       let (k, read) = reader_at ts v q (in_filter (λ n. not (n == p)) q (readers_of ts v) j) in
-      let apart : (q == p) ≡ false = not-true (q == p) (passes_filter (λ n. not (n == p)) q (readers_of ts v) j) in
-      (k, v, dependency_to t u (wr v) (txn_in ts p h) (txn_in ts q k) (record {
-        first = node;
-        second = reader_is_node ts u v read;
-        other = λ same. eqb-false q p apart (sym (one_place ts kept p q h k same));
-        depends = (has_from_in v (installed_by t) installed, read);
-      }))
+      let apart : (q == p) ≡ false = not-true (q == p) (passes_filter (λ n. not (n == p)) q (readers_of ts v) j) in (
+        k,
+        v,
+        dependency_to t u (wr v) (txn_in ts p h) (txn_in ts q k) (record {
+          first = node;
+          second = reader_is_node ts u v read;
+          other = λ same. eqb-false q p apart (sym (one_place ts kept p q h k same));
+          depends = (has_from_in v (installed_by t) installed, read);
+        }),
+      )
 
   pub wr_to :
       (p q : ℕ) (v : Version) → p < length ts → q < length ts → Contains (dependency_edges ts) (edge (txn_at ts p) (txn_at ts q) (wr v))
@@ -127,16 +125,20 @@ module _ (ts : List Transaction) (kept : AreOfHistory ts) where
       let (v, installed, j) = in_some (nodes_behind ts) q (installed_by t) among in
       let (w, k, node', behind) = node_behind ts v q j in
       let first : installs t v ≡ true = has_from_in v (installed_by t) installed in
-      let second : installs u w ≡ true = behind_is_installed u v w behind in
-      (k, v, w, dependency_to t u (ww v w) (txn_in ts p h) (txn_in ts q k) (record {
-        first = node;
-        second = node';
-        other =
-            λ same.
-            let one : t ≡ u = one_by_invocation ts kept t u (txn_in ts p h) (txn_in ts q k) same in
-            behind_is_other u v w behind (one_installed u v w (subst (λ x. installs x v ≡ true) one first) second (sym (behind_key u v w behind)));
-        depends = (behind_makes_pair ts u v w (txn_in ts q k) node' behind, first, second);
-      }))
+      let second : installs u w ≡ true = behind_is_installed u v w behind in (
+        k,
+        v,
+        w,
+        dependency_to t u (ww v w) (txn_in ts p h) (txn_in ts q k) (record {
+          first = node;
+          second = node';
+          other =
+              λ same.
+              let one : t ≡ u = one_by_invocation ts kept t u (txn_in ts p h) (txn_in ts q k) same in
+              behind_is_other u v w behind (one_installed u v w (subst (λ x. installs x v ≡ true) one first) second (sym (behind_key u v w behind)));
+          depends = (behind_makes_pair ts u v w (txn_in ts q k) node' behind, first, second);
+        }),
+      )
 
   pub ww_to :
       (p q : ℕ) (v w : Version) → p < length ts → q < length ts → Contains (dependency_edges ts) (edge (txn_at ts p) (txn_at ts q) (ww v w))
@@ -157,8 +159,7 @@ module _ (ts : List Transaction) (kept : AreOfHistory ts) where
       → (q < length ts) × Contains (nodes ts) (txn_at ts q) × (w : Version) × Contains (version_pairs ts) (pair v w) × (installs (txn_at ts q) w ≡ true)
   follower_from v q i =
       let u = txn_at ts q in
-      let (w, k, node, behind) = node_behind ts v q i in
-      (
+      let (w, k, node, behind) = node_behind ts v q i in (
         k,
         Contains_from_in u (nodes ts) (in_filtered (is_node ts) u ts (txn_in ts q k) node),
         w,
@@ -178,8 +179,7 @@ module _ (ts : List Transaction) (kept : AreOfHistory ts) where
     read_vertex w i =
         let (numbers, is, versions, within) = are in
         let (k, among, same) = in_map (λ k. length ts + k) w numbers (subst (In w) is i) in
-        let (j, h, at) = Contains_from_in k numbers among in
-        (
+        let (j, h, at) = Contains_from_in k numbers among in (
           k,
           sym same,
           subst (IsNumber table) at (within j k h),

@@ -1,18 +1,16 @@
 -- Order edges by the lists of successors.
-use Rattle.std.proofs.Common.{◌≡◌, ◌↔◌, ◌∙◌, ◌<◌, ◌≤◌, ◌+◌, ◌⊎◌, inl, inr, ℕ, zero, suc, List, [], ◌∷◌, ◌++◌, length, get_or, map, filter, flat_map, Bool, true, false, ◌&&◌, ◌==◌, if◌then◌else◌, Option, Some, None, unwrap_or, All, Contains, refl, sym, ap, subst, arith}
-use Rattle.std.specs.Prelude.{slice_get}
+use Rattle.std.proofs.Common.{◌≡◌, ◌∙◌, ◌<◌, ◌≤◌, ◌+◌, inl, inr, ℕ, zero, suc, List, [], ◌∷◌, length, get_or, map, Bool, true, false, ◌&&◌, ◌==◌, if◌then◌else◌, Option, Some, None, unwrap_or, Contains, refl, sym, ap, subst, arith}
 use Rattle.std.specs.List.{list_any, range_with_len}
 use Rattle.std.proofs.lemmas.Bool.{false≢true, and_parts, and_from, or_cases, or_left, or_right, eqb-true, eq-eqb, cases_eq}
-use Rattle.std.proofs.lemmas.List.{length-map, get_or-map, get_or_past}
-
+use Rattle.std.proofs.lemmas.List.{get_or-map, get_or_past}
 use Rattle.std.proofs.lemmas.Option.{slice_get-get_or, get_or_from_slice_get}
-use Rattle.hist_types.specs.Edges.{Label, process, realtime, Edge, edge, order_labels, process_labels, realtime_labels, realtime_label, is_ok_before, same_process}
+use Rattle.hist_types.specs.Edges.{Label, process, realtime, Edge, edge, realtime_label, is_ok_before, same_process}
 use Rattle.hist_types.specs.Laws.{LeadsToOne}
 use Rattle.hist_types.specs.Transactions.{Transaction, is_node, nodes}
 use Rattle.hist_types.specs.declared.types.Level.{Level}
 use Rattle.hist_types.specs.declared.types.Level.TheVariants.{Plain, Process, Realtime}
 use Rattle.hist_types.proofs.Members.{In, in_from_Contains, Contains_from_in, in_each, in_some, in_mapped, in_map, in_filter, in_filtered, passes_filter}
-use Rattle.order_frontier.specs.Predecessors.{Before, process_edge, realtime_edge, edges_to, edges_of, name_of, names}
+use Rattle.order_frontier.specs.Predecessors.{Before, process_edge, realtime_edge, edges_to, edges_of, name_of}
 use Rattle.order_frontier.specs.declared.types.Predecessor.{Predecessor}
 use Rattle.dep_edges.specs.Histories.{AreOfHistory}
 use Rattle.dep_edges.specs.Tables.{txn_at}
@@ -23,7 +21,7 @@ use Rattle.edge_graph.specs.Made.{order_labels_to, order_edges_to}
 use Rattle.edge_graph.specs.Parts.{IsOrderOf}
 use Rattle.edge_graph.specs.Successors.{predecessors_at, has_invocation, before_at, is_successor, list_at, lists_at, AreSuccessors}
 use Rattle.edge_graph.proofs.Ordered.{Joins, joins, long, in_at}
-use Rattle.edge_graph.proofs.Txns.{txn_there, txn_of, txn_in, place_by}
+use Rattle.edge_graph.proofs.Txns.{txn_there, txn_in}
 
 -- ---- edges of predecessors
 
@@ -165,8 +163,7 @@ module _ (ts : List Transaction) (order : List Before) (kept : AreOfHistory ts) 
       let (node, p, i, same) = predecessor_of_successor level place next e in
       let d = level_edge level (before_at order next) p in
       let whole = same_edge level next p t k i (txn_in ts place h) same in
-      let (label, among, there) = in_map (edge t u) d (order_labels_to level t u.invocation) (subst (In d) (sym whole) (inl refl)) in
-      (
+      let (label, among, there) = in_map (edge t u) d (order_labels_to level t u.invocation) (subst (In d) (sym whole) (inl refl)) in (
         label,
         among,
         Contains_from_in (edge t u label) (edges_of level order) (subst (λ x. In x (edges_of level order)) (sym there) (edge_there level next p k i)),
@@ -191,8 +188,7 @@ module _ (ts : List Transaction) (order : List Before) (kept : AreOfHistory ts) 
       ap (λ (d : Edge). d.to) (sym same) ∙ (edge_ends level b p).1 ∙ ap (λ (x : Before). x.invocation) (sym at) ∙ (named next k').1 in
       let v_in = in_from_Contains v (nodes ts) among in
       let one : v ≡ u = one_by_invocation ts kept v u (in_filter (is_node ts) v ts v_in) (txn_in ts next k') (sym to ∙ to_u) in
-      let node : is_node ts u ≡ true = subst (λ x. is_node ts x ≡ true) one (passes_filter (is_node ts) v ts v_in) in
-      (
+      let node : is_node ts u ≡ true = subst (λ x. is_node ts x ≡ true) one (passes_filter (is_node ts) v ts v_in) in (
         next,
         k',
         to_u,

@@ -1,6 +1,6 @@
 -- What an order says of its transactions: predecessors, and where they are.
-use Rattle.std.proofs.Common.{◌≡◌, ◌∙◌, ◌<◌, ◌≤◌, ◌+◌, ℕ, zero, suc, List, [], ◌∷◌, ◌++◌, length, get_or, map, filter, Bool, true, false, ◌&&◌, ◌||◌, ◌==◌, nat_eq, if◌then◌else◌, Some, All, Contains, refl, sym, ap, subst, arith, inl, inr, add-one, append-nil}
-use Rattle.std.specs.Prelude.{slice_get, slice_index, unwrap_or}
+use Rattle.std.proofs.Common.{◌≡◌, ◌∙◌, ◌<◌, ◌+◌, ℕ, zero, suc, List, [], ◌∷◌, ◌++◌, length, get_or, map, filter, Bool, true, false, ◌||◌, ◌==◌, nat_eq, if◌then◌else◌, Some, refl, sym, ap, subst, arith, inl, inr, add-one}
+use Rattle.std.specs.Prelude.{slice_get, slice_index}
 use Rattle.std.specs.List.{list_any, range_with_len, IsDistinct}
 use Rattle.std.proofs.lemmas.Bool.{eqb-true, eqb-false, eq-eqb, ne_eqb}
 use Rattle.std.proofs.lemmas.List.{length-map, get_or-map, get_or_default}
@@ -8,12 +8,12 @@ use Rattle.std.proofs.lemmas.List.Elements.{filter-append}
 use Rattle.std.proofs.lemmas.Map.Keys.{apart_from_distinct, IsDistinct-from_apart}
 use Rattle.std.proofs.lemmas.Option.{slice_get_within, slice_get-get_or, get_or_from_slice_get, same_Some, unwrap_or-slice_get}
 use Rattle.hist_types.specs.Edges.{Label, Edge, edge, order_labels, all_order_edges}
-use Rattle.hist_types.specs.Transactions.{Transaction, is_node}
+use Rattle.hist_types.specs.Transactions.{Transaction}
 use Rattle.hist_types.specs.declared.types.Level.{Level}
 use Rattle.hist_types.specs.declared.types.Level.TheVariants.{Plain, Process, Realtime}
 use Rattle.hist_types.proofs.Members.{In, in_from_Contains, Contains_from_in, in_each, in_mapped, in_map}
 use Rattle.hist_types.proofs.OrderEdges.{comes_from}
-use Rattle.order_frontier.specs.Predecessors.{Before, process_edge, realtime_edge, edges_to, edges_of, NoneTwice, name_of, names}
+use Rattle.order_frontier.specs.Predecessors.{Before, process_edge, realtime_edge, edges_to, edges_of, NoneTwice, name_of}
 use Rattle.order_frontier.specs.declared.types.Predecessor.{Predecessor}
 use Rattle.dep_edges.specs.Histories.{AreOfHistory}
 use Rattle.dep_edges.specs.Tables.{txn_at}
@@ -113,8 +113,7 @@ module _ (ts : List Transaction) (order : List Before) (kept : AreOfHistory ts) 
     pub have_places : (level : Level) (u : Before) → In u order → HavePlaces places (length ts) (predecessors_at level u)
     have_places level u i = all_in (λ (p : Predecessor). (p.invocation < length places) × (place_of places p < length ts)) (predecessors_at level u) (λ p j.
         let (t, among, same) = predecessor_txn level u p i j in
-        let (k, get, within, at) = placed t among in
-        (
+        let (k, get, within, at) = placed t among in (
           subst (λ n. n < length places) same within,
           subst (λ n. n < length ts) (sym at ∙ ap (slice_index places) same) (slice_get_within ts k t get),
         ))
@@ -164,15 +163,15 @@ module _ (ts : List Transaction) (order : List Before) (kept : AreOfHistory ts) 
         let here : place_of places p ≡ k = ap (slice_index places) (sym same) ∙ at in
         same_tests (place_of places p == first) (p.invocation == v.invocation)
         (λ e.
-            let one : t ≡ v = same_Some t v (sym get ∙ ap (slice_get ts) (sym here ∙ eqb-true (place_of places p) first e) ∙ there) in
-            eq-eqb p.invocation v.invocation (sym same ∙ ap (λ (x : Transaction). x.invocation) one))
+        let one : t ≡ v = same_Some t v (sym get ∙ ap (slice_get ts) (sym here ∙ eqb-true (place_of places p) first e) ∙ there) in
+        eq-eqb p.invocation v.invocation (sym same ∙ ap (λ (x : Transaction). x.invocation) one))
         (λ e.
-            let (k', h', at') = Contains_from_in t ts among in
-            let among_v : In v ts = in_from_Contains v ts (first, h, get_or_from_slice_get ts first v v there) in
-            let one : t ≡ v = one_by_invocation ts kept t v among among_v (same ∙ eqb-true p.invocation v.invocation e) in
-            let found = are first v there in
-            eq-eqb (place_of places p) first
-            (ap (slice_index places) (sym same ∙ ap (λ (x : Transaction). x.invocation) one) ∙ get_or_from_slice_get places v.invocation first 0 found)))
+        let (k', h', at') = Contains_from_in t ts among in
+        let among_v : In v ts = in_from_Contains v ts (first, h, get_or_from_slice_get ts first v v there) in
+        let one : t ≡ v = one_by_invocation ts kept t v among among_v (same ∙ eqb-true p.invocation v.invocation e) in
+        let found = are first v there in
+        eq-eqb (place_of places p) first
+        (ap (slice_index places) (sym same ∙ ap (λ (x : Transaction). x.invocation) one) ∙ get_or_from_slice_get places v.invocation first 0 found)))
 
   -- ---- lists of successors
 

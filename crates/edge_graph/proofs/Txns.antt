@@ -1,10 +1,9 @@
 -- Transactions by place and versions by number, and what the places of readers and followers say.
-use Rattle.std.proofs.Common.{◌≡◌, ◌∙◌, ◌<◌, ◌≤◌, ◌+◌, ◌⊎◌, inl, inr, ℕ, zero, suc, List, [], ◌∷◌, ◌++◌, length, get_or, map, filter, Bool, true, false, if◌then◌else◌, Option, Some, None, unwrap_or, refl, sym, ap, subst, arith}
+use Rattle.std.proofs.Common.{◌≡◌, ◌∙◌, ◌<◌, ◌+◌, inl, inr, ℕ, zero, suc, List, [], ◌∷◌, length, get_or, map, Bool, true, false, if◌then◌else◌, Option, Some, None, unwrap_or, refl, sym, ap, subst, arith}
 use Rattle.std.specs.Prelude.{slice_get}
-use Rattle.std.specs.List.{range_with_len}
 use Rattle.std.proofs.lemmas.Bool.{cases_lt, and_from, and_parts, or_left}
 use Rattle.std.proofs.lemmas.Option.{none-some, same_Some, slice_get_within, slice_get-get_or, get_or_from_slice_get}
-use Rattle.hist_types.specs.Transactions.{Transaction, Version, is_ok, external_reads, has_version, reads, is_node, Open, transactions_of}
+use Rattle.hist_types.specs.Transactions.{Transaction, Version, is_ok, external_reads, has_version, reads, is_node, Open}
 use Rattle.hist_types.specs.Versions.{nil_of}
 use Rattle.hist_types.specs.Atoms.{integer}
 use Rattle.hist_types.proofs.Members.{In, in_from_Contains, Contains_from_in, in_front, in_back, in_mapped, in_map, in_filter, in_filtered, passes_filter}
@@ -17,7 +16,6 @@ use Rattle.dep_edges.specs.Histories.{AreOfHistory}
 use Rattle.dep_edges.specs.Tables.{txn_at, version_at}
 use Rattle.dep_edges.proofs.Places.{from_some_place}
 use Rattle.edge_graph.specs.LaidOut.{nodes_behind}
-use Rattle.edge_graph.proofs.Lists.{txn_read}
 use Rattle.edge_graph.proofs.Placed.{order_at}
 use Rattle.std.proofs.Common.{pos}
 
@@ -125,8 +123,7 @@ node_behind ts v place i =
     let (j, t, get, there) = from_some_place (λ place t. map (λ w. (place, w)) (installs_behind t v)) 0 ts p among in
     let (w, behind, is) = in_map (λ (w : Version). (0 + j, w)) p (installs_behind t v) there in
     let here : j ≡ place = omega (arith, ap at_place is, same) in
-    let found : slice_get ts place ≡ Some t = ap (slice_get ts) (sym here) ∙ get in
-    (
+    let found : slice_get ts place ≡ Some t = ap (slice_get ts) (sym here) ∙ get in (
       w,
       slice_get_within ts place t found,
       passes_filter test place places i,

@@ -1,5 +1,5 @@
 -- Rows of numbers in one flat list.
-use Rattle.std.specs.Prelude.{◌≤◌, ℕ, List, [], ◌++◌, length, slice_range, slice_index_or, map}
+use Rattle.std.specs.Prelude.{◌≤◌, ℕ, List, [], ◌++◌, length, slice_range, slice_index_or}
 use Rattle.edge_graph.specs.declared.rows.Span.{Span}
 use Rattle.edge_graph.specs.declared.types.Dependencies.{Dependencies}
 use Rattle.edge_graph.specs.declared.types.Dependencies.TheVariants.{Ww, WrAndWw, All}

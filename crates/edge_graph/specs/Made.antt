@@ -1,5 +1,5 @@
 -- How a graph is kept.
-use Rattle.std.specs.Prelude.{◌≡◌, ℕ, ◌<◌, List, [], ◌∷◌, ◌++◌, length, Option, Some, None, map, flat_map, All}
+use Rattle.std.specs.Prelude.{ℕ, ◌<◌, List, [], ◌∷◌, ◌++◌, length, map, flat_map, All}
 use Rattle.hist_types.specs.Edges.{Label, process, realtime_label, Edge, edge}
 use Rattle.hist_types.specs.Transactions.{Transaction}
 use Rattle.hist_types.specs.declared.types.Level.{Level}
@@ -10,7 +10,7 @@ use Rattle.dep_edges.specs.Histories.{AreOfHistory}
 use Rattle.dep_edges.specs.Tables.{txn_at}
 use Rattle.edge_graph.specs.FlatRows.{Row, led_to}
 use Rattle.edge_graph.specs.LaidOut.{AreRows}
-use Rattle.edge_graph.specs.Parts.{Parts, IsOrderOf}
+use Rattle.edge_graph.specs.Parts.{IsOrderOf}
 use Rattle.edge_graph.specs.Successors.{AreSuccessors}
 use Rattle.edge_graph.specs.declared.types.Dependencies.{Dependencies}
 

@@ -1,6 +1,6 @@
 -- What a graph of transactions is made of, and its edges: the dependency edges, and of a level's order edges those whose second
 -- end is a node. (The first end of an order edge is ok, and so is a node.) The order may be the one of all pairs or a thinned one.
-use Rattle.std.specs.Prelude.{◌≡◌, ◌↔◌, ◌⊎◌, ℕ, List, ◌++◌, Bool, IsTrue, Some, slice_get, map, All, Contains}
+use Rattle.std.specs.Prelude.{◌≡◌, ◌↔◌, ◌⊎◌, ℕ, List, ◌++◌, IsTrue, Some, slice_get, map, All, Contains}
 use Rattle.hist_types.specs.Edges.{Edge, dependency_edges, all_order_edges}
 use Rattle.hist_types.specs.Laws.{LeadsToOne}
 use Rattle.hist_types.specs.Transactions.{Transaction, Version, has_version, nodes}

@@ -3,9 +3,9 @@
 -- A version that many transactions read and many others follow stands for reader times follower rw edges. So each version is a
 -- vertex too, behind the transactions: who reads it leads to it, and it leads to the nodes that install a version behind it. All
 -- other edges are arcs from transaction to transaction.
-use Rattle.std.specs.Prelude.{◌≡◌, ◌↔◌, ℕ, ◌+◌, List, [], length, IsTrue, Option, Some, slice_get, slice_index_or, Contains}
+use Rattle.std.specs.Prelude.{◌≡◌, ◌↔◌, ℕ, ◌+◌, List, [], length, IsTrue, Some, slice_get, slice_index_or, Contains}
 use Rattle.graph_search.specs.Graphs.{Graph, HasArc}
-use Rattle.hist_types.specs.Edges.{Label, rw, Edge, edge, dependency_edges}
+use Rattle.hist_types.specs.Edges.{Label, rw, edge, dependency_edges}
 use Rattle.hist_types.specs.Transactions.{Transaction, Version, nodes, reads, installs}
 use Rattle.hist_types.specs.Versions.{pair, version_pairs}
 use Rattle.edge_graph.specs.Kinds.{includes_directly}
@@ -57,3 +57,7 @@ HasRw ts t u = (earlier : Version) × (later : Version) × Contains (dependency_
 abbrev pub LeadsByVersion : Parts → Transaction → Transaction → Type 0
 LeadsByVersion g t u =
     ¬ (t.invocation ≡ u.invocation) × (v : Version) × Contains g.versions v × IsTrue (reads t v) × Follows g.txns v u
+
+-- some rw edge joins two transactions exactly where one of the versions leads from the one to the other
+abbrev pub RwByVersions : Parts → Type 0
+RwByVersions g = (t u : Transaction) → Contains g.txns t → Contains g.txns u → HasRw g.txns t u ↔ LeadsByVersion g t u

@@ -29,11 +29,7 @@ impl<'g> Model for GraphArcs<'g> {
 }
 
 impl<'g> GraphArcs<'g> {
-    pub(crate) fn new(
-        rows: &'g Rows,
-        order: &'g [Successors],
-        dependencies: Dependencies,
-    ) -> Self
+    pub(crate) fn new(rows: &'g Rows, order: &'g [Successors], dependencies: Dependencies) -> Self
         requires { AreWithin (joined dependencies rows.now order.now) }
         ensures { result ≡ joined dependencies rows.now order.now }
     {

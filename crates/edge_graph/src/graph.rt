@@ -1,16 +1,15 @@
 //! The graph of a history's transactions.
 
-ghost use Rattle.std.specs.Prelude.{◌≡◌, ◌↔◌, ◌++◌, List, filter, All, Contains, IfOk, IfErr, OnOk, OnErr};
+ghost use Rattle.std.specs.Prelude.{◌≡◌, ◌++◌, List, filter, All, IfOk, IfErr, OnOk, OnErr};
 ghost use Rattle.dep_edges.specs.OutEdges as out_edges;
 ghost use Rattle.dep_edges.specs.OutEdges.{Begins};
 ghost use Rattle.dep_edges.specs.Tables.{IsPlace, txn_at};
 ghost use Rattle.hist_types.specs.Edges.{Edge as AnEdge};
 ghost use Rattle.hist_types.specs.Refusals.{memory_fault};
-ghost use Rattle.hist_types.specs.Transactions.{Transaction};
 ghost use Rattle.edge_graph.specs.Kinds.{includes, kinds_of};
 ghost use Rattle.edge_graph.specs.Made.{order_edges_over, order_edges_to};
 ghost use Rattle.edge_graph.specs.Parts.{IsOrderOf, IsMadeOf, AddsEdgesFrom};
-ghost use Rattle.edge_graph.specs.Vertices.{AreArcs, HasRw, LeadsByVersion};
+ghost use Rattle.edge_graph.specs.Vertices.{AreArcs, RwByVersions};
 
 use crate::arcs::GraphArcs;
 use crate::layout;
@@ -177,7 +176,7 @@ impl<'g, 'v, 'a> Graph<'g, 'v, 'a> {
     /// An rw edge joins two transactions exactly where the first leads to a version that leads to the second.
     pub fn arcs(&self, dependencies: Dependencies, level: Level) -> GraphArcs<'_>
         ensures arcs { AreArcs self.now (kinds_of dependencies level) result }
-        ensures rw { (t u : Transaction) → Contains self.now.txns t → Contains self.now.txns u → HasRw self.now.txns t u ↔ LeadsByVersion self.now t u }
+        ensures rw { RwByVersions self.now }
     {
         GraphArcs::new(&self.rows, self.orders.at(level), dependencies)
     }

@@ -122,7 +122,12 @@ fn turned(
     let mut lists = empty_lists(alloc, order.len())?;
     for (place, before) in order.iter().enumerate() {
         if deps.is_node(place) {
-            push_to_each(predecessors(before, level), places, number(place)?, &mut lists)?;
+            push_to_each(
+                predecessors(before, level),
+                places,
+                number(place)?,
+                &mut lists,
+            )?;
         }
     }
     Ok(lists)

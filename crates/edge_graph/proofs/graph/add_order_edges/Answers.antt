@@ -1,4 +1,4 @@
-use Rattle.std.proofs.Common.{arith, sym, refl}
+use Rattle.std.proofs.Common.{refl}
 use Rattle.dep_edges.proofs.Adding.{begins_at_error}
 use Rattle.edge_graph.proofs.Lists.{txn_read}
 use Rattle.edge_graph.proofs.OrderOut.{one_more}

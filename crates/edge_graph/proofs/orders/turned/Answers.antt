@@ -1,4 +1,4 @@
-use Rattle.std.proofs.Common.{◌≡◌, ◌∙◌, ◌<◌, ℕ, List, [], ◌∷◌, ◌++◌, ◌&&◌, true, false, if◌then◌else◌, length, arith, ap, sym, subst, append-nil, Vec}
+use Rattle.std.proofs.Common.{◌≡◌, ◌∙◌, ℕ, List, [], ◌∷◌, ◌++◌, ◌&&◌, true, false, if◌then◌else◌, length, arith, ap, sym, subst, append-nil, Vec}
 use Rattle.std.proofs.lemmas.List.{with_items_is}
 use Rattle.hist_types.specs.Transactions.{is_node}
 use Rattle.dep_edges.specs.Tables.{txn_at}

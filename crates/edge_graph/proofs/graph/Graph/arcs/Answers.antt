@@ -1,24 +1,30 @@
-use Rattle.std.proofs.Common.{rules, ◌≡◌, ◌↔◌, ◌++◌, List, filter, All, IfOk, IfErr, OnOk, OnErr, ℕ, ◌+◌, ◌-◌, ◌*◌, ◌<◌, ◌≤◌, length, ◌/◌, ◌%◌, Bool, true, false, nat_eq, nat_lt, [], ◌∷◌, slice_index_or, slice_set, bit_and, bit_or, Fits, w8, w32, w64, Bor, MutBor}
-use Rattle.dep_edges.specs.OutEdges as out_edges
-use Rattle.dep_edges.specs.OutEdges.{Begins}
-use Rattle.dep_edges.specs.Tables.{IsPlace, txn_at}
-use Rattle.hist_types.specs.Edges.{Edge as AnEdge}
-use Rattle.hist_types.specs.Refusals.{memory_fault}
-use Rattle.hist_types.specs.Transactions.{Transaction}
-use Rattle.edge_graph.specs.Kinds.{includes, kinds_of}
-use Rattle.edge_graph.specs.Made.{order_edges_over, order_edges_to}
-use Rattle.edge_graph.specs.Parts.{IsOrderOf, IsMadeOf, AddsEdgesFrom}
-use Rattle.edge_graph.specs.Vertices.{AreArcs, HasRw, LeadsByVersion}
+use Rattle.std.proofs.Common.{◌∙◌, sym, ap, subst}
+use Rattle.edge_graph.specs.Kinds.{kinds_of}
+use Rattle.edge_graph.specs.Made.{joined, AreWithin}
+use Rattle.edge_graph.specs.Parts.{Parts}
+use Rattle.edge_graph.specs.Vertices.{AreArcs, RwByVersions}
+use Rattle.edge_graph.proofs.ArcsOut.{arcs_out, arcs_within, rw_by_versions}
 use Rattle.edge_graph.proofs.graph.Graph.arcs.Goals as goal
 
--- src/graph.rt:182:9
 pub new-requires : goal.new-requires
-new-requires c = ?
+new-requires c =
+    let a = c.self.inside in
+    let made = c.self.invariant.1 in
+    subst (λ lists. AreWithin (joined c.args.dependencies a.rows lists)) (sym c.at.ensures)
+    (arcs_within a.history.now.txns a.order.now a.history.now.table a.rows a.orders.in_process.items a.orders.in_realtime.items made.kept made.versions made.ordered made.rows made.process made.realtime c.args.dependencies c.args.level)
 
--- src/graph.rt:178:5
 pub returns-clause-arcs : goal.returns-clause-arcs
-returns-clause-arcs c = ?
+returns-clause-arcs c =
+    let a = c.self.inside in
+    let made = c.self.invariant.1 in
+    let kinds = kinds_of c.args.dependencies c.args.level in
+    subst (λ (g : Parts). AreArcs g kinds c.new.result) c.self.view_is
+    (subst (AreArcs (record { txns = a.history.now.txns; order = a.order.now; versions = a.history.now.table.versions }) kinds) (sym (c.new.ensures ∙ ap (joined c.args.dependencies a.rows) c.at.ensures))
+    (arcs_out a.history.now.txns a.order.now a.history.now.table a.rows a.orders.in_process.items a.orders.in_realtime.items made.kept made.versions made.ordered made.rows made.process made.realtime c.args.dependencies c.args.level))
 
--- src/graph.rt:178:5
 pub returns-clause-rw : goal.returns-clause-rw
-returns-clause-rw c = ?
+returns-clause-rw c =
+    let a = c.self.inside in
+    let made = c.self.invariant.1 in
+    subst RwByVersions c.self.view_is
+    (rw_by_versions a.history.now.txns a.order.now a.history.now.table a.rows a.orders.in_process.items a.orders.in_realtime.items made.kept made.versions made.ordered made.rows made.process made.realtime)

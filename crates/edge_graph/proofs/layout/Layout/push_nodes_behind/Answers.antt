@@ -1,4 +1,4 @@
-use Rattle.std.proofs.Common.{◌≡◌, ◌∙◌, ◌++◌, ℕ, List, ap, sym, map, filter}
+use Rattle.std.proofs.Common.{◌∙◌, ◌++◌, ℕ, List, ap, map, filter}
 use Rattle.std.proofs.lemmas.List.{take_all}
 use Rattle.hist_types.specs.Transactions.{is_node}
 use Rattle.key_versions.specs.declared.types.Follower.{Follower}

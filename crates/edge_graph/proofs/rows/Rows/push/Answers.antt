@@ -1,5 +1,4 @@
-use Rattle.std.proofs.Common.{◌≡◌, ◌∙◌, ◌++◌, List, ℕ, length, arith, ap, sym}
-use Rattle.std.specs.Vec.{vec_len}
+use Rattle.std.proofs.Common.{◌≡◌, ◌∙◌, ◌++◌, List, ℕ, length, arith, ap}
 use Rattle.edge_graph.proofs.Spans.{pushed}
 use Rattle.edge_graph.proofs.rows.Rows.push.Goals as goal
 

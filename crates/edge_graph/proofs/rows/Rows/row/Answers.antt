@@ -1,4 +1,4 @@
-use Rattle.std.proofs.Common.{◌≡◌, sym, subst, ap, ◌∙◌, length}
+use Rattle.std.proofs.Common.{◌≡◌, sym, subst, ap, ◌∙◌}
 use Rattle.std.specs.Prelude.{slice_range}
 use Rattle.edge_graph.specs.FlatRows.{row_at, led_to}
 use Rattle.edge_graph.proofs.Spans.{start_of, read_row}
