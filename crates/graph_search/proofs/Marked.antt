@@ -1,5 +1,5 @@
 -- Marks by rounds.
-use Rattle.std.proofs.Common.{◌≡◌, ℕ, ◌+◌, ◌<◌, List, [], ◌∷◌, length, All, map, replicate, eqb, false, true, refl, zero, suc, arith, sym, ap, ◌∙◌, set}
+use Rattle.std.proofs.Common.{◌≡◌, ℕ, ◌<◌, List, [], ◌∷◌, length, All, map, replicate, eqb, false, true, refl, zero, suc, arith, ap, ◌∙◌, set}
 use Rattle.std.proofs.lemmas.Bool.Decides.{nat_tests}
 use Rattle.std.proofs.lemmas.List.{map-set}
 use Rattle.std.proofs.lemmas.List.Elements.{All-head, All-tail}

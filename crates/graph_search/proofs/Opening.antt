@@ -1,7 +1,7 @@
 -- The arcs of one vertex, one after another.
-use Rattle.std.proofs.Common.{◌≡◌, ℕ, ◌+◌, ◌<◌, List, [], ◌∷◌, ◌++◌, length, Bool, true, false, get_or, set, subst, sym, ap, refl, ◌∙◌, inl, inr, arith, IsTrue, below_more, length-set}
+use Rattle.std.proofs.Common.{◌≡◌, ℕ, ◌+◌, ◌<◌, List, [], ◌∷◌, ◌++◌, length, Bool, true, false, not, get_or, set, subst, sym, ap, ◌∙◌, inl, inr, arith, IsTrue, below_more}
 use Rattle.std.proofs.lemmas.List.{get_or_default, set-get_or}
-use Rattle.std.proofs.lemmas.Bool.{false≢true}
+use Rattle.std.proofs.lemmas.Bool.{false≢true, not-true, not-false}
 use Rattle.graph_search.specs.Graphs.{Graph, VertexSet, HasArcInto}
 use Rattle.graph_search.specs.Visits.{vertex_at, IsMarked, AreReached, Extends, IsOpened}
 use Rattle.graph_search.specs.declared.breadth_first.Visit.{Visit}
@@ -15,9 +15,9 @@ pub record IsOpening (g : Graph) (allowed : VertexSet) (marks : List Bool) (queu
   pub unfound : IsMarked marks' to → ⊥
 
 -- an arc to a vertex that is allowed
-pub leads : (g : Graph) (allowed : VertexSet) (v w i : ℕ) → v < g.count → i < length (g.successors v) → w ≡ get_or (g.successors v) i 0 → IsTrue (allowed.has w)
+pub leads : (g : Graph) (allowed : VertexSet) (v w i : ℕ) → v < g.count → i < length (g.successors v) → w ≡ get_or (g.successors v) i 0 → true ≡ allowed.has w
     → HasArcInto g allowed v w
-leads g allowed v w i in-graph h e is = ((in-graph, (i, h, get_or_default (g.successors v) i w 0 h ∙ sym e)), is)
+leads g allowed v w i in-graph h e is = ((in-graph, (i, h, get_or_default (g.successors v) i w 0 h ∙ sym e)), sym is)
 
 one_more : (allowed : VertexSet) (ws : List ℕ) (marks marks' : List Bool) (w i : ℕ) → w ≡ get_or ws i 0
     → ((k : ℕ) → k < i → IsTrue (allowed.has (get_or ws k 0)) → IsMarked marks (get_or ws k 0))
@@ -31,15 +31,16 @@ one_more allowed ws marks marks' w i e opened grow here =
 -- a vertex that was not marked
 pub reached_one : (g : Graph) (allowed : VertexSet) (marks marks' : List Bool) (queue queue' : List Visit) (v to i w at : ℕ)
     → IsOpening g allowed marks queue v to i marks' queue' → at < length queue → v ≡ vertex_at queue at → w < length marks'
-    → HasArcInto g allowed v w → get_or marks' w false ≡ false
+    → HasArcInto g allowed v w → true ≡ not (get_or marks' w false)
     → AreReached (HasArcInto g allowed) (set marks' w true) (queue' ++ visit w at ∷ [])
 reached_one g allowed marks marks' queue queue' v to i w at is h e in-marks leads new =
     let same : v ≡ vertex_at queue' at = e ∙ sym (is.extends.same at h) in
-    reach (HasArcInto g allowed) marks' queue' at w is.reached (omega (arith, h, is.extends.longer)) in-marks (subst (λ u. HasArcInto g allowed u w) same leads) new
+    reach (HasArcInto g allowed) marks' queue' at w is.reached (omega (arith, h, is.extends.longer)) in-marks (subst (λ u. HasArcInto g allowed u w) same leads)
+    (not-true (get_or marks' w false) (sym new))
 
 pub after_one : (g : Graph) (allowed : VertexSet) (marks marks' : List Bool) (queue queue' : List Visit) (v to i w at : ℕ)
     → IsOpening g allowed marks queue v to i marks' queue' → at < length queue → v ≡ vertex_at queue at → w < length marks'
-    → HasArcInto g allowed v w → get_or marks' w false ≡ false → w ≡ get_or (g.successors v) i 0 → (w ≡ to → ⊥)
+    → HasArcInto g allowed v w → true ≡ not (get_or marks' w false) → w ≡ get_or (g.successors v) i 0 → (w ≡ to → ⊥)
     → IsOpening g allowed marks queue v to (i + 1) (set marks' w true) (queue' ++ visit w at ∷ [])
 after_one g allowed marks marks' queue queue' v to i w at is h e in-marks leads new here other = record {
   reached = reached_one g allowed marks marks' queue queue' v to i w at is h e in-marks leads new;
@@ -51,9 +52,10 @@ after_one g allowed marks marks' queue queue' v to i w at is h e in-marks leads 
 
 -- a vertex that was marked before
 pub after_marked : (g : Graph) (allowed : VertexSet) (marks marks' : List Bool) (queue queue' : List Visit) (v to i w : ℕ)
-    → IsOpening g allowed marks queue v to i marks' queue' → IsMarked marks' w → w ≡ get_or (g.successors v) i 0
+    → IsOpening g allowed marks queue v to i marks' queue' → false ≡ not (get_or marks' w false) → w ≡ get_or (g.successors v) i 0
     → IsOpening g allowed marks queue v to (i + 1) (set marks' w true) queue'
-after_marked g allowed marks marks' queue queue' v to i w is old here =
+after_marked g allowed marks marks' queue queue' v to i w is not-new here =
+    let old : IsMarked marks' w = not-false (get_or marks' w false) (sym not-new) in
     let same : marks' ≡ set marks' w true = sym (ap (λ b. set marks' w b) (sym old) ∙ set-get_or marks' w false) in
     let next : IsOpening g allowed marks queue v to (i + 1) marks' queue' = record {
       reached = is.reached;
@@ -65,12 +67,12 @@ after_marked g allowed marks marks' queue queue' v to i w is old here =
 
 -- a vertex that isn't allowed
 pub after_disallowed : (g : Graph) (allowed : VertexSet) (marks marks' : List Bool) (queue queue' : List Visit) (v to i w : ℕ)
-    → IsOpening g allowed marks queue v to i marks' queue' → allowed.has w ≡ false → w ≡ get_or (g.successors v) i 0
+    → IsOpening g allowed marks queue v to i marks' queue' → false ≡ allowed.has w → w ≡ get_or (g.successors v) i 0
     → IsOpening g allowed marks queue v to (i + 1) marks' queue'
 after_disallowed g allowed marks marks' queue queue' v to i w is not-allowed here = record {
   reached = is.reached;
   extends = is.extends;
-  opened = one_more allowed (g.successors v) marks' marks' w i here is.opened (λ u m. m) (λ yes. absurd (false≢true (sym not-allowed ∙ yes)));
+  opened = one_more allowed (g.successors v) marks' marks' w i here is.opened (λ u m. m) (λ yes. absurd (false≢true (not-allowed ∙ yes)));
   unfound = is.unfound;
 }
 

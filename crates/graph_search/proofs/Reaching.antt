@@ -1,8 +1,8 @@
 -- One more vertex reached, and what a search that reaches no more has shown.
-use Rattle.std.proofs.Common.{◌≡◌, ℕ, ◌+◌, ◌-◌, ◌<◌, ◌≤◌, List, [], ◌∷◌, ◌++◌, length, All, Bool, true, false, not, cond, get_or, set, replicate, suc, zero, subst, sym, ap, refl, ◌∙◌, inl, inr, ◌⊎◌, arith, IsTrue, get_or-set_same, get_or-set_other}
+use Rattle.std.proofs.Common.{◌≡◌, ℕ, ◌+◌, ◌-◌, ◌<◌, List, [], ◌∷◌, ◌++◌, length, Bool, true, false, not, cond, get_or, set, replicate, suc, zero, subst, sym, ap, refl, ◌∙◌, inl, inr, ◌⊎◌, arith, IsTrue, get_or-set_same, get_or-set_other}
 use Rattle.std.specs.List.{count_by, sum_by}
 use Rattle.std.proofs.lemmas.List.{length-set, length-replicate, length_push, get_or_append_left, get_or_push, get_or_default, get_or-replicate, get_or_past}
-use Rattle.std.proofs.lemmas.List.Elements.{All-push, All-weaker}
+use Rattle.std.proofs.lemmas.List.Elements.{All-push}
 use Rattle.std.proofs.lemmas.List.Sums.{sum_by-cons, sum_by-set}
 use Rattle.std.proofs.lemmas.Bool.{cases_lt, cases_eq, false≢true}
 use Rattle.graph_search.specs.Graphs.{Graph, VertexSet, HasArcInto, IsWalk}
@@ -23,22 +23,22 @@ marked_same marks v h = get_or-set_same marks v true false h
 pub marked_more : (marks : List Bool) (v w : ℕ) → v < length marks → IsMarked marks w → IsMarked (set marks v true) w
 marked_more marks v w h is =
     elim (cases_eq w v) [
-      inl e ↦ subst (λ u. IsMarked (set marks v true) u) (sym e) (marked_same marks v h)
-    | inr other ↦ get_or-set_other marks v w true false other ∙ is
+      | inl e ↦ subst (λ u. IsMarked (set marks v true) u) (sym e) (marked_same marks v h)
+      | inr other ↦ get_or-set_other marks v w true false other ∙ is
     ]
 
 pub marked_cases : (marks : List Bool) (v w : ℕ) → IsMarked (set marks v true) w → IsMarked marks w ⊎ (w ≡ v)
 marked_cases marks v w is =
     elim (cases_eq w v) [
-      inl e ↦ inr e
-    | inr other ↦ inl (sym (get_or-set_other marks v w true false other) ∙ is)
+      | inl e ↦ inr e
+      | inr other ↦ inl (sym (get_or-set_other marks v w true false other) ∙ is)
     ]
 
 marked_within : (marks : List Bool) (v : ℕ) → IsMarked marks v → v < length marks
 marked_within marks v is =
     elim (cases_lt v (length marks)) [
-      inl h ↦ h
-    | inr h ↦ absurd (false≢true (sym (get_or_past marks v false h) ∙ is))
+      | inl h ↦ h
+      | inr h ↦ absurd (false≢true (sym (get_or_past marks v false h) ∙ is))
     ]
 
 -- the queue
@@ -75,19 +75,19 @@ reach Leads marks queue at v are in-queue in-marks leads new =
     let size : length (set marks v true) ≡ length marks = length-set marks v true in
     let longer : length (queue ++ x ∷ []) ≡ length queue + 1 = length_push queue x in
     let last : (k : ℕ) → k < length (queue ++ x ∷ []) → (k < length queue) ⊎ (length queue ≡ k) =
-        λ k h. elim (cases_lt k (length queue)) [ inl lt ↦ inl lt | inr ge ↦ inr (omega (arith, longer)) ] in
+    λ k h. elim (cases_lt k (length queue)) [ inl lt ↦ inl lt | inr ge ↦ inr (omega (arith, longer)) ] in
     let parent_in : (k : ℕ) → 0 < k → k < length (queue ++ x ∷ []) → parent_at (queue ++ x ∷ []) k < k =
-        λ k pos h. elim (last k h) [
-          inl lt ↦ subst (λ p. p < k) (sym (parent_before queue x k lt)) (are.earlier k pos lt)
-        | inr e ↦ subst (λ p. p < k) (sym (parent_pushed queue x k e)) (subst (λ n. at < n) e in-queue)
-        ] in
+    λ k pos h. elim (last k h) [
+      | inl lt ↦ subst (λ p. p < k) (sym (parent_before queue x k lt)) (are.earlier k pos lt)
+      | inr e ↦ subst (λ p. p < k) (sym (parent_pushed queue x k e)) (subst (λ n. at < n) e in-queue)
+    ] in
     record {
       within = All-push (λ (u : Visit). u.vertex < length (set marks v true)) queue x
           (λ k d h. subst (λ n. (get_or queue k d).vertex < n) (sym size) (are.within k d h))
           (subst (λ n. v < n) (sym size) in-marks);
       earlier = parent_in;
       led = λ k pos h. elim (last k h) [
-          inl lt ↦
+        | inl lt ↦
             let back : parent_at queue k < length queue = omega (arith, are.earlier k pos lt) in
             subst (λ w. Leads (vertex_at (queue ++ x ∷ []) (parent_at (queue ++ x ∷ []) k)) w) (sym (vertex_before queue x k lt))
             (subst (λ w. Leads w (vertex_at queue k)) (sym (ap (vertex_at (queue ++ x ∷ [])) (parent_before queue x k lt) ∙ vertex_before queue x (parent_at queue k) back))
@@ -96,13 +96,13 @@ reach Leads marks queue at v are in-queue in-marks leads new =
             subst (λ w. Leads (vertex_at (queue ++ x ∷ []) (parent_at (queue ++ x ∷ []) k)) w) (sym (vertex_pushed queue x k e))
             (subst (λ w. Leads w v) (sym (ap (vertex_at (queue ++ x ∷ [])) (parent_pushed queue x k e) ∙ vertex_before queue x at in-queue))
             leads)
-        ];
+      ];
       queued = λ w is. elim (marked_cases marks v w is) [
-          inl old ↦
+        | inl old ↦
             let (k, h, e) = are.queued w old in
             (k, omega (arith, longer, h), vertex_before queue x k h ∙ e)
         | inr e ↦ (length queue, omega (arith, longer), vertex_pushed queue x (length queue) refl ∙ sym e)
-        ];
+      ];
       unmarked =
           let f : Bool → ℕ = λ b. cond (not b) 1 0 in
           let sums : sum_by f (set marks v true) + f (get_or marks v false) ≡ sum_by f marks + f true = sum_by-set f marks v true false in-marks in
@@ -152,9 +152,9 @@ start Leads n from h =
       earlier = λ k pos l. absurd (omega (arith, pos, l));
       led = λ k pos l. absurd (omega (arith, pos, l));
       queued = λ w is. elim (marked_cases marks from w is) [
-          inl old ↦ absurd (false≢true (sym (get_or-replicate n w false false (subst (λ m. w < m) size (marked_within marks w old))) ∙ old))
+        | inl old ↦ absurd (false≢true (sym (get_or-replicate n w false false (subst (λ m. w < m) size (marked_within marks w old))) ∙ old))
         | inr e ↦ (0, omega arith, sym e)
-        ];
+      ];
       unmarked =
           let f : Bool → ℕ = λ b. cond (not b) 1 0 in
           let sums : sum_by f (set marks from true) + f (get_or marks from false) ≡ sum_by f marks + f true = sum_by-set f marks from true false (subst (λ m. from < m) (sym size) h) in
@@ -170,8 +170,8 @@ start_marked n from h = marked_same (replicate n false) from (subst (λ m. from 
 pub start_unmarked : (n from to : ℕ) → (from ≡ to → ⊥) → IsMarked (set (replicate n false) from true) to → ⊥
 start_unmarked n from to other is =
     elim (marked_cases (replicate n false) from to is) [
-      inl old ↦ false≢true (sym (get_or-replicate n to false false (subst (λ m. to < m) (length-replicate n false) (marked_within (replicate n false) to old))) ∙ old)
-    | inr e ↦ other (sym e)
+      | inl old ↦ false≢true (sym (get_or-replicate n to false false (subst (λ m. to < m) (length-replicate n false) (marked_within (replicate n false) to old))) ∙ old)
+      | inr e ↦ other (sym e)
     ]
 
 -- no more to reach

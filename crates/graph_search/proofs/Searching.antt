@@ -1,5 +1,5 @@
 -- A whole search, vertex by vertex of the queue.
-use Rattle.std.proofs.Common.{◌≡◌, ℕ, ◌+◌, ◌<◌, ◌≤◌, List, [], ◌∷◌, length, Bool, true, false, set, replicate, subst, sym, ap, refl, ◌∙◌, arith, below_more}
+use Rattle.std.proofs.Common.{◌≡◌, ℕ, ◌+◌, ◌<◌, ◌≤◌, List, [], ◌∷◌, length, Bool, true, false, set, replicate, subst, sym, refl, ◌∙◌, arith, below_more}
 use Rattle.graph_search.specs.Graphs.{IsWalk}
 use Rattle.graph_search.specs.Visits.{vertex_at, IsMarked, AreReached, Extends, IsOpened, IsStep}
 use Rattle.graph_search.specs.declared.breadth_first.Visit.{Visit}

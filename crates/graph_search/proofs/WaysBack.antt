@@ -1,5 +1,5 @@
 -- The way back from a place in the queue.
-use Rattle.std.proofs.Common.{◌≡◌, ℕ, ◌+◌, ◌-◌, ◌<◌, ◌≤◌, List, [], ◌∷◌, ◌++◌, length, get_or, subst, sym, ap, refl, ◌∙◌, inl, inr, ◌⊎◌, arith}
+use Rattle.std.proofs.Common.{◌≡◌, ℕ, ◌+◌, ◌-◌, ◌<◌, List, [], ◌∷◌, ◌++◌, length, get_or, subst, sym, ap, refl, ◌∙◌, inl, inr, arith}
 use mathlib.Core.List.{reverse}
 use Rattle.std.proofs.lemmas.List.{length_push, length-reverse, get_or_append_left, get_or_push, get_or-reverse}
 use Rattle.std.proofs.lemmas.Bool.{cases_lt}
@@ -17,7 +17,7 @@ pub record IsWayBack (queue : List Visit) (from to : ℕ) (way : List ℕ) : Typ
 pub alone : (queue : List Visit) (from : ℕ) (way : List ℕ) → way ≡ vertex_at queue from ∷ [] → IsWayBack queue from from way
 alone queue from way e =
     let one : IsWayBack queue from from (vertex_at queue from ∷ []) =
-        record { some = omega arith; begins = refl; ends = refl; joined = λ k h. absurd (omega (arith, h)) } in
+    record { some = omega arith; begins = refl; ends = refl; joined = λ k h. absurd (omega (arith, h)) } in
     subst (λ w. IsWayBack queue from from w) (sym e) one
 
 pub back : (queue : List Visit) (from to : ℕ) (way : List ℕ) → 0 < to → to < length queue → IsWayBack queue from to way
@@ -32,7 +32,7 @@ back queue from to way pos h is =
       begins = same 0 is.some ∙ is.begins;
       ends = last (length (way ++ v ∷ []) - 1) (omega (arith, longer));
       joined = λ k l. elim (cases_lt (k + 1) (length way)) [
-          inl lt ↦
+        | inl lt ↦
             subst (λ u. IsStep queue u (get_or (way ++ v ∷ []) k 0)) (sym (same (k + 1) lt))
             (subst (λ u. IsStep queue (get_or way (k + 1) 0) u) (sym (same k (omega arith))) (is.joined k lt))
         | inr ge ↦
@@ -40,7 +40,7 @@ back queue from to way pos h is =
             let e' : length way - 1 ≡ k = omega (arith, e) in
             let before : vertex_at queue to ≡ get_or (way ++ v ∷ []) k 0 = sym (same k (omega (arith, e)) ∙ ap (λ m. get_or way m 0) (sym e') ∙ is.ends) in
             (to, pos, h, sym (last (k + 1) e), before)
-        ];
+      ];
     }
 
 pub forth : (queue : List Visit) (place : ℕ) (way : List ℕ) → IsWayBack queue place 0 way → IsWalk (IsStep queue) (vertex_at queue 0) (vertex_at queue place) (reverse way)

@@ -1,9 +1,10 @@
 -- Directed graphs, walks in them, and ranks of their vertices.
 --
--- The vertices of a graph are the numbers below its count. A walk is a list of vertices, at least one, each of which leads to
--- the next; a vertex alone is a walk from itself to itself. Ranks are numbers that don't fall along any arc, as those of the
--- strongly connected components in a topological order.
-use Rattle.std.specs.Prelude.{◌≡◌, ℕ, ◌+◌, ◌-◌, ◌<◌, ◌≤◌, List, length, slice_index, Contains, Bool, IsTrue}
+-- The vertices of a graph are the numbers below its count. A walk is a list of vertices, at least
+-- one, each of which leads to the next; a vertex alone is a walk from itself to itself. Ranks are
+-- numbers that don't fall along any arc, as those of the strongly connected components in a
+-- topological order.
+use Rattle.std.specs.Prelude.{◌≡◌, ℕ, ◌+◌, ◌-◌, ◌<◌, ◌≤◌, List, length, slice_index, Contains, Bool, ◌==◌, IsTrue, Option, Some, None}
 
 pub record Graph : Type 0 where
   pub count : ℕ
@@ -18,6 +19,10 @@ pub record VertexSet : Type 0 where
   pub count : ℕ
   pub has : ℕ → Bool
 
+-- the vertices of one rank
+abbrev pub of_rank : List ℕ → ℕ → VertexSet
+of_rank ranks rank = record { count = length ranks; has = λ v. slice_index ranks v == rank }
+
 -- an arc into a set of vertices
 abbrev pub HasArcInto : Graph → VertexSet → ℕ → ℕ → Type 0
 HasArcInto g set v w = HasArc g v w × IsTrue (set.has w)
@@ -28,6 +33,11 @@ pub record IsWalk (Leads : ℕ → ℕ → Type 0) (from to : ℕ) (walk : List 
   pub begins : slice_index walk 0 ≡ from
   pub ends : slice_index walk (length walk - 1) ≡ to
   pub joined : (k : ℕ) → k + 1 < length walk → Leads (slice_index walk k) (slice_index walk (k + 1))
+
+-- a walk, or nothing where there is no walk
+abbrev pub IsWalkIfAny : (ℕ → ℕ → Type 0) → ℕ → ℕ → Option (List ℕ) → Type 0
+IsWalkIfAny Leads from to None = (walk : List ℕ) → ¬ IsWalk Leads from to walk
+IsWalkIfAny Leads from to (Some walk) = IsWalk Leads from to walk
 
 -- a rank for each vertex, none of which falls along an arc
 pub record AreRanks (g : Graph) (ranks : List ℕ) : Type 0 where

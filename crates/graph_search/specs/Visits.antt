@@ -1,4 +1,5 @@
--- What a breadth-first search has come to: a queue of the vertices that it reached, and a mark on each of them.
+-- What a breadth-first search has come to: a queue of the vertices that it reached, and a mark on
+-- each of them.
 use Rattle.std.specs.Prelude.{◌≡◌, ℕ, ◌+◌, ◌<◌, ◌≤◌, List, length, slice_index_or, Bool, true, false, not, All, count_by}
 use Rattle.graph_search.specs.declared.breadth_first.Visit.{Visit}
 
@@ -13,7 +14,8 @@ parent_at queue k = (slice_index_or queue k (record { vertex = 0; parent = 0 }))
 abbrev pub IsMarked : List Bool → ℕ → Type 0
 IsMarked marks v = slice_index_or marks v false ≡ true
 
--- each vertex of the queue but the first was reached from an earlier one, and the marked vertices are those of the queue
+-- each vertex of the queue but the first was reached from an earlier one, and the marked vertices
+-- are those of the queue
 pub record AreReached (Leads : ℕ → ℕ → Type 0) (marks : List Bool) (queue : List Visit) : Type 0 where
   pub within : All (λ visit. visit.vertex < length marks) queue
   pub earlier : (k : ℕ) → 0 < k → k < length queue → parent_at queue k < k

@@ -1,8 +1,8 @@
 //! Breadth-first search.
 
-ghost use Rattle.std.specs.Prelude.{◌≡◌, ◌+◌, ◌-◌, ℕ, ◌<◌, List, [], ◌∷◌, length, replicate, slice_set, true, false, MatchOption, IfOk, OnOk};
+ghost use Rattle.std.specs.Prelude.{◌≡◌, ◌+◌, ◌-◌, ℕ, ◌<◌, List, [], ◌∷◌, length, replicate, slice_set, true, false, option_map, IfOk, OnOk};
 ghost use Rattle.std.specs.Bool.{OnTrue, OnFalse};
-ghost use Rattle.graph_search.specs.Graphs.{HasArcInto, IsWalk};
+ghost use Rattle.graph_search.specs.Graphs.{HasArcInto, IsWalk, IsWalkIfAny};
 
 use crate::arcs::{Arcs, Vertices};
 use crate::marks::Marks;
@@ -45,8 +45,8 @@ impl Reached {
         Ok(())
     }
 
-    /// Reaches all that the vertex at a place in the queue leads to, and returns whether `to` was among it. What was reached
-    /// last is then `to`.
+    /// Reaches all that the vertex at a place in the queue leads to, and returns whether `to` was
+    /// among it. What was reached last is then `to`.
     fn open<G: Arcs, S: Vertices>(
         &mut self,
         graph: &G,
@@ -99,8 +99,8 @@ impl Reached {
     }
 }
 
-/// Searches one after another, which share their memory: each takes time for the vertices that it reaches and for their arcs,
-/// and none for the rest of the graph.
+/// Searches one after another, which share their memory: each takes time for the vertices that it
+/// reaches and for their arcs, and none for the rest of the graph.
 #[derive(Drop)]
 pub struct Search {
     reached: Reached,
@@ -125,8 +125,8 @@ impl Search {
         Ok(Search { reached })
     }
 
-    /// A walk from one vertex to another along arcs into allowed vertices, if there is one, and then with no more arcs than any
-    /// other. A vertex alone is a walk to itself.
+    /// A walk from one vertex to another along arcs into allowed vertices, if there is one. A
+    /// vertex alone is a walk to itself.
     pub fn walk<G: Arcs, S: Vertices>(
         &mut self,
         alloc: Global,
@@ -139,7 +139,7 @@ impl Search {
         requires allowed { (S.members allowed.now).count ≡ self.old }
         requires from { from < self.old }
         ensures count { self.new ≡ self.old }
-        ensures walk { IfOk result (λ found. MatchOption found ((walk : List ℕ) → ¬ IsWalk (HasArcInto (G.graph graph.now) (S.members allowed.now)) from to walk) (λ walk. IsWalk (HasArcInto (G.graph graph.now) (S.members allowed.now)) from to walk.items)) }
+        ensures walk { let leads = HasArcInto (G.graph graph.now) (S.members allowed.now) in IfOk result (λ found. IsWalkIfAny leads from to (option_map (λ walk. walk.items) found)) }
     {
         if from == to {
             return Ok(Some(vec![in alloc; from]?));

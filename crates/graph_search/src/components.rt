@@ -23,10 +23,12 @@ struct Frame {
 /// The state of the search.
 #[derive(Drop)]
 struct Components {
-    /// Of a pending vertex, the lowest place of a vertex that it is known to lead to. Of one whose component is complete, that
-    /// component's rank. It is above the places of all pending vertices, so it lowers no number.
+    /// Of a pending vertex, the lowest place of a vertex that it is known to lead to. Of one whose
+    /// component is complete, that component's rank. It is above the places of all pending
+    /// vertices, so it lowers no number.
     numbers: Vec<usize>,
-    /// The vertices that were reached and whose component isn't complete yet, in the order in which they were reached.
+    /// The vertices that were reached and whose component isn't complete yet, in the order in which
+    /// they were reached.
     pending: Vec<usize>,
     path: Vec<Frame>,
     /// A component is complete after all that it leads to, so ranks count down.
@@ -99,7 +101,8 @@ impl Components {
         }
     }
 
-    /// Follows one arc of the last vertex on the path, or goes back from it. It returns whether there was one.
+    /// Follows one arc of the last vertex on the path, or goes back from it. It returns whether
+    /// there was one.
     fn step<G: Arcs>(&mut self, graph: &G) -> Result<bool, AllocError>
         requires { (G.graph graph.now).count ≡ length self.old.numbers.items }
         ensures { length self.new.numbers.items ≡ length self.old.numbers.items }
@@ -143,7 +146,8 @@ impl Components {
     }
 }
 
-/// Each arc is followed once, and each vertex left once; then one more step finds nothing left to do.
+/// Each arc is followed once, and each vertex left once; then one more step finds nothing left to
+/// do.
 fn most_steps<G: Arcs>(graph: &G) -> usize {
     let mut steps = graph.vertices().saturating_add(1);
     for vertex in 0..graph.vertices() {

@@ -1,4 +1,5 @@
-//! Searches in directed graphs: ranks that settle most questions about cycles, and a breadth-first search for the rest.
+//! Searches in directed graphs: ranks that settle most questions about cycles, and a breadth-first
+//! search for the rest.
 #![tactic(auto)]
 
 pub mod arcs;

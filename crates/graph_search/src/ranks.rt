@@ -1,7 +1,7 @@
 //! Ranks of vertices, which don't fall along any arc.
 
 ghost use Rattle.std.specs.Prelude.{◌≡◌, ◌↔◌, ℕ, ◌<◌, ◌≤◌, List, length, slice_index, IfOk, IsTrue};
-ghost use Rattle.graph_search.specs.Graphs.{AreRanks, HasArc};
+ghost use Rattle.graph_search.specs.Graphs.{AreRanks, HasArc, of_rank};
 
 use crate::arcs::{Arcs, Vertices};
 use crate::components::component_ranks;
@@ -21,10 +21,12 @@ impl Model for Ranks {
 }
 
 impl Ranks {
-    /// Ranks that don't fall along any arc, and that are the same only in one strongly connected component.
+    /// Ranks that don't fall along any arc, and that are the same only in one strongly connected
+    /// component.
     ///
-    /// The first of these two promises is checked here, on all arcs, and is part of the contract. The second one is that of a
-    /// search for the components which isn't proved: were its ranks ever to fall, all ranks would be 0.
+    /// The first of these two promises is checked here, on all arcs, and is part of the contract.
+    /// The second one is that of a search for the components which isn't proved: were its ranks
+    /// ever to fall, all ranks would be 0.
     pub fn of<G: Arcs>(alloc: Global, graph: &G) -> Result<Ranks, AllocError>
         ensures { IfOk result (AreRanks (G.graph graph.now)) }
     {
@@ -87,9 +89,7 @@ pub struct OfRank<'a> {
 }
 
 impl Vertices for OfRank<'_> {
-    ghost use Rattle.std.specs.Prelude.{◌==◌};
-
-    ghost members = { λ set. record { count = length set.ranks.now; has = λ vertex. slice_index set.ranks.now vertex == set.rank } };
+    ghost members = { λ set. of_rank set.ranks.now set.rank };
 
     fn contains(&self, vertex: usize) -> bool {
         self.ranks.rank(vertex) == self.rank

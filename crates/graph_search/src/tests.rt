@@ -98,7 +98,8 @@ fn a_graph_without_arcs(rt: HostRuntime) {
 
 #[test]
 fn vertices_of_one_component_have_one_rank(rt: HostRuntime) {
-    // Two cycles that share a vertex, a cycle that leads to them, an arc to itself, and a vertex between.
+    // Two cycles that share a vertex, a cycle that leads to them, an arc to itself, and a vertex
+    // between.
     let arcs = [
         (0, 1),
         (1, 2),
@@ -270,7 +271,10 @@ fn random_graphs(rt: HostRuntime) {
                     rank: ranks.rank(w),
                 };
                 let found = search.walk(rt.alloc(), &graph, &of_rank, v, w);
-                assert_eq!(rt; found.expect(&rt, "memory").is_some(), in_cycle || leads_into(&arcs, &reachable, v, w));
+                assert_eq!(rt;
+                    found.expect(&rt, "memory").is_some(),
+                    in_cycle || leads_into(&arcs, &reachable, v, w)
+                );
                 let found = search.walk(rt.alloc(), &graph, &all, v, w);
                 assert_eq!(rt; found.expect(&rt, "memory").is_some(), reachable[v][w]);
             }

@@ -1,5 +1,4 @@
-use Rattle.std.proofs.Common.{ℕ, ◌≡◌, ◌<◌, ◌∷◌, [], ◌++◌, List, length, arith, ap, sym, subst, ◌∙◌}
-use mathlib.Core.List.{reverse}
+use Rattle.std.proofs.Common.{◌≡◌, ◌<◌, ◌∷◌, [], ◌++◌, length, arith, ap, sym, subst, ◌∙◌}
 use Rattle.graph_search.specs.Graphs.{IsWalk}
 use Rattle.graph_search.specs.Visits.{parent_at, vertex_at, IsStep}
 use Rattle.graph_search.proofs.Reaching.{vertex_read, parent_read}
@@ -13,13 +12,13 @@ loop-at-preserved c =
     let pos : 0 < at = c.loop-at-test.true in
     let in-queue : at < length queue = c.loop-at.invariant.at in
     let parent : c.index-in-loop-at.result.now.parent ≡ parent_at queue at =
-        parent_read queue at c.index-in-loop-at.result.now in-queue c.index-in-loop-at.ensures in
+    parent_read queue at c.index-in-loop-at.result.now in-queue c.index-in-loop-at.ensures in
     let earlier : parent_at queue at < at = c.requires.earlier at pos in-queue in
     let vertex : c.index-in-loop-at-2.result.now.vertex ≡ vertex_at queue (parent_at queue at) =
-        vertex_read queue c.index-in-loop-at.result.now.parent c.index-in-loop-at-2.result.now (omega (arith, parent, earlier, in-queue)) c.index-in-loop-at-2.ensures
-        ∙ ap (vertex_at queue) parent in
+    vertex_read queue c.index-in-loop-at.result.now.parent c.index-in-loop-at-2.result.now (omega (arith, parent, earlier, in-queue)) c.index-in-loop-at-2.ensures
+    ∙ ap (vertex_at queue) parent in
     let items : c.push.new.self.items ≡ c.loop-at.walk.items ++ vertex_at queue (parent_at queue at) ∷ [] =
-        c.in_ok-push.ensures.items ∙ ap (λ v. c.loop-at.walk.items ++ v ∷ []) vertex in
+    c.in_ok-push.ensures.items ∙ ap (λ v. c.loop-at.walk.items ++ v ∷ []) vertex in
     record {
       at = omega (arith, parent, earlier, in-queue);
       way =

@@ -1,4 +1,4 @@
-use Rattle.std.proofs.Common.{ℕ, ◌≡◌, ◌<◌, length, replicate, false, All, map, eqb, arith, rules, ◌∙◌, ap, sym, refl}
+use Rattle.std.proofs.Common.{◌≡◌, ◌<◌, length, replicate, false, All, eqb, arith, rules, ◌∙◌, ap, sym, refl}
 use Rattle.std.proofs.lemmas.List.{length-map}
 use Rattle.graph_search.proofs.Marked.{unmarked}
 use Rattle.graph_search.proofs.marks.Marks.clear.Goals as goal

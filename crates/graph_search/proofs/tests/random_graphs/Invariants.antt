@@ -1,0 +1,12 @@
+-- All graphs have eight vertices.
+use Rattle.std.proofs.Common.{◌≡◌}
+use Rattle.graph_search.proofs.tests.random_graphs.Given as goal
+
+abbrev pub invariant-loop-w-2 : goal.invariant-loop-w-2
+invariant-loop-w-2 g l = l.search ≡ 8
+
+abbrev pub invariant-loop-v-2 : goal.invariant-loop-v-2
+invariant-loop-v-2 g l = l.search ≡ 8
+
+abbrev pub invariant-loop-round : goal.invariant-loop-round
+invariant-loop-round g l = l.search ≡ 8
