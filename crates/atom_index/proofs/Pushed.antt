@@ -67,7 +67,7 @@ same_item : {A : Type 0} (x y : A) → Some x ≡ Some y → x ≡ y
 same_item x y e = cc
 
 -- an item of the longer list was there, or is the last
-item_pushed : {A : Type 0} (xs : List A) (y : A) (i : ℕ) (x : A) → slice_get (xs ++ y ∷ []) i ≡ Some x → (slice_get xs i ≡ Some x) ⊎ ((i ≡ length xs) × (x ≡ y))
+pub item_pushed : {A : Type 0} (xs : List A) (y : A) (i : ℕ) (x : A) → slice_get (xs ++ y ∷ []) i ≡ Some x → (slice_get xs i ≡ Some x) ⊎ ((i ≡ length xs) × (x ≡ y))
 item_pushed [] y zero x h = inr (refl, sym (same_item y x h))
 item_pushed [] y (suc i) x h = absurd (no_item x h)
 item_pushed (z ∷ xs) y zero x h = inl h
@@ -95,7 +95,7 @@ is_there test i (x ∷ xs) = elim (cases_Bool (test x)) [
   | inr is_not ↦ rw is_not (is_there test (i + 1) xs)
 ]
 
-has_number : {A : Type 0} (eq : A → A → Bool) (x : A) (items : List A) → is_some (number_in eq x items) ≡ list_any (eq x) items
+pub has_number : {A : Type 0} (eq : A → A → Bool) (x : A) (items : List A) → is_some (number_in eq x items) ≡ list_any (eq x) items
 has_number eq x items = ap is_some (position_from-zero (eq x) items) ∙ is_there (eq x) 0 items
 
 -- what an insertion leaves

@@ -6,9 +6,15 @@ use Rattle.hist_types.specs.Versions.{nil_of}
 use Rattle.atom_index.specs.Numbers.{AreNumbered, number_in, with_item, pair_eq}
 use Rattle.key_versions.specs.declared.rows.Access.{Access}
 
+abbrev pub version_with : Atom → Option Atom → Version
+version_with key value = record { key = key; value = value }
+
+abbrev pub key_at : List Atom → ℕ → Atom
+key_at keys number = get_or keys number (integer (pos 0))
+
 -- the version of a key and a value with these numbers
 abbrev pub version_by : List Atom → List Atom → ℕ × Option ℕ → Version
-version_by keys values p = record { key = get_or keys p.0 (integer (pos 0)); value = option_map (λ m. get_or values m (integer (pos 0))) p.1 }
+version_by keys values p = version_with (key_at keys p.0) (option_map (λ m. get_or values m (integer (pos 0))) p.1)
 
 abbrev pub versions_in : List Atom → List Atom → List (ℕ × Option ℕ) → List Version
 versions_in keys values pairs = map (version_by keys values) pairs

@@ -47,7 +47,8 @@ impl<'a, S: BuildHasher + Copy> Building<'a, S> {
         let accessed = self.numbering.take(txn)?;
         self.rows.grow(self.numbering.len())?;
         self.rows
-            .add(accessed.reads.as_slice(), accessed.writes.as_slice())
+            .add(accessed.reads.as_slice(), accessed.writes.as_slice())?;
+        Ok(())
     }
 
     pub fn finish(self) -> Result<Versions<'a>, AllocError>

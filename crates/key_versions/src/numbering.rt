@@ -1,13 +1,13 @@
 //! Numbers for versions.
 
-ghost use Rattle.std.specs.Prelude.{◌≡◌, ◌∷◌, [], Some, length, IfOk, OnOk, map};
-ghost use Rattle.atom_index.specs.Numbers.{number_in};
+ghost use Rattle.std.specs.Prelude.{◌≡◌, ◌<◌, ◌∷◌, slice_get, [], Some, length, IfOk, OnOk, map};
+ghost use Rattle.atom_index.specs.Numbers.{number_in, with_item};
 ghost use Rattle.hist_types.specs.Atoms.{atom_eq};
 ghost use Rattle.hist_types.specs.Journal.{writes_of};
-ghost use Rattle.hist_types.specs.Transactions.{Version, version_of};
+ghost use Rattle.hist_types.specs.Transactions.{Version, version_of, version_eq};
 ghost use Rattle.hist_types.specs.Versions.{nil_of};
 ghost use Rattle.key_versions.specs.Histories.{named_in, read_by};
-ghost use Rattle.key_versions.specs.Numbering.{Numbers, versions_in, versions_of, AreInRange, with_key, with_versions, IsAccess, AreAccesses};
+ghost use Rattle.key_versions.specs.Numbering.{Numbers, key_at, version_with, versions_in, versions_of, AreInRange, with_versions, IsAccess, AreAccesses};
 
 use crate::rows::{Access, has_key};
 use atom_index::atoms::AtomIndex;
@@ -88,7 +88,7 @@ impl<'a, S: BuildHasher> Numbering<'a, S> {
     /// The number of a key. Where it is new, its nil version gets a number too.
     fn key(&mut self, key: Atom<'a>) -> Result<usize, AllocError>
         ensures number { IfOk result (λ number. number_in atom_eq key.entry self.new.keys ≡ Some number) }
-        ensures after { OnOk result (self.new ≡ with_key self.old key.entry) }
+        ensures versions { OnOk result (versions_of self.new ≡ with_item version_eq (versions_of self.old) (nil_of key.entry)) }
     {
         self.pairs.reserve(1)?;
         self.nils.try_reserve(1)?;
@@ -100,16 +100,27 @@ impl<'a, S: BuildHasher> Numbering<'a, S> {
         Ok(number)
     }
 
+    /// The version with a value and the key of this number.
+    fn version(&mut self, key: usize, value: Atom<'a>) -> Result<usize, AllocError>
+        requires { key < length self.old.keys }
+        ensures versions { OnOk result (versions_of self.new ≡ with_item version_eq (versions_of self.old) (version_with (key_at self.old.keys key) (Some value.entry))) }
+        ensures number { IfOk result (λ number. slice_get (versions_of self.new) number ≡ Some (version_with (key_at self.old.keys key) (Some value.entry))) }
+    {
+        let value = self.values.insert(value)?;
+        let version = self.pairs.insert(key, Some(value))?;
+        Ok(version)
+    }
+
     /// The version with this key and value, where None stands for nil.
-    fn access(&mut self, key: Atom<'a>, value: Option<Atom<'a>>) -> Result<Access, AllocError> {
+    fn access(&mut self, key: Atom<'a>, value: Option<Atom<'a>>) -> Result<Access, AllocError>
+        ensures versions { OnOk result (versions_of self.new ≡ with_versions (versions_of self.old) (nil_of key.entry ∷ version_with key.entry value.entry ∷ [])) }
+        ensures access { IfOk result (IsAccess (versions_of self.new) (version_with key.entry value.entry)) }
+    {
         let key = self.key(key)?;
         let nil = self.nils[key];
         let version = match value {
             None => nil,
-            Some(value) => {
-                let value = self.values.insert(value)?;
-                self.pairs.insert(key, Some(value))?
-            }
+            Some(value) => self.version(key, value)?,
         };
         Ok(Access {
             nil: number_of(nil)?,

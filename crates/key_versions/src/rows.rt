@@ -1,7 +1,7 @@
 //! What is known of each version, over numbers alone.
 
 ghost use Rattle.std.specs.Prelude.{◌≡◌, ◌≤◌, ◌<◌, ◌++◌, ◌∷◌, [], length, fold, IfOk, OnOk, All};
-ghost use Rattle.key_versions.specs.Rows.{Known, Accessed, unknown, with_writer, has_nil, lasts, written_rows, with_follower, installed_rows, with_reader, has_number, read_rows, numbers_of, accessed, rows_after, grown, IsWithin};
+ghost use Rattle.key_versions.specs.Rows.{Known, Accessed, unknown, with_writer, has_nil, lasts, written_rows, with_follower, installed_rows, is_behind, with_reader, has_number, read_rows, numbers_of, accessed, rows_after, grown, IsWithin};
 
 use crate::types::{Follower, Writer};
 use smallvec::SmallVec;
@@ -13,6 +13,15 @@ use std::marker::Model;
 pub(crate) struct Access {
     pub nil: u32,
     pub version: u32,
+}
+
+impl Access {
+    /// Whether a version that the transaction installs follows this one, which it reads. What follows nil is known without reads.
+    fn is_followed_by(self, install: Access) -> bool
+        ensures { result ≡ is_behind self install }
+    {
+        self.version != self.nil && install.nil == self.nil && install.version != self.version
+    }
 }
 
 /// What is known of one version.
@@ -82,10 +91,7 @@ impl Row {
     {
         self.readers.push(place)?;
         for install in installs {
-            if read.version != read.nil
-                && install.nil == read.nil
-                && install.version != read.version
-            {
+            if read.is_followed_by(*install) {
                 self.followers.push(Follower {
                     txn: place,
                     version: install.version,
@@ -238,7 +244,7 @@ impl Rows {
         ensures rows { OnOk result (self.new.rows.items ≡ grown versions self.old.rows.items) }
         ensures accesses { OnOk result (self.new.accesses.items ≡ self.old.accesses.items) }
     {
-        for _ in self.rows.len()..versions {
+        while self.rows.len() < versions {
             self.rows.push(Row::new(self.alloc))?;
         }
         Ok(())

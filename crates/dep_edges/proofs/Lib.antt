@@ -1,0 +1,9 @@
+mod Lists
+mod Places
+mod Apart
+mod Out
+mod Writers
+mod Found
+mod Marks
+mod Adding
+mod Shown

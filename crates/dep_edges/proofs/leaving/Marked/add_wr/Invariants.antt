@@ -1,0 +1,11 @@
+-- Those so far lead to the readers so far.
+use Rattle.std.proofs.Common.{◌≡◌, ◌++◌, flat_map, take, map}
+use Rattle.hist_types.specs.Edges.{ww, wr, rw}
+use Rattle.key_versions.specs.declared.types.Follower.{Follower}
+use Rattle.dep_edges.specs.OutEdges.{node_edge, written_edges, read_edges, each_once}
+use Rattle.dep_edges.specs.Tables.{txn_at, version_at}
+use Rattle.dep_edges.proofs.leaving.Marked.add_wr.Given as goal
+
+abbrev pub invariant-loop-place : goal.invariant-loop-place
+invariant-loop-place l =
+    l.out.items ≡ l.initial.out.items ++ flat_map (λ place. node_edge l.self.txns l.from (txn_at l.self.txns place) (wr (version_at l.self.table l.number))) (take l.place-index l.place-items)

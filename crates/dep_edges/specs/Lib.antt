@@ -1,0 +1,5 @@
+pub mod Histories
+pub mod Labels
+pub mod OutEdges
+pub mod Tables
+pub mod Reads

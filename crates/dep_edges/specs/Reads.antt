@@ -1,0 +1,27 @@
+-- Reads of versions that should not have been seen, transaction by transaction.
+use Rattle.std.specs.Prelude.{List, [], ◌∷◌, not, ◌&&◌, ◌==◌, if◌then◌else◌, Option, Some, None, map, flat_map}
+use Rattle.hist_types.specs.Dependencies.{alone_if}
+use Rattle.hist_types.specs.Phenomena.{BadRead, bad_read, aborted_writers, intermediate_writers, is_stray}
+use Rattle.hist_types.specs.Transactions.{Transaction, Version, is_failed}
+use Rattle.key_versions.specs.Histories.{read_by}
+use Rattle.key_versions.specs.declared.types.Writer.{Writer}
+use Rattle.dep_edges.specs.Tables.{txn_at}
+
+-- the transaction that wrote a version, if it failed, or if it isn't the reader and wrote the version over
+abbrev pub failed_one : List Transaction → Option Writer → List Transaction
+failed_one ts None = []
+failed_one ts (Some w) = alone_if (is_failed (txn_at ts w.txn)) (txn_at ts w.txn)
+
+abbrev pub other_over : List Transaction → (reader : Transaction) → Option Writer → List Transaction
+other_over ts reader None = []
+other_over ts reader (Some w) = alone_if (not ((txn_at ts w.txn).invocation == reader.invocation) && w.over) (txn_at ts w.txn)
+
+-- those of one transaction
+abbrev pub aborted_in : List Transaction → Transaction → List BadRead
+aborted_in ts t = flat_map (λ v. map (bad_read t v) (aborted_writers ts v)) (read_by t)
+
+abbrev pub intermediate_in : List Transaction → Transaction → List BadRead
+intermediate_in ts t = flat_map (λ v. map (bad_read t v) (intermediate_writers ts t v)) (read_by t)
+
+abbrev pub stray_in : List Transaction → Transaction → List Version
+stray_in ts t = flat_map (λ v. if is_stray ts v then v ∷ [] else []) (read_by t)

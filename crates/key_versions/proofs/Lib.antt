@@ -1,0 +1,11 @@
+mod Changed
+mod Places
+mod Numbered
+mod Growing
+mod Accessing
+mod Lists
+mod Unnamed
+mod Known
+mod Joined
+mod Followed
+mod Told

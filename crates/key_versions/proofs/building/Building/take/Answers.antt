@@ -1,0 +1,56 @@
+use Rattle.std.proofs.Common.{◌≡◌, ◌≤◌, ◌∙◌, ◌++◌, ◌∷◌, [], List, ℕ, All, length, sym, ap, subst}
+use Rattle.key_versions.specs.declared.rows.Access.{Access}
+use Rattle.hist_types.specs.Journal.{writes_of}
+use Rattle.hist_types.specs.Transactions.{version_of}
+use Rattle.std.specs.Prelude.{map}
+use Rattle.key_versions.specs.Histories.{read_by}
+use Rattle.key_versions.specs.Numbering.{versions_of}
+use Rattle.key_versions.specs.Rows.{Known, Accessed, IsWithin, accessed, rows_after, grown}
+use Rattle.key_versions.specs.Tables.{IsTableOf}
+use Rattle.key_versions.specs.Views.{table_by}
+use Rattle.key_versions.proofs.Told.{accesses_within, grown_enough, told}
+use Rattle.key_versions.proofs.building.Building.take.Goals as goal
+
+pub add-requires-clause-reads : goal.add-requires-clause-reads
+add-requires-clause-reads g c =
+    let us = versions_of c.take.new.self in
+    let rows : c.grow.new.self.rows.items ≡ grown (length us) c.self.inside.rows.rows.items =
+      c.in_ok-grow.ensures.rows ∙ ap (λ n. grown n c.self.inside.rows.rows.items) c.len.ensures in
+    let enough : length us ≤ length c.grow.new.self.rows.items =
+      subst (λ (xs : List Known). length us ≤ length xs) (sym rows) (grown_enough (length us) c.self.inside.rows.rows.items) in
+    subst (λ (xs : List Access). All (IsWithin (length c.grow.new.self.rows.items)) xs) (sym c.as_slice.ensures)
+    (accesses_within us (read_by c.args.txn.now) c.in_ok-accessed.accessed.reads.items (length c.grow.new.self.rows.items) enough c.in_ok-accessed.ensures.reads)
+
+pub add-requires-clause-writes : goal.add-requires-clause-writes
+add-requires-clause-writes g c =
+    let us = versions_of c.take.new.self in
+    let rows : c.grow.new.self.rows.items ≡ grown (length us) c.self.inside.rows.rows.items =
+      c.in_ok-grow.ensures.rows ∙ ap (λ n. grown n c.self.inside.rows.rows.items) c.len.ensures in
+    let enough : length us ≤ length c.grow.new.self.rows.items =
+      subst (λ (xs : List Known). length us ≤ length xs) (sym rows) (grown_enough (length us) c.self.inside.rows.rows.items) in
+    subst (λ (xs : List Access). All (IsWithin (length c.grow.new.self.rows.items)) xs) (sym c.as_slice-2.ensures)
+    (accesses_within us (map version_of (writes_of c.args.txn.now.mops)) c.in_ok-accessed.accessed.writes.items (length c.grow.new.self.rows.items) enough c.in_ok-accessed.ensures.writes)
+
+pub returns : goal.returns
+returns g c = λ ts is.
+    let us = versions_of c.take.new.self in
+    let vs = versions_of c.self.inside.numbering in
+    let rows = c.self.inside.rows.rows.items in
+    let accesses = c.self.inside.rows.accesses.items in
+    let rs = c.in_ok-accessed.accessed.reads.items in
+    let ws = c.in_ok-accessed.accessed.writes.items in
+    let grew : c.grow.new.self.rows.items ≡ grown (length us) rows = c.in_ok-grow.ensures.rows ∙ ap (λ n. grown n rows) c.len.ensures in
+    let rows_now : c.add.new.self.rows.items ≡ rows_after (length accesses) rs ws (grown (length us) rows) =
+      c.in_ok-add.ensures.rows
+      ∙ ap (λ (as1 : List Accessed). rows_after (length as1) c.as_slice.result.now c.as_slice-2.result.now c.grow.new.self.rows.items) c.in_ok-grow.ensures.accesses
+      ∙ ap (λ (xs : List Access). rows_after (length accesses) xs c.as_slice-2.result.now c.grow.new.self.rows.items) c.as_slice.ensures
+      ∙ ap (λ (xs : List Access). rows_after (length accesses) rs xs c.grow.new.self.rows.items) c.as_slice-2.ensures
+      ∙ ap (rows_after (length accesses) rs ws) grew in
+    let accesses_now : c.add.new.self.accesses.items ≡ accesses ++ accessed rs ws ∷ [] =
+      c.in_ok-add.ensures.accesses
+      ∙ ap (λ (as1 : List Accessed). as1 ++ accessed c.as_slice.result.now c.as_slice-2.result.now ∷ []) c.in_ok-grow.ensures.accesses
+      ∙ ap (λ (xs : List Access). accesses ++ accessed xs c.as_slice-2.result.now ∷ []) c.as_slice.ensures
+      ∙ ap (λ (xs : List Access). accesses ++ accessed rs xs ∷ []) c.as_slice-2.ensures in
+    let done = told ts c.args.txn.now vs us rows accesses rs ws (subst (IsTableOf ts) (sym c.self.view_is) is) c.in_ok-accessed.ensures.versions c.in_ok-accessed.ensures.reads c.in_ok-accessed.ensures.writes in
+    subst (λ (xs : List Known). IsTableOf (ts ++ c.args.txn.now ∷ []) (table_by us xs c.add.new.self.accesses.items)) (sym rows_now)
+    (subst (λ (as1 : List Accessed). IsTableOf (ts ++ c.args.txn.now ∷ []) (table_by us (rows_after (length accesses) rs ws (grown (length us) rows)) as1)) (sym accesses_now) done)

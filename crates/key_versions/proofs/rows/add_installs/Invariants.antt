@@ -1,0 +1,6 @@
+use Rattle.std.proofs.Common.{◌≡◌, drop}
+use Rattle.key_versions.specs.Rows.{installed_rows}
+use Rattle.key_versions.proofs.rows.add_installs.Given as goal
+
+abbrev pub invariant-loop-install : goal.invariant-loop-install
+invariant-loop-install l = installed_rows l.place l.rows (drop l.install-index l.installs) ≡ installed_rows l.place l.initial.rows l.installs
