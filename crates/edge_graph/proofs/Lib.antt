@@ -11,3 +11,4 @@ pub mod Leading
 pub mod OrderTo
 pub mod EdgesOut
 pub mod ArcsOut
+pub mod Orderings

@@ -3,6 +3,7 @@
 
 pub mod arcs;
 pub mod graph;
+pub mod laws;
 mod layout;
 mod orders;
 mod rows;

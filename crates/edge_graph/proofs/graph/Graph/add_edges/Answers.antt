@@ -22,7 +22,7 @@ add_order_edges-requires-clause-places c =
     let place = c.args.place in
     let within : place < length ts = subst (λ (g : Parts). IsPlace g.txns place) (sym c.self.view_is) c.requires in
     let later = list_at (lists_at level a.orders.in_process.items a.orders.in_realtime.items) place in
-    subst (λ (xs : List Transaction). All (IsPlace xs) c.of-later.result.now) (sym c.txns.ensures)
+    subst (λ (xs : List Transaction). All (IsPlace xs) c.of-later.result.now) (sym c.txns.ensures.value)
     (subst (λ (places : List ℕ). All (IsPlace ts) places) (sym c.of-later.ensures)
     (all_in (IsPlace ts) later (λ next i. (later_from ts a.order.now made.kept made.ordered a.orders.in_process.items a.orders.in_realtime.items made.process made.realtime level place next within i).0)))
 
@@ -46,7 +46,7 @@ returns-clause-ok c =
     on_ok_weaker c.add_order_edges.result
     (λ is.
     let all : after ≡ before ++ (some ++ more) =
-    is ∙ ap (λ (xs : List Transaction). c.add_dependencies.new.out.items ++ order_edges_over xs kinds.level place c.of-later.result.now) c.txns.ensures
+    is ∙ ap (λ (xs : List Transaction). c.add_dependencies.new.out.items ++ order_edges_over xs kinds.level place c.of-later.result.now) c.txns.ensures.value
     ∙ ap (λ (places : List ℕ). c.add_dependencies.new.out.items ++ order_edges_over ts kinds.level place places) c.of-later.ensures
     ∙ ap (λ (xs : List Edge). xs ++ more) added ∙ append_assoc before some more in
     subst (λ (g : Parts). AddsEdgesFrom g kinds place before after) c.self.view_is (
