@@ -1,12 +1,11 @@
 -- What is added to edges, loop by loop.
-use Rattle.std.proofs.Common.{◌≡◌, ℕ, zero, suc, ◌+◌, ◌<◌, ◌≤◌, List, [], ◌∷◌, ◌++◌, length, get_or, take, drop, Bool, true, false, ◌||◌, ◌==◌, if◌then◌else◌, map, flat_map, Result, Ok, Err, OnErr, All, Option, Some, None, unwrap_or, slice_get, refl, sym, ◌∙◌, ap, subst, arith, inl, inr, append_assoc, append-nil}
+use Rattle.std.proofs.Common.{◌≡◌, ℕ, suc, ◌+◌, ◌≤◌, List, [], ◌∷◌, ◌++◌, length, take, Bool, true, false, ◌||◌, ◌==◌, if◌then◌else◌, map, flat_map, Result, Ok, Err, OnErr, All, Some, None, unwrap_or, slice_get, refl, sym, ◌∙◌, ap, subst, arith, inl, inr, append_assoc, append-nil}
 use Rattle.std.specs.List.{list_any}
-use Rattle.std.proofs.Math.Seq.{drop-cons}
-use Rattle.std.proofs.lemmas.Bool.{false≢true, eqb-true, eq-eqb, cases_Bool}
+use Rattle.std.proofs.lemmas.Bool.{eqb-true, eq-eqb}
 use Rattle.std.proofs.lemmas.List.{take_all}
 use Rattle.std.proofs.lemmas.List.Elements.{All-contains}
 use Rattle.std.proofs.lemmas.List.Folds.{flat_map-map}
-use Rattle.hist_types.specs.Edges.{Label, ww, wr, rw, Edge}
+use Rattle.hist_types.specs.Edges.{Label, wr, Edge}
 use Rattle.hist_types.specs.Transactions.{Transaction, Version, Open, version_eq, has_version, reads}
 use Rattle.hist_types.proofs.Equality.{version_eq-same, version_eq-itself}
 use Rattle.hist_types.proofs.Members.{In, Contains_from_in}

@@ -1,5 +1,5 @@
 -- Lists in which nothing is twice.
-use Rattle.std.proofs.Common.{◌≡◌, List, [], ◌∷◌, ◌++◌, Bool, true, false, if◌then◌else◌, map, filter, flat_map, Contains, refl, sym, ◌∙◌, ap, subst, inl, inr}
+use Rattle.std.proofs.Common.{◌≡◌, List, [], ◌∷◌, ◌++◌, Bool, true, false, if◌then◌else◌, filter, flat_map, refl, sym, subst, inl, inr}
 use Rattle.hist_types.specs.Edges.{Edge}
 use Rattle.hist_types.proofs.Members.{In, in_from_Contains, in_append, in_some, in_filter}
 use Rattle.hist_types.proofs.WrittenOnce.{AreApart}

@@ -1,9 +1,9 @@
-mod Lists
-mod Places
-mod Apart
-mod Out
-mod Writers
-mod Found
-mod Marks
-mod Adding
-mod Shown
+pub mod Lists
+pub mod Places
+pub mod Apart
+pub mod Out
+pub mod Writers
+pub mod Found
+pub mod Marks
+pub mod Adding
+pub mod Shown

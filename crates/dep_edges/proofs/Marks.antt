@@ -1,21 +1,21 @@
 -- The marks, and which transactions are nodes.
-use Rattle.std.proofs.Common.{◌≡◌, ℕ, zero, suc, ◌+◌, ◌<◌, List, [], ◌∷◌, ◌++◌, length, get_or, take, drop, Bool, true, false, not, ◌&&◌, ◌||◌, ◌==◌, if◌then◌else◌, map, flat_map, fold, Option, Some, None, unwrap_or, slice_get, Contains, refl, sym, ◌∙◌, ap, subst, arith, inl, inr}
+use Rattle.std.proofs.Common.{◌≡◌, ℕ, zero, suc, ◌+◌, ◌<◌, List, [], ◌∷◌, ◌++◌, length, get_or, take, drop, Bool, true, false, not, ◌&&◌, ◌||◌, ◌==◌, if◌then◌else◌, map, fold, Option, Some, None, unwrap_or, slice_get, Contains, refl, sym, ◌∙◌, ap, subst, arith, inl, inr}
 use Rattle.std.specs.List.{list_any}
 use Rattle.std.specs.Option.{is_some}
 use Rattle.std.proofs.Math.ListN.{set}
-use Rattle.std.proofs.lemmas.Bool.{false≢true, and_parts, and_from, or_cases, or_left, or_right, cases_Bool, eqb-true, eq-eqb, not-true, false_from_ne_true, or_from}
+use Rattle.std.proofs.lemmas.Bool.{false≢true, and_parts, and_from, or_cases, cases_Bool, eqb-true, eq-eqb}
 use Rattle.std.proofs.lemmas.List.{get_or-set_same, get_or-set_other, length-set, length-map}
-use Rattle.std.proofs.lemmas.Option.{none-some, same_Some, slice_get-get_or}
+use Rattle.std.proofs.lemmas.Option.{none-some, same_Some}
 use Rattle.std.proofs.lemmas.Grind.{take_at_read, fold-append}
 use Rattle.hist_types.specs.Journal.{Write, writes_of}
 use Rattle.hist_types.specs.Operations.{Mop, read, write}
-use Rattle.hist_types.specs.Transactions.{Transaction, Version, Open, version_of, has_version, is_ok, is_failed, reads, writes, was_read, is_node, transactions_of}
-use Rattle.hist_types.proofs.Members.{In, in_from_Contains, Contains_from_in, in_front, in_back, in_map, in_mapped}
+use Rattle.hist_types.specs.Transactions.{Transaction, Version, Open, version_of, has_version, is_ok, is_failed, reads, writes, was_read, is_node}
+use Rattle.hist_types.proofs.Members.{In, Contains_from_in, in_front, in_back, in_map, in_mapped}
 use Rattle.hist_types.proofs.Processes.{told_apart}
 use Rattle.hist_types.proofs.ThinningPaths.{any_passes}
 use Rattle.hist_types.proofs.VersionMembers.{in_from_has, has_from_in}
 use Rattle.hist_types.proofs.WrittenOnce.{AreApart, one_writer}
-use Rattle.key_versions.specs.Histories.{named_in, is_named, from_place, readers_of, writer_of}
+use Rattle.key_versions.specs.Histories.{named_in, from_place, readers_of, writer_of}
 use Rattle.key_versions.specs.Tables.{Table, IsTableOf}
 use Rattle.key_versions.specs.declared.types.Writer.{Writer}
 use Rattle.dep_edges.specs.Histories.{AreOfHistory}

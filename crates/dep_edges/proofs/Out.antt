@@ -1,18 +1,17 @@
 -- The edges that are found out of a transaction are the dependency edges that leave it, each once.
-use Rattle.std.proofs.Common.{◌≡◌, ◌↔◌, ◌⊎◌, ℕ, List, [], ◌∷◌, ◌++◌, Bool, true, false, not, ◌&&◌, ◌||◌, ◌==◌, if◌then◌else◌, Some, None, map, filter, flat_map, Contains, Result, Ok, Err, OnOk, refl, sym, ◌∙◌, ap, subst, inl, inr}
+use Rattle.std.proofs.Common.{◌≡◌, ℕ, List, [], ◌∷◌, ◌++◌, Bool, true, false, not, ◌||◌, ◌==◌, if◌then◌else◌, Some, None, map, flat_map, Contains, Result, Ok, Err, OnOk, refl, sym, ◌∙◌, ap, subst, inl, inr}
 use Rattle.std.specs.Option.{is_none}
-use Rattle.std.proofs.lemmas.Bool.{false≢true, and_parts, and_from, or_cases, or_left, or_right, cases_Bool, eqb-false, false_from_ne_true, not-true}
-use Rattle.hist_types.specs.Atoms.{Atom, Value, atom_eq, value_eq}
-use Rattle.hist_types.specs.Dependencies.{IsFirst, IsUpdate, IsVersionPair, Depends, IsDependency}
+use Rattle.std.proofs.lemmas.Bool.{false≢true, and_parts, and_from, or_cases, or_left, or_right, eqb-false, false_from_ne_true, not-true}
+use Rattle.hist_types.specs.Atoms.{Value, atom_eq, value_eq}
+use Rattle.hist_types.specs.Dependencies.{Depends}
 use Rattle.hist_types.specs.Edges.{Label, ww, wr, rw, process, realtime, Edge, edge, dependency_edges}
 use Rattle.hist_types.specs.Journal.{Write, writes_of}
 use Rattle.hist_types.specs.Phenomena.{is_rw_label, is_wr_label}
-use Rattle.hist_types.specs.Transactions.{Transaction, Version, version_of, version_eq, has_version, has_key, last_writes, external_reads, external_writes, installed_by, reads, installs, writes, is_ok, is_node, nodes, transactions_of}
-use Rattle.hist_types.specs.Versions.{VersionPair, pair, nil_of, is_change, version_pairs}
+use Rattle.hist_types.specs.Transactions.{Transaction, Version, version_of, has_version, has_key, last_writes, external_reads, installed_by, reads, installs, writes, is_ok, is_node, nodes, transactions_of}
+use Rattle.hist_types.specs.Versions.{pair, nil_of, is_change, version_pairs}
 use Rattle.hist_types.proofs.DependencyEdges.{edges_by_versions}
-use Rattle.hist_types.proofs.Equality.{atom_eq-same, atom_eq-itself, value_eq-same, value_eq-itself, version_eq-same, version_eq-itself, same_version}
+use Rattle.hist_types.proofs.Equality.{atom_eq-same, atom_eq-itself, value_eq-same, value_eq-itself, same_version}
 use Rattle.hist_types.proofs.Members.{In, in_from_Contains, Contains_from_in, in_front, in_back, in_append, in_each, in_some, in_map, in_filter, in_filtered, passes_filter}
-use Rattle.hist_types.proofs.PrintedEdges.{one_installed}
 use Rattle.hist_types.proofs.Processes.{told_apart}
 use Rattle.hist_types.proofs.ThinningTimes.{timed_from}
 use Rattle.hist_types.proofs.VersionMembers.{in_from_has, has_from_in, pairs_by_membership}
@@ -26,7 +25,7 @@ use Rattle.dep_edges.proofs.Places.{installed_written}
 
 -- ---- one transaction by its invocation, and by what it writes
 
-one_by_invocation : (ts : List Transaction) → AreOfHistory ts → (t u : Transaction) → In t ts → In u ts → t.invocation ≡ u.invocation → t ≡ u
+pub one_by_invocation : (ts : List Transaction) → AreOfHistory ts → (t u : Transaction) → In t ts → In u ts → t.invocation ≡ u.invocation → t ≡ u
 one_by_invocation ts (events, kept, of) t u i j same =
     (timed_from 0 events).times.apart t u (subst (In t) of i) (subst (In u) of j) same
 

@@ -1,17 +1,16 @@
 -- What a table tells of a history, by place and by number.
-use Rattle.std.proofs.Common.{◌≡◌, ℕ, zero, suc, ◌+◌, ◌<◌, List, [], ◌∷◌, ◌++◌, length, Bool, true, false, if◌then◌else◌, map, flat_map, Option, Some, None, IsSome, unwrap_or, slice_get, All, refl, sym, ◌∙◌, ap, subst, arith, inl, inr, append-nil, pos, not, ◌&&◌, ◌||◌}
-use Rattle.std.specs.Option.{is_some}
-use Rattle.std.proofs.lemmas.Bool.{and_parts, cases_Bool}
+use Rattle.std.proofs.Common.{◌≡◌, ℕ, suc, ◌+◌, ◌<◌, List, [], ◌∷◌, ◌++◌, length, Bool, true, false, if◌then◌else◌, map, flat_map, Option, Some, None, IsSome, unwrap_or, slice_get, All, refl, sym, ◌∙◌, ap, subst, arith, inl, inr, pos}
+use Rattle.std.proofs.lemmas.Bool.{and_parts}
 use Rattle.std.proofs.lemmas.List.Concat.{flat_map-append}
-use Rattle.std.proofs.lemmas.Option.{none-some, same_Some, slice_get-get_or}
-use Rattle.hist_types.specs.Atoms.{Atom, Value, integer, atom_eq, value_eq}
-use Rattle.hist_types.specs.Transactions.{Transaction, Version, Open, installed_by, reads, installs, writes, writes_over}
+use Rattle.std.proofs.lemmas.Option.{same_Some, slice_get-get_or}
+use Rattle.hist_types.specs.Atoms.{Value, integer, atom_eq}
+use Rattle.hist_types.specs.Transactions.{Transaction, Version, Open, installed_by, reads, writes, writes_over}
 use Rattle.hist_types.specs.Versions.{nil_of, pair, is_change}
 use Rattle.hist_types.proofs.Equality.{atom_eq-same}
 use Rattle.hist_types.proofs.Members.{In, in_append, in_mapped, in_map, in_filter, passes_filter}
 use Rattle.hist_types.proofs.VersionMembers.{has_from_in}
 use Rattle.hist_types.proofs.WrittenOnce.{nil_unwritten, installed_or_over}
-use Rattle.key_versions.specs.Histories.{read_by, is_followed, installs_behind, from_place, writers_of, writer_of, readers_of, followers_of}
+use Rattle.key_versions.specs.Histories.{is_followed, installs_behind, from_place, writers_of, writer_of, readers_of, followers_of}
 use Rattle.key_versions.specs.Tables.{Table, IsTableOf, versions_at, followers_at}
 use Rattle.key_versions.specs.declared.types.Writer.{Writer}
 use Rattle.key_versions.specs.declared.types.Follower.{Follower}

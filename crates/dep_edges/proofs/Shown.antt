@@ -1,14 +1,13 @@
 -- The first bad read, by number of version and by place of transaction.
-use Rattle.std.proofs.Common.{◌≡◌, ℕ, ◌+◌, ◌<◌, ◌≤◌, List, [], ◌∷◌, ◌++◌, length, get_or, take, Bool, true, false, not, ◌&&◌, ◌==◌, if◌then◌else◌, map, flat_map, Option, Some, None, refl, sym, ◌∙◌, ap, subst, arith}
+use Rattle.std.proofs.Common.{◌≡◌, ℕ, ◌+◌, ◌<◌, ◌≤◌, List, [], ◌∷◌, ◌++◌, length, get_or, take, Bool, true, if◌then◌else◌, map, flat_map, Some, None, sym, ◌∙◌, ap}
 use Rattle.std.proofs.lemmas.Grind.{get_or_default_zero}
 use Rattle.std.proofs.lemmas.List.{take_all, length-map}
 use Rattle.hist_types.specs.Dependencies.{alone_if}
-use Rattle.hist_types.specs.Phenomena.{BadRead, bad_read, first_of, for_each_read, aborted_writers, intermediate_writers, is_stray, g1a, g1b, stray}
+use Rattle.hist_types.specs.Phenomena.{BadRead, bad_read, first_of, is_stray, stray}
 use Rattle.hist_types.specs.Transactions.{Transaction, Version}
-use Rattle.hist_types.proofs.Processes.{told_apart}
 use Rattle.key_versions.specs.Tables.{Table}
 use Rattle.dep_edges.specs.Tables.{IsPlace, txn_at, version_at}
-use Rattle.dep_edges.specs.Reads.{aborted_in, intermediate_in, stray_in}
+use Rattle.dep_edges.specs.Reads.{stray_in}
 use Rattle.dep_edges.proofs.Adding.{by_numbers}
 use Rattle.dep_edges.proofs.Found.{first_found, nothing_more, none_first, gathered_more, read_at_place}
 use Rattle.dep_edges.proofs.Writers.{reads_by_transaction}

@@ -1,12 +1,12 @@
 -- The transaction that wrote a version, and what its reads then are.
-use Rattle.std.proofs.Common.{◌≡◌, ℕ, zero, suc, ◌+◌, List, [], ◌∷◌, ◌++◌, Bool, IsFalse, true, false, not, ◌&&◌, ◌||◌, ◌==◌, if◌then◌else◌, map, flat_map, filter, Option, Some, None, unwrap_or, slice_get, Contains, refl, sym, ◌∙◌, ap, subst, arith, inl, inr}
+use Rattle.std.proofs.Common.{◌≡◌, ℕ, zero, suc, ◌+◌, List, [], ◌∷◌, ◌++◌, Bool, IsFalse, true, false, not, ◌&&◌, ◌||◌, ◌==◌, if◌then◌else◌, flat_map, filter, Option, Some, None, unwrap_or, slice_get, Contains, refl, sym, ◌∙◌, ap, subst, arith, inl, inr}
 use Rattle.std.specs.List.{list_any}
 use Rattle.std.specs.Option.{is_some, is_none}
 use Rattle.std.proofs.lemmas.Bool.{false≢true, false_from_ne_true}
 use Rattle.std.proofs.lemmas.Option.{none-some, same_Some}
 use Rattle.hist_types.specs.Dependencies.{alone_if, WroteNone}
-use Rattle.hist_types.specs.Phenomena.{BadRead, bad_read, for_each_read, aborted_writers, intermediate_writers, is_stray}
-use Rattle.hist_types.specs.Transactions.{Transaction, Version, Open, is_ok, is_failed, external_reads, transactions_of, writes, writes_over}
+use Rattle.hist_types.specs.Phenomena.{for_each_read, aborted_writers, intermediate_writers, is_stray}
+use Rattle.hist_types.specs.Transactions.{Transaction, Version, Open, is_ok, is_failed, external_reads, writes, writes_over}
 use Rattle.hist_types.proofs.BadReads.{one_aborted, one_intermediate, unwritten_aborted, unwritten_intermediate}
 use Rattle.hist_types.proofs.Members.{In, Contains_from_in}
 use Rattle.hist_types.proofs.ThinningPaths.{any_passes}

@@ -2,7 +2,7 @@
 --
 -- A version that it installs leads by wr to those that read it, and by ww to those that install a version behind it; a version that
 -- it reads leads by rw to those that install a version behind it.
-use Rattle.std.specs.Prelude.{◌≡◌, ◌↔◌, ℕ, List, [], ◌∷◌, ◌++◌, Bool, ◌==◌, if◌then◌else◌, flat_map, Contains, ⊤}
+use Rattle.std.specs.Prelude.{◌≡◌, ◌↔◌, ℕ, List, [], ◌∷◌, ◌++◌, ◌==◌, if◌then◌else◌, flat_map, Contains, ⊤}
 use Rattle.hist_types.specs.Edges.{Label, ww, wr, rw, Edge, dependency_edges}
 use Rattle.hist_types.specs.Transactions.{Transaction, Version, has_version, is_node, installed_by, reads}
 use Rattle.key_versions.specs.Histories.{read_by, installs_behind}

@@ -1,4 +1,4 @@
-use Rattle.std.proofs.Common.{◌≡◌, [], ◌∷◌, ◌++◌, ◌∙◌, ap, if◌then◌else◌, List, map, flat_map}
+use Rattle.std.proofs.Common.{[], ◌∷◌, ◌++◌, ◌∙◌, ap, if◌then◌else◌, List, map, flat_map}
 use Rattle.std.proofs.lemmas.List.{take_all}
 use Rattle.hist_types.specs.Phenomena.{is_stray}
 use Rattle.hist_types.specs.Transactions.{Version}

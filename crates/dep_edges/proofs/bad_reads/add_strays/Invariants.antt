@@ -1,8 +1,7 @@
 -- Those so far are of the reads so far.
 use Rattle.std.proofs.Common.{if◌then◌else◌, ◌∷◌, ◌≡◌, ◌++◌, [], flat_map, take, map}
-use Rattle.hist_types.specs.Phenomena.{bad_read, aborted_writers, intermediate_writers, is_stray}
-use Rattle.dep_edges.specs.Reads.{aborted_in, intermediate_in, stray_in}
-use Rattle.dep_edges.specs.Tables.{txn_at, version_at}
+use Rattle.hist_types.specs.Phenomena.{is_stray}
+use Rattle.dep_edges.specs.Tables.{version_at}
 use Rattle.dep_edges.proofs.bad_reads.add_strays.Given as goal
 
 abbrev pub invariant-loop-number : goal.invariant-loop-number

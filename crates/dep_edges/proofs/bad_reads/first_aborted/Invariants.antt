@@ -1,8 +1,6 @@
 -- The transactions so far have none.
-use Rattle.std.proofs.Common.{◌≡◌, ◌++◌, [], flat_map, take, map}
-use Rattle.hist_types.specs.Phenomena.{bad_read, aborted_writers, intermediate_writers, is_stray}
-use Rattle.dep_edges.specs.Reads.{aborted_in, intermediate_in, stray_in}
-use Rattle.dep_edges.specs.Tables.{txn_at, version_at}
+use Rattle.std.proofs.Common.{◌≡◌, [], flat_map, take}
+use Rattle.dep_edges.specs.Reads.{aborted_in}
 use Rattle.dep_edges.proofs.bad_reads.first_aborted.Given as goal
 
 abbrev pub invariant-loop-place : goal.invariant-loop-place

@@ -1,6 +1,6 @@
-use Rattle.std.proofs.Common.{◌≡◌, ◌<◌, List, length, map, flat_map, subst, sym, ap, ◌∙◌, arith}
-use Rattle.hist_types.specs.Phenomena.{BadRead, bad_read, aborted_writers, intermediate_writers, intermediate_reads}
-use Rattle.hist_types.specs.Transactions.{Transaction, Version}
+use Rattle.std.proofs.Common.{◌≡◌, ◌<◌, List, length, map, flat_map, subst, ap, arith}
+use Rattle.hist_types.specs.Phenomena.{bad_read, intermediate_writers, intermediate_reads}
+use Rattle.hist_types.specs.Transactions.{Transaction}
 use Rattle.dep_edges.specs.Reads.{intermediate_in}
 use Rattle.dep_edges.specs.Tables.{IsPlace}
 use Rattle.dep_edges.proofs.Shown.{found_at_place, none_at_place, none_at_all}

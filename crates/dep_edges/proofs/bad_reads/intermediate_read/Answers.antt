@@ -1,7 +1,7 @@
-use Rattle.std.proofs.Common.{◌≡◌, ◌∙◌, ap, sym, not, ◌&&◌, ◌==◌, get_or, map}
+use Rattle.std.proofs.Common.{◌≡◌, ◌∙◌, ap, sym, not, ◌&&◌, ◌==◌, get_or}
 use Rattle.std.proofs.lemmas.Bool.{and_from}
-use Rattle.hist_types.specs.Phenomena.{aborted_writers, intermediate_writers}
-use Rattle.hist_types.specs.Transactions.{Transaction, Version, is_failed}
+use Rattle.hist_types.specs.Phenomena.{intermediate_writers}
+use Rattle.hist_types.specs.Transactions.{Transaction, Version}
 use Rattle.hist_types.proofs.Processes.{told_apart}
 use Rattle.key_versions.specs.Histories.{read_by}
 use Rattle.dep_edges.specs.Tables.{txn_at, version_at}

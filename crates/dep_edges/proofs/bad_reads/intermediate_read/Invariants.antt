@@ -1,7 +1,6 @@
 -- None of the reads so far is such a one.
-use Rattle.std.proofs.Common.{◌≡◌, ◌++◌, [], flat_map, take, map}
-use Rattle.hist_types.specs.Phenomena.{bad_read, aborted_writers, intermediate_writers, is_stray}
-use Rattle.dep_edges.specs.Reads.{aborted_in, intermediate_in, stray_in}
+use Rattle.std.proofs.Common.{◌≡◌, [], flat_map, take, map}
+use Rattle.hist_types.specs.Phenomena.{bad_read, intermediate_writers}
 use Rattle.dep_edges.specs.Tables.{txn_at, version_at}
 use Rattle.dep_edges.proofs.bad_reads.intermediate_read.Given as goal
 

@@ -1,4 +1,4 @@
-use Rattle.std.proofs.Common.{◌≡◌, ◌<◌, ◌≤◌, List, length, map, subst, ap, arith}
+use Rattle.std.proofs.Common.{◌<◌, ◌≤◌, List, length, map, subst, ap, arith}
 use Rattle.hist_types.specs.Transactions.{Transaction}
 use Rattle.dep_edges.specs.Tables.{IsPlace, version_at}
 use Rattle.dep_edges.proofs.Shown.{strays_more, strays_counted}

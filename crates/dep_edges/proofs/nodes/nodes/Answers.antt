@@ -1,7 +1,7 @@
-use Rattle.std.proofs.Common.{◌≡◌, ◌∙◌, ◌<◌, List, Bool, length, take, sym, ap, subst, arith}
+use Rattle.std.proofs.Common.{◌≡◌, ◌∙◌, ◌<◌, length, sym, ap, subst, arith}
 use Rattle.std.proofs.lemmas.List.{take_all}
 use Rattle.dep_edges.specs.Tables.{marked, all_marked, version_at}
-use Rattle.dep_edges.proofs.Marks.{nodes_marked, marked_more, length_marked, length_all_marked, written_back}
+use Rattle.dep_edges.proofs.Marks.{nodes_marked, marked_more, length_marked, written_back}
 use Rattle.dep_edges.proofs.nodes.nodes.Goals as goal
 
 pub loop-number-preserved : goal.loop-number-preserved

@@ -1,8 +1,7 @@
 use Rattle.std.proofs.Common.{◌≡◌, All, map, subst}
-use Rattle.hist_types.specs.Transactions.{installed_by}
-use Rattle.key_versions.specs.Histories.{read_by, followers_of, readers_of, writer_of}
+use Rattle.key_versions.specs.Histories.{followers_of}
 use Rattle.dep_edges.specs.Histories.{History}
-use Rattle.dep_edges.specs.Tables.{IsPlace, IsNumber, IsWriterPlace, IsBehind, version_at, txn_at, later_in}
+use Rattle.dep_edges.specs.Tables.{IsBehind, version_at, later_in}
 use Rattle.dep_edges.proofs.Places.{followers_told, followers_behind}
 use Rattle.dep_edges.proofs.history.History.followers.Goals as goal
 

@@ -1,8 +1,7 @@
-use Rattle.std.proofs.Common.{◌≡◌, ◌∙◌, All, map, ap, sym, subst}
-use Rattle.hist_types.specs.Transactions.{installed_by}
-use Rattle.key_versions.specs.Histories.{read_by, followers_of, readers_of, writer_of}
+use Rattle.std.proofs.Common.{◌≡◌, ◌∙◌, ap, sym, subst}
+use Rattle.key_versions.specs.Histories.{writer_of}
 use Rattle.dep_edges.specs.Histories.{History, AreOfHistory}
-use Rattle.dep_edges.specs.Tables.{IsPlace, IsNumber, IsWriterPlace, IsBehind, version_at, txn_at, later_in}
+use Rattle.dep_edges.specs.Tables.{version_at}
 use Rattle.dep_edges.specs.Reads.{failed_one, other_over}
 use Rattle.dep_edges.proofs.Writers.{aborted_by_writer, intermediate_by_writer}
 use Rattle.dep_edges.proofs.Places.{writer_told, writer_within}

@@ -1,5 +1,4 @@
-use Rattle.std.proofs.Common.{◌≡◌, ◌++◌, ◌∙◌, map, ap, subst, flat_map, append_assoc}
-use Rattle.hist_types.specs.Edges.{ww}
+use Rattle.std.proofs.Common.{◌≡◌, map, subst, flat_map}
 use Rattle.hist_types.specs.Transactions.{installed_by}
 use Rattle.dep_edges.specs.Histories.{History}
 use Rattle.dep_edges.specs.OutEdges.{written_edges}

@@ -1,9 +1,7 @@
 -- Those so far leave by the versions so far.
-use Rattle.std.proofs.Common.{◌≡◌, ◌++◌, flat_map, take, map}
-use Rattle.hist_types.specs.Edges.{ww, wr, rw}
-use Rattle.key_versions.specs.declared.types.Follower.{Follower}
-use Rattle.dep_edges.specs.OutEdges.{node_edge, written_edges, read_edges, each_once}
-use Rattle.dep_edges.specs.Tables.{txn_at, version_at}
+use Rattle.std.proofs.Common.{◌≡◌, ◌++◌, flat_map, take}
+use Rattle.dep_edges.specs.OutEdges.{written_edges}
+use Rattle.dep_edges.specs.Tables.{version_at}
 use Rattle.dep_edges.proofs.leaving.Marked.add_out_of_installs.Given as goal
 
 abbrev pub invariant-loop-number : goal.invariant-loop-number

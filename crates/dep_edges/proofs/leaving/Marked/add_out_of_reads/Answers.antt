@@ -1,6 +1,5 @@
 use Rattle.std.proofs.Common.{◌≡◌, ◌∷◌, ◌++◌, List, All, true, false, map, flat_map, refl, subst, sym}
 use Rattle.hist_types.specs.Edges.{Edge}
-use Rattle.hist_types.specs.Transactions.{Version}
 use Rattle.key_versions.specs.Histories.{read_by}
 use Rattle.dep_edges.specs.Histories.{History}
 use Rattle.dep_edges.specs.OutEdges.{read_edges, each_once}

@@ -3,7 +3,7 @@ use Rattle.hist_types.specs.Edges.{Edge, wr}
 use Rattle.key_versions.specs.Histories.{readers_of}
 use Rattle.dep_edges.specs.Histories.{History}
 use Rattle.dep_edges.specs.Tables.{txn_at, version_at}
-use Rattle.std.proofs.Common.{◌≡◌, ℕ, List, ◌∙◌, ap, subst, flat_map, take}
+use Rattle.std.proofs.Common.{◌≡◌, ℕ, List, ◌∙◌, ap, subst, flat_map}
 use Rattle.dep_edges.proofs.Adding.{begins_at_error, begins_same, all_added, readers_gathered}
 use Rattle.dep_edges.proofs.leaving.Marked.add_wr.Goals as goal
 

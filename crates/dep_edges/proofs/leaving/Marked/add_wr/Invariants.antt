@@ -1,8 +1,7 @@
 -- Those so far lead to the readers so far.
-use Rattle.std.proofs.Common.{◌≡◌, ◌++◌, flat_map, take, map}
-use Rattle.hist_types.specs.Edges.{ww, wr, rw}
-use Rattle.key_versions.specs.declared.types.Follower.{Follower}
-use Rattle.dep_edges.specs.OutEdges.{node_edge, written_edges, read_edges, each_once}
+use Rattle.std.proofs.Common.{◌≡◌, ◌++◌, flat_map, take}
+use Rattle.hist_types.specs.Edges.{wr}
+use Rattle.dep_edges.specs.OutEdges.{node_edge}
 use Rattle.dep_edges.specs.Tables.{txn_at, version_at}
 use Rattle.dep_edges.proofs.leaving.Marked.add_wr.Given as goal
 
