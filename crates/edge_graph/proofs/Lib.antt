@@ -1,0 +1,14 @@
+pub mod Lists
+pub mod Joined
+pub mod Spans
+pub mod RowSteps
+pub mod Placed
+pub mod Pushed
+pub mod OrderOut
+pub mod Ordered
+pub mod Txns
+pub mod Leading
+pub mod OrderTo
+pub mod EdgesOut
+pub mod ArcsOut
+pub mod Orderings
