@@ -52,9 +52,9 @@ pub fn arcs_of_more_dependencies()
 
 /// A ww or wr edge has an arc between its two transactions, and an rw edge a way by a version.
 pub fn arcs_of_edges()
-    ensures ww { (g : Parts) → AreOfHistory g.txns → (level : Level) → (e : Edge) → Contains (edges_in g level) e → IsTrue (is_ww e) → HasDirectArc g Ww e }
-    ensures wr { (g : Parts) → AreOfHistory g.txns → (level : Level) → (e : Edge) → Contains (edges_in g level) e → IsTrue (is_wr e) → HasDirectArc g Wr e }
-    ensures rw { (g : Parts) → AreOfHistory g.txns → RwByVersions g → (level : Level) → (e : Edge) → Contains (edges_in g level) e → IsTrue (is_rw e) → HasWayByVersion g Rw e }
+    ensures ww { (g : Parts) → (level : Level) → (e : Edge) → Contains (edges_in g level) e → IsTrue (is_ww e) → HasDirectArc g Ww e }
+    ensures wr { (g : Parts) → (level : Level) → (e : Edge) → Contains (edges_in g level) e → IsTrue (is_wr e) → HasDirectArc g Wr e }
+    ensures rw { (g : Parts) → RwByVersions g → (level : Level) → (e : Edge) → Contains (edges_in g level) e → IsTrue (is_rw e) → HasWayByVersion g Rw e }
 {}
 
 /// An arc between two transactions stands for an edge, and a way by a version from one to another for an rw edge.
