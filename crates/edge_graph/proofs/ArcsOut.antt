@@ -14,14 +14,14 @@ use Rattle.order_frontier.specs.Predecessors.{Before}
 use Rattle.dep_edges.specs.Histories.{AreOfHistory}
 use Rattle.dep_edges.specs.Tables.{IsNumber, txn_at, version_at}
 use Rattle.edge_graph.specs.FlatRows.{Row, row_at, led_to}
-use Rattle.edge_graph.specs.Kinds.{includes, has_wr, has_rw, kinds_of}
+use Rattle.edge_graph.specs.Kinds.{includes, has_ww, has_wr, has_rw, kinds_of}
 use Rattle.edge_graph.specs.LaidOut.{nodes_behind, IsTxnRow, AreRows}
 use Rattle.edge_graph.specs.Made.{joined, AreWithin}
 use Rattle.edge_graph.specs.Parts.{Parts, IsOrderOf, HasEdge}
 use Rattle.edge_graph.specs.Successors.{list_at, lists_at, AreSuccessors}
 use Rattle.edge_graph.specs.Vertices.{Vertex, txn, version, IsVertex, LeadsDirectly, LeadsTo, IsArc, AreArcs, HasRw, LeadsByVersion}
 use Rattle.edge_graph.specs.declared.types.Dependencies.{Dependencies}
-use Rattle.edge_graph.specs.declared.types.Dependencies.TheVariants.{Ww, WrAndWw, All as AllOfThem}
+use Rattle.edge_graph.specs.declared.types.Dependencies.TheVariants.{Ww, Wr, Rw, WrAndWw, All as AllOfThem}
 use Rattle.edge_graph.specs.declared.types.Kinds.{Kinds}
 use Rattle.edge_graph.proofs.EdgesOut.{IsOrderLabel, order_label, order_included}
 use Rattle.edge_graph.proofs.Joined.{length-joined, joined_at}
@@ -32,29 +32,37 @@ use Rattle.edge_graph.proofs.Txns.{txn_there, txn_of, txn_in, place_by, one_plac
 
 -- ---- by kind
 
-led_from : (d : Dependencies) (row : Row) (w : ℕ) → In w (led_to d row) → ((has_rw d ≡ true) × In w row.rw) ⊎ (((has_wr d ≡ true) × In w row.wr) ⊎ In w row.ww)
-led_from Ww row w i = inr (inr i)
-led_from WrAndWw row w i = elim (in_append w row.wr row.ww i) [ inl j ↦ inr (inl (refl, j)) | inr j ↦ inr (inr j) ]
+led_from : (d : Dependencies) (row : Row) (w : ℕ) → In w (led_to d row) → ((has_rw d ≡ true) × In w row.rw) ⊎ (((has_wr d ≡ true) × In w row.wr) ⊎ ((has_ww d ≡ true) × In w row.ww))
+led_from Ww row w i = inr (inr (refl, i))
+led_from Wr row w i = inr (inl (refl, i))
+led_from Rw row w i = inl (refl, i)
+led_from WrAndWw row w i = elim (in_append w row.wr row.ww i) [ inl j ↦ inr (inl (refl, j)) | inr j ↦ inr (inr (refl, j)) ]
 led_from AllOfThem row w i =
     elim (in_append w row.rw (row.wr ++ row.ww) i) [
       | inl j ↦ inl (refl, j)
-      | inr j ↦ elim (in_append w row.wr row.ww j) [ inl k ↦ inr (inl (refl, k)) | inr k ↦ inr (inr k) ]
+      | inr j ↦ elim (in_append w row.wr row.ww j) [ inl k ↦ inr (inl (refl, k)) | inr k ↦ inr (inr (refl, k)) ]
     ]
 
 led_by_rw : (d : Dependencies) (row : Row) (w : ℕ) → has_rw d ≡ true → In w row.rw → In w (led_to d row)
 led_by_rw Ww row w e i = absurd (false≢true e)
+led_by_rw Wr row w e i = absurd (false≢true e)
+led_by_rw Rw row w e i = i
 led_by_rw WrAndWw row w e i = absurd (false≢true e)
 led_by_rw AllOfThem row w e i = in_front w row.rw (row.wr ++ row.ww) i
 
 led_by_wr : (d : Dependencies) (row : Row) (w : ℕ) → has_wr d ≡ true → In w row.wr → In w (led_to d row)
 led_by_wr Ww row w e i = absurd (false≢true e)
+led_by_wr Wr row w e i = i
+led_by_wr Rw row w e i = absurd (false≢true e)
 led_by_wr WrAndWw row w e i = in_front w row.wr row.ww i
 led_by_wr AllOfThem row w e i = in_back w row.rw (row.wr ++ row.ww) (in_front w row.wr row.ww i)
 
-led_by_ww : (d : Dependencies) (row : Row) (w : ℕ) → In w row.ww → In w (led_to d row)
-led_by_ww Ww row w i = i
-led_by_ww WrAndWw row w i = in_back w row.wr row.ww i
-led_by_ww AllOfThem row w i = in_back w row.rw (row.wr ++ row.ww) (in_back w row.wr row.ww i)
+led_by_ww : (d : Dependencies) (row : Row) (w : ℕ) → has_ww d ≡ true → In w row.ww → In w (led_to d row)
+led_by_ww Ww row w e i = i
+led_by_ww Wr row w e i = absurd (false≢true e)
+led_by_ww Rw row w e i = absurd (false≢true e)
+led_by_ww WrAndWw row w e i = in_back w row.wr row.ww i
+led_by_ww AllOfThem row w e i = in_back w row.rw (row.wr ++ row.ww) (in_back w row.wr row.ww i)
 
 no_rw : (label : Label) → IsOrderLabel label → not (is_rw_label label) ≡ true
 no_rw (ww earlier later) is = absurd is
@@ -100,8 +108,8 @@ module _ (ts : List Transaction) (order : List Before) (table : Table) (rows : L
                 let (k, x, c) = wr_from ts kept v w h (subst (In w) row.wr by_wr.1) in
                 (txn t, txn (txn_at ts w), txn_vertex v h, txn_vertex w k, directly t (txn_at ts w) (wr x) (inl c) by_wr.0 refl))
             | inr by_ww ↦ (
-                let (k, x, y, c) = ww_from ts kept v w h (subst (In w) row.ww by_ww) in
-                (txn t, txn (txn_at ts w), txn_vertex v h, txn_vertex w k, directly t (txn_at ts w) (ww x y) (inl c) refl refl))
+                let (k, x, y, c) = ww_from ts kept v w h (subst (In w) row.ww by_ww.1) in
+                (txn t, txn (txn_at ts w), txn_vertex v h, txn_vertex w k, directly t (txn_at ts w) (ww x y) (inl c) by_ww.0 refl))
           ]
         ]
 
@@ -123,7 +131,7 @@ module _ (ts : List Transaction) (order : List Before) (table : Table) (rows : L
               (version x, txn (txn_at ts w), version_vertex number h, txn_vertex w k, (by_rw.0, (node, y, paired, installed))))
           | inr others ↦ elim others [
             | inl by_wr ↦ absurd (subst (λ (row : Row). In w row.wr) (are.versions number h) by_wr.1)
-            | inr by_ww ↦ absurd (subst (λ (row : Row). In w row.ww) (are.versions number h) by_ww)
+            | inr by_ww ↦ absurd (subst (λ (row : Row). In w row.ww) (are.versions number h) by_ww.1)
           ]
         ]
 
@@ -150,7 +158,7 @@ module _ (ts : List Transaction) (order : List Before) (table : Table) (rows : L
         (v w : ℕ) (label : Label) → v < length ts → w < length ts → Contains (dependency_edges ts) (edge (txn_at ts v) (txn_at ts w) label)
         → includes kinds label ≡ true → not (is_rw_label label) ≡ true → In w (led_to d (row_at rows v))
     direct_dependency v w (ww x y) h k c included other =
-        led_by_ww d (row_at rows v) w (subst (In w) (sym (are.txns v h).ww) (ww_to ts kept v w x y h k c))
+        led_by_ww d (row_at rows v) w included (subst (In w) (sym (are.txns v h).ww) (ww_to ts kept v w x y h k c))
     direct_dependency v w (wr x) h k c included other =
         led_by_wr d (row_at rows v) w included (subst (In w) (sym (are.txns v h).wr) (wr_to ts kept v w x h k c))
     direct_dependency v w (rw x y) h k c included other = absurd (false≢true other)

@@ -12,3 +12,5 @@ pub mod OrderTo
 pub mod EdgesOut
 pub mod ArcsOut
 pub mod Orderings
+pub mod EdgesIn
+pub mod Arcs

@@ -8,7 +8,7 @@ use Rattle.std.specs.List.{AllByRecursion}
 use Rattle.edge_graph.specs.FlatRows.{Row, no_row, row_at, led_to, row_in, IsSpanIn}
 use Rattle.edge_graph.specs.declared.rows.Span.{Span}
 use Rattle.edge_graph.specs.declared.types.Dependencies.{Dependencies}
-use Rattle.edge_graph.specs.declared.types.Dependencies.TheVariants.{Ww, WrAndWw, All as AllOfThem}
+use Rattle.edge_graph.specs.declared.types.Dependencies.TheVariants.{Ww, Wr, Rw, WrAndWw, All as AllOfThem}
 
 -- ---- parts
 
@@ -148,14 +148,32 @@ pushed items items1 items2 items3 rw wr ww ss more a b c d rows row are is row_i
 
 -- ---- a row that is read
 
--- where its arcs begin
+-- where its arcs begin, and where they end
 abbrev pub start_of : Dependencies → Span → ℕ
 start_of Ww s = s.ww
+start_of Wr s = s.wr
+start_of Rw s = s.start
 start_of WrAndWw s = s.wr
 start_of AllOfThem s = s.start
 
-led_to_parts : (d : Dependencies) (items : List ℕ) (s : Span) → IsSpanIn items s → slice_range items (start_of d s) s.end ≡ led_to d (row_in items s)
+abbrev pub end_of : Dependencies → Span → ℕ
+end_of Ww s = s.end
+end_of Wr s = s.ww
+end_of Rw s = s.wr
+end_of WrAndWw s = s.end
+end_of AllOfThem s = s.end
+
+pub rising : (d : Dependencies) (items : List ℕ) (s : Span) → IsSpanIn items s → (start_of d s ≤ end_of d s) × (end_of d s ≤ length items)
+rising Ww items s is = (is.end, is.within)
+rising Wr items s is = (is.ww, omega (arith, is.end, is.within))
+rising Rw items s is = (is.wr, omega (arith, is.ww, is.end, is.within))
+rising WrAndWw items s is = (omega (arith, is.ww, is.end), is.within)
+rising AllOfThem items s is = (omega (arith, is.wr, is.ww, is.end), is.within)
+
+led_to_parts : (d : Dependencies) (items : List ℕ) (s : Span) → IsSpanIn items s → slice_range items (start_of d s) (end_of d s) ≡ led_to d (row_in items s)
 led_to_parts Ww items s is = refl
+led_to_parts Wr items s is = refl
+led_to_parts Rw items s is = refl
 led_to_parts WrAndWw items s is = parts_meet items s.wr s.ww s.end is.ww is.end
 led_to_parts AllOfThem items s is =
     parts_meet items s.start s.wr s.end is.wr (omega (arith, is.ww, is.end))
@@ -167,7 +185,7 @@ pub read_row :
     → map (row_in items) ss ≡ rows
     → v < length rows
     → s ≡ get_or ss v s
-    → slice_range items (start_of d s) s.end ≡ led_to d (row_at rows v)
+    → slice_range items (start_of d s) (end_of d s) ≡ led_to d (row_at rows v)
 read_row d items ss rows v s are is h at =
     let n : v < length ss = omega (arith, ap length is, length-map ss (row_in items)) in
     let one : IsSpanIn items s = subst (IsSpanIn items) (sym at) (are v s n) in

@@ -1,6 +1,7 @@
 -- What a graph of transactions is made of, and its edges: the dependency edges, and of a level's order edges those whose second
 -- end is a node. (The first end of an order edge is ok, and so is a node.) The order may be the one of all pairs or a thinned one.
-use Rattle.std.specs.Prelude.{◌≡◌, ◌↔◌, ◌⊎◌, ℕ, List, ◌++◌, IsTrue, Some, slice_get, map, All, Contains}
+use Rattle.std.specs.Prelude.{◌≡◌, ◌↔◌, ◌⊎◌, ◌==◌, ℕ, Bool, List, ◌++◌, IsTrue, Some, slice_get, map, filter, All, Contains}
+use Rattle.std.specs.List.{list_any}
 use Rattle.hist_types.specs.Edges.{Edge, dependency_edges, all_order_edges}
 use Rattle.hist_types.specs.Laws.{LeadsToOne}
 use Rattle.hist_types.specs.Transactions.{Transaction, Version, has_version, nodes}
@@ -30,6 +31,15 @@ pub record IsMadeOf (ts : List Transaction) (before : List Before) (g : Parts) :
   pub versions : (v : Version) → has_version g.versions v ≡ is_named ts v
 
 -- ---- edges
+
+-- the edge's second end is among the transactions
+abbrev pub leads_to_one : List Transaction → Edge → Bool
+leads_to_one ts e = list_any (λ (u : Transaction). e.to == u.invocation) ts
+
+abbrev pub edges_in : Parts → Level → List Edge
+edges_in g level = dependency_edges g.txns ++ filter (leads_to_one (nodes g.txns)) (edges_of level g.order)
+
+-- the same, said of one edge
 
 abbrev pub HasEdge : Parts → Level → Edge → Type 0
 HasEdge g level e =

@@ -1,6 +1,7 @@
 //! The graph of a history's transactions.
 
 ghost use Rattle.std.specs.Prelude.{◌≡◌, ◌++◌, List, filter, All, IfOk, IfErr, OnOk, OnErr};
+ghost use Rattle.dep_edges.specs.Histories.{AreOfHistory};
 ghost use Rattle.dep_edges.specs.OutEdges as out_edges;
 ghost use Rattle.dep_edges.specs.OutEdges.{Begins};
 ghost use Rattle.dep_edges.specs.Tables.{IsPlace, txn_at};
@@ -10,6 +11,7 @@ ghost use Rattle.edge_graph.specs.Kinds.{includes, kinds_of};
 ghost use Rattle.edge_graph.specs.Made.{order_edges_over, order_edges_to};
 ghost use Rattle.edge_graph.specs.Parts.{IsOrderOf, IsMadeOf, AddsEdgesFrom};
 ghost use Rattle.edge_graph.specs.Vertices.{AreArcs, RwByVersions};
+ghost use Rattle.edge_graph.specs.Walks.{IsEdgeIfAny, IsTxnWalk, AreEdgesAlong};
 
 use crate::arcs::GraphArcs;
 use crate::layout;
@@ -177,7 +179,54 @@ impl<'g, 'v, 'a> Graph<'g, 'v, 'a> {
     pub fn arcs(&self, dependencies: Dependencies, level: Level) -> GraphArcs<'_>
         ensures arcs { AreArcs self.now (kinds_of dependencies level) result }
         ensures rw { RwByVersions self.now }
+        ensures kept { AreOfHistory self.now.txns }
     {
         GraphArcs::new(&self.rows, self.orders.at(level), dependencies)
+    }
+
+    /// An edge of the kinds from one transaction to another, if there is one. It looks through all that leave the first.
+    pub fn edge_between(
+        &self,
+        from: usize,
+        to: usize,
+        kinds: Kinds,
+    ) -> Result<Option<Edge<'a>>, AllocError>
+        requires from { IsPlace self.now.txns from }
+        requires to { IsPlace self.now.txns to }
+        ensures { IfOk result (IsEdgeIfAny self.now kinds from to) }
+    {
+        let invocation = self.history.txn(to).invocation();
+        let mut leaving = Vec::new(self.alloc);
+        self.edges_from(from, kinds, &mut leaving)?;
+        for edge in leaving {
+            if edge.to() == invocation {
+                return Ok(Some(edge));
+            }
+        }
+        Ok(None)
+    }
+
+    /// The edges of a walk over the arcs of these dependencies and of the order of the level, from a transaction to a transaction.
+    pub fn edges_along(
+        &self,
+        walk: &[usize],
+        dependencies: Dependencies,
+        level: Level,
+    ) -> Result<Vec<Edge<'a>>, AllocError>
+        requires { IsTxnWalk self.now (kinds_of dependencies level) walk.now }
+        ensures { IfOk result (λ es. AreEdgesAlong self.now (kinds_of dependencies level) walk.now es.items) }
+    {
+        let kinds = Kinds::of(dependencies, level);
+        let mut edges = Vec::new(self.alloc);
+        let mut from = walk[0];
+        for vertex in walk {
+            // Behind the transactions are the versions, which lead on to the end of an rw edge.
+            if *vertex < self.history.txns().len() && *vertex != from {
+                let edge = self.edge_between(from, *vertex, kinds)?;
+                edges.push(edge.unwrap())?;
+                from = *vertex;
+            }
+        }
+        Ok(edges)
     }
 }

@@ -121,11 +121,13 @@ impl Rows {
         ensures { result.now ≡ led_to dependencies (row_at self.now vertex) }
     {
         let span = self.spans[vertex];
-        let start = match dependencies {
-            Dependencies::Ww => span.ww,
-            Dependencies::WrAndWw => span.wr,
-            Dependencies::All => span.start,
+        let (start, end) = match dependencies {
+            Dependencies::Ww => (span.ww, span.end),
+            Dependencies::Wr => (span.wr, span.ww),
+            Dependencies::Rw => (span.start, span.wr),
+            Dependencies::WrAndWw => (span.wr, span.end),
+            Dependencies::All => (span.start, span.end),
         };
-        &self.items[start as usize..span.end as usize]
+        &self.items[start as usize..end as usize]
     }
 }

@@ -2,7 +2,7 @@
 
 ghost use Rattle.std.specs.Prelude.{◌≡◌};
 ghost use Rattle.dep_edges.specs.Labels.{label_of};
-ghost use Rattle.edge_graph.specs.Kinds.{includes};
+ghost use Rattle.edge_graph.specs.Kinds.{includes, kinds_of};
 
 use dep_edges::types::Label;
 use hist_types::types::Level;
@@ -17,6 +17,20 @@ pub struct Kinds {
 }
 
 impl Kinds {
+    /// These dependencies and the order edges of the level.
+    pub fn of(dependencies: Dependencies, level: Level) -> Self
+        ensures { result ≡ kinds_of dependencies level }
+    {
+        let (ww, wr, rw) = match dependencies {
+            Dependencies::Ww => (true, false, false),
+            Dependencies::Wr => (false, true, false),
+            Dependencies::Rw => (false, false, true),
+            Dependencies::WrAndWw => (true, true, false),
+            Dependencies::All => (true, true, true),
+        };
+        Kinds { ww, wr, rw, level }
+    }
+
     /// Whether an edge with this label is of the kinds; an order edge always is.
     pub fn includes(self, label: &Label<'_>) -> bool
         ensures { result ≡ includes self (label_of label.now) }
@@ -30,10 +44,12 @@ impl Kinds {
     }
 }
 
-/// The kinds of dependencies that one cycle may use, each more than the one before it.
+/// The kinds of dependencies that a search goes over.
 #[derive(Clone, Copy, Debug, PartialEq, Eq)]
 pub enum Dependencies {
     Ww,
+    Wr,
+    Rw,
     WrAndWw,
     All,
 }

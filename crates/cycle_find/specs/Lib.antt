@@ -1,0 +1,5 @@
+pub mod Found
+pub mod Dependencies
+pub mod Ranked
+pub mod Ways
+pub mod Tasks
