@@ -10,7 +10,7 @@ ghost use Rattle.cycle_find.specs.Ranked.{AreRanksOver};
 ghost use Rattle.cycle_find.specs.Tasks.{needed_kinds, back_kinds, HasReturnBetween, IsShownOr, NoneBy, NoneFrom, NoneAtAll};
 
 use crate::kinds::{needed, way_back};
-use crate::ranked::NotAbove;
+use crate::ranking::NotAbove;
 use crate::types::Walk;
 use edge_graph::arcs::GraphArcs;
 use edge_graph::graph::Graph;

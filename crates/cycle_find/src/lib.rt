@@ -9,7 +9,7 @@ ghost use Rattle.cycle_find.specs.Found.{IsFound, ShowNothing};
 
 mod finder;
 mod kinds;
-mod ranked;
+mod ranking;
 mod settle;
 #[cfg(test)]
 mod tests;
@@ -17,7 +17,7 @@ pub mod types;
 
 use crate::finder::Finder;
 use crate::kinds::{way_back, whole};
-use crate::ranked::ranks_over;
+use crate::ranking::ranks_over;
 use crate::settle::RankedEdges;
 use crate::types::Walk;
 use edge_graph::graph::Graph;

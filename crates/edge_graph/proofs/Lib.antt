@@ -13,4 +13,4 @@ pub mod EdgesOut
 pub mod ArcsOut
 pub mod Orderings
 pub mod EdgesIn
-pub mod Arcs
+pub mod EdgeArcs

@@ -69,7 +69,7 @@ HasWayByVersion g d e =
 pub record IsWalkBetween (g : Parts) (kinds : Kinds) (from to : ℕ) (walk : List ℕ) : Type 0 where
   pub first : IsPlace g.txns from
   pub last : IsPlace g.txns to
-  pub walk : IsWalk (IsArc g kinds) from to walk
+  pub steps : IsWalk (IsArc g kinds) from to walk
 
 abbrev pub HasWalkBetween : Parts → Kinds → (from to : ℕ) → Type 0
 HasWalkBetween g kinds from to = (walk : List ℕ) × IsWalkBetween g kinds from to walk
@@ -78,7 +78,7 @@ HasWalkBetween g kinds from to = (walk : List ℕ) × IsWalkBetween g kinds from
 pub record AreEdgesBetween (g : Parts) (kinds : Kinds) (from to : ℕ) (es : List Edge) : Type 0 where
   pub leads : Leads (txn_at g.txns from).invocation es (txn_at g.txns to).invocation
   pub among : All (Contains (edges_in g kinds.level)) es
-  pub kinds : All (λ e. IsTrue (includes kinds e.label)) es
+  pub of_kinds : All (λ e. IsTrue (includes kinds e.label)) es
 
 -- a walk from some transaction to some transaction
 abbrev pub IsTxnWalk : Parts → Kinds → List ℕ → Type 0

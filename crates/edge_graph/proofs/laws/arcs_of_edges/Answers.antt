@@ -1,4 +1,4 @@
-use Rattle.edge_graph.proofs.Arcs.{arc_of_ww, arc_of_wr, way_of_rw}
+use Rattle.edge_graph.proofs.EdgeArcs.{arc_of_ww, arc_of_wr, way_of_rw}
 use Rattle.edge_graph.proofs.laws.arcs_of_edges.Goals as goal
 
 pub returns : goal.returns

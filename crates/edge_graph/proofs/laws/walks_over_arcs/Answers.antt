@@ -1,4 +1,4 @@
-use Rattle.edge_graph.proofs.Arcs.{walk_over}
+use Rattle.edge_graph.proofs.EdgeArcs.{walk_over}
 use Rattle.edge_graph.proofs.laws.walks_over_arcs.Goals as goal
 
 pub returns : goal.returns

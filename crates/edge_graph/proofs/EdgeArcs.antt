@@ -124,6 +124,9 @@ rw_is_no_order (rw earlier later) e = refl
 rw_is_no_order (process number) e = absurd (false≢true e)
 rw_is_no_order (realtime completion invocation) e = absurd (false≢true e)
 
+abbrev edge_by : ℕ → ℕ → Label → Edge
+edge_by from to label = record { from = from; to = to; label = label }
+
 abbrev inv : Parts → ℕ → ℕ
 inv g place = (txn_at g.txns place).invocation
 
@@ -132,10 +135,7 @@ module _ (g : Parts) where
   edge_at from to label = edge (txn_at g.txns from) (txn_at g.txns to) label
 
   at_places : (from to : ℕ) (e : Edge) → e.from ≡ inv g from → e.to ≡ inv g to → e ≡ edge_at from to e.label
-  at_places from to e begins ends = ap (λ n. whole n e.to) begins ∙ ap (whole (inv g from)) ends
-    where
-      abbrev whole : ℕ → ℕ → Edge
-      whole m n = record { from = m; to = n; label = e.label }
+  at_places from to e begins ends = ap (λ n. edge_by n e.to e.label) begins ∙ ap (λ n. edge_by (inv g from) n e.label) ends
 
   -- the places of a dependency edge's ends
   ends_of : (e : Edge) → Contains (dependency_edges g.txns) e → (from to : ℕ) × LeadsBetween g from to e
@@ -351,8 +351,8 @@ module _ (g : Parts) where
     walk_over from to h k es are =
         let (walk, is) =
         walk_from es from to h k are.leads (recursion_from_All (λ e. Contains (edges_in g kinds.level) e) es are.among)
-        (recursion_from_All (λ (e : Edge). includes kinds e.label ≡ true) es are.kinds) in
-        (walk, record { first = h; last = k; walk = is })
+        (recursion_from_All (λ (e : Edge). includes kinds e.label ≡ true) es are.of_kinds) in
+        (walk, record { first = h; last = k; steps = is })
 
     -- ---- the edges of a walk
 
@@ -398,17 +398,17 @@ module _ (g : Parts) where
 
     pub next_on_walk : (first last : ℕ) (walk : List ℕ) (from i : ℕ) → IsWalkBetween g kinds first last walk → IsPlace g.txns from → i < length walk → IsReached from (slice_index walk (i - 1)) → IsNext from (slice_index walk i)
     next_on_walk first last walk from zero is h k reached =
-        let here : IsPlace g.txns (slice_index walk 0) = subst (IsPlace g.txns) (sym is.walk.begins) is.first in
+        let here : IsPlace g.txns (slice_index walk 0) = subst (IsPlace g.txns) (sym is.steps.begins) is.first in
         elim reached [ inl same ↦ inr (here, inl same) | inr (v, at, rest) ↦ absurd (no_place g (slice_index walk 0) v at here) ]
     next_on_walk first last walk from (suc i) is h k reached =
         let at : i + 1 ≡ suc i = omega arith in
         next_of from (slice_index walk i) (slice_index walk (suc i)) h reached
-        (subst (λ n. Arc (slice_index walk i) (slice_index walk n)) at (is.walk.joined i (omega (arith, k))))
+        (subst (λ n. Arc (slice_index walk i) (slice_index walk n)) at (is.steps.joined i (omega (arith, k))))
 
     pub reached_end : (first last : ℕ) (walk : List ℕ) (from : ℕ) → IsWalkBetween g kinds first last walk → IsReached from (slice_index walk (length walk - 1)) → from ≡ slice_index walk (length walk - 1)
     reached_end first last walk from is reached =
         let n = slice_index walk (length walk - 1) in
-        let here : IsPlace g.txns n = subst (IsPlace g.txns) (sym is.walk.ends) is.last in
+        let here : IsPlace g.txns n = subst (IsPlace g.txns) (sym is.steps.ends) is.last in
         elim reached [ inl same ↦ sym same | inr (v, at, rest) ↦ absurd (no_place g n v at here) ]
 
     leads_on : (a b : ℕ) (es : List Edge) (e : Edge) → Leads a es b → e.from ≡ b → Leads a (es ++ e ∷ []) e.to
@@ -416,7 +416,7 @@ module _ (g : Parts) where
     leads_on a b (d ∷ es) e (first, leads) same = (first, leads_on d.to b es e leads same)
 
     pub no_edges : (from : ℕ) → AreEdgesBetween g kinds from from []
-    no_edges from = record { leads = refl; among = λ k d h. absurd (omega (arith, h)); kinds = λ k d h. absurd (omega (arith, h)) }
+    no_edges from = record { leads = refl; among = λ k d h. absurd (omega (arith, h)); of_kinds = λ k d h. absurd (omega (arith, h)) }
 
     pub one_more_edge : (first from to : ℕ) (es : List Edge) (e : Edge) → AreEdgesBetween g kinds first from es → IsEdgeBetween g kinds from to e → AreEdgesBetween g kinds first to (es ++ e ∷ [])
     one_more_edge first from to es e are is =
@@ -425,5 +425,5 @@ module _ (g : Parts) where
         record {
           leads = subst (Leads (inv g first) (es ++ e ∷ [])) is.leads.ends (leads_on (inv g first) (inv g from) es e are.leads is.leads.begins);
           among = All-append Among es (e ∷ []) are.among (All-from_recursion Among (e ∷ []) (is.edge.among, tt));
-          kinds = All-append OfKind es (e ∷ []) are.kinds (All-from_recursion OfKind (e ∷ []) (is.edge.kind, tt));
+          of_kinds = All-append OfKind es (e ∷ []) are.of_kinds (All-from_recursion OfKind (e ∷ []) (is.edge.kind, tt));
         }

@@ -2,7 +2,6 @@
 
 ghost use Rattle.std.specs.Prelude.{◌≡◌, IfOk};
 ghost use Rattle.edge_graph.specs.Kinds.{kinds_of};
-ghost use Rattle.cycle_find.specs.Ranked as ranked;
 ghost use Rattle.cycle_find.specs.Ranked.{AreRanksOver};
 
 use edge_graph::graph::Graph;
