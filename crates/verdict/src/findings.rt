@@ -35,7 +35,7 @@ impl<'a> Model for Lowest<'a> {
 }
 
 /// The lowest level of the phenomenon, if it is there at any.
-fn lowest<'a>(
+fn find_lowest<'a>(
     alloc: Global,
     graph: &Graph<'_, '_, 'a>,
     phenomenon: Phenomenon,
@@ -67,7 +67,7 @@ fn lowest<'a>(
 }
 
 /// What is found of the phenomenon.
-fn finding<'a>(
+fn find_phenomenon<'a>(
     alloc: Global,
     graph: &Graph<'_, '_, 'a>,
     phenomenon: Phenomenon,
@@ -76,7 +76,7 @@ fn finding<'a>(
     ensures ok { IfOk result (IsFinding phenomenon graph.now.txns) }
     ensures err { IfErr result (λ fault. fault ≡ memory_fault) }
 {
-    let Some(lowest) = lowest(alloc, graph, phenomenon)? else {
+    let Some(lowest) = find_lowest(alloc, graph, phenomenon)? else {
         return Ok(None);
     };
     let witness = tighten(alloc, &lowest.walk)?;
@@ -87,7 +87,7 @@ fn finding<'a>(
 }
 
 /// What is found of each phenomenon.
-fn findings<'a>(alloc: Global, graph: &Graph<'_, '_, 'a>) -> Result<Findings<'a>, Fault>
+fn find_each<'a>(alloc: Global, graph: &Graph<'_, '_, 'a>) -> Result<Findings<'a>, Fault>
     requires { IsThinned graph.now }
     ensures ok { IfOk result (AreFindings graph.now.txns) }
     ensures err { IfErr result (λ fault. fault ≡ memory_fault) }
@@ -96,10 +96,10 @@ fn findings<'a>(alloc: Global, graph: &Graph<'_, '_, 'a>) -> Result<Findings<'a>
         return Ok(Findings::none());
     }
     Ok(Findings {
-        g0: finding(alloc, graph, Phenomenon::G0)?,
-        g1c: finding(alloc, graph, Phenomenon::G1c)?,
-        single: finding(alloc, graph, Phenomenon::GSingle)?,
-        item: finding(alloc, graph, Phenomenon::G2Item)?,
+        g0: find_phenomenon(alloc, graph, Phenomenon::G0)?,
+        g1c: find_phenomenon(alloc, graph, Phenomenon::G1c)?,
+        single: find_phenomenon(alloc, graph, Phenomenon::GSingle)?,
+        item: find_phenomenon(alloc, graph, Phenomenon::G2Item)?,
     })
 }
 
@@ -116,5 +116,5 @@ pub fn findings_of<'a>(
 {
     let order = thin(alloc, txns)?;
     let graph = Graph::new(alloc, deps, &order)?;
-    findings(alloc, &graph)
+    find_each(alloc, &graph)
 }
