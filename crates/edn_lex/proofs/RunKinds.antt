@@ -21,7 +21,7 @@ digit_low b h = grind (arith, nat_tests)
 sign_low : (b : ℕ) → is_sign b ≡ true → is_low b ≡ true
 sign_low b h = grind (arith, nat_tests)
 
-digits_low : (bs : List ℕ) → list_all is_ascii_digit bs ≡ true → list_all is_low bs ≡ true
+pub digits_low : (bs : List ℕ) → list_all is_ascii_digit bs ≡ true → list_all is_low bs ≡ true
 digits_low [] h = refl
 digits_low (b ∷ bs) h =
     let parts = and_parts (is_ascii_digit b) (list_all is_ascii_digit bs) h in

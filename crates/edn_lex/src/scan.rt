@@ -77,6 +77,30 @@ pub(crate) fn begins_run(text: &[u8]) -> bool
     }
 }
 
+/// Whether no run goes on here: a blank, a bracket, a quote or a semicolon comes first, or the text's end.
+#[inline(always)]
+pub(crate) fn ends_run(text: &[u8]) -> bool
+    ensures { result ≡ true → longest_run text.now ≡ 0 }
+{
+    match text {
+        [] => true,
+        [b, ..] => flags_of(*b) & ENDS_RUN != 0,
+    }
+}
+
+/// How many decimal digits are at the front of the text.
+#[inline(always)]
+pub(crate) fn digits_len(text: &[u8]) -> usize
+    ensures fits { result ≤ length text.now }
+    ensures digits { list_all is_ascii_digit (take result text.now) ≡ true }
+{
+    let mut len = 0;
+    while len < text.len() && text[len].is_ascii_digit() {
+        len += 1;
+    }
+    len
+}
+
 /// The longest run at the front of the text.
 pub(crate) fn first_run(text: &[u8]) -> Run
     ensures len { result.len ≡ longest_run text.now }
