@@ -11,12 +11,12 @@ use Rattle.std.proofs.lemmas.List.{get_or-drop, reverse-append, length-reverse, 
 use Rattle.std.proofs.Math.Seq.{take-append_seam}
 use Rattle.std.proofs.lemmas.Str.{utf8_valid_len-IsUtf8, IsUtf8-from_ascii}
 use Rattle.hist_types.specs.Bytes.{is_blank, is_run_byte, zero_digit, open_square, close_square, open_brace, close_brace}
-use Rattle.hist_types.specs.Tokens.{ItemKind, Blank, Opener, Closer, Nil, True, False, Int, Keyword, Symbol, Other, first_byte, closer_of, front, is_token, is_int, is_keyword, is_symbol, run_of, run_len, run_kind, nesting_refusal, open_after}
+use Rattle.hist_types.specs.Tokens.{ItemKind, Blank, Opener, Closer, Tag, Nil, True, False, Int, Keyword, Symbol, Other, first_byte, closer_of, front, is_token, is_int, is_keyword, is_symbol, run_of, run_len, run_kind, nesting_refusal, open_after}
 use Rattle.hist_types.specs.declared.limits.TheConstants.{MAX_OPEN_COLLECTIONS}
 use Rattle.hist_types.specs.declared.types.Refusal.TheVariants.{TooDeep}
 use Rattle.edn_lex.specs.declared.types.Token.{Token}
 use Rattle.edn_lex.specs.declared.types.TokenKind.TheVariants as kinds
-use Rattle.edn_lex.specs.Ahead.{is_lone, going_at, IsGap, IsLoneAt, IsWord, GivesLone, HasGivenLone, GivesOpener, GivesCloser}
+use Rattle.edn_lex.specs.Ahead.{is_lone, going_at, IsGap, IsLoneAt, IsWord, GivesLone, HasGivenLone, GivesTag, GivesOpener, GivesCloser}
 use Rattle.edn_lex.specs.Collections.{closer_byte, closers_of}
 use Rattle.edn_lex.specs.declared.lexer.Collection.{Collection}
 use Rattle.edn_lex.specs.Kinds.{kind_of, is_low}
@@ -183,6 +183,19 @@ number_word ds some digits leading =
       digit_is_no (first_byte ds) 92 first refl,
       digits_are ds some digits leading,
     )
+
+-- ---- tags
+
+pub tag_given :
+    (text : List ℕ) (offset start : ℕ) (xs : List ℕ) (len : ℕ) → IsGap text offset start → xs ≡ drop start text → 0 < len → len ≤ length xs → front (first_byte xs) (drop 1 xs) ≡ (Tag, Some len) → IsAscii (take len xs) →
+    GivesTag text offset (record { kind = kinds.Tag; start = start; end = start + len })
+tag_given text offset start xs len gap same some fits found ascii =
+    let t : Token = record { kind = kinds.Tag; start = start; end = start + len } in
+    record {
+      kind = refl;
+      gives = λ closers.
+          given_at text offset start xs Tag len t closers closers (gapped text closers offset start gap.low gap.fits gap.blanks) same gap.fits some fits found ascii refl refl (refl, refl, refl);
+    }
 
 -- what a call gives
 pub lone_call : (s : State) (token : Token) → s.ended ≡ false → GivesLone s.text s.offset token → HasGivenLone s token (record s { offset = token.end })

@@ -49,6 +49,11 @@ pub record HasGivenLone (s : State) (token : Token) (t : State) : Type 0 where
   pub lone : is_lone (kind_of token.kind) ≡ true
   pub gives : GivesToken s token t
 
+-- the token that is given from the offset on is a tag
+pub record GivesTag (text : List ℕ) (offset : ℕ) (token : Token) : Type 0 where
+  pub kind : kind_of token.kind ≡ Tag
+  pub gives : (closers : List ℕ) → GivesToken (going_at text offset closers) token (going_at text token.end closers)
+
 -- the token that is given from the offset on is this one byte, and opens a collection that waits for the closer
 pub record GivesOpener (text : List ℕ) (offset : ℕ) (byte closer : ℕ) (token : Token) : Type 0 where
   pub kind : kind_of token.kind ≡ Opener

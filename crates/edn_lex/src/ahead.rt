@@ -2,13 +2,13 @@
 
 ghost use Rattle.std.specs.Prelude.{◌≡◌, ◌≤◌, length, IfSome};
 ghost use Rattle.hist_types.specs.Bytes.{open_square, close_square, open_brace, close_brace};
-ghost use Rattle.edn_lex.specs.Ahead.{IsGap, IsWord, IsLoneAt, GivesLone, GivesOpener, GivesCloser, GivesTriple};
+ghost use Rattle.edn_lex.specs.Ahead.{IsGap, IsWord, IsLoneAt, GivesLone, GivesTag, GivesOpener, GivesCloser, GivesTriple};
 ghost use Rattle.edn_lex.specs.Kinds.{kind_of, item_of};
 ghost use Rattle.edn_lex.specs.declared.types.TokenKind.TheVariants.{Int};
 
 use crate::pieces::run_piece;
 use crate::runs::has_no_leading_zero;
-use crate::scan::{begins_run, digits_len, ends_run, is_blank};
+use crate::scan::{begins_run, begins_tag, digits_len, ends_run, first_run, is_blank};
 use crate::types::{Token, TokenKind};
 
 /// A vector of three tokens that are forms, with its brackets.
@@ -114,6 +114,29 @@ pub fn lone_token(text: &[u8], offset: usize) -> Option<Token>
     ensures fits { IfSome result (λ token. token.end ≤ length text.now) }
 {
     lone_at(text, behind_blanks(text, offset))
+}
+
+/// The next token, if it is a tag of ASCII.
+#[inline(always)]
+pub fn tag_token(text: &[u8], offset: usize) -> Option<Token>
+    requires { offset ≤ length text.now }
+    ensures gives { IfSome result (GivesTag text.now offset) }
+    ensures fits { IfSome result (λ token. token.end ≤ length text.now) }
+{
+    let start = behind_blanks(text, offset);
+    let rest = &text[start..];
+    if !begins_tag(rest) {
+        return None;
+    }
+    let tag = first_run(rest);
+    if !tag.ascii {
+        return None;
+    }
+    Some(Token {
+        kind: TokenKind::Tag,
+        start,
+        end: start + tag.len,
+    })
 }
 
 /// The next token, if it opens a vector.

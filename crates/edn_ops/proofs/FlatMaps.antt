@@ -13,7 +13,7 @@ use Rattle.hist_types.specs.declared.limits.TheConstants.{MAX_OPEN_COLLECTIONS, 
 use Rattle.hist_types.specs.declared.types.Fault.{Fault}
 use Rattle.hist_types.specs.declared.types.OpKind.{OpKind}
 use Rattle.hist_types.specs.declared.types.Refusal.TheVariants.{NotTxn}
-use Rattle.edn_lex.specs.Ahead.{going_at, GivesLone, GivesOpener, GivesCloser, GivesTriple, LooksAheadInMap}
+use Rattle.edn_lex.specs.Ahead.{going_at, IsLoneAt, GivesLone, GivesOpener, GivesCloser, GivesTriple, LooksAheadInMap}
 use Rattle.edn_lex.specs.Kinds.{item_of, kind_of as kind_of_token}
 use Rattle.edn_lex.specs.State.{State}
 use Rattle.edn_lex.specs.declared.ahead.Triple.{Triple}
@@ -137,6 +137,10 @@ mop_ahead text offset triple old shape new h fits room is pushed = (
       ap (λ (xs : List MopShape). Ok xs) pushed
       ∙ one_micro_op old members (triple_form text triple) shape e room (triple_mop text offset triple (Ok shape) h is),
 )
+
+-- a token that begins at the offset
+pub lone_here : (text : List ℕ) (offset : ℕ) (token : Token) → offset ≤ length text → IsLoneAt text offset token → GivesLone text offset token
+lone_here text offset token within h = h offset (record { low = omega arith; fits = within; blanks = λ k low high. absurd (omega arith) })
 
 -- ---- transactions
 

@@ -1,7 +1,7 @@
 -- Maps as printers write them, read in one pass over their bytes.
 use Rattle.std.specs.Prelude.{◌≡◌, ◌⊎◌, ℕ, ℤ, ◌+◌, ◌≤◌, List, [], ◌∷◌, ◌++◌, length, Bool, true, false, codes, Option, Some, None, Result, Ok, Err}
 use Rattle.hist_types.specs.AtomTokens.{process_of}
-use Rattle.hist_types.specs.Bytes.{close_brace}
+use Rattle.hist_types.specs.Bytes.{open_brace, close_brace}
 use Rattle.hist_types.specs.Entries.{entry_of, int_of, is_named, kind_of, micro_ops_of, transaction_of}
 use Rattle.hist_types.specs.Forms.{Form, plain}
 use Rattle.hist_types.specs.Refusals.{memory_fault}
@@ -10,7 +10,7 @@ use Rattle.hist_types.specs.declared.limits.TheConstants.{MAX_OPEN_COLLECTIONS}
 use Rattle.hist_types.specs.declared.types.Fault.{Fault}
 use Rattle.hist_types.specs.declared.types.OpKind.{OpKind}
 use Rattle.hist_types.specs.declared.types.OpKind.TheVariants as kinds
-use Rattle.edn_lex.specs.Ahead.{going_at, GivesCloser}
+use Rattle.edn_lex.specs.Ahead.{going_at, GivesTag, GivesOpener, GivesCloser}
 use Rattle.edn_lex.specs.Kinds.{item_of}
 use Rattle.edn_lex.specs.State.{State}
 use Rattle.edn_lex.specs.declared.types.Token.{Token}
@@ -106,6 +106,12 @@ pub record ReadsFlatMap (text : List ℕ) (offset : ℕ) (fields : FlatFields) (
   pub closes : GivesCloser text inner close_brace closer
   pub end_is : end ≡ closer.end
   pub within : end ≤ length text
+
+-- a token of one byte opens a map: the one that is given from the offset on, or the one behind a tag
+abbrev pub OpensOperation : List ℕ → ℕ → Token → Type 0
+OpensOperation text offset opener =
+    GivesOpener text offset open_brace close_brace opener
+    ⊎ ((tag : Token) × GivesTag text offset tag × GivesOpener text tag.end open_brace close_brace opener)
 
 -- an operation of this kind has a transaction
 abbrev pub HasTransaction : OpKind → Type 0

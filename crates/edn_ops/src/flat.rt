@@ -5,18 +5,18 @@ ghost use Rattle.std.specs.Prelude.{◌≡◌, ◌≤◌, ℤ, List, [], length,
 ghost use Rattle.hist_types.specs.AtomTokens.{process_of as process_of_number};
 ghost use Rattle.hist_types.specs.Entries.{int_of, kind_of as kind_of_form};
 ghost use Rattle.hist_types.specs.Forms.{Form, plain, is_map};
-ghost use Rattle.edn_lex.specs.Ahead.{GivesLone, GivesTriple};
+ghost use Rattle.edn_lex.specs.Ahead.{IsLoneAt, GivesLone, GivesTriple};
 ghost use Rattle.edn_lex.specs.Kinds.{item_of};
 ghost use Rattle.edn_ops.specs.Outlines.{outline_of, IsTokenIn, IsOutlineIn};
-ghost use Rattle.edn_ops.specs.Flat.{ReadsFlatMop, ReadsFlatTransaction, AreFlat, IsName, ReadsFlatValue, ReadsFlatField, GivesFlatMap, GivesFlatShape, ReadsFlatOperation, HasTransaction};
+ghost use Rattle.edn_ops.specs.Flat.{ReadsFlatMop, ReadsFlatTransaction, AreFlat, IsName, ReadsFlatValue, ReadsFlatField, GivesFlatMap, OpensOperation, GivesFlatShape, ReadsFlatOperation, HasTransaction};
 
 use crate::atoms;
 use crate::micro_ops::micro_op;
 use crate::outline::{Outline, bytes_of};
 use crate::types::{MopShape, OpShape, Span};
 use edn_lex::ahead::{
-    Triple, behind_blanks, lone_at, lone_token, map_closer, number_at, run_at, vector_closer,
-    vector_opener, word_at,
+    Triple, behind_blanks, lone_at, lone_token, map_closer, map_opener, number_at, run_at, tag_token,
+    vector_closer, vector_opener, word_at,
 };
 use edn_lex::lexer::Lexer;
 use edn_lex::types::{Token, TokenKind};
@@ -135,14 +135,13 @@ impl FlatFields {
     }
 }
 
-/// The next token, if it is `:w` or `:r`.
+/// The token that begins here, if it is `:w` or `:r`.
 #[inline(always)]
-fn mop_name(text: &[u8], offset: usize) -> Option<Token>
-    requires { offset ≤ length text.now }
-    ensures gives { IfSome result (GivesLone text.now offset) }
+fn mop_name(text: &[u8], start: usize) -> Option<Token>
+    requires { start ≤ length text.now }
+    ensures lone { IfSome result (IsLoneAt text.now start) }
     ensures fits { IfSome result (λ token. token.end ≤ length text.now) }
 {
-    let start = behind_blanks(text, offset);
     match word_at(text, start, b":w", TokenKind::Keyword) {
         Some(token) => Some(token),
         None => word_at(text, start, b":r", TokenKind::Keyword),
@@ -314,6 +313,19 @@ fn flat_map(
     match map_closer(text, at) {
         Some(closer) => Ok(Some(closer.end)),
         None => Ok(None),
+    }
+}
+
+/// The opener of a map, if it is the next token, or the one behind a tag.
+#[inline(always)]
+pub(crate) fn operation_opener(text: &[u8], offset: usize) -> Option<Token>
+    requires { offset ≤ length text.now }
+    ensures opens { IfSome result (OpensOperation text.now offset) }
+    ensures fits { IfSome result (λ token. token.end ≤ length text.now) }
+{
+    match map_opener(text, offset) {
+        Some(opener) => Some(opener),
+        None => map_opener(text, tag_token(text, offset)?.end),
     }
 }
 

@@ -1,8 +1,0 @@
-use Rattle.edn_lex.proofs.LookAhead.{lone_behind}
-use Rattle.edn_ops.proofs.flat.mop_name.Goals as goal
-
-pub returns-in-Some-clause-gives : goal.returns-in-Some-clause-gives
-returns-in-Some-clause-gives c = c.in-Some.ensures.lone c.args.offset c.behind_blanks-start.ensures
-
-pub returns-in-None-clause-gives : goal.returns-in-None-clause-gives
-returns-in-None-clause-gives c = lone_behind c.word_at-in-None.result c.args.text.now c.args.offset c.behind_blanks-start.result c.behind_blanks-start.ensures c.word_at-in-None.ensures.lone
