@@ -15,8 +15,8 @@ use crate::micro_ops::micro_op;
 use crate::outline::{Outline, bytes_of};
 use crate::types::{MopShape, OpShape, Span};
 use edn_lex::ahead::{
-    Triple, behind_blanks, lone_at, lone_token, map_closer, map_opener, number_at, run_at, tag_token,
-    vector_closer, vector_opener, word_at,
+    Triple, behind_blanks, lone_at, lone_token, map_closer, map_opener, number_at, run_at,
+    tag_token, vector_closer, vector_opener, word_at,
 };
 use edn_lex::lexer::Lexer;
 use edn_lex::types::{Token, TokenKind};
@@ -237,17 +237,29 @@ fn next_key(text: &[u8], offset: usize) -> Option<Key>
 {
     let start = behind_blanks(text, offset);
     if let Some(token) = word_at(text, start, b":type", TokenKind::Keyword) {
-        return Some(Key { name: Name::Kind, token });
+        return Some(Key {
+            name: Name::Kind,
+            token,
+        });
     }
     if let Some(token) = word_at(text, start, b":process", TokenKind::Keyword) {
-        return Some(Key { name: Name::Process, token });
+        return Some(Key {
+            name: Name::Process,
+            token,
+        });
     }
     if let Some(token) = word_at(text, start, b":value", TokenKind::Keyword) {
-        return Some(Key { name: Name::Value, token });
+        return Some(Key {
+            name: Name::Value,
+            token,
+        });
     }
     let token = run_at(text, start)?;
     if is_other(text, token) {
-        Some(Key { name: Name::Other, token })
+        Some(Key {
+            name: Name::Other,
+            token,
+        })
     } else {
         None
     }
