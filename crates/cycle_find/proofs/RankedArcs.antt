@@ -27,12 +27,12 @@ arc_from_within g kinds v w (x, y, at, at', leads) = vertex_within g v x at
 
 -- what a version leads to is a transaction
 behind : (g : Parts) (kinds : Kinds) (v w : ℕ) (x y : Vertex) → (IsPlace g.txns v → ⊥) → IsVertex g v x → IsVertex g w y → LeadsTo g kinds x y → IsPlace g.txns w
-behind g kinds v w (txn t) y no at at' leads = absurd (no (slice_get_within g.txns v t at))
-behind g kinds v w (version a) (txn u) no at at' leads = slice_get_within g.txns w u at'
-behind g kinds v w (version a) (version b) no at at' leads = absurd leads
+behind g kinds v w (txn t) y absent at at' leads = absurd (absent (slice_get_within g.txns v t at))
+behind g kinds v w (version a) (txn u) absent at at' leads = slice_get_within g.txns w u at'
+behind g kinds v w (version a) (version b) absent at at' leads = absurd leads
 
 pub behind_version : (g : Parts) (kinds : Kinds) (v w : ℕ) → (IsPlace g.txns v → ⊥) → IsArc g kinds v w → IsPlace g.txns w
-behind_version g kinds v w no (x, y, at, at', leads) = behind g kinds v w x y no at at' leads
+behind_version g kinds v w absent (x, y, at, at', leads) = behind g kinds v w x y absent at at' leads
 
 -- ---- walks
 

@@ -26,7 +26,7 @@ use Rattle.edge_graph.proofs.EdgeArcs.{arc_of_ww, arc_of_wr, way_of_rw, walk_ove
 use Rattle.cycle_find.specs.Dependencies.{needed, way_back, whole}
 use Rattle.cycle_find.specs.Found.{ShowNothing}
 use Rattle.cycle_find.specs.Ranked.{AreRanksOver}
-use Rattle.cycle_find.specs.Tasks.{Task, needed_kinds, back_kinds, HasReturnBetween, NoneAtAll}
+use Rattle.cycle_find.specs.Tasks.{Task, needed_kinds, back_kinds, HasReturnBetween, NoneFrom}
 use Rattle.cycle_find.specs.Ways.{LeadsOn, Rises}
 use Rattle.cycle_find.proofs.Closing.{back_kind}
 use Rattle.cycle_find.proofs.RankedArcs.{raise, fewer}
@@ -128,22 +128,22 @@ module _ (task : Task) (kept : AreOfHistory task.graph.txns) (by_versions : RwBy
   )
 
 abbrev task_of : Parts → Phenomenon → Level → Task
-task_of g phenomenon level = record { graph = g; phenomenon = phenomenon; level = level }
+task_of graph phenomenon level = record { graph = graph; phenomenon = phenomenon; level = level }
 
-met : (phenomenon : Phenomenon) (g : Parts) (level : Level) → AreOfHistory g.txns → RwByVersions g → HasReturn phenomenon (edges_in g level)
-    → (from by to : ℕ) × IsMet (task_of g phenomenon level) from by to
-met G0 g level kept by_versions (e, among, is, walk, back) =
-    directly (task_of g G0 level) kept by_versions Ww e walk refl among is back (arc_of_ww g kept level e among is)
-met G1c g level kept by_versions (e, among, is, walk, back) =
-    directly (task_of g G1c level) kept by_versions Wr e walk refl among is back (arc_of_wr g kept level e among is)
-met GSingle g level kept by_versions (e, among, is, walk, back) =
-    by_way (task_of g GSingle level) kept by_versions e walk refl among is back (way_of_rw g kept by_versions level e among is)
-met G2Item g level kept by_versions (e, among, is, walk, back) =
-    by_way (task_of g G2Item level) kept by_versions e walk refl among is back (way_of_rw g kept by_versions level e among is)
+met : (phenomenon : Phenomenon) (graph : Parts) (level : Level) → AreOfHistory graph.txns → RwByVersions graph → HasReturn phenomenon (edges_in graph level)
+    → (from by to : ℕ) × IsMet (task_of graph phenomenon level) from by to
+met G0 graph level kept by_versions (e, among, is, walk, back) =
+    directly (task_of graph G0 level) kept by_versions Ww e walk refl among is back (arc_of_ww graph level e among is)
+met G1c graph level kept by_versions (e, among, is, walk, back) =
+    directly (task_of graph G1c level) kept by_versions Wr e walk refl among is back (arc_of_wr graph level e among is)
+met GSingle graph level kept by_versions (e, among, is, walk, back) =
+    by_way (task_of graph GSingle level) kept by_versions e walk refl among is back (way_of_rw graph by_versions level e among is)
+met G2Item graph level kept by_versions (e, among, is, walk, back) =
+    by_way (task_of graph G2Item level) kept by_versions e walk refl among is back (way_of_rw graph by_versions level e among is)
 
 -- ---- none
 
-pub none_over : (task : Task) → AreOfHistory task.graph.txns → RwByVersions task.graph → NoneAtAll task → ¬ HasOver task.phenomenon (edges_in task.graph task.level)
+pub none_over : (task : Task) → AreOfHistory task.graph.txns → RwByVersions task.graph → ((from : ℕ) → IsPlace task.graph.txns from → NoneFrom task from) → ¬ HasOver task.phenomenon (edges_in task.graph task.level)
 none_over task kept by_versions none over =
     let (from, by, to, is) = met task.phenomenon task.graph task.level kept by_versions ((closed_by_one task.phenomenon (edges_in task.graph task.level)).0 over) in
     none from is.first by is.arc to is.last is.leads is.back
@@ -154,19 +154,19 @@ needed_of_all phenomenon = record { ww = λ h. refl; wr = λ h. refl; rw = λ h.
 back_of_all : (phenomenon : Phenomenon) → AreAmong (way_back phenomenon) AllOfThem
 back_of_all phenomenon = record { ww = λ h. refl; wr = λ h. refl; rw = λ h. refl }
 
-more_leads_on : (g : Parts) (few : Dependencies) (among : AreAmong few AllOfThem) (from by to : ℕ) → LeadsOn g (kinds_of few Plain) from by to → LeadsOn g (kinds_of AllOfThem Plain) from by to
-more_leads_on g few among from by to (inl same) = inl same
-more_leads_on g few among from by to (inr (no, other, arc)) = inr (no, other, more_at_level g few AllOfThem among Plain by to arc)
+more_leads_on : (graph : Parts) (few : Dependencies) (among : AreAmong few AllOfThem) (from by to : ℕ) → LeadsOn graph (kinds_of few Plain) from by to → LeadsOn graph (kinds_of AllOfThem Plain) from by to
+more_leads_on graph few among from by to (inl same) = inl same
+more_leads_on graph few among from by to (inr (absent, other, arc)) = inr (absent, other, more_at_level graph few AllOfThem among Plain by to arc)
 
 -- where the rank rises along each dependency edge, no edge has a way back
-pub settled : (g : Parts) (level : Level) (ranks : List ℕ) → AreOfHistory g.txns → RwByVersions g → AreRanksOver g (kinds_of AllOfThem level) ranks → Rises g (kinds_of AllOfThem Plain) ranks
-    → ShowNothing (edges_in g level)
-settled g level ranks kept by_versions are rise phenomenon over =
-    let (from, by, to, is) = met phenomenon g level kept by_versions ((closed_by_one phenomenon (edges_in g level)).0 over) in
+pub settled : (graph : Parts) (level : Level) (ranks : List ℕ) → AreOfHistory graph.txns → RwByVersions graph → AreRanksOver graph (kinds_of AllOfThem level) ranks → Rises graph (kinds_of AllOfThem Plain) ranks
+    → ShowNothing (edges_in graph level)
+settled graph level ranks kept by_versions are rise phenomenon over =
+    let (from, by, to, is) = met phenomenon graph level kept by_versions ((closed_by_one phenomenon (edges_in graph level)).0 over) in
     let among = needed_of_all phenomenon in
     let up : get_or ranks from 0 < get_or ranks to 0 =
-    rise from is.first by (more_at_level g (needed phenomenon) AllOfThem among Plain from by is.arc) to is.last (more_leads_on g (needed phenomenon) among from by to is.leads) in
+    rise from is.first by (more_at_level graph (needed phenomenon) AllOfThem among Plain from by is.arc) to is.last (more_leads_on graph (needed phenomenon) among from by to is.leads) in
     let walk = is.back.1.0 in
     let down : get_or ranks to 0 ≤ get_or ranks from 0 =
-    raise g (kinds_of (way_back phenomenon) level) ranks (fewer g (way_back phenomenon) AllOfThem level ranks (back_of_all phenomenon) are) to from walk is.back.1.1.steps in
+    raise graph (kinds_of (way_back phenomenon) level) ranks (fewer graph (way_back phenomenon) AllOfThem level ranks (back_of_all phenomenon) are) to from walk is.back.1.1.steps in
     absurd (omega (arith, up, down))
