@@ -293,13 +293,18 @@ module _ (g : Parts) where
         record {
           some = omega arith;
           begins = refl;
-          ends = is.ends;
+          ends =
+              let n : suc (suc (length vs)) - 1 ≡ suc (length vs) = omega arith in
+              let m : suc (length vs) - 1 ≡ length vs = omega arith in
+              ap (λ k. slice_index (from ∷ v ∷ vs) k) n ∙ ap (λ k. slice_index (v ∷ vs) k) (sym m) ∙ is.ends;
           joined = joined';
         }
       where
         joined' : (k : ℕ) → k + 1 < length (from ∷ v ∷ vs) → Arc (slice_index (from ∷ v ∷ vs) k) (slice_index (from ∷ v ∷ vs) (k + 1))
         joined' zero h = subst (Arc from) (sym is.begins) arc
-        joined' (suc k) h = is.joined k (omega (arith, h))
+        joined' (suc k) h =
+            let e : suc (k + 1) ≡ suc k + 1 = omega arith in
+            subst (λ n. Arc (slice_index (from ∷ v ∷ vs) (suc k)) (slice_index (from ∷ v ∷ vs) n)) e (is.joined k (omega (arith, h)))
 
     abbrev LeadsOn : ℕ → ℕ → Type 0
     LeadsOn from next = (to : ℕ) (walk : List ℕ) → IsWalk Arc next to walk → (walk' : List ℕ) × IsWalk Arc from to walk'
@@ -380,9 +385,9 @@ module _ (g : Parts) where
             → (v : Version) × IsVertex g next (version v) × (kinds.rw ≡ true) × (reads (txn_at g.txns from) v ≡ true)
         to_version from vertex next h (inl same) x y none at at' leads =
             read_at kinds from next x y h none (subst (λ n. IsVertex g n x) same at) at' leads
-        to_version from vertex next h (inr (v, here, rest)) (txn t) y none at at' leads = absurd (no_place g vertex v here (slice_get_within g.txns vertex t at))
-        to_version from vertex next h (inr (v, here, rest)) (version w) (version z) none at at' leads = absurd leads
-        to_version from vertex next h (inr (v, here, rest)) (version w) (txn u) none at at' leads = absurd (none (slice_get_within g.txns next u at'))
+        to_version from vertex next h (inr (v, here, allowed, read)) (txn t) y none at at' leads = absurd (no_place g vertex v here (slice_get_within g.txns vertex t at))
+        to_version from vertex next h (inr (v, here, allowed, read)) (version w) (version z) none at at' leads = absurd leads
+        to_version from vertex next h (inr (v, here, allowed, read)) (version w) (txn u) none at at' leads = absurd (none (slice_get_within g.txns next u at'))
 
         to_txn : IsPlace g.txns next → (next ≡ from) ⊎ HasEdgeBetween g kinds from next
         to_txn k = elim reached [
@@ -399,17 +404,18 @@ module _ (g : Parts) where
     pub next_on_walk : (first last : ℕ) (walk : List ℕ) (from i : ℕ) → IsWalkBetween g kinds first last walk → IsPlace g.txns from → i < length walk → IsReached from (slice_index walk (i - 1)) → IsNext from (slice_index walk i)
     next_on_walk first last walk from zero is h k reached =
         let here : IsPlace g.txns (slice_index walk 0) = subst (IsPlace g.txns) (sym is.steps.begins) is.first in
-        elim reached [ inl same ↦ inr (here, inl same) | inr (v, at, rest) ↦ absurd (no_place g (slice_index walk 0) v at here) ]
+        elim reached [ inl same ↦ inr (here, inl same) | inr (v, at, allowed, read) ↦ absurd (no_place g (slice_index walk 0) v at here) ]
     next_on_walk first last walk from (suc i) is h k reached =
         let at : i + 1 ≡ suc i = omega arith in
-        next_of from (slice_index walk i) (slice_index walk (suc i)) h reached
+        let last : suc i - 1 ≡ i = omega arith in
+        next_of from (slice_index walk i) (slice_index walk (suc i)) h (subst (λ n. IsReached from (slice_index walk n)) last reached)
         (subst (λ n. Arc (slice_index walk i) (slice_index walk n)) at (is.steps.joined i (omega (arith, k))))
 
     pub reached_end : (first last : ℕ) (walk : List ℕ) (from : ℕ) → IsWalkBetween g kinds first last walk → IsReached from (slice_index walk (length walk - 1)) → from ≡ slice_index walk (length walk - 1)
     reached_end first last walk from is reached =
         let n = slice_index walk (length walk - 1) in
         let here : IsPlace g.txns n = subst (IsPlace g.txns) (sym is.steps.ends) is.last in
-        elim reached [ inl same ↦ sym same | inr (v, at, rest) ↦ absurd (no_place g n v at here) ]
+        elim reached [ inl same ↦ sym same | inr (v, at, allowed, read) ↦ absurd (no_place g n v at here) ]
 
     leads_on : (a b : ℕ) (es : List Edge) (e : Edge) → Leads a es b → e.from ≡ b → Leads a (es ++ e ∷ []) e.to
     leads_on a b [] e leads same = (same ∙ sym leads, refl)

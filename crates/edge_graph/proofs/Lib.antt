@@ -14,3 +14,4 @@ pub mod ArcsOut
 pub mod Orderings
 pub mod EdgesIn
 pub mod EdgeArcs
+pub mod Between
