@@ -5,7 +5,7 @@ use Rattle.hist_types.specs.Edges.{Edge}
 use Rattle.hist_types.specs.Transactions.{Transaction}
 use Rattle.hist_types.proofs.Members.{In, in_back}
 use Rattle.dep_edges.specs.Tables.{txn_at}
-use Rattle.edge_graph.specs.Parts.{Parts}
+use Rattle.edge_graph.specs.Parts.{Parts, AddsEdgesFrom}
 use Rattle.edge_graph.proofs.Between.{given_front, NoneLeads, none_more, one_found, none_found}
 use Rattle.edge_graph.proofs.graph.Graph.edge_between.Goals as goal
 
@@ -23,8 +23,11 @@ returns-then-to-invocation c =
     let front = given_front it c.loop-edge.yielded c.loop-edge.edge-iterator c.loop-edge.yielded_by in
     let i : In e rest = subst (In e) (sym c.in-Some.ensures.steps.0) (inl refl) in
     let j : In e (into_iter_items it) = subst (In e) (sym front) (in_back e c.loop-edge.yielded rest i) in
+    let added : AddsEdgesFrom g c.args.kinds c.args.from [] (into_iter_items it) =
+    subst (AddsEdgesFrom g c.args.kinds c.args.from []) (sym c.into_iter-edge-iterator.ensures.into_iter_gives.0)
+    (subst (λ (before : List Edge). AddsEdgesFrom g c.args.kinds c.args.from before c.edges_from.new.out.items) c.new-leaving.ensures.items c.in_ok-edges_from.ensures.ok) in
     let at = c.invocation-invocation.ensures ∙ ap (λ (x : Transaction). x.invocation) (c.txn.ensures ∙ ap (λ (g : Parts). txn_at g.txns c.args.to) c.self.view_is) in
-    one_found g c.args.kinds c.args.from c.args.to c.invocation-invocation.result (into_iter_items it) c.requires.from c.requires.to ? at e j
+    one_found g c.args.kinds c.args.from c.args.to c.invocation-invocation.result (into_iter_items it) c.requires.from c.requires.to added at e j
     (sym c.to.ensures ∙ c.if-to-invocation.true)
 
 pub returns : goal.returns
@@ -36,6 +39,9 @@ returns c =
     let front : into_iter_items it ≡ c.loop-edge.yielded =
     given_front it c.loop-edge.yielded c.loop-edge.edge-iterator c.loop-edge.yielded_by
     ∙ ap (λ (es : List Edge). c.loop-edge.yielded ++ es) none ∙ append-nil c.loop-edge.yielded in
+    let added : AddsEdgesFrom g c.args.kinds c.args.from [] (into_iter_items it) =
+    subst (AddsEdgesFrom g c.args.kinds c.args.from []) (sym c.into_iter-edge-iterator.ensures.into_iter_gives.0)
+    (subst (λ (before : List Edge). AddsEdgesFrom g c.args.kinds c.args.from before c.edges_from.new.out.items) c.new-leaving.ensures.items c.in_ok-edges_from.ensures.ok) in
     let at = c.invocation-invocation.ensures ∙ ap (λ (x : Transaction). x.invocation) (c.txn.ensures ∙ ap (λ (g : Parts). txn_at g.txns c.args.to) c.self.view_is) in
-    none_found g c.args.kinds c.args.from c.args.to c.invocation-invocation.result (into_iter_items it) c.requires.from c.requires.to ? at
+    none_found g c.args.kinds c.args.from c.args.to c.invocation-invocation.result (into_iter_items it) c.requires.from c.requires.to added at
     (subst (NoneLeads c.invocation-invocation.result) (sym front) c.loop-edge.invariant)
