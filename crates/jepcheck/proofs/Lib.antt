@@ -1,9 +1,5 @@
 pub mod Lists
 pub mod Leaving
-pub mod Lookups
-pub mod Noting
-pub mod Values
-pub mod Sights
 pub mod Pieces
 pub mod Moved
 pub mod Readings

@@ -2,7 +2,6 @@ pub mod Answers
 pub mod Blocks
 pub mod Pieces
 pub mod Printing
-pub mod Writers
 pub mod Statuses
 pub mod Lines
 pub mod Runs

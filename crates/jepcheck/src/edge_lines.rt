@@ -82,20 +82,20 @@ fn write_number(out: &mut Vec<u8>, number: u64) -> Result<(), AllocError>
     out.extend_from_slice(Buffer::new().format(number).as_bytes())
 }
 
-fn write_name(out: &mut Vec<u8>, transaction: u64) -> Result<(), AllocError>
+pub fn write_name(out: &mut Vec<u8>, transaction: u64) -> Result<(), AllocError>
     ensures { OnOk result (out.new.items ≡ out.old.items ++ transaction_name transaction) }
 {
     out.extend_from_slice(b"T")?;
     write_number(out, transaction)
 }
 
-fn write_key(out: &mut Vec<u8>, key: &Atom<'_>) -> Result<(), AllocError>
+pub fn write_key(out: &mut Vec<u8>, key: &Atom<'_>) -> Result<(), AllocError>
     ensures { OnOk result (out.new.items ≡ out.old.items ++ atom_text key.now) }
 {
     write_atom(out, key.text())
 }
 
-fn write_value(out: &mut Vec<u8>, value: &Option<Atom<'_>>) -> Result<(), AllocError>
+pub fn write_value(out: &mut Vec<u8>, value: &Option<Atom<'_>>) -> Result<(), AllocError>
     ensures { OnOk result (out.new.items ≡ out.old.items ++ value_text value.now) }
 {
     match value {

@@ -2,7 +2,6 @@
 #![tactic(auto)]
 
 mod answer;
-mod bad_reads;
 mod blocks;
 mod command_line;
 mod devices;

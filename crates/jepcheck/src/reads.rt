@@ -7,17 +7,20 @@ ghost use Rattle.jepcheck.specs.Statuses.{status_by};
 ghost use Rattle.jepcheck.specs.declared.run.Command.TheVariants.{Reads};
 
 use crate::answer::{Answer, Status};
-use crate::bad_reads::{BadReads, bad_reads};
-use crate::text::write_reads;
+use crate::text::{write_bad_read, write_head, write_number};
+use dep_edges::edges;
+use dep_edges::types::BadRead;
 use hist_types::types::Fault;
 use journal_core::prefix::Prefix;
+use key_versions::versions;
 use std::alloc::Global;
+use std::hash::{BuildHasherDefault, FoldHasher};
 use txn_pairs::pair;
 
-fn status_of(found: &BadReads<'_>) -> Status
-    ensures { result ≡ status_by (is_some found.now.aborted || is_some found.now.intermediate) }
+fn status_of(aborted: &Option<BadRead<'_>>, intermediate: &Option<BadRead<'_>>) -> Status
+    ensures { result ≡ status_by (is_some aborted.now || is_some intermediate.now) }
 {
-    if found.aborted.is_some() || found.intermediate.is_some() {
+    if aborted.is_some() || intermediate.is_some() {
         Status::SomePhenomenon
     } else {
         Status::NoPhenomenon
@@ -29,18 +32,19 @@ pub fn report(alloc: Global, events: &Prefix<'_>) -> Result<Answer, Fault>
     ensures ok { IfOk result (λ answer. Reports Reads events.now answer.status answer.printed.items) }
     ensures err { IfErr result (λ fault. fault ≡ memory_fault) }
 {
+    let prefix = events.events();
     let txns = pair(alloc, events)?;
-    let found = bad_reads(alloc, txns.as_slice())?;
+    let versions = versions(alloc, &txns, BuildHasherDefault::<FoldHasher>::new())?;
+    let deps = edges(alloc, &txns, &versions)?;
+    let aborted = deps.g1a();
+    let intermediate = deps.g1b();
     let mut printed = Vec::new(alloc);
-    write_reads(
-        alloc,
-        &mut printed,
-        events.events(),
-        txns.as_slice().len() as u64,
-        &found,
-    )?;
+    write_head(alloc, &mut printed, prefix, txns.as_slice().len() as u64)?;
+    write_bad_read(&mut printed, "G1a", &aborted)?;
+    write_bad_read(&mut printed, "G1b", &intermediate)?;
+    write_number(alloc, &mut printed, "stray", deps.stray())?;
     Ok(Answer {
-        status: status_of(&found),
+        status: status_of(&aborted, &intermediate),
         printed,
     })
 }

@@ -1,12 +1,12 @@
 //! What is printed.
 
-ghost use Rattle.std.specs.Prelude.{◌≡◌, ◌++◌, OnOk, option_map};
-ghost use Rattle.hist_types.specs.Texts.{number_line, head_lines, bad_read_lines, reads_lines, bad_read_text, indented, refusal_line};
-ghost use Rattle.jepcheck.specs.Writers.{bad_read_of};
+ghost use Rattle.std.specs.Prelude.{◌≡◌, ◌++◌, OnOk};
+ghost use Rattle.hist_types.specs.Texts.{number_line, head_lines, bad_read_lines, bad_read_text, version_text, indented, refusal_line};
 
-use crate::bad_reads::{BadRead, BadReads};
-use edn_ops::write::write_atom;
+use crate::edge_lines::{write_key, write_name, write_value};
+use dep_edges::types::BadRead;
 use hist_types::types::Fault;
+use key_versions::types::VersionRef;
 use std::alloc::{AllocError, Global};
 
 /// Appends a line of a word and a number.
@@ -35,56 +35,43 @@ pub fn write_head(
     write_number(alloc, out, "txns", txns)
 }
 
-/// Appends the indented line of a bad read.
-fn write_witness(alloc: Global, out: &mut Vec<u8>, read: &BadRead<'_>) -> Result<(), AllocError>
-    ensures { OnOk result (out.new.items ≡ out.old.items ++ indented (bad_read_text (bad_read_of read.now))) }
+fn write_version(out: &mut Vec<u8>, version: &VersionRef<'_>) -> Result<(), AllocError>
+    ensures { OnOk result (out.new.items ≡ out.old.items ++ version_text version.now) }
 {
-    let reader = format!(in alloc; "  T{} read ", read.reader)?;
-    out.extend_from_slice(reader.as_bytes())?;
-    write_atom(out, read.key.text())?;
+    write_key(out, &version.key())?;
     out.extend_from_slice(b" ")?;
-    write_atom(out, read.value.text())?;
-    let writer = format!(in alloc; " of T{}\n", read.writer)?;
-    out.extend_from_slice(writer.as_bytes())
+    write_value(out, &version.value())
 }
 
-/// Appends the lines of a phenomenon that is shown by a bad read.
-fn write_bad_read(
-    alloc: Global,
+/// Appends the indented line of a bad read.
+fn write_witness(out: &mut Vec<u8>, read: &BadRead<'_>) -> Result<(), AllocError>
+    ensures { OnOk result (out.new.items ≡ out.old.items ++ indented (bad_read_text read.now)) }
+{
+    out.extend_from_slice(b"  ")?;
+    write_name(out, read.reader())?;
+    out.extend_from_slice(b" read ")?;
+    write_version(out, read.version())?;
+    out.extend_from_slice(b" of ")?;
+    write_name(out, read.writer())?;
+    out.extend_from_slice(b"\n")
+}
+
+/// Appends the lines of a phenomenon that a bad read shows.
+pub fn write_bad_read(
     out: &mut Vec<u8>,
     name: &str,
     found: &Option<BadRead<'_>>,
 ) -> Result<(), AllocError>
-    ensures { OnOk result (out.new.items ≡ out.old.items ++ bad_read_lines name.now (option_map bad_read_of found.now)) }
+    ensures { OnOk result (out.new.items ≡ out.old.items ++ bad_read_lines name.now found.now) }
 {
+    out.extend_from_slice(name.as_bytes())?;
     match found {
-        None => {
-            let line = format!(in alloc; "{name} none\n")?;
-            out.extend_from_slice(line.as_bytes())?;
-            Ok(())
-        }
+        None => out.extend_from_slice(b" none\n"),
         Some(read) => {
-            let line = format!(in alloc; "{name} yes\n")?;
-            out.extend_from_slice(line.as_bytes())?;
-            write_witness(alloc, out, read)
+            out.extend_from_slice(b" yes\n")?;
+            write_witness(out, read)
         }
     }
-}
-
-/// Appends the text of `reads`, from the number of events, the number of transactions and what was found.
-pub fn write_reads(
-    alloc: Global,
-    out: &mut Vec<u8>,
-    events: u64,
-    txns: u64,
-    found: &BadReads<'_>,
-) -> Result<(), AllocError>
-    ensures { OnOk result (out.new.items ≡ out.old.items ++ reads_lines events txns (option_map bad_read_of found.now.aborted) (option_map bad_read_of found.now.intermediate) found.now.stray) }
-{
-    write_head(alloc, out, events, txns)?;
-    write_bad_read(alloc, out, "G1a", &found.aborted)?;
-    write_bad_read(alloc, out, "G1b", &found.intermediate)?;
-    write_number(alloc, out, "stray", found.stray)
 }
 
 /// Appends the line of a refusal.
