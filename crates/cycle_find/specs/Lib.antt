@@ -3,3 +3,4 @@ pub mod Dependencies
 pub mod Ranked
 pub mod Ways
 pub mod Tasks
+pub mod Prepared

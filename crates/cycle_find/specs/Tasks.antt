@@ -51,7 +51,3 @@ NoneBy task from by =
 -- none from the transaction
 abbrev pub NoneFrom : Task → (from : ℕ) → Type 0
 NoneFrom task from = (by : ℕ) → IsArc task.graph (needed_kinds task) from by → NoneBy task from by
-
--- none at all
-abbrev pub NoneAtAll : Task → Type 0
-NoneAtAll task = (from : ℕ) → IsPlace task.graph.txns from → NoneFrom task from

@@ -3,11 +3,13 @@
 ghost use Rattle.std.specs.Prelude.{◌≡◌, ◌+◌, ◌<◌, length, option_map, IfOk};
 ghost use Rattle.dep_edges.specs.Tables.{IsPlace};
 ghost use Rattle.edge_graph.specs.Kinds.{kinds_of};
+ghost use Rattle.edge_graph.specs.Parts.{edges_in};
 ghost use Rattle.edge_graph.specs.Vertices.{IsArc};
 ghost use Rattle.graph_search.specs.Graphs.{IsWalkIfAny};
-ghost use Rattle.cycle_find.specs.Dependencies as uses;
+ghost use Rattle.cycle_find.specs.Dependencies as dependencies;
+ghost use Rattle.cycle_find.specs.Found.{IsFound};
 ghost use Rattle.cycle_find.specs.Ranked.{AreRanksOver};
-ghost use Rattle.cycle_find.specs.Tasks.{needed_kinds, back_kinds, HasReturnBetween, IsShownOr, NoneBy, NoneFrom, NoneAtAll};
+ghost use Rattle.cycle_find.specs.Tasks.{needed_kinds, back_kinds, HasReturnBetween, IsShownOr, NoneBy, NoneFrom};
 
 use crate::kinds::{needed, way_back};
 use crate::ranking::NotAbove;
@@ -40,19 +42,14 @@ pub(crate) struct Finder<'r, 'g, 'v, 'a> {
 }
 
 impl<'r, 'g, 'v, 'a> Model for Finder<'r, 'g, 'v, 'a> {
-    ghost use Rattle.edge_graph.specs.Kinds.{kinds_of};
-    ghost use Rattle.hist_types.specs.declared.types.Level.TheVariants.{Plain};
-    ghost use Rattle.dep_edges.specs.Histories.{AreOfHistory};
-    ghost use Rattle.edge_graph.specs.Vertices.{AreArcs, RwByVersions};
-    ghost use Rattle.cycle_find.specs.Dependencies.{needed, way_back, whole};
-    ghost use Rattle.cycle_find.specs.Ranked.{AreRanksOver};
+    ghost use Rattle.cycle_find.specs.Prepared.{IsPrepared};
     ghost use Rattle.cycle_find.specs.Tasks.{Task};
 
     ghost Value = { Task };
 
     ghost view = { λ f. record { graph = f.graph.now; phenomenon = f.phenomenon; level = f.level } };
 
-    ghost invariant = { λ f. AreOfHistory f.graph.now.txns × RwByVersions f.graph.now × AreArcs f.graph.now (kinds_of (needed f.phenomenon) Plain) f.needed × AreArcs f.graph.now (kinds_of (way_back f.phenomenon) f.level) f.back × AreRanksOver f.graph.now (kinds_of (whole f.phenomenon) f.level) f.ranks.now × AreRanksOver f.graph.now (kinds_of (way_back f.phenomenon) f.level) f.finer.now };
+    ghost invariant = { λ f. IsPrepared (record { graph = f.graph.now; phenomenon = f.phenomenon; level = f.level }) f.needed f.back f.ranks.now f.finer.now };
 }
 
 impl<'r, 'g, 'v, 'a> Finder<'r, 'g, 'v, 'a> {
@@ -64,8 +61,8 @@ impl<'r, 'g, 'v, 'a> Finder<'r, 'g, 'v, 'a> {
         ranks: &'r Ranks,
         finer: &'r Ranks,
     ) -> Self
-        requires ranks { AreRanksOver graph.now (kinds_of (uses.whole phenomenon) level) ranks.now }
-        requires finer { AreRanksOver graph.now (kinds_of (uses.way_back phenomenon) level) finer.now }
+        requires ranks { AreRanksOver graph.now (kinds_of (dependencies.whole phenomenon) level) ranks.now }
+        requires finer { AreRanksOver graph.now (kinds_of (dependencies.way_back phenomenon) level) finer.now }
         ensures { result ≡ record { graph = graph.now; phenomenon = phenomenon; level = level } }
     {
         Finder {
@@ -82,7 +79,7 @@ impl<'r, 'g, 'v, 'a> Finder<'r, 'g, 'v, 'a> {
 
     /// A closed walk, if there is one.
     pub fn find(&self) -> Result<Option<Walk<'a>>, AllocError>
-        ensures { IfOk result (IsShownOr self.now (NoneAtAll self.now)) }
+        ensures { IfOk result (IsFound self.now.phenomenon (edges_in self.now.graph self.now.level)) }
     {
         let mut search = Search::new(self.alloc, self.back.vertices())?;
         for from in 0..self.graph.len() {

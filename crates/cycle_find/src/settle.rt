@@ -2,9 +2,10 @@
 
 ghost use Rattle.std.specs.Prelude.{◌≡◌, ◌<◌, ◌+◌, length};
 ghost use Rattle.std.specs.Bool.{OnTrue};
+ghost use Rattle.dep_edges.specs.Histories.{AreOfHistory};
 ghost use Rattle.dep_edges.specs.Tables.{IsPlace};
 ghost use Rattle.edge_graph.specs.Kinds.{kinds_of};
-ghost use Rattle.edge_graph.specs.Vertices.{IsArc};
+ghost use Rattle.edge_graph.specs.Vertices.{IsArc, RwByVersions};
 ghost use Rattle.edge_graph.specs.declared.types.Dependencies.TheVariants.{All};
 ghost use Rattle.hist_types.specs.declared.types.Level.TheVariants.{Plain};
 ghost use Rattle.cycle_find.specs.Ranked.{AreRanksOver};
@@ -27,23 +28,22 @@ pub(crate) struct RankedEdges<'r, 'g, 'v, 'a> {
 }
 
 impl<'r, 'g, 'v, 'a> Model for RankedEdges<'r, 'g, 'v, 'a> {
-    ghost use Rattle.edge_graph.specs.Kinds.{kinds_of};
-    ghost use Rattle.edge_graph.specs.Vertices.{AreArcs};
-    ghost use Rattle.edge_graph.specs.declared.types.Dependencies.TheVariants.{All};
-    ghost use Rattle.hist_types.specs.declared.types.Level.TheVariants.{Plain};
-    ghost use Rattle.cycle_find.specs.Ranked.{Ranking, AreRanksOver};
+    ghost use Rattle.cycle_find.specs.Prepared.{AreRanked};
+    ghost use Rattle.cycle_find.specs.Ranked.{Ranking};
 
     ghost Value = { Ranking };
 
     ghost view = { λ r. record { graph = r.graph.now; ranks = r.ranks.now } };
 
-    ghost invariant = { λ r. AreArcs r.graph.now (kinds_of All Plain) r.arcs × AreRanksOver r.graph.now (kinds_of All Plain) r.ranks.now };
+    ghost invariant = { λ r. AreRanked r.graph.now r.arcs r.ranks.now };
 }
 
 impl<'r, 'g, 'v, 'a> RankedEdges<'r, 'g, 'v, 'a> {
     pub fn new(graph: &'r Graph<'g, 'v, 'a>, ranks: &'r Ranks) -> Self
         requires { AreRanksOver graph.now (kinds_of All Plain) ranks.now }
-        ensures { result ≡ record { graph = graph.now; ranks = ranks.now } }
+        ensures view { result ≡ record { graph = graph.now; ranks = ranks.now } }
+        ensures kept { AreOfHistory graph.now.txns }
+        ensures rw { RwByVersions graph.now }
     {
         RankedEdges {
             graph,

@@ -2,8 +2,8 @@
 use Rattle.std.proofs.Common.{◌≡◌, ◌↔◌, ◌∙◌, ◌<◌, ◌≤◌, ◌+◌, ◌-◌, ◌⊎◌, inl, inr, ℕ, zero, suc, List, [], ◌∷◌, ◌++◌, length, get_or, Bool, true, false, not, ◌||◌, Some, All, Contains, refl, sym, ap, subst, arith}
 use Rattle.std.specs.Prelude.{slice_get, slice_index}
 use Rattle.std.specs.List.{AllByRecursion}
-use Rattle.std.proofs.lemmas.Bool.{false≢true, and_parts, and_from, cases_lt, cases_eq}
-use Rattle.std.proofs.lemmas.List.Elements.{recursion_from_All, All-from_recursion, All-append}
+use Rattle.std.proofs.lemmas.Bool.{false≢true, and_parts, and_from}
+use Rattle.std.proofs.lemmas.List.Elements.{recursion_from_All}
 use Rattle.std.proofs.lemmas.Option.{same_Some, slice_get_within, slice_get-get_or, get_or_from_slice_get}
 use Rattle.graph_search.specs.Graphs.{IsWalk}
 use Rattle.hist_types.specs.Edges.{Label, ww, wr, rw, process, realtime, Edge, edge, dependency_edges}
@@ -69,7 +69,7 @@ module _ (g : Parts) where
       let same : number ≡ other = omega (arith, is, is') in
       same_Some v w (sym at ∙ ap (slice_get g.versions) same ∙ at')
 
-  no_place : (vertex : ℕ) (v : Version) → IsVertex g vertex (version v) → IsPlace g.txns vertex → ⊥
+  pub no_place : (vertex : ℕ) (v : Version) → IsVertex g vertex (version v) → IsPlace g.txns vertex → ⊥
   no_place vertex v (number, is, at) h = omega (arith, h, is)
 
   version_vertex : (v : Version) → Contains g.versions v → (vertex : ℕ) × IsVertex g vertex (version v)
@@ -214,7 +214,7 @@ module _ (g : Parts) where
 
   -- ---- from arcs to edges
 
-  edge_of_arc : (kinds : Kinds) (from to : ℕ) (x y : Vertex) → IsPlace g.txns from → IsPlace g.txns to → IsVertex g from x → IsVertex g to y → LeadsTo g kinds x y → HasEdgeBetween g kinds from to
+  pub edge_of_arc : (kinds : Kinds) (from to : ℕ) (x y : Vertex) → IsPlace g.txns from → IsPlace g.txns to → IsVertex g from x → IsVertex g to y → LeadsTo g kinds x y → HasEdgeBetween g kinds from to
   edge_of_arc kinds from to (txn t) (txn u) h k at at' (label, has, inc) =
       let e = edge t u label in (
         e,
@@ -237,14 +237,14 @@ module _ (g : Parts) where
       edge_of_arc kinds from to x y is.first is.last at at' leads
 
   -- what is read, and what follows it
-  read_at : (kinds : Kinds) (from version' : ℕ) (x y : Vertex) → IsPlace g.txns from → (IsPlace g.txns version' → ⊥) → IsVertex g from x → IsVertex g version' y → LeadsTo g kinds x y
+  pub read_at : (kinds : Kinds) (from version' : ℕ) (x y : Vertex) → IsPlace g.txns from → (IsPlace g.txns version' → ⊥) → IsVertex g from x → IsVertex g version' y → LeadsTo g kinds x y
       → (v : Version) × IsVertex g version' (version v) × (kinds.rw ≡ true) × (reads (txn_at g.txns from) v ≡ true)
   read_at kinds from vertex (txn t) (version v) h none at at' (allowed, read) =
       (v, at', allowed, subst (λ x. reads x v ≡ true) (sym (txn_of g.txns from t at)) read)
   read_at kinds from vertex (txn t) (txn u) h none at at' leads = absurd (none (slice_get_within g.txns vertex u at'))
   read_at kinds from vertex (version v) y h none at at' leads = absurd (no_place g from v at h)
 
-  follows_at : (kinds : Kinds) (vertex to : ℕ) (x y : Vertex) (v : Version) → IsPlace g.txns to → IsVertex g vertex (version v) → IsVertex g vertex x → IsVertex g to y → LeadsTo g kinds x y
+  pub follows_at : (kinds : Kinds) (vertex to : ℕ) (x y : Vertex) (v : Version) → IsPlace g.txns to → IsVertex g vertex (version v) → IsVertex g vertex x → IsVertex g to y → LeadsTo g kinds x y
       → Follows g.txns v (txn_at g.txns to)
   follows_at kinds vertex to (version w) (txn u) v k here at at' (allowed, follows) =
       subst (λ z. Follows g.txns v z) (sym (txn_of g.txns to u at')) (subst (λ z. Follows g.txns z u) (sym (one_version g vertex v w here at)) follows)
@@ -252,7 +252,7 @@ module _ (g : Parts) where
   follows_at kinds vertex to (txn t) y v k here at at' leads = absurd (no_place g vertex v here (slice_get_within g.txns vertex t at))
 
   module _ (kept : AreOfHistory g.txns) (by_versions : RwByVersions g) (kinds : Kinds) where
-    by_rw :
+    pub by_rw :
         (from to : ℕ) (v : Version) → IsPlace g.txns from → IsPlace g.txns to → (from ≡ to → ⊥) → Contains g.versions v → kinds.rw ≡ true
         → reads (txn_at g.txns from) v ≡ true → Follows g.txns v (txn_at g.txns to) → HasEdgeBetween g kinds from to
     by_rw from to v h k other among allowed read follows =
@@ -268,7 +268,7 @@ module _ (g : Parts) where
           },
         )
 
-    contained : (vertex : ℕ) (v : Version) → IsVertex g vertex (version v) → Contains g.versions v
+    pub contained : (vertex : ℕ) (v : Version) → IsVertex g vertex (version v) → Contains g.versions v
     contained vertex v (number, is, at) = (number, slice_get_within g.versions number v at, get_or_from_slice_get g.versions number v v at)
 
     pub edge_of_way : (from vertex to : ℕ) → IsWayByVersion g kinds from vertex to → HasEdgeBetween g kinds from to
@@ -293,13 +293,18 @@ module _ (g : Parts) where
         record {
           some = omega arith;
           begins = refl;
-          ends = is.ends;
+          ends =
+              let n : suc (suc (length vs)) - 1 ≡ suc (length vs) = omega arith in
+              let m : suc (length vs) - 1 ≡ length vs = omega arith in
+              ap (λ k. slice_index (from ∷ v ∷ vs) k) n ∙ ap (λ k. slice_index (v ∷ vs) k) (sym m) ∙ is.ends;
           joined = joined';
         }
       where
         joined' : (k : ℕ) → k + 1 < length (from ∷ v ∷ vs) → Arc (slice_index (from ∷ v ∷ vs) k) (slice_index (from ∷ v ∷ vs) (k + 1))
         joined' zero h = subst (Arc from) (sym is.begins) arc
-        joined' (suc k) h = is.joined k (omega (arith, h))
+        joined' (suc k) h =
+            let e : suc (k + 1) ≡ suc k + 1 = omega arith in
+            subst (λ n. Arc (slice_index (from ∷ v ∷ vs) (suc k)) (slice_index (from ∷ v ∷ vs) n)) e (is.joined k (omega (arith, h)))
 
     abbrev LeadsOn : ℕ → ℕ → Type 0
     LeadsOn from next = (to : ℕ) (walk : List ℕ) → IsWalk Arc next to walk → (walk' : List ℕ) × IsWalk Arc from to walk'
@@ -353,77 +358,3 @@ module _ (g : Parts) where
         walk_from es from to h k are.leads (recursion_from_All (λ e. Contains (edges_in g kinds.level) e) es are.among)
         (recursion_from_All (λ (e : Edge). includes kinds e.label ≡ true) es are.of_kinds) in
         (walk, record { first = h; last = k; steps = is })
-
-    -- ---- the edges of a walk
-
-    -- the walk's vertex is the transaction, or a version that it reads
-    abbrev pub IsReached : (from vertex : ℕ) → Type 0
-    IsReached from vertex =
-        (vertex ≡ from) ⊎ ((v : Version) × IsVertex g vertex (version v) × (kinds.rw ≡ true) × (reads (txn_at g.txns from) v ≡ true))
-
-    -- what is said of the next vertex: a version that is read, or a transaction to which there is an edge
-    abbrev pub IsNext : (from vertex : ℕ) → Type 0
-    IsNext from vertex =
-        ((IsPlace g.txns vertex → ⊥) × IsReached from vertex) ⊎ (IsPlace g.txns vertex × ((vertex ≡ from) ⊎ HasEdgeBetween g kinds from vertex))
-
-    next_of : (from vertex next : ℕ) → IsPlace g.txns from → IsReached from vertex → Arc vertex next → IsNext from next
-    next_of from vertex next h reached (x, y, at, at', leads) =
-        elim (cases_lt next (length g.txns)) [
-          | inr high ↦ (
-              let none : IsPlace g.txns next → ⊥ = λ k. omega (arith, k, high) in
-              inl (none, inr (to_version from vertex next h reached x y none at at' leads)))
-          | inl k ↦ inr (k, to_txn k)
-        ]
-      where
-        to_version :
-            (from vertex next : ℕ) → IsPlace g.txns from → IsReached from vertex → (x y : Vertex) → (IsPlace g.txns next → ⊥) → IsVertex g vertex x → IsVertex g next y → LeadsTo g kinds x y
-            → (v : Version) × IsVertex g next (version v) × (kinds.rw ≡ true) × (reads (txn_at g.txns from) v ≡ true)
-        to_version from vertex next h (inl same) x y none at at' leads =
-            read_at kinds from next x y h none (subst (λ n. IsVertex g n x) same at) at' leads
-        to_version from vertex next h (inr (v, here, rest)) (txn t) y none at at' leads = absurd (no_place g vertex v here (slice_get_within g.txns vertex t at))
-        to_version from vertex next h (inr (v, here, rest)) (version w) (version z) none at at' leads = absurd leads
-        to_version from vertex next h (inr (v, here, rest)) (version w) (txn u) none at at' leads = absurd (none (slice_get_within g.txns next u at'))
-
-        to_txn : IsPlace g.txns next → (next ≡ from) ⊎ HasEdgeBetween g kinds from next
-        to_txn k = elim reached [
-          | inl same ↦ inr (edge_of_arc kinds from next x y h k (subst (λ n. IsVertex g n x) same at) at' leads)
-          | inr by ↦ elim (cases_eq next from) [
-            | inl same ↦ inl same
-            | inr other ↦ (
-                let (v, here, allowed, read) = by in
-                let follows = follows_at kinds vertex next x y v k here at at' leads in
-                inr (by_rw from next v h k (λ same. other (sym same)) (contained vertex v here) allowed read follows))
-          ]
-        ]
-
-    pub next_on_walk : (first last : ℕ) (walk : List ℕ) (from i : ℕ) → IsWalkBetween g kinds first last walk → IsPlace g.txns from → i < length walk → IsReached from (slice_index walk (i - 1)) → IsNext from (slice_index walk i)
-    next_on_walk first last walk from zero is h k reached =
-        let here : IsPlace g.txns (slice_index walk 0) = subst (IsPlace g.txns) (sym is.steps.begins) is.first in
-        elim reached [ inl same ↦ inr (here, inl same) | inr (v, at, rest) ↦ absurd (no_place g (slice_index walk 0) v at here) ]
-    next_on_walk first last walk from (suc i) is h k reached =
-        let at : i + 1 ≡ suc i = omega arith in
-        next_of from (slice_index walk i) (slice_index walk (suc i)) h reached
-        (subst (λ n. Arc (slice_index walk i) (slice_index walk n)) at (is.steps.joined i (omega (arith, k))))
-
-    pub reached_end : (first last : ℕ) (walk : List ℕ) (from : ℕ) → IsWalkBetween g kinds first last walk → IsReached from (slice_index walk (length walk - 1)) → from ≡ slice_index walk (length walk - 1)
-    reached_end first last walk from is reached =
-        let n = slice_index walk (length walk - 1) in
-        let here : IsPlace g.txns n = subst (IsPlace g.txns) (sym is.steps.ends) is.last in
-        elim reached [ inl same ↦ sym same | inr (v, at, rest) ↦ absurd (no_place g n v at here) ]
-
-    leads_on : (a b : ℕ) (es : List Edge) (e : Edge) → Leads a es b → e.from ≡ b → Leads a (es ++ e ∷ []) e.to
-    leads_on a b [] e leads same = (same ∙ sym leads, refl)
-    leads_on a b (d ∷ es) e (first, leads) same = (first, leads_on d.to b es e leads same)
-
-    pub no_edges : (from : ℕ) → AreEdgesBetween g kinds from from []
-    no_edges from = record { leads = refl; among = λ k d h. absurd (omega (arith, h)); of_kinds = λ k d h. absurd (omega (arith, h)) }
-
-    pub one_more_edge : (first from to : ℕ) (es : List Edge) (e : Edge) → AreEdgesBetween g kinds first from es → IsEdgeBetween g kinds from to e → AreEdgesBetween g kinds first to (es ++ e ∷ [])
-    one_more_edge first from to es e are is =
-        let Among = λ (e : Edge). Contains (edges_in g kinds.level) e in
-        let OfKind = λ (e : Edge). includes kinds e.label ≡ true in
-        record {
-          leads = subst (Leads (inv g first) (es ++ e ∷ [])) is.leads.ends (leads_on (inv g first) (inv g from) es e are.leads is.leads.begins);
-          among = All-append Among es (e ∷ []) are.among (All-from_recursion Among (e ∷ []) (is.edge.among, tt));
-          of_kinds = All-append OfKind es (e ∷ []) are.of_kinds (All-from_recursion OfKind (e ∷ []) (is.edge.kind, tt));
-        }

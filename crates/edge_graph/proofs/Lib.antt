@@ -14,3 +14,6 @@ pub mod ArcsOut
 pub mod Orderings
 pub mod EdgesIn
 pub mod EdgeArcs
+pub mod WalkEdges
+pub mod Between
+pub mod Known

@@ -1,6 +1,6 @@
 //! The graph of a history's transactions.
 
-ghost use Rattle.std.specs.Prelude.{◌≡◌, ◌++◌, List, filter, All, IfOk, IfErr, OnOk, OnErr};
+ghost use Rattle.std.specs.Prelude.{◌≡◌, ◌++◌, ◌==◌, List, filter, length, All, IfOk, IfErr, OnOk, OnErr};
 ghost use Rattle.dep_edges.specs.Histories.{AreOfHistory};
 ghost use Rattle.dep_edges.specs.OutEdges as out_edges;
 ghost use Rattle.dep_edges.specs.OutEdges.{Begins};
@@ -137,6 +137,20 @@ impl<'g, 'v, 'a> Graph<'g, 'v, 'a> {
             rows,
             orders,
         })
+    }
+
+    /// How many transactions there are.
+    pub fn len(&self) -> usize
+        ensures { result ≡ length self.now.txns }
+    {
+        self.history.txns().len()
+    }
+
+    /// Whether there is no transaction.
+    pub fn is_empty(&self) -> bool
+        ensures { result ≡ (length self.now.txns == 0) }
+    {
+        self.len() == 0
     }
 
     /// Appends the edges of the kinds that leave the transaction. Out of memory leaves what was there.
