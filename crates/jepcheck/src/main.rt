@@ -6,7 +6,7 @@ mod blocks;
 mod command_line;
 mod devices;
 mod dispatch;
-mod edge_lines;
+mod edge_order;
 mod edges;
 mod inputs;
 mod laws;
@@ -16,7 +16,6 @@ mod run;
 mod runs;
 #[cfg(test)]
 mod tests;
-mod text;
 
 use command_line::{Asked, LineFault};
 use hist_types::device::{StreamSink, StreamSource};
