@@ -1,5 +1,5 @@
 -- What searches in the graph of a history over its thinned order say of the history's phenomena.
-use Rattle.std.proofs.Common.{◌≡◌, inl, inr, ◌<◌, ◌≤◌, ◌↔◌, List, ◌++◌, Option, Some, None, sym, subst, arith, Contains}
+use Rattle.std.proofs.Common.{◌≡◌, inl, inr, ◌<◌, ◌≤◌, ◌↔◌, List, ◌++◌, Some, None, sym, subst, arith, Contains}
 use Rattle.std.proofs.lemmas.List.Elements.{All-weaker}
 use Rattle.hist_types.specs.Edges.{Edge, dependency_edges, order_edges, edges_at}
 use Rattle.hist_types.specs.Frontier.{thinned_edges}
