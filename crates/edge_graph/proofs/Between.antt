@@ -1,12 +1,11 @@
 -- An edge from one transaction to another among those that leave the first.
-use Rattle.std.proofs.Common.{◌≡◌, ◌∙◌, inl, inr, ℕ, List, [], ◌∷◌, ◌++◌, length, refl, sym, ap, subst, Contains}
+use Rattle.std.proofs.Common.{◌≡◌, ◌∙◌, inl, inr, ℕ, List, [], ◌∷◌, ◌++◌, sym, ap, subst}
 use Rattle.std.specs.Iterator.{Yields}
 use Rattle.std.specs.Vec.Iter.{into_iter_items, into_iter_steps}
 use Rattle.std.specs.declared.vec.IntoIter.{IntoIter}
-use Rattle.std.proofs.lemmas.List.{append-nil}
 use Rattle.hist_types.specs.Edges.{Edge}
 use Rattle.hist_types.specs.Transactions.{Transaction}
-use Rattle.hist_types.proofs.Members.{In, in_from_Contains, Contains_from_in, in_back, in_append}
+use Rattle.hist_types.proofs.Members.{In, in_from_Contains, Contains_from_in, in_append}
 use Rattle.dep_edges.specs.Tables.{IsPlace, txn_at}
 use Rattle.edge_graph.specs.Parts.{Parts, AddsEdgesFrom}
 use Rattle.edge_graph.specs.Walks.{IsEdgeBetween}

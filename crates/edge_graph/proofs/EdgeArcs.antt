@@ -1,5 +1,5 @@
 -- Edges as arcs, one by one and along a walk.
-use Rattle.std.proofs.Common.{◌≡◌, ◌↔◌, ◌∙◌, ◌<◌, ◌≤◌, ◌+◌, ◌-◌, ◌⊎◌, inl, inr, ℕ, zero, suc, List, [], ◌∷◌, ◌++◌, length, get_or, Bool, true, false, not, ◌||◌, Some, All, Contains, refl, sym, ap, subst, arith}
+use Rattle.std.proofs.Common.{◌≡◌, ◌∙◌, ◌<◌, ◌+◌, ◌-◌, ◌⊎◌, inl, inr, ℕ, zero, suc, List, [], ◌∷◌, length, Bool, true, false, not, ◌||◌, Some, Contains, refl, sym, ap, subst, arith}
 use Rattle.std.specs.Prelude.{slice_get, slice_index}
 use Rattle.std.specs.List.{AllByRecursion}
 use Rattle.std.proofs.lemmas.Bool.{false≢true, and_parts, and_from}
@@ -7,19 +7,18 @@ use Rattle.std.proofs.lemmas.List.Elements.{recursion_from_All}
 use Rattle.std.proofs.lemmas.Option.{same_Some, slice_get_within, slice_get-get_or, get_or_from_slice_get}
 use Rattle.graph_search.specs.Graphs.{IsWalk}
 use Rattle.hist_types.specs.Edges.{Label, ww, wr, rw, process, realtime, Edge, edge, dependency_edges}
-use Rattle.hist_types.specs.Phenomena.{Leads, is_ww_label, is_wr_label, is_rw_label, is_ww, is_wr, is_rw, is_order}
+use Rattle.hist_types.specs.Phenomena.{Leads, is_ww_label, is_wr_label, is_rw_label, is_ww, is_wr, is_rw}
 use Rattle.hist_types.specs.Transactions.{Transaction, Version, is_node, nodes, reads}
 use Rattle.hist_types.specs.declared.types.Level.{Level}
 use Rattle.hist_types.specs.declared.types.Level.TheVariants.{Plain}
 use Rattle.hist_types.proofs.DependencyEdges.{edges_by_versions}
-use Rattle.hist_types.proofs.Members.{In, in_from_Contains, Contains_from_in, in_filter}
+use Rattle.hist_types.proofs.Members.{in_from_Contains, Contains_from_in, in_filter}
 use Rattle.dep_edges.specs.Histories.{AreOfHistory}
 use Rattle.dep_edges.specs.Tables.{IsPlace, txn_at}
-use Rattle.dep_edges.proofs.Out.{one_by_invocation}
 use Rattle.edge_graph.specs.Kinds.{includes, includes_directly, has_ww, has_wr, has_rw, kinds_of, AreAmong}
 use Rattle.edge_graph.specs.Parts.{Parts, HasEdge, edges_in}
-use Rattle.edge_graph.specs.Vertices.{Vertex, txn, version, IsVertex, Follows, LeadsTo, IsArc, HasRw, RwByVersions}
-use Rattle.edge_graph.specs.Walks.{LeadsBetween, IsEdgeOf, IsEdgeBetween, HasEdgeBetween, IsDirectArc, IsWayByVersion, HasDirectArc, HasWayByVersion, IsWalkBetween, HasWalkBetween, AreEdgesBetween}
+use Rattle.edge_graph.specs.Vertices.{Vertex, txn, version, IsVertex, Follows, LeadsTo, IsArc, RwByVersions}
+use Rattle.edge_graph.specs.Walks.{LeadsBetween, IsEdgeOf, HasEdgeBetween, IsDirectArc, IsWayByVersion, HasDirectArc, HasWayByVersion, HasWalkBetween, AreEdgesBetween}
 use Rattle.edge_graph.specs.declared.types.Dependencies.{Dependencies}
 use Rattle.edge_graph.specs.declared.types.Dependencies.TheVariants.{Ww, Wr, Rw}
 use Rattle.edge_graph.specs.declared.types.Kinds.{Kinds}

@@ -1,5 +1,5 @@
 -- What a graph that is made knows, and what an answer of its edges says.
-use Rattle.std.proofs.Common.{◌≡◌, ℕ, List, Option, Some, None, IsSome, subst, ap, refl}
+use Rattle.std.proofs.Common.{◌≡◌, ℕ, List, Option, Some, None, IsSome, subst, refl}
 use Rattle.hist_types.specs.Edges.{Edge}
 use Rattle.hist_types.specs.Transactions.{Transaction}
 use Rattle.key_versions.specs.Tables.{Table}
