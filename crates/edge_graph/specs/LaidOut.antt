@@ -1,0 +1,50 @@
+-- How the arcs of dependencies are laid out: a row for each transaction, and behind them one for each version.
+use Rattle.std.specs.Prelude.{◌≡◌, ℕ, ◌+◌, ◌<◌, List, [], ◌++◌, length, not, ◌==◌, if◌then◌else◌, map, filter, flat_map, All}
+use Rattle.hist_types.specs.Transactions.{Transaction, Version, is_node, installed_by}
+use Rattle.key_versions.specs.Histories.{read_by, readers_of, followers_of}
+use Rattle.key_versions.specs.Tables.{Table}
+use Rattle.dep_edges.specs.Tables.{IsNumber, txn_at, version_at}
+use Rattle.edge_graph.specs.FlatRows.{Row, row_at}
+
+-- the places of the nodes that install a version behind this one
+abbrev pub nodes_behind : List Transaction → Version → List ℕ
+nodes_behind ts v = filter (λ place. is_node ts (txn_at ts place)) (map (λ p. p.0) (followers_of ts v))
+
+-- the places of the other transactions that read a version which this one installs
+abbrev pub readers_behind : List Transaction → ℕ → List ℕ
+readers_behind ts place = flat_map (λ v. filter (λ u. not (u == place)) (readers_of ts v)) (installed_by (txn_at ts place))
+
+-- the places of the nodes that install a version behind one which this transaction installs
+abbrev pub writers_behind : List Transaction → ℕ → List ℕ
+writers_behind ts place = flat_map (nodes_behind ts) (installed_by (txn_at ts place))
+
+abbrev pub if_node : List Transaction → ℕ → List ℕ → List ℕ
+if_node ts place places = if is_node ts (txn_at ts place) then places else []
+
+-- these are the vertices of versions
+abbrev pub AreVersionVertices : List Transaction → Table → List Version → (vertices : List ℕ) → Type 0
+AreVersionVertices ts table vs vertices =
+    (numbers : List ℕ) × (vertices ≡ map (λ k. length ts + k) numbers) × (map (version_at table) numbers ≡ vs) × All (IsNumber table) numbers
+
+-- these, behind what was there before
+abbrev pub AddsVersionVertices : List Transaction → Table → List Version → (before after : List ℕ) → Type 0
+AddsVersionVertices ts table vs before after = (vertices : List ℕ) × (after ≡ before ++ vertices) × AreVersionVertices ts table vs vertices
+
+-- a transaction leads to the versions that it reads, to who reads what it installs, and to who installs a version behind that
+pub record IsTxnRow (ts : List Transaction) (table : Table) (place : ℕ) (row : Row) : Type 0 where
+  pub rw : AreVersionVertices ts table (read_by (txn_at ts place)) row.rw
+  pub wr : row.wr ≡ if_node ts place (readers_behind ts place)
+  pub ww : row.ww ≡ if_node ts place (writers_behind ts place)
+
+-- a version leads to who installs a version behind it
+abbrev pub version_row : List Transaction → Version → Row
+version_row ts v = record { rw = nodes_behind ts v; wr = []; ww = [] }
+
+-- the rows of the first transactions, and behind them of the first versions
+pub record AreFirstRows (ts : List Transaction) (table : Table) (places numbers : ℕ) (rows : List Row) : Type 0 where
+  pub count : length rows ≡ places + numbers
+  pub txns : (place : ℕ) → place < places → IsTxnRow ts table place (row_at rows place)
+  pub versions : (number : ℕ) → number < numbers → row_at rows (places + number) ≡ version_row ts (version_at table number)
+
+abbrev pub AreRows : List Transaction → Table → List Row → Type 0
+AreRows ts table rows = AreFirstRows ts table (length ts) (length table.versions) rows

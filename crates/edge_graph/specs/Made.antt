@@ -1,0 +1,48 @@
+-- How a graph is kept.
+use Rattle.std.specs.Prelude.{ℕ, ◌<◌, List, [], ◌∷◌, ◌++◌, length, map, flat_map, All}
+use Rattle.hist_types.specs.Edges.{Label, process, realtime_label, Edge, edge}
+use Rattle.hist_types.specs.Transactions.{Transaction}
+use Rattle.hist_types.specs.declared.types.Level.{Level}
+use Rattle.hist_types.specs.declared.types.Level.TheVariants.{Plain, Process, Realtime}
+use Rattle.key_versions.specs.Tables.{Table, IsTableOf}
+use Rattle.order_frontier.specs.Predecessors.{Before}
+use Rattle.dep_edges.specs.Histories.{AreOfHistory}
+use Rattle.dep_edges.specs.Tables.{txn_at}
+use Rattle.edge_graph.specs.FlatRows.{Row, led_to}
+use Rattle.edge_graph.specs.LaidOut.{AreRows}
+use Rattle.edge_graph.specs.Parts.{IsOrderOf}
+use Rattle.edge_graph.specs.Successors.{AreSuccessors}
+use Rattle.edge_graph.specs.declared.types.Dependencies.{Dependencies}
+
+pub record IsMade (ts : List Transaction) (order : List Before) (table : Table) (laid_out : List Row) (in_process in_realtime : List (List ℕ)) : Type 0 where
+  pub kept : AreOfHistory ts
+  pub versions : IsTableOf ts table
+  pub ordered : IsOrderOf ts order
+  pub rows : AreRows ts table laid_out
+  pub process : AreSuccessors ts order Process in_process
+  pub realtime : AreSuccessors ts order Realtime in_realtime
+
+-- ---- order edges
+
+abbrev pub order_labels_to : Level → Transaction → (invocation : ℕ) → List Label
+order_labels_to Plain t invocation = []
+order_labels_to Process t invocation = process t.process ∷ []
+order_labels_to Realtime t invocation = realtime_label t.completion invocation
+
+abbrev pub order_edges_to : Level → Transaction → Transaction → List Edge
+order_edges_to level t u = map (edge t u) (order_labels_to level t u.invocation)
+
+-- from a transaction to those at the places
+abbrev pub order_edges_over : List Transaction → Level → (from : ℕ) → List ℕ → List Edge
+order_edges_over ts level from places = flat_map (λ place. order_edges_to level (txn_at ts from) (txn_at ts place)) places
+
+-- ---- arcs
+
+-- each vertex's dependencies and, of the first ones, what they come before
+abbrev pub joined : Dependencies → List Row → List (List ℕ) → List (List ℕ)
+joined dependencies [] lists = []
+joined dependencies (row ∷ rows) [] = led_to dependencies row ∷ joined dependencies rows []
+joined dependencies (row ∷ rows) (list ∷ lists) = (led_to dependencies row ++ list) ∷ joined dependencies rows lists
+
+abbrev pub AreWithin : List (List ℕ) → Type 0
+AreWithin lists = All (All (λ w. w < length lists)) lists

@@ -1,0 +1,246 @@
+//! The graph of a history's transactions.
+
+ghost use Rattle.std.specs.Prelude.{◌≡◌, ◌++◌, ◌==◌, List, filter, length, All, IfOk, IfErr, OnOk, OnErr};
+ghost use Rattle.dep_edges.specs.Histories.{AreOfHistory};
+ghost use Rattle.dep_edges.specs.OutEdges as out_edges;
+ghost use Rattle.dep_edges.specs.OutEdges.{Begins};
+ghost use Rattle.dep_edges.specs.Tables.{IsPlace, txn_at};
+ghost use Rattle.hist_types.specs.Edges.{Edge as AnEdge};
+ghost use Rattle.hist_types.specs.Refusals.{memory_fault};
+ghost use Rattle.edge_graph.specs.Kinds.{includes, kinds_of};
+ghost use Rattle.edge_graph.specs.Made.{order_edges_over, order_edges_to};
+ghost use Rattle.edge_graph.specs.Parts.{IsOrderOf, IsMadeOf, AddsEdgesFrom};
+ghost use Rattle.edge_graph.specs.Vertices.{AreArcs, RwByVersions};
+ghost use Rattle.edge_graph.specs.Walks.{IsEdgeIfAny, IsTxnWalk, AreEdgesAlong};
+
+use crate::arcs::GraphArcs;
+use crate::layout;
+use crate::orders::Orders;
+use crate::rows::Rows;
+use crate::types::{Dependencies, Kinds};
+use dep_edges::deps::Deps;
+use dep_edges::history::History;
+use dep_edges::types::{Edge, Label};
+use hist_types::types::{Fault, Level};
+use order_frontier::types::Order;
+use std::alloc::{AllocError, Global};
+use std::marker::Model;
+use txn_pairs::types::Txn;
+
+/// A history's transactions with their dependency edges and, of an order, the edges to nodes. A transaction goes by its place.
+/// No edge is stored with its label; what is stored are the arcs of a search for cycles, which are linear in the history.
+#[derive(Drop)]
+pub struct Graph<'g, 'v, 'a> {
+    alloc: Global,
+    deps: &'g Deps<'v, 'a>,
+    history: &'g History<'v, 'a>,
+    order: &'g Order,
+    rows: Rows,
+    orders: Orders,
+}
+
+impl<'g, 'v, 'a> Model for Graph<'g, 'v, 'a> {
+    ghost use Rattle.std.specs.Prelude.{◌≡◌};
+    ghost use Rattle.edge_graph.specs.Made.{IsMade};
+    ghost use Rattle.edge_graph.specs.Parts.{Parts};
+
+    ghost Value = { Parts };
+
+    ghost view = { λ g. record { txns = g.history.now.txns; order = g.order.now; versions = g.history.now.table.versions } };
+
+    ghost invariant = { λ g. (g.deps.now ≡ g.history.now.txns) × IsMade g.history.now.txns g.order.now g.history.now.table g.rows g.orders.in_process.items g.orders.in_realtime.items };
+}
+
+/// Adds the dependency edges of the kinds that leave the transaction.
+fn add_dependencies<'a>(
+    alloc: Global,
+    deps: &Deps<'_, 'a>,
+    place: usize,
+    kinds: Kinds,
+    out: &mut Vec<Edge<'a>>,
+) -> Result<(), AllocError>
+    requires { IsPlace deps.now place }
+    ensures ok { OnOk result ((es : List AnEdge) × (out.new.items ≡ out.old.items ++ filter (λ e. includes kinds e.label) es) × out_edges.AreEdgesFrom deps.now (txn_at deps.now place) es) }
+    ensures err { OnErr result (Begins out.old.items out.new.items) }
+{
+    let mut found = Vec::new(alloc);
+    deps.edges_from(place, &mut found)?;
+    for edge in found {
+        if kinds.includes(edge.label()) {
+            out.push(edge)?;
+        }
+    }
+    Ok(())
+}
+
+/// Adds the order edges of the level from one transaction to another.
+fn add_order_edge<'a>(
+    level: Level,
+    from: &Txn<'_>,
+    to: &Txn<'_>,
+    out: &mut Vec<Edge<'a>>,
+) -> Result<(), AllocError>
+    ensures ok { OnOk result (out.new.items ≡ out.old.items ++ order_edges_to level from.now to.now) }
+    ensures err { OnErr result (Begins out.old.items out.new.items) }
+{
+    let label = match level {
+        Level::Plain => return Ok(()),
+        Level::Process => Label::Process {
+            process: from.process(),
+        },
+        Level::Realtime => match from.completion() {
+            None => return Ok(()),
+            Some(completion) => Label::Realtime {
+                completion,
+                invocation: to.invocation(),
+            },
+        },
+    };
+    out.push(Edge::new(from.invocation(), to.invocation(), label))?;
+    Ok(())
+}
+
+/// Adds the order edges of the level from a transaction to those at the places.
+fn add_order_edges<'a>(
+    txns: &[Txn<'_>],
+    level: Level,
+    from: usize,
+    places: &[u32],
+    out: &mut Vec<Edge<'a>>,
+) -> Result<(), AllocError>
+    requires from { IsPlace txns.now from }
+    requires places { All (IsPlace txns.now) places.now }
+    ensures ok { OnOk result (out.new.items ≡ out.old.items ++ order_edges_over txns.now level from places.now) }
+    ensures err { OnErr result (Begins out.old.items out.new.items) }
+{
+    for place in places {
+        add_order_edge(level, &txns[from], &txns[*place as usize], out)?;
+    }
+    Ok(())
+}
+
+impl<'g, 'v, 'a> Graph<'g, 'v, 'a> {
+    /// The graph over the history's dependency edges and an order of its transactions, with all of their pairs or thinned.
+    pub fn new(alloc: Global, deps: &'g Deps<'v, 'a>, order: &'g Order) -> Result<Self, Fault>
+        requires { IsOrderOf deps.now order.now }
+        ensures ok { IfOk result (IsMadeOf deps.now order.now) }
+        ensures err { IfErr result (λ fault. fault ≡ memory_fault) }
+    {
+        let history = deps.history();
+        let rows = layout::rows(alloc, deps, history)?;
+        let orders = Orders::new(alloc, deps, order)?;
+        Ok(Graph {
+            alloc,
+            deps,
+            history,
+            order,
+            rows,
+            orders,
+        })
+    }
+
+    /// How many transactions there are.
+    pub fn len(&self) -> usize
+        ensures { result ≡ length self.now.txns }
+    {
+        self.history.txns().len()
+    }
+
+    /// Whether there is no transaction.
+    pub fn is_empty(&self) -> bool
+        ensures { result ≡ (length self.now.txns == 0) }
+    {
+        self.len() == 0
+    }
+
+    /// Appends the edges of the kinds that leave the transaction. Out of memory leaves what was there.
+    pub fn edges_from(
+        &self,
+        place: usize,
+        kinds: Kinds,
+        out: &mut Vec<Edge<'a>>,
+    ) -> Result<(), AllocError>
+        requires { IsPlace self.now.txns place }
+        ensures ok { OnOk result (AddsEdgesFrom self.now kinds place out.old.items out.new.items) }
+        ensures err { OnErr result (out.new.items ≡ out.old.items) }
+    {
+        let before = out.len();
+        let added = self.add_edges(place, kinds, out);
+        if added.is_err() {
+            out.truncate(before);
+        }
+        added
+    }
+
+    fn add_edges(
+        &self,
+        place: usize,
+        kinds: Kinds,
+        out: &mut Vec<Edge<'a>>,
+    ) -> Result<(), AllocError>
+        requires { IsPlace self.now.txns place }
+        ensures ok { OnOk result (AddsEdgesFrom self.now kinds place out.old.items out.new.items) }
+        ensures err { OnErr result (Begins out.old.items out.new.items) }
+    {
+        add_dependencies(self.alloc, self.deps, place, kinds, out)?;
+        let later = self.orders.of(kinds.level, place);
+        add_order_edges(self.history.txns(), kinds.level, place, later, out)
+    }
+
+    /// The arcs of these dependencies and of the order of the level, for a search.
+    ///
+    /// An rw edge joins two transactions exactly where the first leads to a version that leads to the second.
+    pub fn arcs(&self, dependencies: Dependencies, level: Level) -> GraphArcs<'_>
+        ensures arcs { AreArcs self.now (kinds_of dependencies level) result }
+        ensures rw { RwByVersions self.now }
+        ensures kept { AreOfHistory self.now.txns }
+    {
+        GraphArcs::new(&self.rows, self.orders.at(level), dependencies)
+    }
+
+    /// An edge of the kinds from one transaction to another, if there is one. It looks through all that leave the first.
+    pub fn edge_between(
+        &self,
+        from: usize,
+        to: usize,
+        kinds: Kinds,
+    ) -> Result<Option<Edge<'a>>, AllocError>
+        requires from { IsPlace self.now.txns from }
+        requires to { IsPlace self.now.txns to }
+        ensures { IfOk result (IsEdgeIfAny self.now kinds from to) }
+    {
+        let invocation = self.history.txn(to).invocation();
+        let mut leaving = Vec::new(self.alloc);
+        self.edges_from(from, kinds, &mut leaving)?;
+        for edge in leaving {
+            if edge.to() == invocation {
+                return Ok(Some(edge));
+            }
+        }
+        Ok(None)
+    }
+
+    /// The edges of a walk over the arcs of these dependencies and of the order of the level, from a transaction to a transaction.
+    pub fn edges_along(
+        &self,
+        walk: &[usize],
+        dependencies: Dependencies,
+        level: Level,
+    ) -> Result<Vec<Edge<'a>>, AllocError>
+        requires { IsTxnWalk self.now (kinds_of dependencies level) walk.now }
+        ensures { IfOk result (λ es. AreEdgesAlong self.now (kinds_of dependencies level) walk.now es.items) }
+    {
+        let kinds = Kinds::of(dependencies, level);
+        let mut edges = Vec::new(self.alloc);
+        let mut from = walk[0];
+        for vertex in walk {
+            // Behind the transactions are the versions, which lead on to the end of an rw edge.
+            if *vertex < self.history.txns().len() && *vertex != from {
+                let edge = self.edge_between(from, *vertex, kinds)?;
+                edges.push(edge.unwrap())?;
+                from = *vertex;
+            }
+        }
+        Ok(edges)
+    }
+}
