@@ -1,0 +1,5 @@
+pub mod RankedArcs
+pub mod WaysBack
+pub mod Closing
+pub mod Returning
+pub mod Passing

@@ -1,0 +1,107 @@
+-- Arc by arc and transaction by transaction: what is left once all have been passed.
+use Rattle.std.proofs.Common.{◌≡◌, ◌∙◌, ◌<◌, ◌≤◌, ◌+◌, ℕ, List, [], length, is_some, false, get_or, inl, inr, Option, Some, None, refl, sym, subst, arith}
+use Rattle.std.proofs.lemmas.Bool.{true≢false}
+use Rattle.std.proofs.lemmas.List.{get_or_default}
+use Rattle.hist_types.specs.Edges.{Edge}
+use Rattle.hist_types.specs.declared.types.Level.TheVariants.{Plain}
+use Rattle.hist_types.specs.declared.types.Phenomenon.{Phenomenon}
+use Rattle.hist_types.specs.declared.types.Phenomenon.TheVariants.{G0, G1c, GSingle, G2Item}
+use Rattle.dep_edges.specs.Tables.{IsPlace}
+use Rattle.edge_graph.specs.Kinds.{kinds_of, AreAmong}
+use Rattle.edge_graph.specs.Parts.{Parts}
+use Rattle.edge_graph.specs.Vertices.{IsArc, AreArcs}
+use Rattle.edge_graph.specs.declared.types.Kinds.{Kinds}
+use Rattle.cycle_find.specs.Dependencies.{needed, way_back, whole}
+use Rattle.cycle_find.specs.Ranked.{AreRanksOver}
+use Rattle.cycle_find.specs.Tasks.{Task, needed_kinds, back_kinds, whole_kinds, HasReturnBetween, IsShownOr, NoneBy, NoneFrom}
+use Rattle.cycle_find.specs.Ways.{LeadsOn, RisesBy, RisesFrom}
+use Rattle.cycle_find.proofs.RankedArcs.{raise, fewer, fewer_plain}
+
+-- what holds of each vertex in the list holds of each to which an arc leads
+pub each_arc : (g : Parts) (kinds : Kinds) (lists : List (List ℕ)) (v : ℕ) (P : ℕ → Type 0) → AreArcs g kinds lists
+    → ((k : ℕ) → k < length (get_or lists v []) → P (get_or (get_or lists v []) k 0)) → (w : ℕ) → IsArc g kinds v w → P w
+each_arc g kinds lists v P arcs all w arc =
+    let (within, (k, h, is)) = (arcs.arcs v w).1 arc in
+    subst P (get_or_default (get_or lists v []) k 0 w h ∙ is) (all k h)
+
+pub shown_or : (task : Task) (A B : Type 0) → (A → B) → (found : Option (List Edge)) → IsShownOr task A found → IsShownOr task B found
+shown_or task A B f None a = f a
+shown_or task A B f (Some walk) is = is
+
+pub otherwise : (task : Task) (A : Type 0) (found : Option (List Edge)) → is_some found ≡ false → IsShownOr task A found → A
+otherwise task A None e a = a
+otherwise task A (Some walk) e is = absurd (true≢false e)
+
+-- the arc at an index of a vertex
+pub arc_at : (g : Parts) (kinds : Kinds) (lists : List (List ℕ)) (v k : ℕ) → AreArcs g kinds lists → v < length g.txns + length g.versions → k < length (get_or lists v [])
+    → IsArc g kinds v (get_or (get_or lists v []) k 0)
+arc_at g kinds lists v k arcs h at =
+    let w = get_or (get_or lists v []) k 0 in
+    (arcs.arcs v w).0 (omega (arith, h, arcs.count), (k, at, get_or_default (get_or lists v []) k w 0 at))
+
+-- ---- the search
+
+pub needed_of_whole : (phenomenon : Phenomenon) → AreAmong (needed phenomenon) (whole phenomenon)
+needed_of_whole G0 = record { ww = λ h. h; wr = λ h. h; rw = λ h. h }
+needed_of_whole G1c = record { ww = λ h. refl; wr = λ h. refl; rw = λ h. h }
+needed_of_whole GSingle = record { ww = λ h. refl; wr = λ h. refl; rw = λ h. refl }
+needed_of_whole G2Item = record { ww = λ h. refl; wr = λ h. refl; rw = λ h. refl }
+
+pub back_of_whole : (phenomenon : Phenomenon) → AreAmong (way_back phenomenon) (whole phenomenon)
+back_of_whole G0 = record { ww = λ h. h; wr = λ h. h; rw = λ h. h }
+back_of_whole G1c = record { ww = λ h. h; wr = λ h. h; rw = λ h. h }
+back_of_whole GSingle = record { ww = λ h. refl; wr = λ h. refl; rw = λ h. refl }
+back_of_whole G2Item = record { ww = λ h. h; wr = λ h. h; rw = λ h. h }
+
+-- where the arc leads up, no way leads back
+pub none_from_above : (task : Task) (ranks : List ℕ) (from by : ℕ) → AreRanksOver task.graph (whole_kinds task) ranks → get_or ranks from 0 < get_or ranks by 0 → NoneBy task from by
+none_from_above task ranks from by are up to place leads (edge, (walk, is)) =
+    let g = task.graph in
+    let ph = task.phenomenon in
+    let on : get_or ranks by 0 ≤ get_or ranks to 0 = elim leads [
+      | inl same ↦ subst (λ v. get_or ranks by 0 ≤ get_or ranks v 0) same (omega arith)
+      | inr (absent, other, arc) ↦ (fewer_plain g (needed ph) (whole ph) task.level ranks (needed_of_whole ph) are).rising by to arc
+    ] in
+    let down : get_or ranks to 0 ≤ get_or ranks from 0 =
+    raise g (back_kinds task) ranks (fewer g (way_back ph) (whole ph) task.level ranks (back_of_whole ph) are) to from walk is.steps in
+    omega (arith, up, on, down)
+
+pub none_by_txn : (task : Task) (from by : ℕ) → IsPlace task.graph.txns by → ¬ HasReturnBetween task from by → NoneBy task from by
+none_by_txn task from by place none to place' leads = elim leads [
+  | inl same ↦ subst (λ v. ¬ HasReturnBetween task from v) same none
+  | inr (absent, other, arc) ↦ absurd (absent place)
+]
+
+pub none_by_version : (task : Task) (lists : List (List ℕ)) (from version : ℕ) → AreArcs task.graph (needed_kinds task) lists → (IsPlace task.graph.txns version → ⊥)
+    → ((k : ℕ) → k < length (get_or lists version []) → (from ≡ get_or (get_or lists version []) k 0 → ⊥) → ¬ HasReturnBetween task from (get_or (get_or lists version []) k 0))
+    → NoneBy task from version
+none_by_version task lists from version arcs absent all to place leads = elim leads [
+  | inl same ↦ absurd (absent (subst (IsPlace task.graph.txns) (sym same) place))
+  | inr (still, other, arc) ↦ each_arc task.graph (needed_kinds task) lists version (λ w. (from ≡ w → ⊥) → ¬ HasReturnBetween task from w) arcs all to arc other
+]
+
+pub none_from : (task : Task) (lists : List (List ℕ)) (from : ℕ) → AreArcs task.graph (needed_kinds task) lists
+    → ((k : ℕ) → k < length (get_or lists from []) → NoneBy task from (get_or (get_or lists from []) k 0)) → NoneFrom task from
+none_from task lists from arcs all = each_arc task.graph (needed_kinds task) lists from (NoneBy task from) arcs all
+
+-- ---- ranks that rise
+
+pub rises_above : (g : Parts) (kinds : Kinds) (ranks : List ℕ) (from by : ℕ) → AreRanksOver g kinds ranks → get_or ranks from 0 < get_or ranks by 0 → RisesBy g kinds ranks from by
+rises_above g kinds ranks from by are up to place leads =
+    let on : get_or ranks by 0 ≤ get_or ranks to 0 = elim leads [
+      | inl same ↦ subst (λ v. get_or ranks by 0 ≤ get_or ranks v 0) same (omega arith)
+      | inr (absent, other, arc) ↦ are.rising by to arc
+    ] in
+    omega (arith, up, on)
+
+pub rises_by_version : (g : Parts) (kinds : Kinds) (lists : List (List ℕ)) (ranks : List ℕ) (from version : ℕ) → AreArcs g kinds lists → (IsPlace g.txns version → ⊥)
+    → ((k : ℕ) → k < length (get_or lists version []) → (from ≡ get_or (get_or lists version []) k 0 → ⊥) → get_or ranks from 0 < get_or ranks (get_or (get_or lists version []) k 0) 0)
+    → RisesBy g kinds ranks from version
+rises_by_version g kinds lists ranks from version arcs absent all to place leads = elim leads [
+  | inl same ↦ absurd (absent (subst (IsPlace g.txns) (sym same) place))
+  | inr (still, other, arc) ↦ each_arc g kinds lists version (λ w. (from ≡ w → ⊥) → get_or ranks from 0 < get_or ranks w 0) arcs all to arc other
+]
+
+pub rises_from : (g : Parts) (kinds : Kinds) (lists : List (List ℕ)) (ranks : List ℕ) (from : ℕ) → AreArcs g kinds lists
+    → ((k : ℕ) → k < length (get_or lists from []) → RisesBy g kinds ranks from (get_or (get_or lists from []) k 0)) → RisesFrom g kinds ranks from
+rises_from g kinds lists ranks from arcs all = each_arc g kinds lists from (RisesBy g kinds ranks from) arcs all

@@ -1,0 +1,75 @@
+-- Ranks along the arcs of a graph.
+use Rattle.std.proofs.Common.{◌≡◌, ◌∙◌, ◌<◌, ◌≤◌, ◌+◌, ◌-◌, ℕ, zero, suc, List, length, get_or, ap, subst, arith}
+use Rattle.std.proofs.lemmas.Option.{slice_get_within}
+use Rattle.hist_types.specs.declared.types.Level.{Level}
+use Rattle.hist_types.specs.declared.types.Level.TheVariants.{Plain}
+use Rattle.graph_search.specs.Graphs.{AreRanks, IsWalk}
+use Rattle.dep_edges.specs.Tables.{IsPlace}
+use Rattle.edge_graph.specs.Kinds.{kinds_of, AreAmong}
+use Rattle.edge_graph.specs.Parts.{Parts}
+use Rattle.edge_graph.specs.Vertices.{Vertex, txn, version, IsVertex, IsArc, LeadsTo, graph_by, AreArcs}
+use Rattle.edge_graph.specs.declared.types.Dependencies.{Dependencies}
+use Rattle.edge_graph.specs.declared.types.Kinds.{Kinds}
+use Rattle.edge_graph.proofs.EdgeArcs.{more_at_level, more_than_plain}
+use Rattle.cycle_find.specs.Ranked.{AreRanksOver}
+
+-- ---- vertices of arcs
+
+vertex_within : (g : Parts) (v : ℕ) (x : Vertex) → IsVertex g v x → v < length g.txns + length g.versions
+vertex_within g v (txn t) at = omega (arith, slice_get_within g.txns v t at)
+vertex_within g v (version w) (number, is, at) = omega (arith, is, slice_get_within g.versions number w at)
+
+pub arc_to_within : (g : Parts) (kinds : Kinds) (v w : ℕ) → IsArc g kinds v w → w < length g.txns + length g.versions
+arc_to_within g kinds v w (x, y, at, at', leads) = vertex_within g w y at'
+
+pub arc_from_within : (g : Parts) (kinds : Kinds) (v w : ℕ) → IsArc g kinds v w → v < length g.txns + length g.versions
+arc_from_within g kinds v w (x, y, at, at', leads) = vertex_within g v x at
+
+-- what a version leads to is a transaction
+behind : (g : Parts) (kinds : Kinds) (v w : ℕ) (x y : Vertex) → (IsPlace g.txns v → ⊥) → IsVertex g v x → IsVertex g w y → LeadsTo g kinds x y → IsPlace g.txns w
+behind g kinds v w (txn t) y absent at at' leads = absurd (absent (slice_get_within g.txns v t at))
+behind g kinds v w (version a) (txn u) absent at at' leads = slice_get_within g.txns w u at'
+behind g kinds v w (version a) (version b) absent at at' leads = absurd leads
+
+pub behind_version : (g : Parts) (kinds : Kinds) (v w : ℕ) → (IsPlace g.txns v → ⊥) → IsArc g kinds v w → IsPlace g.txns w
+behind_version g kinds v w absent (x, y, at, at', leads) = behind g kinds v w x y absent at at' leads
+
+-- ---- walks
+
+pub along : (L M : ℕ → ℕ → Type 0) (from to : ℕ) (walk : List ℕ) → ((v w : ℕ) → L v w → M v w) → IsWalk L from to walk → IsWalk M from to walk
+along L M from to walk each is = record { some = is.some; begins = is.begins; ends = is.ends; joined = λ k h. each (get_or walk k 0) (get_or walk (k + 1) 0) (is.joined k h) }
+
+module _ (g : Parts) (kinds : Kinds) (ranks : List ℕ) (are : AreRanksOver g kinds ranks) (from to : ℕ) (walk : List ℕ) (is : IsWalk (IsArc g kinds) from to walk) where
+  rises : (j n : ℕ) → j + n < length walk → get_or ranks (get_or walk j 0) 0 ≤ get_or ranks (get_or walk (j + n) 0) 0
+  rises j zero h =
+      let e : j ≡ j + 0 = omega arith in
+      let start : get_or ranks (get_or walk j 0) 0 ≤ get_or ranks (get_or walk j 0) 0 = omega arith in
+      subst (λ m. get_or ranks (get_or walk j 0) 0 ≤ get_or ranks (get_or walk m 0) 0) e start
+  rises j (suc n) h =
+      let e : j + n + 1 ≡ j + suc n = omega arith in
+      let before : get_or ranks (get_or walk j 0) 0 ≤ get_or ranks (get_or walk (j + n) 0) 0 = rises j n (omega arith) in
+      let next : get_or ranks (get_or walk (j + n) 0) 0 ≤ get_or ranks (get_or walk (j + n + 1) 0) 0 =
+      are.rising (get_or walk (j + n) 0) (get_or walk (j + n + 1) 0) (is.joined (j + n) (omega arith)) in
+      let both : get_or ranks (get_or walk j 0) 0 ≤ get_or ranks (get_or walk (j + n + 1) 0) 0 = omega (arith, before, next) in
+      subst (λ m. get_or ranks (get_or walk j 0) 0 ≤ get_or ranks (get_or walk m 0) 0) e both
+
+  pub to_last : (k : ℕ) → k < length walk → get_or ranks (get_or walk k 0) 0 ≤ get_or ranks to 0
+  to_last k h =
+      let e : k + (length walk - 1 - k) ≡ length walk - 1 = omega arith in
+      let up : get_or ranks (get_or walk k 0) 0 ≤ get_or ranks (get_or walk (k + (length walk - 1 - k)) 0) 0 = rises k (length walk - 1 - k) (omega arith) in
+      subst (λ v. get_or ranks (get_or walk k 0) 0 ≤ get_or ranks v 0) (ap (λ m. get_or walk m 0) e ∙ is.ends) up
+
+  pub raise : get_or ranks from 0 ≤ get_or ranks to 0
+  raise = subst (λ v. get_or ranks v 0 ≤ get_or ranks to 0) is.begins (to_last 0 is.some)
+
+-- ---- ranks
+
+pub ranks_over : (g : Parts) (kinds : Kinds) (lists : List (List ℕ)) (ranks : List ℕ) → AreArcs g kinds lists → AreRanks (graph_by lists) ranks → AreRanksOver g kinds ranks
+ranks_over g kinds lists ranks arcs are = record { one_each = are.one_each ∙ arcs.count; rising = λ v w h. are.rising v w ((arcs.arcs v w).1 h) }
+
+-- they are ranks over fewer arcs
+pub fewer : (g : Parts) (few more : Dependencies) (level : Level) (ranks : List ℕ) → AreAmong few more → AreRanksOver g (kinds_of more level) ranks → AreRanksOver g (kinds_of few level) ranks
+fewer g few more level ranks among are = record { one_each = are.one_each; rising = λ v w h. are.rising v w (more_at_level g few more among level v w h) }
+
+pub fewer_plain : (g : Parts) (few more : Dependencies) (level : Level) (ranks : List ℕ) → AreAmong few more → AreRanksOver g (kinds_of more level) ranks → AreRanksOver g (kinds_of few Plain) ranks
+fewer_plain g few more level ranks among are = record { one_each = are.one_each; rising = λ v w h. are.rising v w (more_than_plain g few more among level v w h) }

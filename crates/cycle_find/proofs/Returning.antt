@@ -1,0 +1,172 @@
+-- Each edge of the needed kind that has a way back is met along the needed arcs.
+use Rattle.std.proofs.Common.{◌≡◌, ◌∙◌, ◌<◌, ◌≤◌, ℕ, List, [], ◌∷◌, get_or, Bool, true, false, inl, inr, All, Contains, refl, sym, subst, arith}
+use Rattle.std.specs.List.{AllByRecursion, list_all}
+use Rattle.std.proofs.lemmas.Bool.{false≢true}
+use Rattle.std.proofs.lemmas.List.Elements.{All-from_recursion}
+use Rattle.hist_types.specs.Edges.{Label, ww, wr, rw, process, realtime, Edge}
+use Rattle.hist_types.specs.Phenomena.{Leads}
+use Rattle.hist_types.specs.Thinning.{HasOver, HasReturn, LeadsBack, is_needed, may_lead_back}
+use Rattle.hist_types.specs.declared.types.Level.{Level}
+use Rattle.hist_types.specs.declared.types.Level.TheVariants.{Plain}
+use Rattle.hist_types.specs.declared.types.Phenomenon.{Phenomenon}
+use Rattle.hist_types.specs.declared.types.Phenomenon.TheVariants.{G0, G1c, GSingle, G2Item}
+use Rattle.hist_types.proofs.ThinningCycles.{closed_by_one}
+use Rattle.hist_types.proofs.ThinningWitnesses.{needed_dependency, passes_list}
+use Rattle.dep_edges.specs.Histories.{AreOfHistory}
+use Rattle.dep_edges.specs.Tables.{IsPlace, txn_at}
+use Rattle.edge_graph.specs.Kinds.{includes, kinds_of, AreAmong}
+use Rattle.edge_graph.specs.Parts.{Parts, edges_in}
+use Rattle.edge_graph.specs.Vertices.{IsArc, RwByVersions}
+use Rattle.edge_graph.specs.Walks.{LeadsBetween, IsEdgeOf, HasEdgeBetween, HasWalkBetween, AreEdgesBetween, HasDirectArc, HasWayByVersion}
+use Rattle.edge_graph.specs.declared.types.Dependencies.{Dependencies}
+use Rattle.edge_graph.specs.declared.types.Dependencies.TheVariants.{Ww, Wr, Rw, WrAndWw, All as AllOfThem}
+use Rattle.edge_graph.specs.declared.types.Kinds.{Kinds}
+use Rattle.edge_graph.proofs.EdgesIn.{levels}
+use Rattle.edge_graph.proofs.EdgeArcs.{arc_of_ww, arc_of_wr, way_of_rw, walk_over, more_at_level}
+use Rattle.cycle_find.specs.Dependencies.{needed, way_back, whole}
+use Rattle.cycle_find.specs.Found.{ShowNothing}
+use Rattle.cycle_find.specs.Ranked.{AreRanksOver}
+use Rattle.cycle_find.specs.Tasks.{Task, needed_kinds, back_kinds, HasReturnBetween, NoneFrom}
+use Rattle.cycle_find.specs.Ways.{LeadsOn, Rises}
+use Rattle.cycle_find.proofs.Closing.{back_kind}
+use Rattle.cycle_find.proofs.RankedArcs.{raise, fewer}
+
+-- ---- kinds
+
+needed_label : (phenomenon : Phenomenon) (from to : ℕ) (label : Label) → is_needed phenomenon (record { from = from; to = to; label = label }) ≡ true → includes (kinds_of (needed phenomenon) Plain) label ≡ true
+needed_label G0 from to (ww a b) is = refl
+needed_label G0 from to (wr a) is = absurd (false≢true is)
+needed_label G0 from to (rw a b) is = absurd (false≢true is)
+needed_label G0 from to (process n) is = refl
+needed_label G0 from to (realtime m n) is = refl
+needed_label G1c from to (ww a b) is = absurd (false≢true is)
+needed_label G1c from to (wr a) is = refl
+needed_label G1c from to (rw a b) is = absurd (false≢true is)
+needed_label G1c from to (process n) is = refl
+needed_label G1c from to (realtime m n) is = refl
+needed_label GSingle from to (ww a b) is = absurd (false≢true is)
+needed_label GSingle from to (wr a) is = absurd (false≢true is)
+needed_label GSingle from to (rw a b) is = refl
+needed_label GSingle from to (process n) is = refl
+needed_label GSingle from to (realtime m n) is = refl
+needed_label G2Item from to (ww a b) is = absurd (false≢true is)
+needed_label G2Item from to (wr a) is = absurd (false≢true is)
+needed_label G2Item from to (rw a b) is = refl
+needed_label G2Item from to (process n) is = refl
+needed_label G2Item from to (realtime m n) is = refl
+
+back_labels : (phenomenon : Phenomenon) (level : Level) (es : List Edge) → AllByRecursion (λ (e : Edge). may_lead_back phenomenon e ≡ true) es
+    → AllByRecursion (λ (e : Edge). includes (kinds_of (way_back phenomenon) level) e.label ≡ true) es
+back_labels phenomenon level [] all = tt
+back_labels phenomenon level (e ∷ es) all = (sym (back_kind phenomenon level e) ∙ all.0, back_labels phenomenon level es all.1)
+
+-- ---- places
+
+-- an edge of the needed kind with a way back, and where it is met
+pub record IsMet (task : Task) (from by to : ℕ) : Type 0 where
+  pub first : IsPlace task.graph.txns from
+  pub last : IsPlace task.graph.txns to
+  pub arc : IsArc task.graph (needed_kinds task) from by
+  pub leads : LeadsOn task.graph (needed_kinds task) from by to
+  pub back : HasReturnBetween task from to
+
+module _ (task : Task) (kept : AreOfHistory task.graph.txns) (by_versions : RwByVersions task.graph) where
+  abbrev g : Parts
+  g = task.graph
+
+  abbrev es : List Edge
+  es = edges_in g task.level
+
+  between : (from to : ℕ) (e : Edge) (walk : List Edge) → Contains es e → is_needed task.phenomenon e ≡ true → LeadsBack task.phenomenon es e walk → LeadsBetween g from to e
+      → HasReturnBetween task from to
+  between from to e walk among is back ends =
+      let of_kind : IsEdgeOf g (needed_kinds task) e =
+      record {
+        among = (levels g task.level e).1 (among, needed_dependency task.phenomenon e is);
+        kind = needed_label task.phenomenon e.from e.to e.label is;
+      } in
+      let leads : Leads (txn_at g.txns to).invocation walk (txn_at g.txns from).invocation =
+      subst (λ n. Leads (txn_at g.txns to).invocation walk n) ends.begins (subst (λ n. Leads n walk e.from) ends.ends back.leads) in
+      let along : AreEdgesBetween g (back_kinds task) to from walk =
+      record {
+        leads = leads;
+        among = back.within;
+        of_kinds =
+            All-from_recursion (λ (d : Edge). includes (kinds_of (way_back task.phenomenon) task.level) d.label ≡ true) walk
+            (back_labels task.phenomenon task.level walk (passes_list (may_lead_back task.phenomenon) walk back.kinds));
+      } in
+      ((e, record { edge = of_kind; leads = ends }), walk_over g kept by_versions (back_kinds task) to from ends.last ends.first walk along)
+
+  directly : (d : Dependencies) (e : Edge) (walk : List Edge) → needed task.phenomenon ≡ d → Contains es e → is_needed task.phenomenon e ≡ true → LeadsBack task.phenomenon es e walk → HasDirectArc g d e
+      → (from by to : ℕ) × IsMet task from by to
+  directly d e walk same among is back (from, to, ends, direct) = (
+    from,
+    to,
+    to,
+    record {
+      first = direct.first;
+      last = direct.last;
+      arc = subst (λ d. IsArc g (kinds_of d Plain) from to) (sym same) direct.arc;
+      leads = inl refl;
+      back = between from to e walk among is back ends;
+    },
+  )
+
+  by_way : (e : Edge) (walk : List Edge) → needed task.phenomenon ≡ Rw → Contains es e → is_needed task.phenomenon e ≡ true → LeadsBack task.phenomenon es e walk → HasWayByVersion g Rw e
+      → (from by to : ℕ) × IsMet task from by to
+  by_way e walk same among is back (from, version, to, ends, way) = (
+    from,
+    version,
+    to,
+    record {
+      first = way.first;
+      last = way.last;
+      arc = subst (λ d. IsArc g (kinds_of d Plain) from version) (sym same) way.reads;
+      leads = inr (way.between, way.other, subst (λ d. IsArc g (kinds_of d Plain) version to) (sym same) way.follows);
+      back = between from to e walk among is back ends;
+    },
+  )
+
+abbrev task_of : Parts → Phenomenon → Level → Task
+task_of graph phenomenon level = record { graph = graph; phenomenon = phenomenon; level = level }
+
+met : (phenomenon : Phenomenon) (graph : Parts) (level : Level) → AreOfHistory graph.txns → RwByVersions graph → HasReturn phenomenon (edges_in graph level)
+    → (from by to : ℕ) × IsMet (task_of graph phenomenon level) from by to
+met G0 graph level kept by_versions (e, among, is, walk, back) =
+    directly (task_of graph G0 level) kept by_versions Ww e walk refl among is back (arc_of_ww graph level e among is)
+met G1c graph level kept by_versions (e, among, is, walk, back) =
+    directly (task_of graph G1c level) kept by_versions Wr e walk refl among is back (arc_of_wr graph level e among is)
+met GSingle graph level kept by_versions (e, among, is, walk, back) =
+    by_way (task_of graph GSingle level) kept by_versions e walk refl among is back (way_of_rw graph by_versions level e among is)
+met G2Item graph level kept by_versions (e, among, is, walk, back) =
+    by_way (task_of graph G2Item level) kept by_versions e walk refl among is back (way_of_rw graph by_versions level e among is)
+
+-- ---- none
+
+pub none_over : (task : Task) → AreOfHistory task.graph.txns → RwByVersions task.graph → ((from : ℕ) → IsPlace task.graph.txns from → NoneFrom task from) → ¬ HasOver task.phenomenon (edges_in task.graph task.level)
+none_over task kept by_versions none over =
+    let (from, by, to, is) = met task.phenomenon task.graph task.level kept by_versions ((closed_by_one task.phenomenon (edges_in task.graph task.level)).0 over) in
+    none from is.first by is.arc to is.last is.leads is.back
+
+needed_of_all : (phenomenon : Phenomenon) → AreAmong (needed phenomenon) AllOfThem
+needed_of_all phenomenon = record { ww = λ h. refl; wr = λ h. refl; rw = λ h. refl }
+
+back_of_all : (phenomenon : Phenomenon) → AreAmong (way_back phenomenon) AllOfThem
+back_of_all phenomenon = record { ww = λ h. refl; wr = λ h. refl; rw = λ h. refl }
+
+more_leads_on : (graph : Parts) (few : Dependencies) (among : AreAmong few AllOfThem) (from by to : ℕ) → LeadsOn graph (kinds_of few Plain) from by to → LeadsOn graph (kinds_of AllOfThem Plain) from by to
+more_leads_on graph few among from by to (inl same) = inl same
+more_leads_on graph few among from by to (inr (absent, other, arc)) = inr (absent, other, more_at_level graph few AllOfThem among Plain by to arc)
+
+-- where the rank rises along each dependency edge, no edge has a way back
+pub settled : (graph : Parts) (level : Level) (ranks : List ℕ) → AreOfHistory graph.txns → RwByVersions graph → AreRanksOver graph (kinds_of AllOfThem level) ranks → Rises graph (kinds_of AllOfThem Plain) ranks
+    → ShowNothing (edges_in graph level)
+settled graph level ranks kept by_versions are rise phenomenon over =
+    let (from, by, to, is) = met phenomenon graph level kept by_versions ((closed_by_one phenomenon (edges_in graph level)).0 over) in
+    let among = needed_of_all phenomenon in
+    let up : get_or ranks from 0 < get_or ranks to 0 =
+    rise from is.first by (more_at_level graph (needed phenomenon) AllOfThem among Plain from by is.arc) to is.last (more_leads_on graph (needed phenomenon) among from by to is.leads) in
+    let walk = is.back.1.0 in
+    let down : get_or ranks to 0 ≤ get_or ranks from 0 =
+    raise graph (kinds_of (way_back phenomenon) level) ranks (fewer graph (way_back phenomenon) AllOfThem level ranks (back_of_all phenomenon) are) to from walk is.back.1.1.steps in
+    absurd (omega (arith, up, down))

@@ -1,0 +1,24 @@
+use Rattle.std.proofs.Common.{subst}
+use Rattle.std.specs.Bool.{OnTrue}
+use Rattle.std.proofs.lemmas.Bool.{OnTrue_at, OnTrue_from}
+use Rattle.edge_graph.specs.Kinds.{kinds_of}
+use Rattle.edge_graph.specs.Parts.{edges_in}
+use Rattle.edge_graph.specs.declared.types.Dependencies.TheVariants.{All}
+use Rattle.hist_types.specs.declared.types.Level.TheVariants.{Plain}
+use Rattle.cycle_find.specs.Found.{ShowNothing}
+use Rattle.cycle_find.specs.Ranked.{Ranking}
+use Rattle.cycle_find.specs.Ways.{Rises}
+use Rattle.cycle_find.proofs.RankedArcs.{fewer_plain}
+use Rattle.cycle_find.proofs.Returning.{settled}
+use Rattle.cycle_find.proofs.rules_out_cycles.Goals as goal
+
+pub new-requires : goal.new-requires
+new-requires c = fewer_plain c.args.graph.now All All c.args.level c.in_ok-ranks.ranks (record { ww = λ h. h; wr = λ h. h; rw = λ h. h }) c.in_ok-ranks.ensures
+
+pub returns-clause-none : goal.returns-clause-none
+returns-clause-none c =
+    let g = c.args.graph.now in
+    OnTrue_from c.rise.result (ShowNothing (edges_in g c.args.level))
+    (λ yes.
+    settled g c.args.level c.in_ok-ranks.ranks c.new.ensures.kept c.new.ensures.rw c.in_ok-ranks.ensures
+    (subst (λ (r : Ranking). Rises r.graph (kinds_of All Plain) r.ranks) c.new.ensures.view (OnTrue_at yes c.rise.ensures)))

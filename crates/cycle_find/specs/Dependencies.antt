@@ -1,0 +1,26 @@
+-- Which dependencies the closed walks of a phenomenon use.
+use Rattle.hist_types.specs.declared.types.Phenomenon.{Phenomenon}
+use Rattle.hist_types.specs.declared.types.Phenomenon.TheVariants.{G0, G1c, GSingle, G2Item}
+use Rattle.edge_graph.specs.declared.types.Dependencies.{Dependencies}
+use Rattle.edge_graph.specs.declared.types.Dependencies.TheVariants.{Ww, Wr, Rw, WrAndWw, All}
+
+-- the edge that it cannot do without
+abbrev pub needed : Phenomenon → Dependencies
+needed G0 = Ww
+needed G1c = Wr
+needed GSingle = Rw
+needed G2Item = Rw
+
+-- the way back from that edge's second end to its first
+abbrev pub way_back : Phenomenon → Dependencies
+way_back G0 = Ww
+way_back G1c = WrAndWw
+way_back GSingle = WrAndWw
+way_back G2Item = All
+
+-- the whole walk
+abbrev pub whole : Phenomenon → Dependencies
+whole G0 = Ww
+whole G1c = WrAndWw
+whole GSingle = All
+whole G2Item = All

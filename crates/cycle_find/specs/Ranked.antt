@@ -1,0 +1,22 @@
+-- Ranks of a graph's vertices, and the vertices that a search may enter.
+use Rattle.std.specs.Prelude.{◌≡◌, ℕ, ◌+◌, ◌≤◌, min, List, length, slice_index, ◌&&◌, nat_le}
+use Rattle.graph_search.specs.Graphs.{VertexSet}
+use Rattle.edge_graph.specs.Parts.{Parts}
+use Rattle.edge_graph.specs.Vertices.{IsArc}
+use Rattle.edge_graph.specs.declared.types.Kinds.{Kinds}
+
+-- a rank for each vertex, none of which falls along an arc of the kinds
+pub record AreRanksOver (g : Parts) (kinds : Kinds) (ranks : List ℕ) : Type 0 where
+  pub one_each : length ranks ≡ length g.txns + length g.versions
+  pub rising : (v w : ℕ) → IsArc g kinds v w → slice_index ranks v ≤ slice_index ranks w
+
+pub record Ranking : Type 0 where
+  pub graph : Parts
+  pub ranks : List ℕ
+
+-- the vertices that are above a limit by neither of two rankings
+abbrev pub not_above : (ranks : List ℕ) (most : ℕ) (finer : List ℕ) (most_finer : ℕ) → VertexSet
+not_above ranks most finer most_finer = record {
+  count = min (length ranks) (length finer);
+  has = λ v. nat_le (slice_index ranks v) most && nat_le (slice_index finer v) most_finer;
+}
