@@ -3,18 +3,17 @@ use Rattle.std.proofs.Common.{◌≡◌, ◌∙◌, ◌<◌, ◌≤◌, ◌+◌,
 use Rattle.std.proofs.lemmas.Bool.{true≢false}
 use Rattle.std.proofs.lemmas.List.{get_or_default}
 use Rattle.hist_types.specs.Edges.{Edge}
-use Rattle.hist_types.specs.declared.types.Level.TheVariants.{Plain}
 use Rattle.hist_types.specs.declared.types.Phenomenon.{Phenomenon}
 use Rattle.hist_types.specs.declared.types.Phenomenon.TheVariants.{G0, G1c, GSingle, G2Item}
 use Rattle.dep_edges.specs.Tables.{IsPlace}
-use Rattle.edge_graph.specs.Kinds.{kinds_of, AreAmong}
+use Rattle.edge_graph.specs.Kinds.{AreAmong}
 use Rattle.edge_graph.specs.Parts.{Parts}
 use Rattle.edge_graph.specs.Vertices.{IsArc, AreArcs}
 use Rattle.edge_graph.specs.declared.types.Kinds.{Kinds}
 use Rattle.cycle_find.specs.Dependencies.{needed, way_back, whole}
 use Rattle.cycle_find.specs.Ranked.{AreRanksOver}
 use Rattle.cycle_find.specs.Tasks.{Task, needed_kinds, back_kinds, whole_kinds, HasReturnBetween, IsShownOr, NoneBy, NoneFrom}
-use Rattle.cycle_find.specs.Ways.{LeadsOn, RisesBy, RisesFrom}
+use Rattle.cycle_find.specs.Ways.{RisesBy, RisesFrom}
 use Rattle.cycle_find.proofs.RankedArcs.{raise, fewer, fewer_plain}
 
 -- what holds of each vertex in the list holds of each to which an arc leads

@@ -1,6 +1,6 @@
 -- Each edge of the needed kind that has a way back is met along the needed arcs.
-use Rattle.std.proofs.Common.{◌≡◌, ◌∙◌, ◌<◌, ◌≤◌, ℕ, List, [], ◌∷◌, get_or, Bool, true, false, inl, inr, All, Contains, refl, sym, subst, arith}
-use Rattle.std.specs.List.{AllByRecursion, list_all}
+use Rattle.std.proofs.Common.{◌≡◌, ◌∙◌, ◌<◌, ◌≤◌, ℕ, List, [], ◌∷◌, get_or, true, inl, inr, Contains, refl, sym, subst, arith}
+use Rattle.std.specs.List.{AllByRecursion}
 use Rattle.std.proofs.lemmas.Bool.{false≢true}
 use Rattle.std.proofs.lemmas.List.Elements.{All-from_recursion}
 use Rattle.hist_types.specs.Edges.{Label, ww, wr, rw, process, realtime, Edge}
@@ -17,13 +17,12 @@ use Rattle.dep_edges.specs.Tables.{IsPlace, txn_at}
 use Rattle.edge_graph.specs.Kinds.{includes, kinds_of, AreAmong}
 use Rattle.edge_graph.specs.Parts.{Parts, edges_in}
 use Rattle.edge_graph.specs.Vertices.{IsArc, RwByVersions}
-use Rattle.edge_graph.specs.Walks.{LeadsBetween, IsEdgeOf, HasEdgeBetween, HasWalkBetween, AreEdgesBetween, HasDirectArc, HasWayByVersion}
+use Rattle.edge_graph.specs.Walks.{LeadsBetween, IsEdgeOf, AreEdgesBetween, HasDirectArc, HasWayByVersion}
 use Rattle.edge_graph.specs.declared.types.Dependencies.{Dependencies}
-use Rattle.edge_graph.specs.declared.types.Dependencies.TheVariants.{Ww, Wr, Rw, WrAndWw, All as AllOfThem}
-use Rattle.edge_graph.specs.declared.types.Kinds.{Kinds}
+use Rattle.edge_graph.specs.declared.types.Dependencies.TheVariants.{Ww, Wr, Rw, All as AllOfThem}
 use Rattle.edge_graph.proofs.EdgesIn.{levels}
 use Rattle.edge_graph.proofs.EdgeArcs.{arc_of_ww, arc_of_wr, way_of_rw, walk_over, more_at_level}
-use Rattle.cycle_find.specs.Dependencies.{needed, way_back, whole}
+use Rattle.cycle_find.specs.Dependencies.{needed, way_back}
 use Rattle.cycle_find.specs.Found.{ShowNothing}
 use Rattle.cycle_find.specs.Ranked.{AreRanksOver}
 use Rattle.cycle_find.specs.Tasks.{Task, needed_kinds, back_kinds, HasReturnBetween, NoneFrom}

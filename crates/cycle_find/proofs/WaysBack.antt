@@ -1,5 +1,5 @@
 -- A search that leaves out the vertices whose rank is too high misses outside way.
-use Rattle.std.proofs.Common.{◌≡◌, ◌∙◌, ◌<◌, ◌≤◌, ◌+◌, ℕ, List, length, get_or, Bool, true, false, ◌&&◌, Option, Some, None, option_map, refl, sym, arith}
+use Rattle.std.proofs.Common.{◌≡◌, ◌∙◌, ◌≤◌, ◌+◌, ℕ, List, get_or, true, false, Option, Some, None, sym, arith}
 use Rattle.std.specs.Prelude.{nat_le}
 use Rattle.std.proofs.lemmas.Bool.{true≢false, and_from, le-leb}
 use Rattle.graph_search.specs.Graphs.{VertexSet, HasArcInto, IsWalk, IsWalkIfAny}

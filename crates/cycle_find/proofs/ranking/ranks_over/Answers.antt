@@ -1,4 +1,3 @@
-use Rattle.std.proofs.Common.{List, ℕ}
 use Rattle.std.proofs.lemmas.Result.{IfOk-weaker}
 use Rattle.graph_search.specs.Graphs.{AreRanks}
 use Rattle.edge_graph.specs.Kinds.{kinds_of}

@@ -1,4 +1,4 @@
-use Rattle.std.proofs.Common.{◌≡◌, ◌<◌, ◌∙◌, length, arith, below_more, sym, ap, subst}
+use Rattle.std.proofs.Common.{◌≡◌, ◌∙◌, length, arith, below_more, sym, ap, subst}
 use Rattle.cycle_find.specs.Prepared.{IsPrepared}
 use Rattle.cycle_find.specs.Tasks.{Task, NoneFrom}
 use Rattle.cycle_find.proofs.Passing.{otherwise}

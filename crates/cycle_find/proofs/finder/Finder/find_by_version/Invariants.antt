@@ -1,5 +1,5 @@
 -- What the version's arcs so far lead to has no way back.
-use Rattle.std.proofs.Common.{◌≡◌, ◌+◌, ◌<◌, ℕ, [], length, get_or}
+use Rattle.std.proofs.Common.{◌≡◌, ◌<◌, ℕ, [], get_or}
 use Rattle.cycle_find.specs.Tasks.{HasReturnBetween}
 use Rattle.cycle_find.proofs.finder.Finder.find_by_version.Given as goal
 

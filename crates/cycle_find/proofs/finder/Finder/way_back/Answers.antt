@@ -1,4 +1,4 @@
-use Rattle.std.proofs.Common.{◌≡◌, ◌∙◌, List, ℕ, get_or, false, option_map, sym, ap, subst}
+use Rattle.std.proofs.Common.{◌∙◌, List, ℕ, option_map, sym, subst}
 use Rattle.std.proofs.lemmas.Result.{IfOk-weaker}
 use Rattle.graph_search.specs.Graphs.{IsWalk, IsWalkIfAny}
 use Rattle.edge_graph.specs.Vertices.{IsArc}
