@@ -13,7 +13,8 @@ pub mod types;
 pub mod write;
 
 use crate::path::{least_place, short_round};
-use crate::types::{Walk, Witness};
+use crate::types::Witness;
+use cycle_find::types::Walk;
 use hist_types::types::Fault;
 use std::alloc::Global;
 

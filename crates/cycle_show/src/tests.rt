@@ -2,8 +2,9 @@
 
 use crate::kinds::copy;
 use crate::tighten;
-use crate::types::{Walk, Witness};
+use crate::types::Witness;
 use crate::write::{write_bad_read, write_edges, write_head, write_number};
+use cycle_find::types::Walk;
 use dep_edges::types::{Edge, Label};
 use hist_types::types::{At, Fault, Refusal};
 use op_view::atom::Atom;

@@ -1,0 +1,180 @@
+-- What searches in the graph of a history over its thinned order say of the history's phenomena.
+use Rattle.std.proofs.Common.{◌≡◌, inl, inr, ◌<◌, ◌≤◌, ◌↔◌, List, ◌++◌, Option, Some, None, sym, subst, arith, Contains}
+use Rattle.std.proofs.lemmas.List.Elements.{All-weaker}
+use Rattle.hist_types.specs.Edges.{Edge, dependency_edges, order_edges, edges_at}
+use Rattle.hist_types.specs.Frontier.{thinned_edges}
+use Rattle.hist_types.specs.Phenomena.{height, Shows, Has}
+use Rattle.hist_types.specs.Thinning.{ShowsOver, HasOver}
+use Rattle.hist_types.specs.Transactions.{Transaction, transactions_of}
+use Rattle.hist_types.specs.Witness.{Finding, IsWitness, IsFinding}
+use Rattle.hist_types.specs.declared.types.Level.{Level}
+use Rattle.hist_types.specs.declared.types.Level.TheVariants.{Plain, Process, Realtime}
+use Rattle.hist_types.specs.declared.types.Phenomenon.{Phenomenon}
+use Rattle.hist_types.specs.declared.types.Phenomenon.TheVariants.{G0, G1c, GSingle, G2Item}
+use Rattle.hist_types.proofs.Members.{in_from_Contains, Contains_from_in, in_front, in_back, in_append}
+use Rattle.hist_types.proofs.OrderEdges.{thinned_edges-order}
+use Rattle.hist_types.proofs.ThinningCycles.{has_above}
+use Rattle.hist_types.proofs.ThinningWalks.{has_thinned}
+use Rattle.cycle_find.specs.Found.{ShowNothing}
+use Rattle.cycle_show.specs.Reductions.{IsWitnessOf}
+use Rattle.order_frontier.specs.Predecessors.{AreOfEvents}
+use Rattle.edge_graph.specs.Parts.{Parts, edges_in}
+use Rattle.verdict.specs.Lowest.{IsThinned, IsLowest}
+use Rattle.verdict.specs.Verdicts.{AreFindings, no_findings}
+
+-- ---- one search
+
+thinned_is_edge :
+    (level : Level) (ts : List Transaction) (e : Edge)
+    → Contains (dependency_edges ts ++ thinned_edges level ts) e
+    → Contains (edges_at level ts) e
+thinned_is_edge level ts e c =
+    elim (in_append e (dependency_edges ts) (thinned_edges level ts) (in_from_Contains e (dependency_edges ts ++ thinned_edges level ts) c)) [
+      | inl i ↦ Contains_from_in e (edges_at level ts) (in_front e (dependency_edges ts) (order_edges level ts) i)
+      | inr i ↦
+          let order : Contains (order_edges level ts) e =
+          thinned_edges-order level ts e (Contains_from_in e (thinned_edges level ts) i) in
+          Contains_from_in e (edges_at level ts) (in_back e (dependency_edges ts) (order_edges level ts) (in_from_Contains e (order_edges level ts) order))
+    ]
+
+-- a walk that is found shows the phenomenon in the history
+pub shown :
+    (g : Parts) (phenomenon : Phenomenon) (level : Level) (walk : List Edge)
+    → IsThinned g
+    → ShowsOver phenomenon (edges_in g level) walk
+    → Shows phenomenon level g.txns walk
+shown g phenomenon level walk thinned s = record {
+  closed = s.closed;
+  within = All-weaker (Contains (edges_in g level)) (Contains (edges_at level g.txns)) (λ e c. thinned_is_edge level g.txns e ((thinned.edges level e).0 c)) walk s.within;
+  kinds = s.kinds;
+}
+
+-- where none is found, the phenomenon isn't there
+pub absent :
+    (g : Parts) (phenomenon : Phenomenon) (level : Level)
+    → IsThinned g
+    → ¬ HasOver phenomenon (edges_in g level)
+    → ¬ Has phenomenon level g.txns
+absent g phenomenon level thinned none has =
+    let (events, same) = thinned.events in
+    let over : HasOver phenomenon (dependency_edges g.txns ++ thinned_edges level g.txns) =
+    subst (λ ts. HasOver phenomenon (dependency_edges ts ++ thinned_edges level ts)) (sym same)
+    ((has_thinned phenomenon level events).0 (subst (Has phenomenon level) same has)) in
+    none
+    (over.0, record {
+      closed = over.1.closed;
+      within = All-weaker (Contains (dependency_edges g.txns ++ thinned_edges level g.txns)) (Contains (edges_in g level)) (λ e c. (thinned.edges level e).1 c) over.0 over.1.within;
+      kinds = over.1.kinds;
+    })
+
+-- ---- the lowest level
+
+highest : (level : Level) → height level ≤ height Realtime
+highest Plain = omega arith
+highest Process = omega arith
+highest Realtime = omega arith
+
+-- where there is none at real time, there is none at any level
+pub absent_everywhere :
+    (g : Parts) (phenomenon : Phenomenon)
+    → IsThinned g
+    → ¬ HasOver phenomenon (edges_in g Realtime)
+    → IsLowest phenomenon g.txns None
+absent_everywhere g phenomenon thinned none level has =
+    absent g phenomenon Realtime thinned none (has_above phenomenon level Realtime g.txns (highest level) has)
+
+pub lowest_at_plain :
+    (g : Parts) (phenomenon : Phenomenon) (walk : List Edge)
+    → IsThinned g
+    → ShowsOver phenomenon (edges_in g Plain) walk
+    → IsLowest phenomenon g.txns (Some (record { level = Plain; walk = walk }))
+lowest_at_plain g phenomenon walk thinned s =
+    (shown g phenomenon Plain walk thinned s, λ lower below has. elim (none_below lower below) [ ])
+  where
+    none_below : (lower : Level) → height lower < height Plain → ⊥
+    none_below Plain below = omega (arith, below)
+    none_below Process below = omega (arith, below)
+    none_below Realtime below = omega (arith, below)
+
+pub lowest_at_process :
+    (g : Parts) (phenomenon : Phenomenon) (walk : List Edge)
+    → IsThinned g
+    → ¬ HasOver phenomenon (edges_in g Plain)
+    → ShowsOver phenomenon (edges_in g Process) walk
+    → IsLowest phenomenon g.txns (Some (record { level = Process; walk = walk }))
+lowest_at_process g phenomenon walk thinned none s =
+    (shown g phenomenon Process walk thinned s, none_below g phenomenon (absent g phenomenon Plain thinned none))
+  where
+    none_below :
+        (g : Parts) (phenomenon : Phenomenon)
+        → ¬ Has phenomenon Plain g.txns
+        → (lower : Level)
+        → height lower < height Process
+        → ¬ Has phenomenon lower g.txns
+    none_below g phenomenon plain Plain below has = plain has
+    none_below g phenomenon plain Process below has = omega (arith, below)
+    none_below g phenomenon plain Realtime below has = omega (arith, below)
+
+pub lowest_at_realtime :
+    (g : Parts) (phenomenon : Phenomenon) (walk : List Edge)
+    → IsThinned g
+    → ¬ HasOver phenomenon (edges_in g Plain)
+    → ¬ HasOver phenomenon (edges_in g Process)
+    → ShowsOver phenomenon (edges_in g Realtime) walk
+    → IsLowest phenomenon g.txns (Some (record { level = Realtime; walk = walk }))
+lowest_at_realtime g phenomenon walk thinned not_plain not_process s =
+    (shown g phenomenon Realtime walk thinned s, none_below g phenomenon (absent g phenomenon Plain thinned not_plain) (absent g phenomenon Process thinned not_process))
+  where
+    none_below :
+        (g : Parts) (phenomenon : Phenomenon)
+        → ¬ Has phenomenon Plain g.txns
+        → ¬ Has phenomenon Process g.txns
+        → (lower : Level)
+        → height lower < height Realtime
+        → ¬ Has phenomenon lower g.txns
+    none_below g phenomenon plain process Plain below has = plain has
+    none_below g phenomenon plain process Process below has = process has
+    none_below g phenomenon plain process Realtime below has = omega (arith, below)
+
+-- ---- findings
+
+pub finding_of_none :
+    (phenomenon : Phenomenon) (ts : List Transaction)
+    → IsLowest phenomenon ts None
+    → IsFinding phenomenon ts None
+finding_of_none phenomenon ts none = (none, tt)
+
+-- the walk at the lowest level, reduced to a witness
+pub finding_of_lowest :
+    (g : Parts) (phenomenon : Phenomenon) (lowest : Finding) (witness : List Edge)
+    → IsThinned g
+    → IsLowest phenomenon g.txns (Some lowest)
+    → IsWitnessOf lowest.walk witness
+    → IsFinding phenomenon g.txns (Some (record { level = lowest.level; walk = witness }))
+finding_of_lowest g phenomenon lowest witness thinned is reduced =
+    let (events, same) = thinned.events in
+    let there : Shows phenomenon lowest.level (transactions_of events) lowest.walk =
+    subst (λ ts. Shows phenomenon lowest.level ts lowest.walk) same is.0 in
+    let told : IsWitness phenomenon lowest.level g.txns witness =
+    subst (λ ts. IsWitness phenomenon lowest.level ts witness) (sym same) (reduced phenomenon lowest.level events there) in
+    (((lowest.walk, is.0), is.1), told)
+
+pub nothing_found : (g : Parts) → IsThinned g → ShowNothing (edges_in g Realtime) → AreFindings g.txns no_findings
+nothing_found g thinned nothing G0 = finding_of_none G0 g.txns (absent_everywhere g G0 thinned (nothing G0))
+nothing_found g thinned nothing G1c = finding_of_none G1c g.txns (absent_everywhere g G1c thinned (nothing G1c))
+nothing_found g thinned nothing GSingle = finding_of_none GSingle g.txns (absent_everywhere g GSingle thinned (nothing GSingle))
+nothing_found g thinned nothing G2Item = finding_of_none G2Item g.txns (absent_everywhere g G2Item thinned (nothing G2Item))
+
+-- ---- the graph
+
+-- the graph that is made over a thinned order
+pub thinned_graph :
+    (g : Parts) (ts : List Transaction)
+    → g.txns ≡ ts
+    → AreOfEvents ts
+    → ((level : Level) (e : Edge) → Contains (edges_in g level) e ↔ Contains (dependency_edges ts ++ thinned_edges level ts) e)
+    → IsThinned g
+thinned_graph g ts same events edges = record {
+  events = subst AreOfEvents (sym same) events;
+  edges = λ level e. subst (λ us. Contains (edges_in g level) e ↔ Contains (dependency_edges us ++ thinned_edges level us) e) (sym same) (edges level e);
+}

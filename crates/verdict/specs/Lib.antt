@@ -1,0 +1,3 @@
+pub mod Verdicts
+pub mod Lowest
+pub mod Pieces

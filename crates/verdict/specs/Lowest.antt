@@ -1,0 +1,24 @@
+-- The lowest level of a phenomenon, searched for in the graph of a history over its thinned order.
+use Rattle.std.specs.Prelude.{◌↔◌, ◌<◌, List, ◌++◌, Contains, Option, Some, None}
+use Rattle.hist_types.specs.Edges.{Edge, dependency_edges}
+use Rattle.hist_types.specs.Frontier.{thinned_edges}
+use Rattle.hist_types.specs.Phenomena.{height, Shows, Has}
+use Rattle.hist_types.specs.Transactions.{Transaction}
+use Rattle.hist_types.specs.Witness.{Finding}
+use Rattle.hist_types.specs.declared.types.Level.{Level}
+use Rattle.hist_types.specs.declared.types.Phenomenon.{Phenomenon}
+use Rattle.order_frontier.specs.Predecessors.{AreOfEvents}
+use Rattle.edge_graph.specs.Parts.{Parts, edges_in}
+
+-- the graph of some events' transactions, with their dependency edges and at each level the thinned order edges
+pub record IsThinned (g : Parts) : Type 0 where
+  pub events : AreOfEvents g.txns
+  pub edges :
+      (level : Level) (e : Edge) → Contains (edges_in g level) e ↔ Contains (dependency_edges g.txns ++ thinned_edges level g.txns) e
+
+-- a closed walk that shows the phenomenon at the lowest level at which it is there, or nothing where it isn't
+abbrev pub IsLowest : Phenomenon → List Transaction → Option Finding → Type 0
+IsLowest phenomenon ts None = (level : Level) → ¬ Has phenomenon level ts
+IsLowest phenomenon ts (Some lowest) =
+    Shows phenomenon lowest.level ts lowest.walk
+    × ((lower : Level) → height lower < height lowest.level → ¬ Has phenomenon lower ts)

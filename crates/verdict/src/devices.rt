@@ -1,0 +1,18 @@
+//! Whole outputs.
+
+ghost use Rattle.std.specs.Prelude.{OnOk, OnErr};
+ghost use Rattle.verdict.specs.Pieces.{HasTaken, HasFailedBehind};
+
+use hist_types::device::{Failed, Sink};
+
+/// Hands all the bytes to a sink, or a beginning of them where it fails. It takes no memory.
+pub fn write_all<T: Sink>(sink: &mut T, bytes: &[u8]) -> Result<(), Failed>
+    ensures ok { OnOk result (HasTaken T.Sink sink.old sink.new bytes.now) }
+    ensures err { OnErr result (HasFailedBehind T.Sink sink.old sink.new bytes.now) }
+{
+    let mut done = 0;
+    while done < bytes.len() {
+        done += sink.write(&bytes[done..])?;
+    }
+    Ok(())
+}

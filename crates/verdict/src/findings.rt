@@ -1,0 +1,120 @@
+//! Searches for the lowest level of each phenomenon that cycles show.
+
+ghost use Rattle.std.specs.Prelude.{◌≡◌, IfOk, IfErr};
+ghost use Rattle.dep_edges.specs.Histories.{AreOfHistory};
+ghost use Rattle.hist_types.specs.Refusals.{memory_fault};
+ghost use Rattle.hist_types.specs.Witness.{IsFinding};
+ghost use Rattle.verdict.specs.Lowest.{IsThinned, IsLowest};
+ghost use Rattle.verdict.specs.Verdicts.{AreFindings};
+
+use crate::report::{Finding, Findings};
+use cycle_find::types::Walk;
+use cycle_find::{find, rules_out_cycles};
+use cycle_show::tighten;
+use dep_edges::deps::Deps;
+use edge_graph::graph::Graph;
+use hist_types::types::{Fault, Level, Phenomenon};
+use order_frontier::thin;
+use std::alloc::Global;
+use std::marker::Model;
+use txn_pairs::types::Txns;
+
+/// The lowest level of a phenomenon, with a closed walk that shows it there.
+#[derive(Drop)]
+struct Lowest<'a> {
+    level: Level,
+    walk: Walk<'a>,
+}
+
+impl<'a> Model for Lowest<'a> {
+    ghost use Rattle.hist_types.specs.Witness.{Finding as AFinding};
+
+    ghost Value = { AFinding };
+
+    ghost view = { λ l. record { level = l.level; walk = l.walk } };
+}
+
+/// The lowest level of the phenomenon, if it is there at any.
+fn find_lowest<'a>(
+    alloc: Global,
+    graph: &Graph<'_, '_, 'a>,
+    phenomenon: Phenomenon,
+) -> Result<Option<Lowest<'a>>, Fault>
+    requires { IsThinned graph.now }
+    ensures ok { IfOk result (IsLowest phenomenon graph.now.txns) }
+    ensures err { IfErr result (λ fault. fault ≡ memory_fault) }
+{
+    // What is there at some level is there at the highest one.
+    let Some(highest) = find(alloc, graph, phenomenon, Level::Realtime)? else {
+        return Ok(None);
+    };
+    if let Some(walk) = find(alloc, graph, phenomenon, Level::Plain)? {
+        return Ok(Some(Lowest {
+            level: Level::Plain,
+            walk,
+        }));
+    }
+    if let Some(walk) = find(alloc, graph, phenomenon, Level::Process)? {
+        return Ok(Some(Lowest {
+            level: Level::Process,
+            walk,
+        }));
+    }
+    Ok(Some(Lowest {
+        level: Level::Realtime,
+        walk: highest,
+    }))
+}
+
+/// What is found of the phenomenon.
+fn find_phenomenon<'a>(
+    alloc: Global,
+    graph: &Graph<'_, '_, 'a>,
+    phenomenon: Phenomenon,
+) -> Result<Option<Finding<'a>>, Fault>
+    requires { IsThinned graph.now }
+    ensures ok { IfOk result (IsFinding phenomenon graph.now.txns) }
+    ensures err { IfErr result (λ fault. fault ≡ memory_fault) }
+{
+    let Some(lowest) = find_lowest(alloc, graph, phenomenon)? else {
+        return Ok(None);
+    };
+    let witness = tighten(alloc, &lowest.walk)?;
+    Ok(Some(Finding {
+        level: lowest.level,
+        witness,
+    }))
+}
+
+/// What is found of each phenomenon.
+fn find_each<'a>(alloc: Global, graph: &Graph<'_, '_, 'a>) -> Result<Findings<'a>, Fault>
+    requires { IsThinned graph.now }
+    ensures ok { IfOk result (AreFindings graph.now.txns) }
+    ensures err { IfErr result (λ fault. fault ≡ memory_fault) }
+{
+    if rules_out_cycles(alloc, graph, Level::Realtime)? {
+        return Ok(Findings::none());
+    }
+    Ok(Findings {
+        g0: find_phenomenon(alloc, graph, Phenomenon::G0)?,
+        g1c: find_phenomenon(alloc, graph, Phenomenon::G1c)?,
+        single: find_phenomenon(alloc, graph, Phenomenon::GSingle)?,
+        item: find_phenomenon(alloc, graph, Phenomenon::G2Item)?,
+    })
+}
+
+/// The graph of a history over its thinned order, and what is found in it.
+pub fn findings_of<'a>(
+    alloc: Global,
+    txns: &Txns<'a>,
+    deps: &Deps<'_, 'a>,
+) -> Result<Findings<'a>, Fault>
+    requires history { AreOfHistory txns.now }
+    requires deps { deps.now ≡ txns.now }
+    ensures ok { IfOk result (AreFindings txns.now) }
+    ensures err { IfErr result (λ fault. fault ≡ memory_fault) }
+{
+    let order = thin(alloc, txns)?;
+    let graph = Graph::new(alloc, deps, &order)?;
+    find_each(alloc, &graph)
+}

@@ -1,0 +1,110 @@
+//! Verdicts.
+
+ghost use Rattle.std.specs.Option.{option_copied};
+ghost use Rattle.std.specs.Prelude.{◌≡◌, IfOk, option_map};
+ghost use Rattle.hist_types.specs.Witness.{Finding as AFinding};
+ghost use Rattle.verdict.specs.Verdicts.{finding, report_lines};
+
+use crate::report::{Finding, Report};
+use crate::text::write_report;
+use cycle_show::types::Witness;
+use dep_edges::types::BadRead;
+use hist_types::types::{Level, Phenomenon};
+use std::alloc::{AllocError, Global};
+use std::marker::Model;
+
+/// Everything that is reported of a history, with its text. Keys and values are borrowed from the journal's blocks.
+#[derive(Drop)]
+pub struct Verdict<'a> {
+    report: Report<'a>,
+    text: Vec<u8>,
+}
+
+impl<'a> Model for Verdict<'a> {
+    ghost use Rattle.std.specs.Prelude.{◌≡◌};
+    ghost use Rattle.verdict.specs.Verdicts.{Report as AReport, report_lines};
+
+    ghost Value = { AReport };
+
+    ghost view = { λ v. v.report };
+
+    ghost invariant = { λ v. v.text.items ≡ report_lines v.report };
+}
+
+impl<'a> Verdict<'a> {
+    pub(crate) fn new(alloc: Global, report: Report<'a>) -> Result<Self, AllocError>
+        ensures { IfOk result (λ verdict. verdict ≡ report.entry) }
+    {
+        let mut text = Vec::new(alloc);
+        write_report(&mut text, &report)?;
+        Ok(Verdict { report, text })
+    }
+
+    /// How many events it is of: the journal's first ones.
+    pub fn prefix(&self) -> u64
+        ensures { result ≡ self.now.prefix }
+    {
+        self.report.prefix
+    }
+
+    /// How many transactions these make.
+    pub fn txns(&self) -> u64
+        ensures { result ≡ self.now.txns }
+    {
+        self.report.txns
+    }
+
+    fn finding(&self, phenomenon: Phenomenon) -> Option<&Finding<'a>>
+        ensures { option_copied result ≡ finding self.now.findings phenomenon }
+    {
+        let findings = &self.report.findings;
+        match phenomenon {
+            Phenomenon::G0 => findings.g0.as_ref(),
+            Phenomenon::G1c => findings.g1c.as_ref(),
+            Phenomenon::GSingle => findings.single.as_ref(),
+            Phenomenon::G2Item => findings.item.as_ref(),
+        }
+    }
+
+    /// The lowest level at which a cycle shows the phenomenon, or none.
+    pub fn level(&self, phenomenon: Phenomenon) -> Option<Level>
+        ensures { result ≡ option_map (λ (f : AFinding). f.level) (finding self.now.findings phenomenon) }
+    {
+        Some(self.finding(phenomenon)?.level)
+    }
+
+    /// A cycle that shows the phenomenon at its lowest level.
+    pub fn witness(&self, phenomenon: Phenomenon) -> Option<&Witness<'a>>
+        ensures { option_copied result ≡ option_map (λ (f : AFinding). f.walk) (finding self.now.findings phenomenon) }
+    {
+        Some(&self.finding(phenomenon)?.witness)
+    }
+
+    /// The first read of what a failed transaction wrote.
+    pub fn g1a(&self) -> Option<&BadRead<'a>>
+        ensures { option_copied result ≡ self.now.g1a }
+    {
+        self.report.g1a.as_ref()
+    }
+
+    /// The first read of what another transaction wrote over in itself.
+    pub fn g1b(&self) -> Option<&BadRead<'a>>
+        ensures { option_copied result ≡ self.now.g1b }
+    {
+        self.report.g1b.as_ref()
+    }
+
+    /// How many reads returned a value that nobody wrote.
+    pub fn stray(&self) -> u64
+        ensures { result ≡ self.now.stray }
+    {
+        self.report.stray
+    }
+
+    /// The text, as `write_verdict` writes it.
+    pub fn text(&self) -> &[u8]
+        ensures { result.now ≡ report_lines self.now }
+    {
+        &self.text
+    }
+}
