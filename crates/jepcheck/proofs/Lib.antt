@@ -4,6 +4,7 @@ pub mod Pieces
 pub mod Moved
 pub mod Readings
 pub mod Judging
+pub mod Deciding
 pub mod OneAnswer
 pub mod SomeAnswer
 pub mod Words
