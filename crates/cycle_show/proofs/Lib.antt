@@ -4,3 +4,4 @@ pub mod Joining
 pub mod Needed
 pub mod Tightening
 pub mod Fewer
+pub mod Longer

@@ -1,3 +1,3 @@
-pub mod Labels
+pub mod Lines
 pub mod Paths
 pub mod Reductions

@@ -3,10 +3,10 @@
 ghost use Rattle.std.specs.Prelude.{◌≡◌, ◌<◌, length, IfSome};
 ghost use Rattle.std.specs.List.{position_from};
 ghost use Rattle.hist_types.specs.Phenomena.{is_ww, is_wr, is_rw, is_order};
-ghost use Rattle.cycle_show.specs.Labels.{label_of};
+ghost use Rattle.dep_edges.specs.Labels.{label_of};
 ghost use Rattle.cycle_show.specs.Paths.{needed_place, joined};
 
-use crate::types::{Edge, Label};
+use dep_edges::types::{Edge, Label};
 
 pub fn is_ww(edge: &Edge<'_>) -> bool
     ensures { result ≡ is_ww edge.now }

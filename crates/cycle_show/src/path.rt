@@ -6,7 +6,7 @@ ghost use Rattle.hist_types.specs.Witness.{ends_in_order, stations};
 ghost use Rattle.cycle_show.specs.Paths.{path_to, last_joined, followed, HavePlaces, short_round};
 
 use crate::kinds::{copy, is_order, joined, needed};
-use crate::types::Edge;
+use dep_edges::types::Edge;
 use std::alloc::{AllocError, Global};
 use std::collections::HashMap;
 

@@ -2,8 +2,9 @@
 
 use crate::kinds::copy;
 use crate::tighten;
-use crate::types::{Edge, Label, Walk, Witness};
-use crate::write::write_edge;
+use crate::types::{Walk, Witness};
+use crate::write::{write_bad_read, write_edges, write_head, write_number};
+use dep_edges::types::{Edge, Label};
 use hist_types::types::{At, Fault, Refusal};
 use op_view::atom::Atom;
 use std::alloc::{AllocError, Global};
@@ -266,10 +267,24 @@ fn writes_canonical_atoms(rt: HostRuntime) -> Result<(), Fail> {
         earlier: Some(atom(&rt, "+7N")),
         later: atom(&rt, "sym"),
     };
-    write_edge(&mut out, &Edge::new(10, 12, label))?;
+    let edges = [Edge::new(10, 12, label), process(12, 3, 20)];
+    write_edges(&mut out, &edges)?;
     assert_eq!(rt;
         out.as_slice(),
-        b"T10 -rw \"a\\n\\\"\" 7 sym-> T12".as_slice()
+        b"T10 -rw \"a\\n\\\"\" 7 sym-> T12\nT12 -process 3-> T20\n".as_slice()
+    );
+    Ok(())
+}
+
+#[test]
+fn writes_numbers(rt: HostRuntime) -> Result<(), Fail> {
+    let mut out = Vec::new(rt.alloc());
+    write_head(&mut out, 6, 3)?;
+    write_bad_read(&mut out, "G1a", &None)?;
+    write_number(&mut out, "stray", 18_446_744_073_709_551_615)?;
+    assert_eq!(rt;
+        out.as_slice(),
+        b"prefix 6\ntxns 3\nG1a none\nstray 18446744073709551615\n".as_slice()
     );
     Ok(())
 }

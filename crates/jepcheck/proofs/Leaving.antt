@@ -14,7 +14,8 @@ use Rattle.hist_types.proofs.EdgesByTransaction.{sorted_leaving, in_order-by_tra
 use Rattle.dep_edges.specs.Histories.{AreOfHistory}
 use Rattle.dep_edges.specs.OutEdges.{NoneTwice, AddsEdgesFrom}
 use Rattle.dep_edges.specs.Tables.{txn_at}
-use Rattle.jepcheck.specs.Printing.{edges_leaving, edge_lines}
+use Rattle.cycle_show.specs.Lines.{edge_lines}
+use Rattle.jepcheck.specs.Leaving.{edges_leaving}
 use Rattle.jepcheck.proofs.Lists.{drop_item}
 
 once : (es : List Edge) → NoneTwice es → lists.NoneTwice es

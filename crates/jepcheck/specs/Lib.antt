@@ -1,7 +1,7 @@
 pub mod Answers
 pub mod Blocks
 pub mod Pieces
-pub mod Printing
+pub mod Leaving
 pub mod Statuses
 pub mod Lines
 pub mod Runs

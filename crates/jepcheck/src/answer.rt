@@ -1,10 +1,9 @@
 //! Answers, and how a run ends.
 
-ghost use Rattle.std.specs.Prelude.{◌≡◌, IfOk};
+ghost use Rattle.std.specs.Prelude.{◌≡◌, ◌++◌, IfOk, OnOk};
 ghost use Rattle.hist_types.specs.Texts.{refusal_line};
 ghost use Rattle.jepcheck.specs.Statuses.{code_of};
 
-use crate::text::write_refusal;
 use hist_types::types::Fault;
 use std::alloc::{AllocError, Global};
 
@@ -39,6 +38,14 @@ impl Status {
 pub struct Answer {
     pub status: Status,
     pub printed: Vec<u8>,
+}
+
+/// Appends the line of a refusal.
+fn write_refusal(alloc: Global, out: &mut Vec<u8>, fault: Fault) -> Result<(), AllocError>
+    ensures { OnOk result (out.new.items ≡ out.old.items ++ refusal_line fault) }
+{
+    let line = format!(in alloc; "{fault}\n")?;
+    out.extend_from_slice(line.as_bytes())
 }
 
 /// The answer to a refused input.

@@ -7,12 +7,13 @@ ghost use Rattle.hist_types.specs.Texts.{in_order};
 ghost use Rattle.dep_edges.specs.Histories.{AreOfHistory};
 ghost use Rattle.dep_edges.specs.Tables.{IsPlace, txn_at};
 ghost use Rattle.jepcheck.specs.Answers.{Reports};
-ghost use Rattle.jepcheck.specs.Printing.{edges_leaving, edge_lines};
+ghost use Rattle.cycle_show.specs.Lines.{edge_lines};
+ghost use Rattle.jepcheck.specs.Leaving.{edges_leaving};
 ghost use Rattle.jepcheck.specs.declared.run.Command.TheVariants.{Edges};
 
 use crate::answer::{Answer, Status};
-use crate::edge_lines::{sort_edges, write_edges};
-use crate::text::{write_head, write_number};
+use crate::edge_order::sort_edges;
+use cycle_show::write::{write_edges, write_head, write_number};
 use dep_edges::deps::Deps;
 use dep_edges::edges;
 use dep_edges::types::Edge;
@@ -71,9 +72,9 @@ pub fn report(alloc: Global, events: &Prefix<'_>) -> Result<Answer, Fault>
     let deps = edges(alloc, &txns, &versions)?;
     let count = txns.as_slice().len();
     let mut printed = Vec::new(alloc);
-    write_head(alloc, &mut printed, prefix, count as u64)?;
+    write_head(&mut printed, prefix, count as u64)?;
     let number = write_all_edges(alloc, &deps, count, &mut printed)?;
-    write_number(alloc, &mut printed, "edges", number)?;
+    write_number(&mut printed, "edges", number)?;
     Ok(Answer {
         status: Status::NoPhenomenon,
         printed,

@@ -7,7 +7,7 @@ mod check;
 mod command_line;
 mod devices;
 mod dispatch;
-mod edge_lines;
+mod edge_order;
 mod edges;
 mod inputs;
 mod laws;
@@ -17,7 +17,6 @@ mod run;
 mod runs;
 #[cfg(test)]
 mod tests;
-mod text;
 
 use command_line::{Asked, LineFault};
 use hist_types::device::{StreamSink, StreamSource};

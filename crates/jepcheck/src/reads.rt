@@ -7,7 +7,7 @@ ghost use Rattle.jepcheck.specs.Statuses.{status_by};
 ghost use Rattle.jepcheck.specs.declared.run.Command.TheVariants.{Reads};
 
 use crate::answer::{Answer, Status};
-use crate::text::{write_bad_read, write_head, write_number};
+use cycle_show::write::{write_bad_read, write_head, write_number};
 use dep_edges::edges;
 use dep_edges::types::BadRead;
 use hist_types::types::Fault;
@@ -39,10 +39,10 @@ pub fn report(alloc: Global, events: &Prefix<'_>) -> Result<Answer, Fault>
     let aborted = deps.g1a();
     let intermediate = deps.g1b();
     let mut printed = Vec::new(alloc);
-    write_head(alloc, &mut printed, prefix, txns.as_slice().len() as u64)?;
+    write_head(&mut printed, prefix, txns.as_slice().len() as u64)?;
     write_bad_read(&mut printed, "G1a", &aborted)?;
     write_bad_read(&mut printed, "G1b", &intermediate)?;
-    write_number(alloc, &mut printed, "stray", deps.stray())?;
+    write_number(&mut printed, "stray", deps.stray())?;
     Ok(Answer {
         status: status_of(&aborted, &intermediate),
         printed,

@@ -7,3 +7,4 @@ pub mod Spelled
 pub mod NilTokens
 pub mod SpelledMops
 pub mod ExampleOperation
+pub mod Matching

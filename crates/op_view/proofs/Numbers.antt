@@ -1,5 +1,5 @@
 -- The texts of integers are numerals, and are parsed as the numbers that they mean.
-use Rattle.std.proofs.Common.{◌≡◌, ◌⊎◌, ℕ, suc, ◌-◌, ◌^◌, ℤ, pos, negsuc, List, [], ◌∷◌, length, take, drop, Bool, true, false, cond, nat_lt, ◌==◌, ◌&&◌, ◌||◌, Some, None, Result, Ok, Err, refl, sym, ◌∙◌, ap, subst, arith, inl, inr}
+use Rattle.std.proofs.Common.{◌≡◌, ◌⊎◌, ℕ, suc, ◌+◌, ◌-◌, ◌*◌, ◌^◌, ◌<◌, ◌≤◌, ℤ, pos, negsuc, to_z, of_z, List, [], ◌∷◌, length, length-take-le, get_or, take, drop, Bool, true, false, cond, nat_lt, ◌==◌, ◌&&◌, ◌||◌, Some, None, Result, Ok, Err, refl, sym, ◌∙◌, ap, subst, arith, inl, inr}
 use Rattle.std.specs.Char.{is_ascii_digit}
 use Rattle.std.specs.Int.{w64}
 use Rattle.std.specs.Int.RustNames.{FitsSigned}
@@ -9,15 +9,21 @@ use lib.Pointwise.{pointwise}
 use Rattle.std.specs.Result.{result_ok}
 use Rattle.std.specs.Str.{IsAscii, IsUtf8, all_ascii_digits}
 use Rattle.std.specs.Str.Parse.{IsNumeral, without_leading_sign, signed_digits_value, ParsesSigned}
-use Rattle.std.proofs.lemmas.Bool.{true≢false, and_parts, cases_Bool, ltb-true, lt-ltb, eqb-true}
+use Rattle.std.proofs.lemmas.Bool.{true≢false, false_from_ne_true, and_parts, and_from, cases_Bool, ltb-true, lt-ltb, eqb-true}
+use Rattle.std.proofs.lemmas.Int.{to_z_pos, to_z-of_z}
+use Rattle.std.proofs.lemmas.Int.Digits.{digits_value_more}
+use Rattle.std.proofs.lemmas.List.{take_all}
+use Rattle.std.proofs.lemmas.List.Folds.{list_all_more}
 use Rattle.std.proofs.lemmas.Fmt.{IsAscii-from_digits}
 use Rattle.std.proofs.lemmas.Str.{IsUtf8-from_ascii}
 use Rattle.std.proofs.lemmas.Str.Ascii.{IsAscii-cons}
-use Rattle.std.proofs.lemmas.Str.Parse.{IsNumeralModel, numerals_by_value, tells_all_ascii_digits}
+use Rattle.std.proofs.lemmas.Str.{digit_value_digit}
+use Rattle.std.proofs.lemmas.Str.Parse.{IsNumeralModel, numerals_by_value, tells_all_ascii_digits, digits_value_short}
 use Rattle.std.specs.Str.Parse.{digits_value}
 use Rattle.hist_types.specs.Bytes.{letter_n, plus, minus}
 use Rattle.hist_types.specs.Tokens.{is_int, is_whole, is_sign, without_n}
 use Rattle.hist_types.specs.AtomTokens.{int_value, is_64_bit}
+use Rattle.op_view.specs.AtomTexts.{IsNumberOf}
 
 or_parts : (a b : Bool) → (a || b) ≡ false → (a ≡ false) × (b ≡ false)
 or_parts true b h = absurd (true≢false h)
@@ -123,3 +129,68 @@ parsed run text (Err x) h e p = elim (cases_Bool (is_64_bit (int_value run))) [
 -- the text of an integer is UTF-8
 pub int_utf8 : (run : List ℕ) → is_int run ≡ true → IsUtf8 (without_n run)
 int_utf8 run h = IsUtf8-from_ascii (without_n run) (int_numeral run h).ascii
+
+-- ---- digits alone
+
+digit_range : (b : ℕ) (bs : List ℕ) → list_all is_ascii_digit (b ∷ bs) ≡ true → (48 ≤ b) × (b ≤ 57)
+digit_range b bs h = (tells_all_ascii_digits.parts b bs (sym (same_test (b ∷ bs)) ∙ h)).0
+
+other_byte : (b c : ℕ) → (48 ≤ b) × (b ≤ 57) → (c < 48) ⊎ (57 < c) → (b == c) ≡ false
+other_byte b c range (inl below) = false_from_ne_true _ (λ h. omega (arith, eqb-true b c h, range.0, below))
+other_byte b c range (inr above) = false_from_ne_true _ (λ h. omega (arith, eqb-true b c h, range.1, above))
+
+plain_n : (ds : List ℕ) → list_all is_ascii_digit ds ≡ true → without_n ds ≡ ds
+plain_n [] h = refl
+plain_n (b ∷ []) h =
+    let range = digit_range b [] h in
+    let no_n : (letter_n == b) ≡ false = false_from_ne_true _ (λ e. omega (arith, eqb-true letter_n b e, range.1)) in
+    rw no_n refl
+plain_n (b ∷ c ∷ cs) h = without_n-cons b c cs ∙ ap (λ (ds : List ℕ). b ∷ ds) (plain_n (c ∷ cs) (and_parts (is_ascii_digit b) _ h).1)
+
+plain_sign : (ds : List ℕ) → list_all is_ascii_digit ds ≡ true → signed_digits_value 10 ds ≡ pos (digits_value 10 ds)
+plain_sign [] h = refl
+plain_sign (b ∷ bs) h =
+    let range = digit_range b bs h in
+    rw (other_byte b minus range (inl (omega arith)), other_byte b plus range (inl (omega arith))) refl
+
+-- The first bytes are digits, and this is the number that they write.
+pub record AreDigitsUpTo (text : List ℕ) (count number : ℕ) : Type 0 where
+  pub digits : list_all is_ascii_digit (take count text) ≡ true
+  pub value : number ≡ digits_value 10 (take count text)
+
+pub no_digits : (text : List ℕ) → AreDigitsUpTo text 0 0
+no_digits text = record { digits = refl; value = refl }
+
+pub digit_more :
+    (text : List ℕ) (count number digit : ℕ)
+    → count < length text → is_ascii_digit (get_or text count 0) ≡ true → digit ≡ get_or text count 0 - 48
+    → AreDigitsUpTo text count number → AreDigitsUpTo text (count + 1) (number * 10 + digit)
+digit_more text count number digit within is value h =
+    let range = digit_range (get_or text count 0) [] (and_from _ _ is refl) in
+    record {
+      digits = list_all_more is_ascii_digit text count 0 within ∙ and_from _ _ h.digits is;
+      value = omega (arith, h.value, value, digits_value_more 10 text count within, digit_value_digit (get_or text count 0) range);
+    }
+
+pub digits_below : (text : List ℕ) (count number most : ℕ) → count ≤ length text → count ≤ most → AreDigitsUpTo text count number → number < 10 ^ most
+digits_below text count number most within few h =
+    let size : length (take count text) ≤ most = omega (arith, length-take-le count text within) in
+    omega (arith, h.value, digits_value_short by_digits (take count text) most (sym (same_test (take count text)) ∙ h.digits) size)
+
+pub digits_number : (text : List ℕ) (count number : ℕ) → length text ≤ count → number < 2 ^ 63 → AreDigitsUpTo text count number → IsNumberOf text (to_z w64 number)
+digits_number text count number whole fits h =
+    let all = take_all count text whole in
+    let digits : list_all is_ascii_digit text ≡ true = subst (λ (ds : List ℕ). list_all is_ascii_digit ds ≡ true) all h.digits in
+    let value : pos (digits_value 10 text) ≡ to_z w64 number = ap (λ (ds : List ℕ). pos (digits_value 10 ds)) (sym all) ∙ ap pos (sym h.value) ∙ sym (to_z_pos w64 number fits) in
+    record {
+      means = ap (signed_digits_value 10) (plain_n text digits) ∙ plain_sign text digits ∙ value;
+      fits = ap is_64_bit (to_z_pos w64 number fits) ∙ lt-ltb number (2 ^ 63) fits;
+    }
+
+-- as the machine holds it
+pub number_from_digits :
+    (text : List ℕ) (number : ℤ) → IsNumberOf text number
+    → Some (to_z w64 (of_z w64 number)) ≡ cond (is_64_bit (int_value text)) (Some (int_value text)) None
+number_from_digits text number h =
+    let holds : is_64_bit (int_value text) ≡ true = ap is_64_bit h.means ∙ h.fits in
+    rw holds (ap Some (to_z-of_z w64 number (fits number h.fits) ∙ sym h.means))

@@ -1,7 +1,7 @@
 -- Texts that are one atom.
-use Rattle.std.specs.Prelude.{◌≡◌, ℕ, ℤ, List, Option, Some, None}
+use Rattle.std.specs.Prelude.{◌≡◌, ℕ, ℤ, List, true, Option, Some, None}
 use Rattle.hist_types.specs.Atoms.{Atom, integer}
-use Rattle.hist_types.specs.AtomTokens.{atom_of_token}
+use Rattle.hist_types.specs.AtomTokens.{atom_of_token, int_value, is_64_bit}
 use Rattle.hist_types.specs.Tokens.{Item, ItemKind}
 use Rattle.hist_types.specs.Placed.{IsTokenAlone}
 
@@ -17,3 +17,8 @@ IsTokenOf kind text atom = IsTokenAlone kind text × (atom_of_token kind text �
 abbrev pub number_of : Atom → Option ℤ
 number_of (integer number) = Some number
 number_of atom = None
+
+-- The text is the number's, which has 64 bits.
+pub record IsNumberOf (text : List ℕ) (number : ℤ) : Type 0 where
+  pub means : int_value text ≡ number
+  pub fits : is_64_bit number ≡ true

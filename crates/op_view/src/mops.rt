@@ -3,6 +3,9 @@
 ghost use Rattle.std.specs.Prelude.{◌≡◌, length, Some, IfSome};
 ghost use Rattle.std.specs.Iterator.{YieldsFirst, item_count, at_most, UpTo};
 ghost use Rattle.std.specs.Iterator.SizeHint.{IsWithinCount};
+ghost use Rattle.std.specs.Cmp.Lexicographic.{pointwise};
+ghost use Rattle.hist_types.specs.Atoms.{atom_eq};
+ghost use Rattle.hist_types.specs.Journal.{same_mop};
 ghost use Rattle.hist_types.specs.Operations.{read, write};
 ghost use Rattle.edn_ops.specs.Shapes.{is_write};
 ghost use Rattle.edn_ops.specs.SourceTexts.{IsMopText};
@@ -142,6 +145,35 @@ fn mop_at(text: &[u8], shape: ShortMop) -> Mop<'_>
     }
 }
 
+/// Whether the bytes are the same atom. Equal bytes are, and only others are parsed.
+fn is_same_atom(a: &[u8], b: &[u8]) -> bool
+    requires first { IsAtom a.now }
+    requires second { IsAtom b.now }
+    ensures { result ≡ atom_eq (atom_in a.now) (atom_in b.now) }
+{
+    a == b || atom_of(a) == atom_of(b)
+}
+
+/// Whether the micro-operations in these places of their texts are the same, whatever a read returned.
+fn is_same_mop(text: &[u8], shape: ShortMop, other_text: &[u8], other: ShortMop) -> bool
+    requires first { IsMopAt text.now shape }
+    requires second { IsMopAt other_text.now other }
+    ensures { result ≡ same_mop (mop_of_text text.now shape) (mop_of_text other_text.now other) }
+{
+    let same_key = is_same_atom(slice_at(text, shape.key), slice_at(other_text, other.key));
+    match (shape.is_write, other.is_write) {
+        (false, false) => same_key,
+        (true, true) => {
+            same_key
+                && is_same_atom(
+                    slice_at(text, shape.value),
+                    slice_at(other_text, other.value),
+                )
+        }
+        _ => false,
+    }
+}
+
 /// Gives the micro-operations of an operation one after the other, as slices of its text. It takes no memory.
 #[derive(Drop)]
 pub struct Mops<'a> {
@@ -173,6 +205,25 @@ impl<'a> Mops<'a> {
         ensures { result ≡ mops_at text.now left.now }
     {
         Mops { text, left }
+    }
+
+    /// Whether both are the same, one for one, whatever reads returned.
+    pub fn matches(&self, other: &Mops) -> bool
+        ensures { result ≡ pointwise same_mop self.now other.now }
+    {
+        let mut left = self.left;
+        let mut right = other.left;
+        while let Some((first, others)) = left.split_first() {
+            let Some((second, behind)) = right.split_first() else {
+                return false;
+            };
+            if !is_same_mop(self.text, *first, other.text, *second) {
+                return false;
+            }
+            left = others;
+            right = behind;
+        }
+        right.is_empty()
     }
 }
 

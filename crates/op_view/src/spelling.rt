@@ -1,12 +1,13 @@
 //! How an atom's text spells it.
 
-ghost use Rattle.std.specs.Prelude.{◌≡◌, true, None, cond, Some, Option, MatchOption, false, ℕ, List};
+ghost use Rattle.std.specs.Prelude.{◌≡◌, true, None, cond, Some, Option, MatchOption, IfSome, false, ℕ, List};
 ghost use Rattle.hist_types.specs.Atoms.{rank as rank_of_atom};
 ghost use Rattle.hist_types.specs.AtomTokens.{int_value, is_64_bit, atom_of_token, between_quotes as bytes_between_quotes};
 ghost use Rattle.hist_types.specs.Tokens.{without_n as before_n, is_int, Str, begins_with_number};
 ghost use Rattle.edn_lex.specs.Kinds.{kind_of};
 ghost use Rattle.hist_types.specs.Placed.{IsTokenAlone};
 ghost use Rattle.op_view.specs.Decoding.{has_content};
+ghost use Rattle.op_view.specs.AtomTexts.{IsNumberOf};
 ghost use Rattle.op_view.specs.Fronts.{kind_by_front};
 ghost use Rattle.op_view.specs.Spellings.{IsSpelled, atom_spelled};
 
@@ -42,6 +43,9 @@ impl Spelling {
     }
 }
 
+/// Each number of so many digits has 64 bits.
+const MOST_DIGITS: usize = 18;
+
 /// An integer may end with an `N`.
 fn without_n(text: &[u8]) -> &[u8]
     ensures { result.now ≡ before_n text.now }
@@ -49,11 +53,32 @@ fn without_n(text: &[u8]) -> &[u8]
     text.strip_suffix(b"N").unwrap_or(text)
 }
 
+/// The number of digits alone, if they are so few that it has 64 bits.
+fn number_of_digits(text: &[u8]) -> Option<i64>
+    ensures { IfSome result (IsNumberOf text.now) }
+{
+    if text.len() > MOST_DIGITS {
+        return None;
+    }
+    let mut number: u64 = 0;
+    for byte in text {
+        if !byte.is_ascii_digit() {
+            return None;
+        }
+        number = number * 10 + u64::from(byte - b'0');
+    }
+    Some(number as i64)
+}
+
 /// The number of an integer's text, if it has 64 bits.
 fn number_of(text: &[u8]) -> Option<i64>
     requires { is_int text.now ≡ true }
     ensures { result ≡ cond (is_64_bit (int_value text.now)) (Some (int_value text.now)) None }
 {
+    // Most integers are short and have no sign.
+    if let Some(number) = number_of_digits(text) {
+        return Some(number);
+    }
     let Ok(number) = str::from_utf8(without_n(text)) else {
         return None;
     };

@@ -5,7 +5,7 @@ use Rattle.std.proofs.lemmas.List.MinMax.{ranks_by}
 use Rattle.hist_types.specs.Edges.{Edge}
 use Rattle.hist_types.specs.Texts.{edge_cmp}
 use Rattle.hist_types.proofs.EdgeOrder.{edge_cmp_total}
-use Rattle.jepcheck.proofs.edge_lines.sort_edges.Goals as goal
+use Rattle.jepcheck.proofs.edge_order.sort_edges.Goals as goal
 
 pub returns-clause-sorted : goal.returns-clause-sorted
 returns-clause-sorted c =
