@@ -4,8 +4,8 @@ use Rattle.std.specs.List.{AllByRecursion, list_all, filter}
 use Rattle.std.proofs.lemmas.Bool.{false≢true, and_parts, and_from, eqb-true, eq-eqb}
 use Rattle.hist_types.specs.Edges.{Edge, edges_at}
 use Rattle.hist_types.specs.Operations.{Operation}
-use Rattle.hist_types.specs.Phenomena.{Leads, Has, IsLowestLevel, height}
-use Rattle.hist_types.specs.Thinning.{is_needed, may_lead_back, HasReturn, HasWitness}
+use Rattle.hist_types.specs.Phenomena.{Leads, Has, height}
+use Rattle.hist_types.specs.Thinning.{is_needed, may_lead_back, HasReturn}
 use Rattle.hist_types.specs.Transactions.{Transaction, transactions_of}
 use Rattle.hist_types.specs.Witness.{Finding, IsFinding}
 use Rattle.hist_types.specs.declared.types.Level.{Level}
@@ -15,7 +15,7 @@ use Rattle.hist_types.proofs.Members.{In, in_from_Contains, Contains_from_in, in
 use Rattle.hist_types.proofs.ThinningCycles.{at_level}
 use Rattle.hist_types.proofs.ThinningPaths.{leads_on, all_of_both}
 use Rattle.hist_types.proofs.ThinningWalks.{within_in, within_contains}
-use Rattle.hist_types.proofs.ThinningWitnesses.{has_witness, passes_list}
+use Rattle.hist_types.proofs.ThinningWitnesses.{has_witness}
 
 -- ---- walks
 

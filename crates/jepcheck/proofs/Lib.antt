@@ -7,5 +7,6 @@ pub mod Judging
 pub mod Deciding
 pub mod OneAnswer
 pub mod SomeAnswer
+pub mod Verdicts
 pub mod Words
 pub mod Outcomes

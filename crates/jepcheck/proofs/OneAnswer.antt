@@ -1,5 +1,5 @@
 -- A text has one answer.
-use Rattle.std.proofs.Common.{◌≡◌, ℕ, List, Bool, ◌||◌, Option, Some, None, is_some, inl, inr, refl, sym, ap, subst, ◌∙◌}
+use Rattle.std.proofs.Common.{◌≡◌, ℕ, List, ◌||◌, Option, Some, None, is_some, inl, inr, refl, sym, ap, subst, ◌∙◌}
 use Rattle.std.specs.Prelude.{◌≢◌, ◌⊎◌}
 use Rattle.std.proofs.lemmas.Option.{none-some, same_Some}
 use Rattle.hist_types.specs.Operations.{Operation}
@@ -7,7 +7,7 @@ use Rattle.hist_types.specs.Entries.{operations_of}
 use Rattle.hist_types.specs.Laws.{HasOne}
 use Rattle.hist_types.specs.Reading.{Reads}
 use Rattle.hist_types.specs.Texts.{reads_text, edges_text, has_bad_read, IsVerdictText, refusal_line}
-use Rattle.hist_types.specs.Transactions.{Transaction, transactions_of}
+use Rattle.hist_types.specs.Transactions.{Transaction}
 use Rattle.hist_types.specs.Witness.{Finding, IsFinding}
 use Rattle.hist_types.specs.declared.types.Fault.{Fault}
 use Rattle.hist_types.specs.declared.types.Phenomenon.{Phenomenon}
