@@ -21,7 +21,7 @@ is_false : (a b : ℕ) → ¬ (a ≡ b) → nat_eq a b ≡ false
 is_false a b h = grind (arith, nat_tests)
 
 -- a run that goes on over the first byte
-run_len-cons : (b : ℕ) (rest : List ℕ) → is_run_byte b ≡ true → run_len (b ∷ rest) ≡ suc (run_len rest)
+pub run_len-cons : (b : ℕ) (rest : List ℕ) → is_run_byte b ≡ true → run_len (b ∷ rest) ≡ suc (run_len rest)
 run_len-cons b rest h = let runs : is_run_byte b ≡ true = h in rw runs (omega arith)
 
 -- such a run, as bytes

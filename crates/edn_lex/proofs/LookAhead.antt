@@ -1,25 +1,29 @@
 -- Tokens that are found by looking ahead are those that calls give.
-use Rattle.std.proofs.Common.{◌≡◌, ℕ, zero, suc, ◌+◌, ◌-◌, ◌<◌, ◌≤◌, List, [], ◌∷◌, length, drop, take, get_or, Bool, true, false, cond, nat_le, Option, Some, None, Ok, refl, sym, ◌∙◌, ap, arith, subst, length-drop, IfSome, MatchOption, lit<, ◌++◌, map}
-use Rattle.std.specs.Prelude.{bytes_eq, codes}
+use Rattle.std.proofs.Common.{◌≡◌, ℕ, zero, suc, ◌+◌, ◌-◌, ◌<◌, ◌≤◌, List, [], ◌∷◌, length, drop, take, get_or, Bool, true, false, cond, nat_le, Option, Some, None, Ok, refl, sym, ◌∙◌, ap, arith, subst, length-drop, IfSome, MatchOption, lit<, ◌++◌, map, not, ◌||◌, ◌==◌, nat_lt}
+use Rattle.std.specs.Prelude.{bytes_eq, codes, slice_range}
 use Rattle.std.specs.Str.{IsAscii}
 use Rattle.std.specs.Str.Lossy.{utf8_valid_len}
 use Rattle.std.proofs.lemmas.Bool.Decides.{nat_tests}
-use Rattle.std.proofs.lemmas.Bool.{and_from}
-use Rattle.std.specs.List.{slice_get}
-use Rattle.std.proofs.lemmas.List.{get_or-drop, reverse-append, length-reverse, length-map}
+use Rattle.std.proofs.lemmas.Bool.{and_from, and_parts, lt-ltb, ltb-true}
+use Rattle.std.specs.List.{slice_get, list_all}
+use Rattle.std.specs.Char.{is_ascii_digit}
+use Rattle.std.proofs.lemmas.List.{get_or-drop, reverse-append, length-reverse, length-map, length-append, take-append-drop}
+use Rattle.std.proofs.Math.Seq.{take-append_seam}
 use Rattle.std.proofs.lemmas.Str.{utf8_valid_len-IsUtf8, IsUtf8-from_ascii}
-use Rattle.hist_types.specs.Bytes.{is_blank, open_square, close_square, open_brace, close_brace}
-use Rattle.hist_types.specs.Tokens.{ItemKind, Blank, Opener, Closer, Nil, True, False, Int, Keyword, Symbol, Other, first_byte, closer_of, front, is_token, is_int, is_keyword, is_symbol, run_kind, nesting_refusal, open_after}
+use Rattle.hist_types.specs.Bytes.{is_blank, is_run_byte, zero_digit, open_square, close_square, open_brace, close_brace}
+use Rattle.hist_types.specs.Tokens.{ItemKind, Blank, Opener, Closer, Tag, Nil, True, False, Int, Keyword, Symbol, Other, first_byte, closer_of, front, is_token, is_int, is_keyword, is_symbol, run_of, run_len, run_kind, nesting_refusal, open_after}
 use Rattle.hist_types.specs.declared.limits.TheConstants.{MAX_OPEN_COLLECTIONS}
 use Rattle.hist_types.specs.declared.types.Refusal.TheVariants.{TooDeep}
 use Rattle.edn_lex.specs.declared.types.Token.{Token}
 use Rattle.edn_lex.specs.declared.types.TokenKind.TheVariants as kinds
-use Rattle.edn_lex.specs.Ahead.{is_lone, going_at, GivesLone, HasGivenLone, GivesOpener, GivesCloser}
+use Rattle.edn_lex.specs.Ahead.{is_lone, going_at, IsGap, IsLoneAt, IsWord, GivesLone, HasGivenLone, GivesTag, GivesOpener, GivesCloser}
 use Rattle.edn_lex.specs.Collections.{closer_byte, closers_of}
 use Rattle.edn_lex.specs.declared.lexer.Collection.{Collection}
 use Rattle.edn_lex.specs.Kinds.{kind_of, is_low}
 use Rattle.edn_lex.specs.State.{State, GivesToken, Passes}
 use Rattle.edn_lex.proofs.Flags.{IsAscii_from_low}
+use Rattle.edn_lex.proofs.Fronts.{front-run, run_len-cons}
+use Rattle.edn_lex.proofs.RunKinds.{digits_are, digits_low}
 use Rattle.edn_lex.proofs.Passing.{passes, passes_blank}
 use Rattle.edn_lex.proofs.Steps.{Gapped, Gapped-refl, Gapped-more, GivesToken-from}
 
@@ -90,14 +94,108 @@ lone_given text offset start xs run len t low within blanks same some fits found
           given_at text offset start xs (run_kind run) len t closers closers (gapped text closers offset start low within blanks) same within some fits found ascii nests.0 nests.1 is;
     }
 
-pub lone_found :
-    (o : Option Token) (text : List ℕ) (offset start : ℕ) (xs run : List ℕ) (kind : ItemKind) (len : ℕ) → offset ≤ start → start ≤ length text →
-    ((k : ℕ) → offset ≤ k → k < start → is_blank (get_or text k 0) ≡ true) →
+pub lone_at_found :
+    (o : Option Token) (text : List ℕ) (start : ℕ) (xs run : List ℕ) (kind : ItemKind) (len : ℕ) →
     xs ≡ drop start text → 0 < len → len ≤ length xs → front (first_byte xs) (drop 1 xs) ≡ (run_kind run, Some len) → IsAscii (take len xs) → kind ≡ run_kind run →
-    MatchOption o (is_token kind ≡ false) (λ t. (kind_of t.kind ≡ kind) × (t.start ≡ start) × (t.end ≡ start + len)) → IfSome o (GivesLone text offset)
-lone_found None text offset start xs run kind len low within blanks same some fits found ascii kind_is is = tt
-lone_found (Some t) text offset start xs run kind len low within blanks same some fits found ascii kind_is is =
-    lone_given text offset start xs run len t low within blanks same some fits found ascii (is.0 ∙ kind_is, is.1, is.2)
+    MatchOption o (is_token kind ≡ false) (λ t. (kind_of t.kind ≡ kind) × (t.start ≡ start) × (t.end ≡ start + len)) → IfSome o (IsLoneAt text start)
+lone_at_found None text start xs run kind len same some fits found ascii kind_is is = tt
+lone_at_found (Some t) text start xs run kind len same some fits found ascii kind_is is = λ offset gap.
+    lone_given text offset start xs run len t gap.low gap.fits gap.blanks same some fits found ascii (is.0 ∙ kind_is, is.1, is.2)
+
+-- a test that is not passed is not false
+pub passed : (b : Bool) → not b ≡ false → b ≡ true
+passed true e = refl
+passed false e = cc
+
+-- such a token is found behind blanks
+pub lone_behind : (o : Option Token) (text : List ℕ) (offset start : ℕ) → IsGap text offset start → IfSome o (IsLoneAt text start) → IfSome o (GivesLone text offset)
+lone_behind None text offset start gap h = tt
+lone_behind (Some t) text offset start gap h = h offset gap
+
+-- ---- words
+
+-- a run ends where its bytes do and no other follows
+run_ends : (run rest : List ℕ) → list_all is_run_byte run ≡ true → run_len rest ≡ 0 → run_len (run ++ rest) ≡ length run
+run_ends [] rest runs none = none
+run_ends (b ∷ run) rest runs none =
+    let parts = and_parts (is_run_byte b) (list_all is_run_byte run) runs in
+    run_len-cons b (run ++ rest) parts.0 ∙ ap suc (run_ends run rest parts.1 none)
+
+other_byte : (b c : ℕ) → (b == c) ≡ false → ¬ (b ≡ c)
+other_byte b c h e = grind (arith, nat_tests)
+
+first_of : (run rest : List ℕ) → 0 < length run → first_byte (run ++ rest) ≡ first_byte run
+first_of [] rest some = absurd (omega arith)
+first_of (b ∷ run) rest some = refl
+
+-- the text begins with a word, and no run goes on behind it
+pub word_found :
+    (text : List ℕ) (start : ℕ) (xs word rest : List ℕ) (kind : ItemKind) (t : Token) → xs ≡ drop start text → xs ≡ word ++ rest → run_len rest ≡ 0 → IsWord word kind →
+    (kind_of t.kind ≡ kind) × (t.start ≡ start) × (t.end ≡ start + length word) → IsLoneAt text start t
+word_found text start xs word rest kind t same split none is at = λ offset gap.
+    let some : 0 < length word = ltb-true 0 (length word) is.0 in
+    let len : run_len xs ≡ length word = ap run_len split ∙ run_ends word rest is.1 none in
+    let run : run_of xs ≡ word = ap (λ (n : ℕ). take n xs) len ∙ ap (take (length word)) split ∙ take-append_seam word rest in
+    let first : first_byte xs ≡ first_byte word = ap first_byte split ∙ first_of word rest some in
+    let found : front (first_byte xs) (drop 1 xs) ≡ (run_kind word, Some (length word)) =
+    front-run xs (omega arith) (λ e. other_byte (first_byte word) 92 is.4 (sym first ∙ e)) (λ e. other_byte (first_byte word) 35 is.3 (sym first ∙ e))
+    ∙ ap (λ (r : List ℕ). (run_kind r, Some (run_len xs))) run ∙ ap (λ (n : ℕ). (run_kind word, Some n)) len in
+    let bytes : take (length word) xs ≡ word = ap (take (length word)) split ∙ take-append_seam word rest in
+    lone_given text offset start xs word (length word) t gap.low gap.fits gap.blanks same some (let n = ap length split in omega (arith, length-append word rest)) found
+    (subst IsAscii (sym bytes) (IsAscii_from_low word is.2)) (at.0 ∙ sym is.5, at.1, at.2)
+
+-- what is left of a text begins with it
+pub word_begins :
+    (text : List ℕ) (start : ℕ) (xs word : List ℕ) (kind : ItemKind) (t : Token) → xs ≡ drop start text → word ≡ take (length word) xs → run_len (drop (length word) xs) ≡ 0 → IsWord word kind →
+    (kind_of t.kind ≡ kind) × (t.start ≡ start) × (t.end ≡ start + length word) → IsLoneAt text start t
+word_begins text start xs word kind t same begins none is at =
+    word_found text start xs word (drop (length word) xs) kind t same (sym (take-append-drop (length word) xs) ∙ ap (λ (ws : List ℕ). ws ++ drop (length word) xs) (sym begins)) none is at
+
+pub word_bytes : (text : List ℕ) (start : ℕ) (xs word : List ℕ) → xs ≡ drop start text → word ≡ take (length word) xs → slice_range text start (start + length word) ≡ word
+word_bytes text start xs word same begins =
+    let n : start + length word - start ≡ length word = omega arith in
+    ap (λ (k : ℕ). take k (drop start text)) n ∙ ap (take (length word)) (sym same) ∙ sym begins
+
+-- digits are a word
+digit_runs : (b : ℕ) → is_ascii_digit b ≡ true → is_run_byte b ≡ true
+digit_runs b h = grind (arith, nat_tests)
+
+digits_run : (ds : List ℕ) → list_all is_ascii_digit ds ≡ true → list_all is_run_byte ds ≡ true
+digits_run [] h = refl
+digits_run (b ∷ ds) h =
+    let parts = and_parts (is_ascii_digit b) (list_all is_ascii_digit ds) h in
+    and_from (is_run_byte b) (list_all is_run_byte ds) (digit_runs b parts.0) (digits_run ds parts.1)
+
+digit_is_no : (b c : ℕ) → is_ascii_digit b ≡ true → nat_lt c 48 || nat_lt 57 c ≡ true → (b == c) ≡ false
+digit_is_no b c h k = grind (arith, nat_tests)
+
+digits_first : (ds : List ℕ) → 0 < length ds → list_all is_ascii_digit ds ≡ true → is_ascii_digit (first_byte ds) ≡ true
+digits_first [] some h = absurd (omega arith)
+digits_first (b ∷ ds) some h = (and_parts (is_ascii_digit b) (list_all is_ascii_digit ds) h).0
+
+pub number_word : (ds : List ℕ) → 0 < length ds → list_all is_ascii_digit ds ≡ true → (not (first_byte ds == zero_digit) || (length ds == 1)) ≡ true → IsWord ds Int
+number_word ds some digits leading =
+    let first = digits_first ds some digits in (
+      lt-ltb 0 (length ds) some,
+      digits_run ds digits,
+      digits_low ds digits,
+      digit_is_no (first_byte ds) 35 first refl,
+      digit_is_no (first_byte ds) 92 first refl,
+      digits_are ds some digits leading,
+    )
+
+-- ---- tags
+
+pub tag_given :
+    (text : List ℕ) (offset start : ℕ) (xs : List ℕ) (len : ℕ) → IsGap text offset start → xs ≡ drop start text → 0 < len → len ≤ length xs → front (first_byte xs) (drop 1 xs) ≡ (Tag, Some len) → IsAscii (take len xs) →
+    GivesTag text offset (record { kind = kinds.Tag; start = start; end = start + len })
+tag_given text offset start xs len gap same some fits found ascii =
+    let t : Token = record { kind = kinds.Tag; start = start; end = start + len } in
+    record {
+      kind = refl;
+      gives = λ closers.
+          given_at text offset start xs Tag len t closers closers (gapped text closers offset start gap.low gap.fits gap.blanks) same gap.fits some fits found ascii refl refl (refl, refl, refl);
+    }
 
 -- what a call gives
 pub lone_call : (s : State) (token : Token) → s.ended ≡ false → GivesLone s.text s.offset token → HasGivenLone s token (record s { offset = token.end })

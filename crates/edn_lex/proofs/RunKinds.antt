@@ -21,7 +21,7 @@ digit_low b h = grind (arith, nat_tests)
 sign_low : (b : ℕ) → is_sign b ≡ true → is_low b ≡ true
 sign_low b h = grind (arith, nat_tests)
 
-digits_low : (bs : List ℕ) → list_all is_ascii_digit bs ≡ true → list_all is_low bs ≡ true
+pub digits_low : (bs : List ℕ) → list_all is_ascii_digit bs ≡ true → list_all is_low bs ≡ true
 digits_low [] h = refl
 digits_low (b ∷ bs) h =
     let parts = and_parts (is_ascii_digit b) (list_all is_ascii_digit bs) h in
@@ -85,13 +85,13 @@ keyword_is (a ∷ b ∷ bs) h =
 digit_no_sign : (b : ℕ) → is_ascii_digit b ≡ true → is_sign b ≡ false
 digit_no_sign b h = grind (arith, nat_tests)
 
-no_sign : (run : List ℕ) → 0 < length run → list_all is_ascii_digit run ≡ true → without_sign run ≡ run
+pub no_sign : (run : List ℕ) → 0 < length run → list_all is_ascii_digit run ≡ true → without_sign run ≡ run
 no_sign [] some h = refl
 no_sign (b ∷ bs) some h =
     let no = digit_no_sign b (and_parts (is_ascii_digit b) (list_all is_ascii_digit bs) h).0 in
     rw no refl
 
-no_n : (run : List ℕ) → list_all is_ascii_digit run ≡ true → without_n run ≡ run
+pub no_n : (run : List ℕ) → list_all is_ascii_digit run ≡ true → without_n run ≡ run
 no_n run h = by_case (ends_with nat_eq run (letter_n ∷ [])) refl
   where
     by_case : (b : Bool) → ends_with nat_eq run (letter_n ∷ []) ≡ b → without_n run ≡ run

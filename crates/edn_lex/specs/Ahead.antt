@@ -1,11 +1,12 @@
 -- Tokens that are found by looking ahead.
-use Rattle.std.specs.Prelude.{◌≡◌, ℕ, ◌<◌, ◌+◌, ◌≤◌, List, [], ◌∷◌, length, Bool, true, false}
-use Rattle.hist_types.specs.Bytes.{open_square, close_square, close_brace}
-use Rattle.hist_types.specs.Tokens.{ItemKind, Blank, Comment, Opener, Closer, Drop, Tag}
+use Rattle.std.specs.Prelude.{◌≡◌, ℕ, ◌<◌, ◌+◌, ◌≤◌, ◌==◌, List, [], ◌∷◌, length, get_or, Bool, true, false, nat_lt}
+use Rattle.std.specs.List.{list_all}
+use Rattle.hist_types.specs.Bytes.{open_square, close_square, close_brace, backslash, hash, is_blank, is_run_byte}
+use Rattle.hist_types.specs.Tokens.{ItemKind, Blank, Comment, Opener, Closer, Drop, Tag, first_byte, run_kind}
 use Rattle.hist_types.specs.declared.limits.TheConstants.{MAX_OPEN_COLLECTIONS}
 use Rattle.edn_lex.specs.declared.ahead.Triple.{Triple}
 use Rattle.edn_lex.specs.declared.types.Token.{Token}
-use Rattle.edn_lex.specs.Kinds.{kind_of, item_of}
+use Rattle.edn_lex.specs.Kinds.{kind_of, item_of, is_low}
 use Rattle.edn_lex.specs.State.{State, GivesToken}
 
 -- a token that is a form by itself
@@ -27,10 +28,31 @@ pub record GivesLone (text : List ℕ) (offset : ℕ) (token : Token) : Type 0 w
   pub lone : is_lone (kind_of token.kind) ≡ true
   pub gives : (closers : List ℕ) → GivesToken (going_at text offset closers) token (going_at text token.end closers)
 
+-- only blanks are from the offset up to here
+pub record IsGap (text : List ℕ) (offset start : ℕ) : Type 0 where
+  pub low : offset ≤ start
+  pub fits : start ≤ length text
+  pub blanks : (k : ℕ) → offset ≤ k → k < start → is_blank (get_or text k 0) ≡ true
+
+-- the token begins here, and is a form by itself
+abbrev pub IsLoneAt : List ℕ → ℕ → Token → Type 0
+IsLoneAt text start token = (offset : ℕ) → IsGap text offset start → GivesLone text offset token
+
+-- a run of ASCII of this kind, which begins neither as a tag nor as a character
+abbrev pub IsWord : List ℕ → ItemKind → Type 0
+IsWord word kind =
+    (nat_lt 0 (length word) ≡ true) × (list_all is_run_byte word ≡ true) × (list_all is_low word ≡ true)
+    × ((first_byte word == hash) ≡ false) × ((first_byte word == backslash) ≡ false) × (run_kind word ≡ kind)
+
 -- a call gave such a token
 pub record HasGivenLone (s : State) (token : Token) (t : State) : Type 0 where
   pub lone : is_lone (kind_of token.kind) ≡ true
   pub gives : GivesToken s token t
+
+-- the token that is given from the offset on is a tag
+pub record GivesTag (text : List ℕ) (offset : ℕ) (token : Token) : Type 0 where
+  pub kind : kind_of token.kind ≡ Tag
+  pub gives : (closers : List ℕ) → GivesToken (going_at text offset closers) token (going_at text token.end closers)
 
 -- the token that is given from the offset on is this one byte, and opens a collection that waits for the closer
 pub record GivesOpener (text : List ℕ) (offset : ℕ) (byte closer : ℕ) (token : Token) : Type 0 where

@@ -35,7 +35,7 @@ fn all_digits(bytes: &[u8]) -> bool
 }
 
 /// No 0 stands in front of another digit.
-fn has_no_leading_zero(digits: &[u8]) -> bool
+pub(crate) fn has_no_leading_zero(digits: &[u8]) -> bool
     requires { 0 < length digits.now }
     ensures { result ≡ (not (first_byte digits.now == zero_digit) || (length digits.now == 1)) }
 {

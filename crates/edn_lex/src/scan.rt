@@ -1,6 +1,6 @@
 //! Where items end. The scans of what is seldom found are not inlined, so that those of the frequent items stay short.
 
-ghost use Rattle.std.specs.Prelude.{◌≡◌, ◌<◌, ◌≤◌, ◌==◌, length, take, true, false, IsTrue, not, MatchOption, IfSome};
+ghost use Rattle.std.specs.Prelude.{◌≡◌, ◌<◌, ◌≤◌, ◌==◌, length, take, drop, true, false, Some, IsTrue, not, MatchOption, IfSome};
 ghost use Rattle.std.specs.Char.{is_ascii_digit};
 ghost use Rattle.std.specs.List.{prefix_len, list_all};
 ghost use Rattle.std.specs.Str.{IsAscii};
@@ -9,7 +9,7 @@ ghost use Rattle.hist_types.specs.Bytes.{is_blank as is_blank_byte, is_run_byte,
 ghost use Rattle.edn_lex.specs.declared.scan.TheConstants.{NOT_DIGIT, PAST_ASCII, BLANK, ENDS_RUN};
 ghost use Rattle.edn_lex.specs.Flags.{has_flag};
 ghost use Rattle.edn_lex.specs.Kinds.{is_low};
-ghost use Rattle.hist_types.specs.Tokens.{first_byte, run_len as longest_run, content_len as len_of_content, character_len as len_of_character};
+ghost use Rattle.hist_types.specs.Tokens.{front, Tag, first_byte, run_len as longest_run, content_len as len_of_content, character_len as len_of_character};
 
 use memchr::{memchr, memchr2};
 
@@ -75,6 +75,45 @@ pub(crate) fn begins_run(text: &[u8]) -> bool
         [] | [b'#' | b'\\', ..] => false,
         [b, ..] => flags_of(*b) & ENDS_RUN == 0,
     }
+}
+
+/// Whether the text begins with a tag.
+#[inline(always)]
+pub(crate) fn begins_tag(text: &[u8]) -> bool
+    ensures run { result ≡ true → 0 < longest_run text.now }
+    ensures tag { result ≡ true → front (first_byte text.now) (drop 1 text.now) ≡ (Tag, Some (longest_run text.now)) }
+{
+    if text.is_empty() || text[0] != b'#' {
+        return false;
+    }
+    match text.get(1) {
+        Some(b'{' | b'_' | b'#') => false,
+        _ => true,
+    }
+}
+
+/// Whether no run goes on here: a blank, a bracket, a quote or a semicolon comes first, or the text's end.
+#[inline(always)]
+pub(crate) fn ends_run(text: &[u8]) -> bool
+    ensures { result ≡ true → longest_run text.now ≡ 0 }
+{
+    match text {
+        [] => true,
+        [b, ..] => flags_of(*b) & ENDS_RUN != 0,
+    }
+}
+
+/// How many decimal digits are at the front of the text.
+#[inline(always)]
+pub(crate) fn digits_len(text: &[u8]) -> usize
+    ensures fits { result ≤ length text.now }
+    ensures digits { list_all is_ascii_digit (take result text.now) ≡ true }
+{
+    let mut len = 0;
+    while len < text.len() && text[len].is_ascii_digit() {
+        len += 1;
+    }
+    len
 }
 
 /// The longest run at the front of the text.

@@ -1,30 +1,35 @@
 -- Maps that are read in one pass over their bytes.
 use Rattle.std.proofs.Common.{◌≡◌, ℕ, ℤ, ◌+◌, ◌-◌, ◌<◌, ◌≤◌, List, [], ◌∷◌, ◌++◌, length, drop, Bool, true, false, codes, Option, Some, None, Result, Ok, Err, refl, sym, ◌∙◌, ap, arith, subst, append-nil, nat_lt, lit≤}
 use Rattle.std.specs.List.{slice_get}
-use Rattle.std.specs.Prelude.{IfSome, map, slice_range}
+use Rattle.std.specs.Prelude.{IfSome, map, slice_range, bytes_eq}
 use Rattle.std.specs.Option.{MatchOption, is_some}
+use Rattle.std.proofs.lemmas.Bool.{true≢false, false_from_ne_true}
 use Rattle.hist_types.specs.AtomTokens.{int_value, process_of}
 use Rattle.hist_types.specs.Bytes.{close_brace, open_square, close_square}
 use Rattle.hist_types.specs.Entries.{◌>>=◌, or_refuse, the_one, is_named, int_of, kind_of as kind_of_form, micro_op_of, micro_ops_of, transaction_of, client_operation, entry_by, entry_of}
 use Rattle.hist_types.specs.Forms.{Form, plain, collection, forms_of, place_of, is_map}
-use Rattle.hist_types.specs.Tokens.{Item}
+use Rattle.hist_types.specs.Tokens.{Item, Keyword}
 use Rattle.hist_types.specs.declared.limits.TheConstants.{MAX_OPEN_COLLECTIONS, MAX_OPERATION_BYTES, MAX_MICRO_OPS}
 use Rattle.hist_types.specs.declared.types.Fault.{Fault}
 use Rattle.hist_types.specs.declared.types.OpKind.{OpKind}
 use Rattle.hist_types.specs.declared.types.Refusal.TheVariants.{NotTxn}
-use Rattle.edn_lex.specs.Ahead.{going_at, GivesLone, GivesOpener, GivesCloser, GivesTriple, LooksAheadInMap}
-use Rattle.edn_lex.specs.Kinds.{item_of}
+use Rattle.edn_lex.specs.Ahead.{going_at, IsLoneAt, GivesLone, GivesOpener, GivesCloser, GivesTriple, LooksAheadInMap}
+use Rattle.edn_lex.specs.Kinds.{item_of, kind_of as kind_of_token}
 use Rattle.edn_lex.specs.State.{State}
 use Rattle.edn_lex.specs.declared.ahead.Triple.{Triple}
 use Rattle.edn_lex.specs.declared.types.Token.{Token}
+use Rattle.edn_lex.specs.declared.types.TokenKind.{TokenKind}
+use Rattle.edn_lex.specs.declared.types.TokenKind.TheVariants as kinds
 use Rattle.edn_ops.specs.declared.flat.FlatFields.{FlatFields}
+use Rattle.edn_ops.specs.declared.flat.Name.{Name}
+use Rattle.edn_ops.specs.declared.flat.Name.TheVariants as names
 use Rattle.edn_ops.specs.declared.outline.Outline.{Outline}
 use Rattle.edn_ops.specs.declared.types.MopShape.{MopShape}
 use Rattle.edn_ops.specs.declared.types.OpShape.{OpShape}
 use Rattle.edn_ops.specs.declared.types.Span.{Span}
 use Rattle.edn_ops.specs.Collections.{ReadsMembers, ReadsMap}
 use Rattle.edn_ops.specs.Fields.{fields_named, members_of, mop_result, mops_result, result_outline, IsEntry}
-use Rattle.edn_ops.specs.Flat.{ReadsAhead, ReadsFlatMop, ReadsFlatTransaction, ReadsFlatField, HasKind, HasProcess, HasMops, AreFlat, AddsFlat, ReadsFlatMap, IsFlatShape, HasTransaction}
+use Rattle.edn_ops.specs.Flat.{ReadsAhead, ReadsFlatMop, ReadsFlatTransaction, IsName, ReadsFlatValue, ReadsFlatField, HasKind, HasProcess, HasMops, AreFlat, AddsFlat, ReadsFlatMap, IsFlatShape, HasTransaction}
 use Rattle.edn_ops.specs.Outlines.{outline, outline_of, number_of}
 use Rattle.edn_ops.proofs.ByMember.{nothing_read, one_read}
 use Rattle.edn_ops.proofs.Closing.{IsAt, by_process, entry_from, entry_is, has_value, is_operation, value_mops, bind_ok}
@@ -132,6 +137,10 @@ mop_ahead text offset triple old shape new h fits room is pushed = (
       ap (λ (xs : List MopShape). Ok xs) pushed
       ∙ one_micro_op old members (triple_form text triple) shape e room (triple_mop text offset triple (Ok shape) h is),
 )
+
+-- a token that begins at the offset
+pub lone_here : (text : List ℕ) (offset : ℕ) (token : Token) → offset ≤ length text → IsLoneAt text offset token → GivesLone text offset token
+lone_here text offset token within h = h offset (record { low = omega arith; fits = within; blanks = λ k low high. absurd (omega arith) })
 
 -- ---- transactions
 
@@ -323,6 +332,59 @@ flat_reads s t text opener shape same looks flat is_a_map after =
 -- a value that is a form by itself
 pub lone_ahead : (text : List ℕ) (offset : ℕ) (token : Token) → token.end ≤ length text → GivesLone text offset token → ReadsAhead text 2 offset (plain (item_of text token)) token.end
 lone_ahead text offset token fits g = record { within = fits; reads = λ closers room. lone_reads text offset token closers g }
+
+-- ---- words
+
+-- a keyword of the text by its bytes
+pub keyword_named : (text : List ℕ) (t : Token) (word name : List ℕ) → t.kind ≡ kinds.Keyword → (item_of text t).bytes ≡ word → is_named name (plain (item_of text t)) ≡ bytes_eq name word
+keyword_named text t word name is bytes =
+    let item : TokenKind → List ℕ → Form = λ k bs. plain (record { kind = kind_of_token k; start = t.start; bytes = bs }) in
+    ap (λ (k : TokenKind). is_named name (item k (item_of text t).bytes)) is ∙ ap (λ (bs : List ℕ). is_named name (item kinds.Keyword bs)) bytes
+
+pub keyword_kind : (text : List ℕ) (t : Token) (word : List ℕ) → t.kind ≡ kinds.Keyword → (item_of text t).bytes ≡ word →
+    kind_of_form (plain (item_of text t)) ≡ kind_of_form (plain (record { kind = Keyword; start = t.start; bytes = word }))
+keyword_kind text t word is bytes =
+    let item : TokenKind → List ℕ → Form = λ k bs. plain (record { kind = kind_of_token k; start = t.start; bytes = bs }) in
+    ap (λ (k : TokenKind). kind_of_form (item k (item_of text t).bytes)) is ∙ ap (λ (bs : List ℕ). kind_of_form (item kinds.Keyword bs)) bytes
+
+-- the value of `:type`
+pub kind_read :
+    (text : List ℕ) (offset : ℕ) (token : Token) (old : FlatFields) (kind : OpKind) → is_some old.kind ≡ false → GivesLone text offset token → token.end ≤ length text → Some kind ≡ kind_of_form (plain (item_of text token)) →
+    ReadsFlatValue text offset names.Kind old (Some token.end) (record old { kind = Some kind })
+kind_read text offset token old kind none gives fits is = (
+  plain (item_of text token),
+  lone_ahead text offset token fits gives,
+  λ key shapes named. adds_kind old shapes key (plain (item_of text token)) (Some kind) named none is refl,
+)
+
+process_no_type : (f : Form) → is_named (codes ":process") f ≡ true → is_named (codes ":type") f ≡ false
+process_no_type f h = false_from_ne_true (is_named (codes ":type") f) (λ k. true≢false (sym h ∙ type_process f k))
+
+-- the value of `:process`
+pub process_read :
+    (text : List ℕ) (offset : ℕ) (token : Token) (old : FlatFields) (process : ℕ) → is_some old.process ≡ false → GivesLone text offset token → token.end ≤ length text → SaysProcess (plain (item_of text token)) (Some process) →
+    ReadsFlatValue text offset names.Process old (Some token.end) (record old { process = Some process })
+process_read text offset token old process none gives fits says = (
+  plain (item_of text token),
+  lone_ahead text offset token fits gives,
+  λ key shapes named. adds_process old shapes key (plain (item_of text token)) (Some process) (process_no_type key named) named none says refl,
+)
+
+-- the value of a field that says nothing
+pub other_read :
+    (text : List ℕ) (offset : ℕ) (token : Token) (fields : FlatFields) → GivesLone text offset token → token.end ≤ length text → ReadsFlatValue text offset names.Other fields (Some token.end) fields
+other_read text offset token fields gives fits = (
+  plain (item_of text token),
+  lone_ahead text offset token fits gives,
+  λ key shapes named. adds_other fields shapes key (plain (item_of text token)) named.0 named.1 named.2,
+)
+
+-- the value of a field that is no transaction
+pub value_read :
+    (text : List ℕ) (key : Token) (name : Name) (old : FlatFields) (shapes : List MopShape) (o : Option ℕ) (new : FlatFields) → IsName name (plain (item_of text key)) → ReadsFlatValue text key.end name old o new →
+    ReadsFlatField text key old shapes (Ok o) new shapes
+value_read text key name old shapes None new is r = tt
+value_read text key name old shapes (Some end) new is r = (r.0, r.1, r.2 (plain (item_of text key)) shapes is)
 
 -- a transaction that is the value of the first `:value`
 pub value_ahead :

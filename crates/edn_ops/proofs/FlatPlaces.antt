@@ -1,52 +1,57 @@
 -- Operations that a reader reads at once.
-use Rattle.std.proofs.Common.{◌≡◌, ℕ, ◌≤◌, List, [], ◌∷◌, Bool, true, false, Option, Some, None, Result, Ok, Err, not, refl, sym, ◌∙◌, ap, arith, subst}
+use Rattle.std.proofs.Common.{◌≡◌, ℕ, ◌≤◌, List, [], ◌∷◌, Bool, true, false, Option, Some, None, Result, Ok, Err, not, ◌||◌, inl, inr, refl, sym, ◌∙◌, ap, arith, subst}
 use Rattle.std.specs.Prelude.{bytes_eq}
 use Rattle.std.specs.Option.{is_some}
 use Rattle.hist_types.specs.Bytes.{open_brace, close_brace}
 use Rattle.hist_types.specs.Entries.{Entry, operation}
-use Rattle.hist_types.specs.Forms.{is_map}
-use Rattle.hist_types.specs.Tokens.{Item}
+use Rattle.hist_types.specs.Forms.{is_map, is_drop, is_drop_kind}
+use Rattle.hist_types.specs.Tokens.{Item, Opener, Closer}
 use Rattle.hist_types.specs.declared.types.Fault.{Fault}
-use Rattle.edn_lex.specs.Ahead.{going_at, GivesOpener, LooksAhead}
-use Rattle.edn_lex.specs.Kinds.{item_of}
+use Rattle.edn_lex.specs.Ahead.{going_at, LooksAhead}
+use Rattle.edn_lex.specs.Kinds.{kind_of, item_of}
 use Rattle.edn_lex.specs.State.{State}
 use Rattle.edn_lex.specs.declared.types.Token.{Token}
-use Rattle.edn_ops.specs.Flat.{IsFlatShape}
-use Rattle.edn_ops.specs.Leads.{is_mark_kind}
+use Rattle.edn_ops.specs.Flat.{IsFlatShape, OpensOperation}
+use Rattle.edn_ops.specs.Leads.{is_mark_kind, GivesMember}
 use Rattle.edn_ops.specs.Places.{ReadsOp, FlatOp, IsReached, IsReadUpTo}
 use Rattle.edn_ops.specs.Reader.{Goes, Reader, FlatNext}
+use Rattle.edn_ops.specs.declared.forms.Member.{Member}
 use Rattle.edn_ops.specs.declared.reader.Place.{Place}
 use Rattle.edn_ops.specs.declared.types.OpShape.{OpShape}
 use Rattle.edn_ops.proofs.FlatMaps.{flat_map_read}
-use Rattle.edn_ops.proofs.LeftOut.{GivesMember-first}
+use Rattle.edn_ops.proofs.LeftOut.{Behind-start, GivesMember-first, GivesMember-behind}
 use Rattle.edn_ops.proofs.Levels.{GivesMember-shorter}
 use Rattle.edn_ops.proofs.Places.{Goes-on, op_on}
 use Rattle.edn_ops.proofs.Reached.{next-shape, next-text, next-up_to}
-use Rattle.edn_ops.proofs.Triples.{bare_token}
 
 brace_is : (item : Item) → item.bytes ≡ open_brace ∷ [] → is_map item ≡ true
 brace_is item e = ap (λ (bs : List ℕ). bytes_eq bs (open_brace ∷ [])) e
 
-pub flat_op_is :
-    (old : Place) (s : State) (text : List ℕ) (offset : ℕ) (opener : Token) (shape : OpShape) → text ≡ old.lexer.text → LooksAhead old.lexer offset → GivesOpener text offset open_brace close_brace opener → IsFlatShape text opener shape →
+opener_no_closer : Opener ≡ Closer → ⊥
+opener_no_closer e = cc
+
+-- the map is behind this member's token
+flat_op_by :
+    (old : Place) (s : State) (text : List ℕ) (offset : ℕ) (opener : Token) (tag : Option ℕ) (shape : OpShape) → text ≡ old.lexer.text → LooksAhead old.lexer offset → kind_of opener.kind ≡ Opener → (item_of text opener).bytes ≡ open_brace ∷ [] →
+    GivesMember (going_at text offset old.lexer.closers) (record { token = opener; tag = tag }) (going_at text opener.end (close_brace ∷ old.lexer.closers)) → IsFlatShape text opener shape →
     old.skipped ≤ old.lexer.offset → s ≡ record old.lexer { offset = shape.span.end } → ReadsOp old shape (record old { lexer = s }) × (old.skipped ≤ s.offset)
-flat_op_is old s text offset opener shape same looks opens flat few after =
+flat_op_by old s text offset opener tag shape same looks kind bytes h flat few after =
     let closers = old.lexer.closers in
     let i = item_of text opener in
     let s0 = going_at text offset closers in
     let t0 = going_at text opener.end (close_brace ∷ closers) in
     let u0 = going_at text shape.span.end closers in
     let room = looks.room in
-    let h = GivesMember-first s0 t0 opener (opens.gives closers (omega arith)) (ap is_mark_kind opens.kind) in
-    let a_map = brace_is i opens.bytes in
+    let m : Member = record { token = opener; tag = tag } in
+    let a_map = brace_is i bytes in
     let read = flat_map_read text opener shape closers flat a_map room in
-    let x = op_on s0 t0 u0 (bare_token opener) h old.list i shape opens.kind a_map refl read in
+    let x = op_on s0 t0 u0 m h old.list i shape kind a_map refl read in
     let first : old.lexer ≡ s0 = looks.going ∙ ap (λ (xs : List ℕ). going_at xs offset closers) (sym same) in
     let going : old.lexer.ended ≡ false = ap (λ (x : State). x.ended) looks.going in
     let left : s ≡ u0 =
     after ∙ ap (λ (b : Bool). let x : State = record { text = old.lexer.text; offset = shape.span.end; closers = closers; ended = b } in x) going ∙ ap (λ (xs : List ℕ). going_at xs shape.span.end closers) (sym same) in
     let at : old.lexer.offset ≡ offset = ap (λ (x : State). x.offset) first in
-    let less = (GivesMember-shorter s0 t0 (bare_token opener) h).0 in
+    let less = (GivesMember-shorter s0 t0 m h).0 in
     let forward = read.5 in
     let end : s.offset ≡ shape.span.end = ap (λ (x : State). x.offset) left in
     let es : List Entry = operation x.0 ∷ [] in
@@ -60,6 +65,27 @@ flat_op_is old s text offset opener shape same looks opens flat few after =
       },
       omega arith,
     )
+
+pub flat_op_is :
+    (old : Place) (s : State) (text : List ℕ) (offset : ℕ) (opener : Token) (shape : OpShape) → text ≡ old.lexer.text → LooksAhead old.lexer offset → OpensOperation text offset opener → IsFlatShape text opener shape →
+    old.skipped ≤ old.lexer.offset → s ≡ record old.lexer { offset = shape.span.end } → ReadsOp old shape (record old { lexer = s }) × (old.skipped ≤ s.offset)
+flat_op_is old s text offset opener shape same looks (inl opens) flat few after =
+    let closers = old.lexer.closers in
+    let room = looks.room in
+    let h = GivesMember-first (going_at text offset closers) (going_at text opener.end (close_brace ∷ closers)) opener (opens.gives closers (omega arith)) (ap is_mark_kind opens.kind) in
+    flat_op_by old s text offset opener None shape same looks opens.kind opens.bytes h flat few after
+flat_op_is old s text offset opener shape same looks (inr tagged) flat few after =
+    let closers = old.lexer.closers in
+    let room = looks.room in
+    let tag = tagged.0 in
+    let t = going_at text tag.end closers in
+    let item = item_of text tag in
+    let opens = tagged.2 in
+    let no_drop : is_drop item ≡ false = ap is_drop_kind tagged.1.kind in
+    let behind = Behind-start t item 0 (Some tag.start) (ap (λ (b : Bool). b || false) no_drop, refl) (omega arith) in
+    let h = GivesMember-behind (going_at text offset closers) t tag (tagged.1.gives closers) (ap is_mark_kind tagged.1.kind) t (going_at text opener.end (close_brace ∷ closers)) opener (Some tag.start) behind
+    (opens.gives closers (omega arith)) (ap is_mark_kind opens.kind) (λ e. opener_no_closer (sym opens.kind ∙ e)) in
+    flat_op_by old s text offset opener (Some tag.start) shape same looks opens.kind opens.bytes h flat few after
 
 -- ---- readers
 

@@ -1,8 +1,8 @@
 -- Maps as printers write them, read in one pass over their bytes.
 use Rattle.std.specs.Prelude.{◌≡◌, ◌⊎◌, ℕ, ℤ, ◌+◌, ◌≤◌, List, [], ◌∷◌, ◌++◌, length, Bool, true, false, codes, Option, Some, None, Result, Ok, Err}
 use Rattle.hist_types.specs.AtomTokens.{process_of}
-use Rattle.hist_types.specs.Bytes.{close_brace}
-use Rattle.hist_types.specs.Entries.{entry_of, int_of, kind_of, micro_ops_of, transaction_of}
+use Rattle.hist_types.specs.Bytes.{open_brace, close_brace}
+use Rattle.hist_types.specs.Entries.{entry_of, int_of, is_named, kind_of, micro_ops_of, transaction_of}
 use Rattle.hist_types.specs.Forms.{Form, plain}
 use Rattle.hist_types.specs.Refusals.{memory_fault}
 use Rattle.hist_types.specs.Tokens.{Item}
@@ -10,11 +10,13 @@ use Rattle.hist_types.specs.declared.limits.TheConstants.{MAX_OPEN_COLLECTIONS}
 use Rattle.hist_types.specs.declared.types.Fault.{Fault}
 use Rattle.hist_types.specs.declared.types.OpKind.{OpKind}
 use Rattle.hist_types.specs.declared.types.OpKind.TheVariants as kinds
-use Rattle.edn_lex.specs.Ahead.{going_at, GivesCloser}
+use Rattle.edn_lex.specs.Ahead.{going_at, GivesTag, GivesOpener, GivesCloser}
 use Rattle.edn_lex.specs.Kinds.{item_of}
 use Rattle.edn_lex.specs.State.{State}
 use Rattle.edn_lex.specs.declared.types.Token.{Token}
 use Rattle.edn_ops.specs.declared.flat.FlatFields.{FlatFields}
+use Rattle.edn_ops.specs.declared.flat.Name.{Name}
+use Rattle.edn_ops.specs.declared.flat.Name.TheVariants as names
 use Rattle.edn_ops.specs.declared.types.MopShape.{MopShape}
 use Rattle.edn_ops.specs.declared.types.OpShape.{OpShape}
 use Rattle.edn_ops.specs.Collections.{ReadsMember, ReadsMembers, ReadsMap}
@@ -70,6 +72,19 @@ abbrev pub AddsFlat : FlatFields → List MopShape → Form → Form → FlatFie
 AddsFlat old shapes key value new more =
     (pairs : List (Form × Form)) → AreFlat old shapes pairs → AreFlat new more (pairs ++ (key, value) ∷ [])
 
+-- the key is of the field with this name
+abbrev pub IsName : Name → Form → Type 0
+IsName names.Kind key = is_named (codes ":type") key ≡ true
+IsName names.Process key = is_named (codes ":process") key ≡ true
+IsName names.Value key = is_named (codes ":value") key ≡ true
+IsName names.Other key = (is_named (codes ":type") key ≡ false) × (is_named (codes ":process") key ≡ false) × (is_named (codes ":value") key ≡ false)
+
+-- a call read the value of the field with this name, which is no transaction
+abbrev pub ReadsFlatValue : List ℕ → ℕ → Name → FlatFields → Option ℕ → FlatFields → Type 0
+ReadsFlatValue text offset name old None new = Unit {0}
+ReadsFlatValue text offset name old (Some end) new =
+    (value : Form) × ReadsAhead text 2 offset value end × ((key : Form) (shapes : List MopShape) → IsName name key → AddsFlat old shapes key value new shapes)
+
 -- a call read the value of a key
 abbrev pub ReadsFlatField : List ℕ → Token → FlatFields → List MopShape → Result (Option ℕ) Fault → FlatFields → List MopShape → Type 0
 ReadsFlatField text key old shapes (Ok None) new more = Unit {0}
@@ -91,6 +106,12 @@ pub record ReadsFlatMap (text : List ℕ) (offset : ℕ) (fields : FlatFields) (
   pub closes : GivesCloser text inner close_brace closer
   pub end_is : end ≡ closer.end
   pub within : end ≤ length text
+
+-- a token of one byte opens a map: the one that is given from the offset on, or the one behind a tag
+abbrev pub OpensOperation : List ℕ → ℕ → Token → Type 0
+OpensOperation text offset opener =
+    GivesOpener text offset open_brace close_brace opener
+    ⊎ ((tag : Token) × GivesTag text offset tag × GivesOpener text tag.end open_brace close_brace opener)
 
 -- an operation of this kind has a transaction
 abbrev pub HasTransaction : OpKind → Type 0

@@ -1,6 +1,6 @@
 //! Atoms as tokens, and the numbers of processes.
 
-ghost use Rattle.std.specs.Prelude.{◌≡◌, true, false, slice_range};
+ghost use Rattle.std.specs.Prelude.{◌≡◌, true, false, pos, slice_range, IfSome};
 ghost use Rattle.std.specs.Bool.{then_some};
 ghost use Rattle.std.specs.Option.{is_some};
 ghost use Rattle.hist_types.specs.AtomTokens.{int_value, is_64_bit, escape_value, decoded, atom_of_token, process_of as process_of_number};
@@ -9,6 +9,7 @@ ghost use Rattle.edn_lex.specs.Kinds.{kind_of};
 ghost use Rattle.edn_ops.specs.Outlines.{IsSpelled};
 
 use edn_lex::types::TokenKind;
+use hist_types::limits::MAX_PROCESS;
 use hist_types::types::Process;
 use std::str;
 
@@ -73,8 +74,36 @@ pub(crate) fn is_atom(kind: TokenKind, bytes: &[u8]) -> bool
     }
 }
 
-/// The process whose number is spelled so.
+/// The number that digits alone mean, if it is not too large for a process.
+#[inline(always)]
+fn number_of_digits(spelling: &[u8]) -> Option<u64>
+    requires { is_int spelling.now ≡ true }
+    ensures { IfSome result (λ number. int_value spelling.now ≡ pos number) }
+{
+    let mut number: u64 = 0;
+    for byte in spelling {
+        if !byte.is_ascii_digit() || number > MAX_PROCESS {
+            return None;
+        }
+        number = number * 10 + u64::from(*byte - b'0');
+    }
+    Some(number)
+}
+
+/// The process whose number is spelled so. Most are spelled by a few digits alone.
 pub(crate) fn process_of(spelling: &[u8]) -> Option<Process>
+    requires { is_int spelling.now ≡ true }
+    ensures { result ≡ process_of_number (int_value spelling.now) }
+{
+    match number_of_digits(spelling) {
+        Some(number) => Process::new(number),
+        None => any_process_of(spelling),
+    }
+}
+
+/// The same, however it is spelled.
+#[inline(never)]
+fn any_process_of(spelling: &[u8]) -> Option<Process>
     requires { is_int spelling.now ≡ true }
     ensures { result ≡ process_of_number (int_value spelling.now) }
 {

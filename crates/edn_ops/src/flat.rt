@@ -1,22 +1,25 @@
 //! Maps as printers write them, read in one pass over their bytes: keys and values are runs of ASCII, but for one vector of
 //! vectors of three.
 
-ghost use Rattle.std.specs.Prelude.{◌≡◌, ◌≤◌, ℤ, List, [], length, true, false, Option, Some, MatchOption};
+ghost use Rattle.std.specs.Prelude.{◌≡◌, ◌≤◌, ℤ, List, [], length, true, false, Option, Some, IfSome, MatchOption};
 ghost use Rattle.hist_types.specs.AtomTokens.{process_of as process_of_number};
-ghost use Rattle.hist_types.specs.Entries.{int_of};
+ghost use Rattle.hist_types.specs.Entries.{int_of, kind_of as kind_of_form};
 ghost use Rattle.hist_types.specs.Forms.{Form, plain, is_map};
+ghost use Rattle.edn_lex.specs.Ahead.{IsLoneAt, GivesLone, GivesTriple};
 ghost use Rattle.edn_lex.specs.Kinds.{item_of};
 ghost use Rattle.edn_ops.specs.Outlines.{outline_of, IsTokenIn, IsOutlineIn};
-ghost use Rattle.edn_ops.specs.Flat.{ReadsFlatMop, ReadsFlatTransaction, AreFlat, AddsFlat, ReadsFlatField, GivesFlatMap, GivesFlatShape, ReadsFlatOperation, HasTransaction};
+ghost use Rattle.edn_ops.specs.Flat.{ReadsFlatMop, ReadsFlatTransaction, AreFlat, IsName, ReadsFlatValue, ReadsFlatField, GivesFlatMap, OpensOperation, GivesFlatShape, ReadsFlatOperation, HasTransaction};
 
 use crate::atoms;
-use crate::fields::kind_of;
 use crate::micro_ops::micro_op;
 use crate::outline::{Outline, bytes_of};
 use crate::types::{MopShape, OpShape, Span};
-use edn_lex::ahead::{lone_token, map_closer, three_tokens, vector_closer, vector_opener};
+use edn_lex::ahead::{
+    Triple, behind_blanks, lone_at, lone_token, map_closer, map_opener, number_at, run_at,
+    tag_token, vector_closer, vector_opener, word_at,
+};
 use edn_lex::lexer::Lexer;
-use edn_lex::types::Token;
+use edn_lex::types::{Token, TokenKind};
 use hist_types::limits::{MAX_MICRO_OPS, MAX_OPERATION_BYTES};
 use hist_types::types::{Fault, OpKind, Process};
 use smallvec::SmallVec;
@@ -30,6 +33,23 @@ pub(crate) struct FlatFields {
     kind: Option<OpKind>,
     process: Option<Process>,
     has_value: bool,
+}
+
+/// The fields of a map that say something.
+#[derive(Clone, Copy)]
+pub(crate) enum Name {
+    Kind,
+    Process,
+    Value,
+    /// A field that says nothing.
+    Other,
+}
+
+/// A key, and which field it names.
+#[derive(Clone, Copy)]
+pub(crate) struct Key {
+    name: Name,
+    token: Token,
 }
 
 /// Whether an operation of this kind has a transaction.
@@ -48,6 +68,32 @@ fn process_of(text: &[u8], value: Outline) -> Option<Process>
     atoms::process_of(bytes_of(text, number))
 }
 
+/// The next token, if it is the kind of an operation that has a transaction.
+#[inline(always)]
+fn flat_kind(text: &[u8], offset: usize) -> Option<(OpKind, Token)>
+    requires { offset ≤ length text.now }
+    ensures gives { IfSome result (λ found. GivesLone text.now offset found.1) }
+    ensures kind { IfSome result (λ found. Some found.0 ≡ kind_of_form (plain (item_of text.now found.1))) }
+    ensures fits { IfSome result (λ found. found.1.end ≤ length text.now) }
+{
+    let start = behind_blanks(text, offset);
+    if let Some(token) = word_at(text, start, b":invoke", TokenKind::Keyword) {
+        return Some((OpKind::Invoke, token));
+    }
+    let token = word_at(text, start, b":ok", TokenKind::Keyword)?;
+    Some((OpKind::Ok, token))
+}
+
+/// Passes over the value of a field that says nothing, up to the end that is given, if it is a run of ASCII.
+#[inline(always)]
+fn other_value(text: &[u8], offset: usize) -> Option<usize>
+    requires { offset ≤ length text.now }
+    ensures { (fields : FlatFields) → ReadsFlatValue text.now offset Name.Other fields result fields }
+{
+    let token = lone_token(text, offset)?;
+    Some(token.end)
+}
+
 impl FlatFields {
     const fn new() -> FlatFields
         ensures { AreFlat result [] [] }
@@ -59,26 +105,82 @@ impl FlatFields {
         }
     }
 
-    /// Adds a field that is no `:value`, if it says what it should, and for the first time.
-    fn add(&mut self, text: &[u8], key: Token, value: Token) -> bool
-        requires key { IsTokenIn text.now key }
-        requires value { IsTokenIn text.now value }
-        ensures { result ≡ true → (shapes : List MopShape) → AddsFlat self.old shapes (plain (item_of text.now key)) (plain (item_of text.now value)) self.new shapes }
+    /// Reads the first value of `:type`, up to the end that is given, if it can be read so.
+    #[inline(always)]
+    fn read_kind(&mut self, text: &[u8], offset: usize) -> Option<usize>
+        requires { offset ≤ length text.now }
+        ensures { ReadsFlatValue text.now offset Name.Kind self.old result self.new }
     {
-        let name = Outline::Plain(key);
-        let value = Outline::Plain(value);
-        if name.is_named(text, b":type") {
-            let is_first = self.kind.is_none();
-            self.kind = kind_of(text, value);
-            return is_first && self.kind.is_some();
+        if self.kind.is_some() {
+            return None;
         }
-        if name.is_named(text, b":process") {
-            let is_first = self.process.is_none();
-            self.process = process_of(text, value);
-            return is_first && self.process.is_some();
-        }
-        !name.is_named(text, b":value")
+        let (kind, token) = flat_kind(text, offset)?;
+        self.kind = Some(kind);
+        Some(token.end)
     }
+
+    /// Reads the first value of `:process`, up to the end that is given, if it can be read so.
+    #[inline(always)]
+    fn read_process(&mut self, text: &[u8], offset: usize) -> Option<usize>
+        requires { offset ≤ length text.now }
+        ensures { ReadsFlatValue text.now offset Name.Process self.old result self.new }
+    {
+        if self.process.is_some() {
+            return None;
+        }
+        let token = number_at(text, behind_blanks(text, offset))?;
+        let process = process_of(text, Outline::Plain(token))?;
+        self.process = Some(process);
+        Some(token.end)
+    }
+}
+
+/// The token that begins here, if it is `:w` or `:r`.
+#[inline(always)]
+fn mop_name(text: &[u8], start: usize) -> Option<Token>
+    requires { start ≤ length text.now }
+    ensures lone { IfSome result (IsLoneAt text.now start) }
+    ensures fits { IfSome result (λ token. token.end ≤ length text.now) }
+{
+    match word_at(text, start, b":w", TokenKind::Keyword) {
+        Some(token) => Some(token),
+        None => word_at(text, start, b":r", TokenKind::Keyword),
+    }
+}
+
+/// The next token, if it is a run of ASCII; often it is `nil`.
+#[inline(always)]
+fn mop_value(text: &[u8], offset: usize) -> Option<Token>
+    requires { offset ≤ length text.now }
+    ensures gives { IfSome result (GivesLone text.now offset) }
+    ensures fits { IfSome result (λ token. token.end ≤ length text.now) }
+{
+    let start = behind_blanks(text, offset);
+    match word_at(text, start, b"nil", TokenKind::Nil) {
+        Some(token) => Some(token),
+        None => lone_at(text, start),
+    }
+}
+
+/// The next five tokens, if they are a vector of `:w` or `:r` and two runs of ASCII.
+#[inline(always)]
+fn mop_tokens(text: &[u8], offset: usize) -> Option<Triple>
+    requires { offset ≤ length text.now }
+    ensures gives { IfSome result (GivesTriple text.now offset) }
+    ensures fits { IfSome result (λ triple. triple.closer.end ≤ length text.now) }
+{
+    let opener = vector_opener(text, offset)?;
+    let first = mop_name(text, opener.end)?;
+    let second = lone_token(text, first.end)?;
+    let third = mop_value(text, second.end)?;
+    let closer = vector_closer(text, third.end)?;
+    Some(Triple {
+        opener,
+        first,
+        second,
+        third,
+        closer,
+    })
 }
 
 /// Reads one more micro-operation, up to the end that is given, if it is a vector of three runs of ASCII without a fault.
@@ -87,7 +189,7 @@ fn flat_mop(text: &[u8], offset: usize, mops: &mut Mops) -> Result<Option<usize>
     requires { offset ≤ length text.now }
     ensures { ReadsFlatMop text.now offset mops.old.items result mops.new.items }
 {
-    let Some(triple) = three_tokens(text, offset) else {
+    let Some(triple) = mop_tokens(text, offset) else {
         return Ok(None);
     };
     let micro_op = micro_op(
@@ -126,28 +228,80 @@ fn flat_transaction(text: &[u8], offset: usize, mops: &mut Mops) -> Result<Optio
     }
 }
 
+/// The next key, if it is a run of ASCII.
+#[inline(always)]
+fn next_key(text: &[u8], offset: usize) -> Option<Key>
+    requires { offset ≤ length text.now }
+    ensures gives { IfSome result (λ key. GivesLone text.now offset key.token) }
+    ensures name { IfSome result (λ key. IsName key.name (plain (item_of text.now key.token))) }
+{
+    let start = behind_blanks(text, offset);
+    if let Some(token) = word_at(text, start, b":type", TokenKind::Keyword) {
+        return Some(Key {
+            name: Name::Kind,
+            token,
+        });
+    }
+    if let Some(token) = word_at(text, start, b":process", TokenKind::Keyword) {
+        return Some(Key {
+            name: Name::Process,
+            token,
+        });
+    }
+    if let Some(token) = word_at(text, start, b":value", TokenKind::Keyword) {
+        return Some(Key {
+            name: Name::Value,
+            token,
+        });
+    }
+    let token = run_at(text, start)?;
+    if is_other(text, token) {
+        Some(Key {
+            name: Name::Other,
+            token,
+        })
+    } else {
+        None
+    }
+}
+
+/// Whether a key names a field that says nothing.
+#[inline(always)]
+fn is_other(text: &[u8], key: Token) -> bool
+    requires { IsTokenIn text.now key }
+    ensures { result ≡ true → IsName Name.Other (plain (item_of text.now key)) }
+{
+    let name = Outline::Plain(key);
+    !name.is_named(text, b":type")
+        && !name.is_named(text, b":process")
+        && !name.is_named(text, b":value")
+}
+
 /// Reads the value of a key, up to the end that is given, if it can be read so.
 fn flat_field(
     text: &[u8],
-    key: Token,
+    key: Key,
     fields: &mut FlatFields,
     mops: &mut Mops,
 ) -> Result<Option<usize>, Fault>
-    requires key { IsTokenIn text.now key }
+    requires key { IsTokenIn text.now key.token }
+    requires name { IsName key.name (plain (item_of text.now key.token)) }
     requires none { fields.old.has_value ≡ false → mops.old.items ≡ [] }
-    ensures { ReadsFlatField text.now key fields.old mops.old.items result fields.new mops.new.items }
+    ensures { ReadsFlatField text.now key.token fields.old mops.old.items result fields.new mops.new.items }
 {
-    if let Some(value) = lone_token(text, key.end) {
-        if fields.add(text, key, value) {
-            return Ok(Some(value.end));
+    let offset = key.token.end;
+    match key.name {
+        Name::Kind => Ok(fields.read_kind(text, offset)),
+        Name::Process => Ok(fields.read_process(text, offset)),
+        Name::Other => Ok(other_value(text, offset)),
+        Name::Value => {
+            if fields.has_value {
+                return Ok(None);
+            }
+            fields.has_value = true;
+            flat_transaction(text, offset, mops)
         }
-        return Ok(None);
     }
-    if fields.has_value || !Outline::Plain(key).is_named(text, b":value") {
-        return Ok(None);
-    }
-    fields.has_value = true;
-    flat_transaction(text, key.end, mops)
 }
 
 /// Reads the fields of a map, up to the end that is given, if all can be read so.
@@ -162,7 +316,7 @@ fn flat_map(
     ensures { GivesFlatMap text.now offset result fields.new mops.new.items }
 {
     let mut at = offset;
-    while let Some(key) = lone_token(text, at) {
+    while let Some(key) = next_key(text, at) {
         match flat_field(text, key, fields, mops)? {
             Some(end) => at = end,
             None => return Ok(None),
@@ -171,6 +325,19 @@ fn flat_map(
     match map_closer(text, at) {
         Some(closer) => Ok(Some(closer.end)),
         None => Ok(None),
+    }
+}
+
+/// The opener of a map, if it is the next token, or the one behind a tag.
+#[inline(always)]
+pub(crate) fn operation_opener(text: &[u8], offset: usize) -> Option<Token>
+    requires { offset ≤ length text.now }
+    ensures opens { IfSome result (OpensOperation text.now offset) }
+    ensures fits { IfSome result (λ token. token.end ≤ length text.now) }
+{
+    match map_opener(text, offset) {
+        Some(opener) => Some(opener),
+        None => map_opener(text, tag_token(text, offset)?.end),
     }
 }
 

@@ -11,12 +11,11 @@ ghost use Rattle.edn_ops.specs.Places.{NextOp, FlatOp};
 ghost use Rattle.edn_ops.specs.Shapes.{IsShapeIn};
 
 use crate::faults::fault_at;
-use crate::flat::flat_shape;
+use crate::flat::{flat_shape, operation_opener};
 use crate::forms::next_member;
 use crate::maps::read_map;
 use crate::marks::{closes, opens};
 use crate::types::OpShape;
-use edn_lex::ahead::map_opener;
 use edn_lex::lexer::Lexer;
 use edn_lex::types::Token;
 use hist_types::types::{Fault, Refusal};
@@ -79,7 +78,7 @@ impl<'a> Place<'a> {
         }
     }
 
-    /// The next operation, if it is a map that can be read in one pass. Else the place stays the same, and out of memory too.
+    /// The next operation, if it is a map that can be read in one pass, or such a map behind a tag. Else the place stays the same, and out of memory too.
     fn flat_op(&mut self, alloc: Global) -> Result<Option<OpShape>, Fault>
         requires { self.old.skipped ≤ self.old.lexer.offset }
         ensures { FlatOp self.old result self.new }
@@ -88,7 +87,7 @@ impl<'a> Place<'a> {
             return Ok(None);
         };
         let text = self.lexer.text();
-        let Some(opener) = map_opener(text, offset) else {
+        let Some(opener) = operation_opener(text, offset) else {
             return Ok(None);
         };
         match flat_shape(alloc, text, opener) {

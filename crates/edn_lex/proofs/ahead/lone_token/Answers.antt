@@ -1,26 +1,5 @@
-use Rattle.std.proofs.Common.{◌≡◌, ◌-◌, ℕ, length, drop, take, Bool, true, false, not, Option, Some, ap, ◌∙◌, arith, sym, refl}
-use Rattle.std.proofs.lemmas.List.{take_rest}
-use Rattle.std.proofs.lemmas.List.Sums.{prefix_len-le-length}
-use Rattle.hist_types.specs.Bytes.{is_run_byte}
-use Rattle.hist_types.specs.Tokens.{ItemKind, run_of, run_kind}
-use Rattle.edn_lex.specs.Pieces.{kind_of_piece}
-use Rattle.edn_lex.proofs.Fronts.{front-run}
-use Rattle.edn_lex.proofs.LookAhead.{lone_found}
+use Rattle.edn_lex.proofs.LookAhead.{lone_behind}
 use Rattle.edn_lex.proofs.ahead.lone_token.Goals as goal
 
--- a test that is not passed is not false
-passed : (b : Bool) → not b ≡ false → b ≡ true
-passed true e = refl
-passed false e = cc
-
 pub returns-clause-gives : goal.returns-clause-gives
-returns-clause-gives c =
-    let text = c.args.text.now in
-    let start = c.behind_blanks-start in
-    let piece = c.run_piece-piece in
-    let xs = take (length text - start.result) (drop start.result text) in
-    let begins = c.begins_run.ensures in
-    let is = c.if-not-begins_run.false in
-    lone_found c.token.result text c.args.offset start.result xs (run_of xs) (kind_of_piece piece.result.kind) piece.result.len start.ensures.low start.ensures.fits start.ensures.blanks (take_rest text start.result)
-    piece.ensures.some (let few = prefix_len-le-length is_run_byte xs in let len = piece.ensures.len in omega arith) (front-run xs (begins.run is) (begins.no_backslash is) (begins.no_hash is) ∙ ap (λ (n : ℕ). (run_kind (run_of xs), Some n)) (sym piece.ensures.len))
-    (piece.ensures.ascii (passed piece.result.ascii c.if-not-piece.false)) (ap (λ (x : ItemKind × Option ℕ). x.0) piece.ensures.front) c.token.ensures
+returns-clause-gives c = lone_behind c.lone_at.result c.args.text.now c.args.offset c.behind_blanks.result c.behind_blanks.ensures c.lone_at.ensures.lone

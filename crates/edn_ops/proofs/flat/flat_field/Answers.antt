@@ -1,20 +1,36 @@
-use Rattle.std.proofs.Common.{sym, ◌∙◌}
+use Rattle.std.proofs.Common.{subst}
 use Rattle.hist_types.specs.Forms.{plain}
 use Rattle.edn_lex.specs.Kinds.{item_of}
-use Rattle.edn_ops.proofs.FlatMaps.{lone_ahead, value_ahead}
-use Rattle.edn_ops.proofs.Triples.{lone_in}
+use Rattle.edn_ops.specs.Flat.{IsName}
+use Rattle.edn_ops.specs.declared.flat.Name.{Name}
+use Rattle.edn_ops.specs.declared.flat.Name.TheVariants as names
+use Rattle.edn_ops.proofs.FlatMaps.{value_read, value_ahead}
 use Rattle.edn_ops.proofs.flat.flat_field.Goals as goal
 
-pub add-requires-clause-value : goal.add-requires-clause-value
-add-requires-clause-value c = lone_in c.args.text.now c.args.key.end c.in-Some.value c.in-Some.ensures.gives
-
-pub returns-then-add : goal.returns-then-add
-returns-then-add c =
+pub returns-in-Kind : goal.returns-in-Kind
+returns-in-Kind c =
     let text = c.args.text.now in
-    let value = c.in-Some.value in
-    (plain (item_of text value), lone_ahead text c.args.key.end value c.in-Some.ensures.fits c.in-Some.ensures.gives, c.add.ensures c.if-add.true c.args.mops.now.items)
+    let key = c.args.key.token in
+    let Named : Name → Type 0 = λ name. IsName name (plain (item_of text key)) in
+    value_read text key names.Kind c.args.fields.now c.args.mops.now.items c.read_kind.result c.read_kind.new.self (subst Named c.in-Kind.is c.requires.name) c.read_kind.ensures
 
-pub returns : goal.returns
-returns c =
-    value_ahead c.args.text.now c.args.key c.args.fields.now c.args.mops.now.items c.flat_transaction.new.mops.items c.flat_transaction.result (sym c.is_named.ensures ∙ c.if-not-is_named.false) c.if-fields.false
-    c.flat_transaction.ensures
+pub returns-in-Process : goal.returns-in-Process
+returns-in-Process c =
+    let text = c.args.text.now in
+    let key = c.args.key.token in
+    let Named : Name → Type 0 = λ name. IsName name (plain (item_of text key)) in
+    value_read text key names.Process c.args.fields.now c.args.mops.now.items c.read_process.result c.read_process.new.self (subst Named c.in-Process.is c.requires.name) c.read_process.ensures
+
+pub returns-in-Other : goal.returns-in-Other
+returns-in-Other c =
+    let text = c.args.text.now in
+    let key = c.args.key.token in
+    let Named : Name → Type 0 = λ name. IsName name (plain (item_of text key)) in
+    value_read text key names.Other c.args.fields.now c.args.mops.now.items c.other_value.result c.args.fields.now (subst Named c.in-Other.is c.requires.name) (c.other_value.ensures c.args.fields.now)
+
+pub returns-else-fields : goal.returns-else-fields
+returns-else-fields c =
+    let text = c.args.text.now in
+    let key = c.args.key.token in
+    let Named : Name → Type 0 = λ name. IsName name (plain (item_of text key)) in
+    value_ahead text key c.args.fields.now c.args.mops.now.items c.flat_transaction.new.mops.items c.flat_transaction.result (subst Named c.in-Value.is c.requires.name) c.if-fields.false c.flat_transaction.ensures

@@ -10,12 +10,12 @@ pub loop-key-init : goal.loop-key-init
 loop-key-init c = ([], no_fields c.args.text.now c.args.offset c.args.fields.now c.args.mops.now.items c.requires.offset c.requires.none)
 
 pub flat_field-requires-clause-key : goal.flat_field-requires-clause-key
-flat_field-requires-clause-key c = lone_in c.args.text.now c.loop-key.at c.in-Some.key c.in-Some.ensures.gives
+flat_field-requires-clause-key c = lone_in c.args.text.now c.loop-key.at c.in-Some.key.token c.in-Some.ensures.gives
 
 pub loop-key-smaller : goal.loop-key-smaller
 loop-key-smaller c =
     let text = c.args.text.now in
-    let key = c.in-Some.key in
+    let key = c.in-Some.key.token in
     let P : Option ℕ → Type 0 = λ o. ReadsFlatField text key c.loop-key.fields c.loop-key.mops.items (Ok o) c.flat_field.new.fields c.flat_field.new.mops.items in
     let r = subst P c.in-Some-2.is c.in_ok-end.ensures in
     let further = field_further text c.loop-key.at key c.in-Some-2.end r.0 c.in-Some.ensures.gives r.1 in
@@ -26,7 +26,7 @@ loop-key-smaller c =
 pub loop-key-preserved : goal.loop-key-preserved
 loop-key-preserved c =
     let text = c.args.text.now in
-    let key = c.in-Some.key in
+    let key = c.in-Some.key.token in
     let front = c.loop-key.invariant in
     let P : Option ℕ → Type 0 = λ o. ReadsFlatField text key c.loop-key.fields c.loop-key.mops.items (Ok o) c.flat_field.new.fields c.flat_field.new.mops.items in
     let r = subst P c.in-Some-2.is c.in_ok-end.ensures in (

@@ -7,7 +7,7 @@ use Rattle.edn_ops.proofs.reader.Place.flat_op.Goals as goal
 pub returns-in-Ok-Some : goal.returns-in-Ok-Some
 returns-in-Ok-Some c =
     let text = c.text-text.result.now in
-    let opener = c.in-Some-map_opener.opener in
+    let opener = c.in-Some-operation_opener.opener in
     let P : Option OpShape → Type 0 = λ o. GivesFlatShape text opener (Ok o) in
-    flat_op_is c.args.self.now c.jump.new.self text c.in-Some.offset opener c.in-Ok-Some.shape c.text-text.ensures c.in-Some.ensures c.in-Some-map_opener.ensures.gives
+    flat_op_is c.args.self.now c.jump.new.self text c.in-Some.offset opener c.in-Ok-Some.shape c.text-text.ensures c.in-Some.ensures c.in-Some-operation_opener.ensures.opens
     (subst P c.in-Ok-Some.field-0-is c.in-Ok-Some.ensures) c.requires c.jump.ensures
