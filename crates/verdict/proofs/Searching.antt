@@ -1,5 +1,5 @@
 -- What searches in the graph of a history over its thinned order say of the history's phenomena.
-use Rattle.std.proofs.Common.{◌≡◌, inl, inr, ◌<◌, ◌≤◌, ◌↔◌, List, ◌++◌, Option, Some, None, sym, subst, arith, Contains}
+use Rattle.std.proofs.Common.{◌≡◌, inl, inr, ◌<◌, ◌≤◌, ◌↔◌, List, ◌++◌, Some, None, sym, subst, arith, Contains}
 use Rattle.std.proofs.lemmas.List.Elements.{All-weaker}
 use Rattle.hist_types.specs.Edges.{Edge, dependency_edges, order_edges, edges_at}
 use Rattle.hist_types.specs.Frontier.{thinned_edges}
@@ -60,12 +60,14 @@ absent g phenomenon level thinned none has =
     let over : HasOver phenomenon (dependency_edges g.txns ++ thinned_edges level g.txns) =
     subst (λ ts. HasOver phenomenon (dependency_edges ts ++ thinned_edges level ts)) (sym same)
     ((has_thinned phenomenon level events).0 (subst (Has phenomenon level) same has)) in
-    none
-    (over.0, record {
-      closed = over.1.closed;
-      within = All-weaker (Contains (dependency_edges g.txns ++ thinned_edges level g.txns)) (Contains (edges_in g level)) (λ e c. (thinned.edges level e).1 c) over.0 over.1.within;
-      kinds = over.1.kinds;
-    })
+    none (
+      over.0,
+      record {
+        closed = over.1.closed;
+        within = All-weaker (Contains (dependency_edges g.txns ++ thinned_edges level g.txns)) (Contains (edges_in g level)) (λ e c. (thinned.edges level e).1 c) over.0 over.1.within;
+        kinds = over.1.kinds;
+      },
+    )
 
 -- ---- the lowest level
 

@@ -1,5 +1,5 @@
 -- The text of a verdict is a text of its events' verdict.
-use Rattle.std.proofs.Common.{◌≡◌, List, refl}
+use Rattle.std.proofs.Common.{List, refl}
 use Rattle.hist_types.specs.Operations.{Operation}
 use Rattle.hist_types.specs.Texts.{IsVerdictText}
 use Rattle.hist_types.specs.declared.types.Phenomenon.TheVariants.{G0, G1c, GSingle, G2Item}

@@ -1,6 +1,6 @@
 -- What a verdict says of a history, and its text: how many events and transactions there are, for each phenomenon that cycles
 -- show its lowest level with a witness, the first reads that show G1a and G1b, and how many reads are stray.
-use Rattle.std.specs.Prelude.{◌≡◌, ℕ, List, ◌++◌, length, codes, Option, Some, None}
+use Rattle.std.specs.Prelude.{◌≡◌, ℕ, List, ◌++◌, length, codes, Option, None}
 use Rattle.hist_types.specs.Operations.{Operation}
 use Rattle.hist_types.specs.Transactions.{Transaction, transactions_of}
 use Rattle.hist_types.specs.Phenomena as phenomena

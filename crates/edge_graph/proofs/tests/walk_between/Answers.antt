@@ -5,12 +5,13 @@ use Rattle.edge_graph.specs.Kinds.{kinds_of}
 use Rattle.edge_graph.specs.Vertices.{graph_by}
 use Rattle.edge_graph.specs.Walks.{IsTxnWalk}
 use Rattle.edge_graph.specs.declared.types.Dependencies.TheVariants.{All}
+use Rattle.hist_types.specs.declared.types.Level.TheVariants.{Realtime}
 use Rattle.edge_graph.proofs.tests.walk_between.Goals as goal
 
 pub edges_along-requires : goal.edges_along-requires
 edges_along-requires c =
     let g = c.args.graph.now in
-    let kinds = kinds_of All c.args.level in
+    let kinds = kinds_of All Realtime in
     let arcs = c.arcs-arcs.ensures.arcs in
     let all : VertexSet = record { count = c.vertices-count.result; has = λ v. true } in
     let leads = HasArcInto (graph_by c.arcs-arcs.result) all in

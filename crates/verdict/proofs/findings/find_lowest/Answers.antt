@@ -1,5 +1,4 @@
-use Rattle.std.proofs.Common.{Option, subst}
-use Rattle.hist_types.specs.Edges.{Edge}
+use Rattle.std.proofs.Common.{subst}
 use Rattle.hist_types.specs.declared.types.Level.TheVariants.{Plain, Process, Realtime}
 use Rattle.edge_graph.specs.Parts.{edges_in}
 use Rattle.cycle_find.specs.Found.{IsFound}

@@ -1,4 +1,4 @@
-use Rattle.std.proofs.Common.{◌∙◌, sym, subst}
+use Rattle.std.proofs.Common.{sym, subst}
 use Rattle.edge_graph.specs.Parts.{IsOrderOf, IsMadeOf}
 use Rattle.edge_graph.proofs.EdgesIn.{of_thinned}
 use Rattle.edge_graph.proofs.Orderings.{thinned_order}
