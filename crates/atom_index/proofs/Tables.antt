@@ -1,18 +1,19 @@
--- The table of small integers, and one atom more.
-use Rattle.std.proofs.Common.{◌≡◌, inl, inr, ℕ, ◌+◌, ◌<◌, pos, negsuc, List, [], ◌∷◌, ◌++◌, length, get_or, take, true, false, Option, Some, None, refl, sym, ◌∙◌, ap, subst, arith}
-use Rattle.std.specs.Prelude.{nat_lt}
-use Rattle.std.specs.Prelude.{◌≢◌}
+-- The tables in front of the maps, and one item more.
+use Rattle.std.proofs.Common.{◌≡◌, inl, inr, ℕ, ◌+◌, ◌*◌, ◌/◌, ◌%◌, ◌<◌, pos, negsuc, List, [], ◌∷◌, ◌++◌, length, get_or, take, Bool, true, false, Option, Some, None, refl, sym, ◌∙◌, ap, subst, arith}
+use Rattle.std.specs.Prelude.{nat_lt, ◌≢◌, ◌&&◌, ◌==◌, nat_eq}
 use Rattle.std.proofs.lemmas.List.{take_more, get_or-set_same, get_or-set_other, length-set}
 use Rattle.std.proofs.Math.ListN.{set}
-use Rattle.std.specs.Option.{is_some}
+use Rattle.std.specs.Option.{is_some, option_eq}
 use Rattle.std.proofs.lemmas.Option.{get_or_from_slice_get, slice_get_read}
 use Rattle.std.proofs.lemmas.List.{length-take-le}
-use Rattle.std.proofs.lemmas.Bool.{cases_Bool, true≢false, lt-ltb, ltb-true, false_from_ne_true}
+use Rattle.std.proofs.lemmas.Nat.{div-mul-add, mod-mul-add}
+use Rattle.std.proofs.lemmas.Bool.{cases_Bool, true≢false, lt-ltb, ltb-true, eqb-true, and_parts, false_from_ne_true}
 use Rattle.hist_types.specs.Atoms.{Atom, integer, keyword, string, symbol, atom_eq}
 use Rattle.hist_types.proofs.Equality.{atom_eq-same, atom_eq-itself}
-use Rattle.atom_index.specs.Numbers.{number_in}
-use Rattle.atom_index.specs.Slots.{slot_of, HoldsNumbers}
-use Rattle.atom_index.proofs.Pushed.{number_first, number_last, number_kept}
+use Rattle.atom_index.specs.declared.pair_slots.TheConstants.{VALUES_OF_KEY}
+use Rattle.atom_index.specs.Numbers.{number_in, pair_eq}
+use Rattle.atom_index.specs.Slots.{slot_of, integer_at, slot_of_pair, pair_at, HoldsNumbersOf}
+use Rattle.atom_index.proofs.Pushed.{number_first, number_last, number_kept, pair_eq-itself}
 
 no_slot : (s : ℕ) → None ≡ Some s → ⊥
 no_slot s e = cc
@@ -20,138 +21,196 @@ no_slot s e = cc
 same_slot : (s t : ℕ) → Some s ≡ Some t → s ≡ t
 same_slot s t e = cc
 
--- what has a slot is the integer of that slot
-pub record IsSmall (atom : Atom) (slots slot : ℕ) : Type 0 where
-  pub number : atom ≡ integer (pos slot)
+-- what has a slot is the item of that slot
+pub record IsSmall {A : Type 0} (item_at : ℕ → A) (item : A) (slots slot : ℕ) : Type 0 where
+  pub is : item ≡ item_at slot
   pub within : slot < slots
 
-pub slot_told : (atom : Atom) (slots slot : ℕ) → slot_of atom slots ≡ Some slot → IsSmall atom slots slot
-slot_told (integer (pos n)) slots slot e = elim (cases_Bool (nat_lt n slots)) [
+-- An equality that means equality, and places for some of the items.
+pub record AreSlots {A : Type 0} (eq : A → A → Bool) (slot_of : A → ℕ → Option ℕ) (item_at : ℕ → A) : Type 0 where
+  pub same : (a b : A) → eq a b ≡ true → a ≡ b
+  pub itself : (a : A) → eq a a ≡ true
+  pub told : (a : A) (slots slot : ℕ) → slot_of a slots ≡ Some slot → IsSmall item_at a slots slot
+  pub has : (n slots : ℕ) → n < slots → slot_of (item_at n) slots ≡ Some n
+
+-- ---- small integers
+
+int_told : (atom : Atom) (slots slot : ℕ) → slot_of atom slots ≡ Some slot → IsSmall integer_at atom slots slot
+int_told (integer (pos n)) slots slot e = elim (cases_Bool (nat_lt n slots)) [
   | inl is ↦ (
       let same : n ≡ slot = same_slot n slot (rw is at e) in
-      record { number = ap (λ (m : ℕ). integer (pos m)) same; within = subst (λ (m : ℕ). m < slots) same (ltb-true n slots is) })
+      record { is = ap integer_at same; within = subst (λ (m : ℕ). m < slots) same (ltb-true n slots is) })
   | inr is_not ↦ absurd (no_slot slot (rw is_not at e))
 ]
-slot_told (integer (negsuc n)) slots slot e = absurd (no_slot slot e)
-slot_told (keyword s) slots slot e = absurd (no_slot slot e)
-slot_told (string s) slots slot e = absurd (no_slot slot e)
-slot_told (symbol s) slots slot e = absurd (no_slot slot e)
+int_told (integer (negsuc n)) slots slot e = absurd (no_slot slot e)
+int_told (keyword s) slots slot e = absurd (no_slot slot e)
+int_told (string s) slots slot e = absurd (no_slot slot e)
+int_told (symbol s) slots slot e = absurd (no_slot slot e)
 
-pub has_slot : (n slots : ℕ) → n < slots → slot_of (integer (pos n)) slots ≡ Some n
-has_slot n slots h = let is : nat_lt n slots ≡ true = lt-ltb n slots h in rw is refl
+int_has : (n slots : ℕ) → n < slots → slot_of (integer_at n) slots ≡ Some n
+int_has n slots h = let is : nat_lt n slots ≡ true = lt-ltb n slots h in rw is refl
 
--- an atom with no slot is none of the small integers
-pub other_atom : (atom : Atom) (slots n : ℕ) → n < slots → slot_of atom slots ≡ None → atom_eq (integer (pos n)) atom ≡ false
-other_atom atom slots n h e =
-    false_from_ne_true _ (λ same.
-    no_slot n (sym e ∙ (ap (λ (a : Atom). slot_of a slots) (sym (atom_eq-same (integer (pos n)) atom same)) ∙ has_slot n slots h)))
+pub atom_slots : AreSlots atom_eq slot_of integer_at
+atom_slots = record { same = atom_eq-same; itself = atom_eq-itself; told = int_told; has = int_has }
 
-integer_is : (m n : ℕ) → integer (pos m) ≡ integer (pos n) → m ≡ n
-integer_is m n e = cc
+-- ---- pairs
 
--- nor is the integer of another slot
-pub other_slot : (atom : Atom) (slots slot n : ℕ) → slot_of atom slots ≡ Some slot → (n ≡ slot → ⊥) → atom_eq (integer (pos n)) atom ≡ false
-other_slot atom slots slot n e differ =
-    false_from_ne_true _ (λ same. differ (integer_is n slot (atom_eq-same (integer (pos n)) atom same ∙ (slot_told atom slots slot e).number)))
+abbrev pair : ℕ → Option ℕ → ℕ × Option ℕ
+pair key value = (key, value)
 
--- ---- one atom more
+same_pair : (p q : ℕ × Option ℕ) → pair_eq p q ≡ true → p ≡ q
+same_pair (k, v) (l, w) e =
+    let parts = and_parts (k == l) (option_eq nat_eq v w) e in
+    pair_of k l v w (eqb-true k l parts.0) (same_value v w parts.1)
+  where
+    same_value : (v w : Option ℕ) → option_eq nat_eq v w ≡ true → v ≡ w
+    same_value None None h = refl
+    same_value None (Some n) h = absurd (true≢false (sym h))
+    same_value (Some m) None h = absurd (true≢false (sym h))
+    same_value (Some m) (Some n) h = ap Some (eqb-true m n h)
 
-pub table_without :
-    (table : List (Option ℕ)) (items : List Atom) (atom : Atom)
-    → slot_of atom (length table) ≡ None → HoldsNumbers table items → HoldsNumbers table (items ++ atom ∷ [])
-table_without table items atom e holds n h =
-    holds n h ∙ sym (number_kept atom_eq (integer (pos n)) items atom (other_atom atom (length table) n h e))
+    pair_of : (k l : ℕ) (v w : Option ℕ) → k ≡ l → v ≡ w → pair k v ≡ pair l w
+    pair_of k l v w e f = ap (λ (x : ℕ). pair x v) e ∙ ap (pair l) f
 
-pub table_taken :
-    (table : List (Option ℕ)) (items : List Atom) (atom : Atom) (slot k : ℕ)
-    → slot_of atom (length table) ≡ Some slot → get_or table slot None ≡ Some k → HoldsNumbers table items → HoldsNumbers table (items ++ atom ∷ [])
-table_taken table items atom slot k e taken holds n h = elim (cases_Bool (atom_eq (integer (pos n)) atom)) [
-  | inr differ ↦ holds n h ∙ sym (number_kept atom_eq (integer (pos n)) items atom differ)
-  | inl same ↦ (
-      let small = slot_told atom (length table) slot e in
-      let n_is : n ≡ slot = integer_is n slot (atom_eq-same (integer (pos n)) atom same ∙ small.number) in
-      let at : get_or table n None ≡ Some k = ap (λ (m : ℕ). get_or table m None) n_is ∙ taken in
-      at ∙ sym (number_first atom_eq (integer (pos n)) items atom k (sym (holds n h) ∙ at)))
+pair_told : (p : ℕ × Option ℕ) (slots slot : ℕ) → slot_of_pair p slots ≡ Some slot → IsSmall pair_at p slots slot
+pair_told (key, None) slots slot e = absurd (no_slot slot e)
+pair_told (key, Some value) slots slot e = elim (cases_Bool (nat_lt value VALUES_OF_KEY && nat_lt (key * VALUES_OF_KEY + value) slots)) [
+  | inl is ↦ (
+      let tests = and_parts (nat_lt value VALUES_OF_KEY) (nat_lt (key * VALUES_OF_KEY + value) slots) is in
+      let small = ltb-true value VALUES_OF_KEY tests.0 in
+      let at : key * VALUES_OF_KEY + value ≡ slot = same_slot _ slot (rw is at e) in
+      let item : pair_at (key * VALUES_OF_KEY + value) ≡ pair key (Some value) =
+      ap (λ (k : ℕ). pair k (Some ((key * VALUES_OF_KEY + value) % VALUES_OF_KEY))) (div-mul-add key VALUES_OF_KEY value small)
+      ∙ ap (λ (v : ℕ). pair key (Some v)) (mod-mul-add key VALUES_OF_KEY value small) in
+      record {
+        is = sym item ∙ ap pair_at at;
+        within = subst (λ (m : ℕ). m < slots) at (ltb-true (key * VALUES_OF_KEY + value) slots tests.1);
+      })
+  | inr is_not ↦ absurd (no_slot slot (rw is_not at e))
 ]
 
-pub table_set :
-    (table : List (Option ℕ)) (items : List Atom) (atom : Atom) (slot : ℕ)
-    → slot_of atom (length table) ≡ Some slot → get_or table slot None ≡ None → HoldsNumbers table items
-    → HoldsNumbers (set table slot (Some (length items))) (items ++ atom ∷ [])
-table_set table items atom slot e free holds n h =
-    let within : n < length table = omega (arith, length-set table slot (Some (length items)), h) in
-    let small = slot_told atom (length table) slot e in
-    elim (cases_Bool (atom_eq (integer (pos n)) atom)) [
-      | inr differ ↦ (
-          let other : n ≢ slot = λ same.
-          true≢false (sym (ap (λ (a : Atom). atom_eq (integer (pos n)) a) (small.number ∙ ap (λ (m : ℕ). integer (pos m)) (sym same)) ∙ atom_eq-itself (integer (pos n))) ∙ differ) in
-          get_or-set_other table slot n (Some (length items)) None other
-          ∙ holds n within
-          ∙ sym (number_kept atom_eq (integer (pos n)) items atom differ))
-      | inl same ↦ (
-          let n_is : n ≡ slot = integer_is n slot (atom_eq-same (integer (pos n)) atom same ∙ small.number) in
-          let none : number_in atom_eq (integer (pos n)) items ≡ None = sym (holds n within) ∙ ap (λ (m : ℕ). get_or table m None) n_is ∙ free in
-          ap (λ (m : ℕ). get_or (set table slot (Some (length items))) m None) n_is
-          ∙ get_or-set_same table slot (Some (length items)) None small.within
-          ∙ sym (number_last atom_eq (integer (pos n)) items atom none same))
-    ]
+pair_has : (n slots : ℕ) → n < slots → slot_of_pair (pair_at n) slots ≡ Some n
+pair_has n slots h =
+    let whole : n / VALUES_OF_KEY * VALUES_OF_KEY + n % VALUES_OF_KEY ≡ n = omega arith in
+    let small : nat_lt (n % VALUES_OF_KEY) VALUES_OF_KEY ≡ true = lt-ltb (n % VALUES_OF_KEY) VALUES_OF_KEY (omega arith) in
+    let within : nat_lt n slots ≡ true = lt-ltb n slots h in
+    rw (small, whole, within) refl
 
--- the atoms up to a place, and the one there
-pub next_atom :
-    (table : List (Option ℕ)) (atoms : List Atom) (i : ℕ) (atom : Atom)
-    → i < length atoms → atom ≡ get_or atoms i atom → HoldsNumbers table (take i atoms ++ atom ∷ []) → HoldsNumbers table (take (i + 1) atoms)
-next_atom table atoms i atom h is holds =
-    subst (λ (xs : List Atom). HoldsNumbers table xs)
-    (ap (λ (a : Atom). take i atoms ++ a ∷ []) is ∙ sym (take_more atoms i atom h)) holds
+pub pair_slots : AreSlots pair_eq slot_of_pair pair_at
+pair_slots = record { same = same_pair; itself = pair_eq-itself; told = pair_told; has = pair_has }
 
--- ---- the loop over the atoms: so many have been seen
+module _ {A : Type 0} {eq : A → A → Bool} {place_of : A → ℕ → Option ℕ} {item_at : ℕ → A} (slots : AreSlots eq place_of item_at) where
+  -- an item with no slot is none of those that have one
+  other_item : (item : A) (size n : ℕ) → n < size → place_of item size ≡ None → eq (item_at n) item ≡ false
+  other_item item size n h e =
+      false_from_ne_true _ (λ same.
+      no_slot n (sym e ∙ (ap (λ (a : A). place_of a size) (sym (slots.same (item_at n) item same)) ∙ slots.has n size h)))
 
-abbrev pub HasSeen : ℕ → ℕ → ℕ → List (Option ℕ) → List Atom → Type 0
-HasSeen number i slots table atoms = (number ≡ i) × (length table ≡ slots) × HoldsNumbers table (take i atoms)
+  -- each slot has an item of its own
+  slot_is : (m n : ℕ) → item_at m ≡ item_at n → m ≡ n
+  slot_is m n e =
+      same_slot m n (sym (slots.has m (m + n + 1) (omega arith)) ∙ (ap (λ (a : A). place_of a (m + n + 1)) e ∙ slots.has n (m + n + 1) (omega arith)))
 
-same_slots : (atom : Atom) (m n : ℕ) (o : Option ℕ) → m ≡ n → o ≡ slot_of atom n → slot_of atom m ≡ o
-same_slots atom m n o e told = ap (slot_of atom) e ∙ sym told
+  -- ---- one item more
 
-pub seen_without :
-    (number i slots : ℕ) (table : List (Option ℕ)) (atoms : List Atom) (atom : Atom)
-    → HasSeen number i slots table atoms → i < length atoms → atom ≡ get_or atoms i atom → None ≡ slot_of atom slots
-    → HasSeen (number + 1) (i + 1) slots table atoms
-seen_without number i slots table atoms atom seen h is told = (
-  ap (λ (n : ℕ). n + 1) seen.0,
-  seen.1,
-  next_atom table atoms i atom h is (table_without table (take i atoms) atom (same_slots atom (length table) slots None seen.1 told) seen.2),
-)
+  pub table_without :
+      (table : List (Option ℕ)) (items : List A) (item : A)
+      → place_of item (length table) ≡ None → HoldsNumbersOf eq item_at table items → HoldsNumbersOf eq item_at table (items ++ item ∷ [])
+  table_without table items item e holds n h =
+      holds n h ∙ sym (number_kept eq (item_at n) items item (other_item item (length table) n h e))
 
-any_default : (table : List (Option ℕ)) (slot : ℕ) (entry : Option ℕ) → slot < length table → entry ≡ get_or table slot entry → get_or table slot None ≡ entry
-any_default table slot entry within is = get_or_from_slice_get table slot entry None (slice_get_read table (length table) slot entry refl within is)
+  pub table_taken :
+      (table : List (Option ℕ)) (items : List A) (item : A) (slot k : ℕ)
+      → place_of item (length table) ≡ Some slot → get_or table slot None ≡ Some k
+      → HoldsNumbersOf eq item_at table items → HoldsNumbersOf eq item_at table (items ++ item ∷ [])
+  table_taken table items item slot k e taken holds n h = elim (cases_Bool (eq (item_at n) item)) [
+    | inr differ ↦ holds n h ∙ sym (number_kept eq (item_at n) items item differ)
+    | inl same ↦ (
+        let small = slots.told item (length table) slot e in
+        let n_is : n ≡ slot = slot_is n slot (slots.same (item_at n) item same ∙ small.is) in
+        let at : get_or table n None ≡ Some k = ap (λ (m : ℕ). get_or table m None) n_is ∙ taken in
+        at ∙ sym (number_first eq (item_at n) items item k (sym (holds n h) ∙ at)))
+  ]
 
-pub seen_taken :
-    (number i slots : ℕ) (table : List (Option ℕ)) (atoms : List Atom) (atom : Atom) (slot : ℕ) (entry : Option ℕ)
-    → HasSeen number i slots table atoms → i < length atoms → atom ≡ get_or atoms i atom → Some slot ≡ slot_of atom slots
-    → entry ≡ get_or table slot entry → is_some entry ≡ true
-    → HasSeen (number + 1) (i + 1) slots table atoms
-seen_taken number i slots table atoms atom slot None seen h is told at some = absurd (true≢false (sym some))
-seen_taken number i slots table atoms atom slot (Some k) seen h is told at some =
-    let here = same_slots atom (length table) slots (Some slot) seen.1 told in
-    let taken = any_default table slot (Some k) (slot_told atom (length table) slot here).within at in (
-      ap (λ (n : ℕ). n + 1) seen.0,
-      seen.1,
-      next_atom table atoms i atom h is (table_taken table (take i atoms) atom slot k here taken seen.2),
-    )
+  pub table_set :
+      (table : List (Option ℕ)) (items : List A) (item : A) (slot : ℕ)
+      → place_of item (length table) ≡ Some slot → get_or table slot None ≡ None → HoldsNumbersOf eq item_at table items
+      → HoldsNumbersOf eq item_at (set table slot (Some (length items))) (items ++ item ∷ [])
+  table_set table items item slot e free holds n h =
+      let within : n < length table = omega (arith, length-set table slot (Some (length items)), h) in
+      let small = slots.told item (length table) slot e in
+      elim (cases_Bool (eq (item_at n) item)) [
+        | inr differ ↦ (
+            let other : n ≢ slot = λ same.
+            true≢false (sym (ap (eq (item_at n)) (small.is ∙ ap item_at (sym same)) ∙ slots.itself (item_at n)) ∙ differ) in
+            get_or-set_other table slot n (Some (length items)) None other
+            ∙ holds n within
+            ∙ sym (number_kept eq (item_at n) items item differ))
+        | inl same ↦ (
+            let n_is : n ≡ slot = slot_is n slot (slots.same (item_at n) item same ∙ small.is) in
+            let none : number_in eq (item_at n) items ≡ None = sym (holds n within) ∙ ap (λ (m : ℕ). get_or table m None) n_is ∙ free in
+            ap (λ (m : ℕ). get_or (set table slot (Some (length items))) m None) n_is
+            ∙ get_or-set_same table slot (Some (length items)) None small.within
+            ∙ sym (number_last eq (item_at n) items item none same))
+      ]
 
-pub seen_set :
-    (number i slots : ℕ) (table : List (Option ℕ)) (atoms : List Atom) (atom : Atom) (slot : ℕ) (entry : Option ℕ)
-    → HasSeen number i slots table atoms → i < length atoms → atom ≡ get_or atoms i atom → Some slot ≡ slot_of atom slots
-    → entry ≡ get_or table slot entry → is_some entry ≡ false
-    → HasSeen (number + 1) (i + 1) slots (set table slot (Some number)) atoms
-seen_set number i slots table atoms atom slot (Some k) seen h is told at none = absurd (true≢false none)
-seen_set number i slots table atoms atom slot None seen h is told at none =
-    let here = same_slots atom (length table) slots (Some slot) seen.1 told in
-    let free = any_default table slot None (slot_told atom (length table) slot here).within at in
-    let place : length (take i atoms) ≡ number = length-take-le i atoms (omega arith) ∙ sym seen.0 in
-    let holds = table_set table (take i atoms) atom slot here free seen.2 in (
-      ap (λ (n : ℕ). n + 1) seen.0,
-      length-set table slot (Some number) ∙ seen.1,
-      next_atom (set table slot (Some number)) atoms i atom h is
-          (subst (λ (n : ℕ). HoldsNumbers (set table slot (Some n)) (take i atoms ++ atom ∷ [])) place holds),
-    )
+  -- the items up to a place, and the one there
+  next_item :
+      (table : List (Option ℕ)) (items : List A) (i : ℕ) (item : A)
+      → i < length items → item ≡ get_or items i item
+      → HoldsNumbersOf eq item_at table (take i items ++ item ∷ []) → HoldsNumbersOf eq item_at table (take (i + 1) items)
+  next_item table items i item h is holds =
+      subst (λ (xs : List A). HoldsNumbersOf eq item_at table xs)
+      (ap (λ (a : A). take i items ++ a ∷ []) is ∙ sym (take_more items i item h)) holds
+
+  -- ---- the loop over the items: so many have been seen
+
+  abbrev pub HasSeen : ℕ → ℕ → ℕ → List (Option ℕ) → List A → Type 0
+  HasSeen number i size table items = (number ≡ i) × (length table ≡ size) × HoldsNumbersOf eq item_at table (take i items)
+
+  same_places : (item : A) (m n : ℕ) (o : Option ℕ) → m ≡ n → o ≡ place_of item n → place_of item m ≡ o
+  same_places item m n o e told = ap (place_of item) e ∙ sym told
+
+  pub seen_without :
+      (number i size : ℕ) (table : List (Option ℕ)) (items : List A) (item : A)
+      → HasSeen number i size table items → i < length items → item ≡ get_or items i item → None ≡ place_of item size
+      → HasSeen (number + 1) (i + 1) size table items
+  seen_without number i size table items item seen h is told = (
+    ap (λ (n : ℕ). n + 1) seen.0,
+    seen.1,
+    next_item table items i item h is (table_without table (take i items) item (same_places item (length table) size None seen.1 told) seen.2),
+  )
+
+  any_default : (table : List (Option ℕ)) (slot : ℕ) (entry : Option ℕ) → slot < length table → entry ≡ get_or table slot entry → get_or table slot None ≡ entry
+  any_default table slot entry within is = get_or_from_slice_get table slot entry None (slice_get_read table (length table) slot entry refl within is)
+
+  pub seen_taken :
+      (number i size : ℕ) (table : List (Option ℕ)) (items : List A) (item : A) (slot : ℕ) (entry : Option ℕ)
+      → HasSeen number i size table items → i < length items → item ≡ get_or items i item → Some slot ≡ place_of item size
+      → entry ≡ get_or table slot entry → is_some entry ≡ true
+      → HasSeen (number + 1) (i + 1) size table items
+  seen_taken number i size table items item slot None seen h is told at some = absurd (true≢false (sym some))
+  seen_taken number i size table items item slot (Some k) seen h is told at some =
+      let here = same_places item (length table) size (Some slot) seen.1 told in
+      let taken = any_default table slot (Some k) (slots.told item (length table) slot here).within at in (
+        ap (λ (n : ℕ). n + 1) seen.0,
+        seen.1,
+        next_item table items i item h is (table_taken table (take i items) item slot k here taken seen.2),
+      )
+
+  pub seen_set :
+      (number i size : ℕ) (table : List (Option ℕ)) (items : List A) (item : A) (slot : ℕ) (entry : Option ℕ)
+      → HasSeen number i size table items → i < length items → item ≡ get_or items i item → Some slot ≡ place_of item size
+      → entry ≡ get_or table slot entry → is_some entry ≡ false
+      → HasSeen (number + 1) (i + 1) size (set table slot (Some number)) items
+  seen_set number i size table items item slot (Some k) seen h is told at none = absurd (true≢false none)
+  seen_set number i size table items item slot None seen h is told at none =
+      let here = same_places item (length table) size (Some slot) seen.1 told in
+      let free = any_default table slot None (slots.told item (length table) slot here).within at in
+      let place : length (take i items) ≡ number = length-take-le i items (omega arith) ∙ sym seen.0 in
+      let holds = table_set table (take i items) item slot here free seen.2 in (
+        ap (λ (n : ℕ). n + 1) seen.0,
+        length-set table slot (Some number) ∙ seen.1,
+        next_item (set table slot (Some number)) items i item h is
+            (subst (λ (n : ℕ). HoldsNumbersOf eq item_at (set table slot (Some n)) (take i items ++ item ∷ [])) place holds),
+      )

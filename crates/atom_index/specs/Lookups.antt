@@ -1,12 +1,18 @@
--- What an index of atoms keeps: the atoms by number, a table for small integers, and a map for the others.
-use Rattle.std.specs.Prelude.{◌≡◌, ℕ, List, length, Option, None}
+-- What an index keeps: the items by number, a table for the small ones, and a map for the others.
+use Rattle.std.specs.Prelude.{◌≡◌, ℕ, List, length, Bool, Option, None}
 use Rattle.indexmap.specs.IndexMap.{IndexMap, get}
 use Rattle.hist_types.specs.Atoms.{Atom, atom_eq}
-use Rattle.atom_index.specs.Numbers.{number_in, AreNumbered}
-use Rattle.atom_index.specs.Slots.{slot_of, HoldsNumbers}
+use Rattle.atom_index.specs.Numbers.{number_in, AreNumbered, pair_eq}
+use Rattle.atom_index.specs.Slots.{HoldsNumbersOf, slot_of, integer_at, slot_of_pair, pair_at}
 
--- The table and the map tell the number of each atom, and no atom has two.
-pub record IsIndexed {S : Type 0} (atoms : List Atom) (table : List (Option ℕ)) (others : IndexMap Atom ℕ S) : Type 0 where
-  pub numbered : AreNumbered atom_eq atoms
-  pub small : HoldsNumbers table atoms
-  pub large : (a : Atom) → slot_of a (length table) ≡ None → get atom_eq others a ≡ number_in atom_eq a atoms
+-- The table and the map tell the number of each item, and no item has two.
+pub record IsIndexedBy {A S : Type 0} (eq : A → A → Bool) (slot_of : A → ℕ → Option ℕ) (item_at : ℕ → A) (items : List A) (table : List (Option ℕ)) (others : IndexMap A ℕ S) : Type 0 where
+  pub numbered : AreNumbered eq items
+  pub small : HoldsNumbersOf eq item_at table items
+  pub large : (a : A) → slot_of a (length table) ≡ None → get eq others a ≡ number_in eq a items
+
+abbrev pub IsIndexed : {S : Type 0} → List Atom → List (Option ℕ) → IndexMap Atom ℕ S → Type 0
+IsIndexed = IsIndexedBy atom_eq slot_of integer_at
+
+abbrev pub IsPairIndexed : {S : Type 0} → List (ℕ × Option ℕ) → List (Option ℕ) → IndexMap (ℕ × Option ℕ) ℕ S → Type 0
+IsPairIndexed = IsIndexedBy pair_eq slot_of_pair pair_at

@@ -1,13 +1,36 @@
--- The table for small integers.
-use Rattle.std.specs.Prelude.{◌≡◌, ◌<◌, ℕ, pos, List, length, get_or, Option, Some, None, nat_lt, if◌then◌else◌}
+-- The tables in front of the maps.
+use Rattle.std.specs.Prelude.{◌≡◌, ◌<◌, ◌+◌, ◌*◌, ◌/◌, ◌%◌, ◌&&◌, ℕ, pos, List, length, get_or, Bool, Option, Some, None, nat_lt, if◌then◌else◌}
 use Rattle.hist_types.specs.Atoms.{Atom, integer, atom_eq}
-use Rattle.atom_index.specs.Numbers.{number_in}
+use Rattle.atom_index.specs.Numbers.{number_in, pair_eq}
+use Rattle.atom_index.specs.declared.pair_slots.TheConstants.{VALUES_OF_KEY}
+
+-- Each slot of the table has the number of its item among the items, if it is among them.
+abbrev pub HoldsNumbersOf : {A : Type 0} → (A → A → Bool) → (item_at : ℕ → A) → List (Option ℕ) → List A → Type 0
+HoldsNumbersOf eq item_at table items = (n : ℕ) → n < length table → get_or table n None ≡ number_in eq (item_at n) items
+
+-- ---- small integers
 
 -- the place of an atom in a table with so many slots, if it has one
 abbrev pub slot_of : Atom → ℕ → Option ℕ
 slot_of (integer (pos number)) slots = if nat_lt number slots then Some number else None
 slot_of atom slots = None
 
--- Each slot of the table has the number of its integer among the atoms, if it is among them.
+abbrev pub integer_at : ℕ → Atom
+integer_at slot = integer (pos slot)
+
 abbrev pub HoldsNumbers : List (Option ℕ) → List Atom → Type 0
-HoldsNumbers table atoms = (n : ℕ) → n < length table → get_or table n None ≡ number_in atom_eq (integer (pos n)) atoms
+HoldsNumbers = HoldsNumbersOf atom_eq integer_at
+
+-- ---- pairs of a small key and a small value
+
+-- the place of a pair: the values of a key are side by side
+abbrev pub slot_of_pair : ℕ × Option ℕ → ℕ → Option ℕ
+slot_of_pair (key, Some value) slots =
+    if nat_lt value VALUES_OF_KEY && nat_lt (key * VALUES_OF_KEY + value) slots then Some (key * VALUES_OF_KEY + value) else None
+slot_of_pair (key, None) slots = None
+
+abbrev pub pair_at : ℕ → ℕ × Option ℕ
+pair_at slot = (slot / VALUES_OF_KEY, Some (slot % VALUES_OF_KEY))
+
+abbrev pub HoldsPairs : List (Option ℕ) → List (ℕ × Option ℕ) → Type 0
+HoldsPairs = HoldsNumbersOf pair_eq pair_at

@@ -2,6 +2,7 @@
 #![tactic(auto)]
 
 pub mod atoms;
+mod pair_slots;
 pub mod pairs;
 mod slots;
 #[cfg(test)]

@@ -4,7 +4,9 @@ pub mod Pieces
 pub mod Moved
 pub mod Readings
 pub mod Judging
+pub mod Deciding
 pub mod OneAnswer
 pub mod SomeAnswer
+pub mod Verdicts
 pub mod Words
 pub mod Outcomes

@@ -1,19 +1,22 @@
 -- A text has one answer.
-use Rattle.std.proofs.Common.{◌≡◌, ℕ, List, Some, None, inl, inr, refl, sym, ap, subst, ◌∙◌}
+use Rattle.std.proofs.Common.{◌≡◌, ℕ, List, ◌||◌, Option, Some, None, is_some, inl, inr, refl, sym, ap, subst, ◌∙◌}
 use Rattle.std.specs.Prelude.{◌≢◌, ◌⊎◌}
 use Rattle.std.proofs.lemmas.Option.{none-some, same_Some}
 use Rattle.hist_types.specs.Operations.{Operation}
 use Rattle.hist_types.specs.Entries.{operations_of}
 use Rattle.hist_types.specs.Laws.{HasOne}
 use Rattle.hist_types.specs.Reading.{Reads}
-use Rattle.hist_types.specs.Texts.{reads_text, edges_text, has_bad_read, refusal_line}
+use Rattle.hist_types.specs.Texts.{reads_text, edges_text, has_bad_read, IsVerdictText, refusal_line}
+use Rattle.hist_types.specs.Transactions.{Transaction}
+use Rattle.hist_types.specs.Witness.{Finding, IsFinding}
 use Rattle.hist_types.specs.declared.types.Fault.{Fault}
-use Rattle.jepcheck.specs.Answers.{GivesOperations, GivesFault, GivesEvents, journal_fault, IsRefused, Reports, IsReport, IsAnswer}
+use Rattle.hist_types.specs.declared.types.Phenomenon.{Phenomenon}
+use Rattle.jepcheck.specs.Answers.{GivesOperations, GivesFault, GivesEvents, journal_fault, IsRefused, names_cycle, IsVerdict, Reports, IsReport, IsAnswer}
 use Rattle.jepcheck.specs.Statuses.{status_by}
 use Rattle.jepcheck.specs.declared.answer.Status.{Status}
 use Rattle.jepcheck.specs.declared.answer.Status.TheVariants as statuses
 use Rattle.jepcheck.specs.declared.run.Command.{Command}
-use Rattle.jepcheck.specs.declared.run.Command.TheVariants.{Reads as the_reads, Edges as the_edges}
+use Rattle.jepcheck.specs.declared.run.Command.TheVariants.{Reads as the_reads, Edges as the_edges, Check as the_check}
 
 module _ (text : List ℕ) (one_reading : HasOne (Reads text)) where
   same_operations : (ops others : List Operation) → GivesOperations text ops → GivesOperations text others → ops ≡ others
@@ -62,23 +65,49 @@ judged command text statuses.Refused printed given a = inr (record { fault = a.0
 judged command text statuses.DeviceFault printed given a = absurd a
 judged command text statuses.Memory printed given a = absurd (given refl)
 
+-- a phenomenon is found or not
+same_finding : (phenomenon : Phenomenon) (ts : List Transaction) (found other : Option Finding) → IsFinding phenomenon ts found → IsFinding phenomenon ts other → is_some found ≡ is_some other
+same_finding phenomenon ts None None one two = refl
+same_finding phenomenon ts (Some f) (Some g) one two = refl
+same_finding phenomenon ts None (Some g) one two = absurd (one.0 g.level two.0.0)
+same_finding phenomenon ts (Some f) None one two = absurd (two.0 f.level one.0.0)
+
+same_named : (events : List Operation) (printed lines : List ℕ) (one : IsVerdictText events printed) (two : IsVerdictText events lines) → names_cycle one ≡ names_cycle two
+same_named events printed lines one two =
+    rw (
+      same_finding _ _ one.g0 two.g0 one.is_g0 two.is_g0,
+      same_finding _ _ one.g1c two.g1c one.is_g1c two.is_g1c,
+      same_finding _ _ one.single two.single one.is_single two.is_single,
+      same_finding _ _ one.item two.item one.is_item two.is_item,
+    ) refl
+
+same_status : (events : List Operation) (status other : Status) (printed lines : List ℕ) → IsVerdict events status printed → IsVerdict events other lines → status ≡ other
+same_status events status other printed lines one two =
+    one.status_is ∙ (ap (λ b. status_by (b || has_bad_read events)) (same_named events printed lines one.text two.text) ∙ sym two.status_is)
+
+-- one status, and but for a verdict one output with it
+abbrev IsSame : Command → (status other : Status) → (printed others : List ℕ) → Type 0
+IsSame command status other printed others = (status ≡ other) × (command ≢ the_check → printed ≡ others)
+
 -- events have one report
 one_report : (command : Command) (events others : List Operation) (status other : Status) (printed lines : List ℕ) → events ≡ others
-    → Reports command events status printed → Reports command others other lines → (status ≡ other) × (printed ≡ lines)
+    → Reports command events status printed → Reports command others other lines → IsSame command status other printed lines
 one_report the_reads events others status other printed lines same one two =
-    (one.0 ∙ (ap (λ (es : List Operation). status_by (has_bad_read es)) same ∙ sym two.0), one.1 ∙ (ap reads_text same ∙ sym two.1))
-one_report the_edges events others status other printed lines same one two = (one.0 ∙ sym two.0, one.1 ∙ (ap edges_text same ∙ sym two.1))
+    (one.0 ∙ (ap (λ (es : List Operation). status_by (has_bad_read es)) same ∙ sym two.0), λ no_check. one.1 ∙ (ap reads_text same ∙ sym two.1))
+one_report the_edges events others status other printed lines same one two = (one.0 ∙ sym two.0, λ no_check. one.1 ∙ (ap edges_text same ∙ sym two.1))
+one_report the_check events others status other printed lines same one two =
+    (same_status events status other printed lines one (subst (λ (es : List Operation). IsVerdict es other lines) (sym same) two), λ no_check. absurd (no_check refl))
 
 -- a text that has one reading has one answer
 pub one_answer : ((text : List ℕ) → HasOne (Reads text)) → (command : Command) (text : List ℕ) (status other : Status) (printed others : List ℕ) → status ≢ statuses.Memory → other ≢ statuses.Memory
-    → IsAnswer command text status printed → IsAnswer command text other others → (status ≡ other) × (printed ≡ others)
+    → IsAnswer command text status printed → IsAnswer command text other others → IsSame command status other printed others
 one_answer one_reading command text status other printed others given too one two = by_kind (judged command text status printed given one) (judged command text other others too two)
   where
-    by_kind : IsReport command text status printed ⊎ Refuses text status printed → IsReport command text other others ⊎ Refuses text other others → (status ≡ other) × (printed ≡ others)
+    by_kind : IsReport command text status printed ⊎ Refuses text status printed → IsReport command text other others ⊎ Refuses text other others → IsSame command status other printed others
     by_kind (inl r) (inl s) =
         one_report command r.events s.events status other printed others (same_operations text (one_reading text) r.events s.events r.given.given s.given.given) r.reported s.reported
     by_kind (inl r) (inr s) = absurd (not_refused text (one_reading text) r.events s.fault r.given s.refused)
     by_kind (inr r) (inl s) = absurd (not_refused text (one_reading text) s.events r.fault s.given r.refused)
     by_kind (inr r) (inr s) =
         let same = same_refusal text (one_reading text) r.fault s.fault r.refused s.refused in
-        (r.by ∙ sym s.by, r.line ∙ (ap refusal_line same ∙ sym s.line))
+        (r.by ∙ sym s.by, λ no_check. r.line ∙ (ap refusal_line same ∙ sym s.line))

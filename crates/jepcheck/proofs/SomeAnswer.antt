@@ -1,6 +1,6 @@
 -- A text has an answer.
 use Rattle.std.proofs.Common.{◌≡◌, ℕ, List, [], Bool, true, false, Option, Some, None, inl, inr, refl, ap, sym, ◌∙◌}
-use Rattle.std.specs.Prelude.{◌≢◌, option_map}
+use Rattle.std.specs.Prelude.{◌≢◌, ◌||◌, option_map}
 use Rattle.std.proofs.lemmas.Bool.{false≢true}
 use Rattle.hist_types.specs.Operations.{Operation}
 use Rattle.hist_types.specs.Journal.{first_broken}
@@ -8,14 +8,16 @@ use Rattle.hist_types.specs.Entries.{Entry, operations_of}
 use Rattle.hist_types.specs.Laws.{HasOne}
 use Rattle.hist_types.specs.Reading.{Reads}
 use Rattle.hist_types.specs.Refusals.{event_fault}
-use Rattle.hist_types.specs.Texts.{reads_text, edges_text, has_bad_read, refusal_line}
+use Rattle.hist_types.specs.Texts.{reads_text, edges_text, has_bad_read, IsVerdictText, verdict_lines, refusal_line}
 use Rattle.hist_types.specs.declared.types.Fault.{Fault}
 use Rattle.hist_types.specs.declared.types.Refusal.{Refusal}
-use Rattle.jepcheck.specs.Answers.{GivesOperations, GivesEvents, IsRefused, HasAnswer}
+use Rattle.hist_types.specs.declared.types.Phenomenon.TheVariants.{G0, G1c, GSingle, G2Item}
+use Rattle.jepcheck.proofs.Deciding.{has_finding}
+use Rattle.jepcheck.specs.Answers.{GivesOperations, GivesEvents, IsRefused, names_cycle, HasAnswer}
 use Rattle.jepcheck.specs.declared.answer.Status.{Status}
 use Rattle.jepcheck.specs.declared.answer.Status.TheVariants as statuses
 use Rattle.jepcheck.specs.declared.run.Command.{Command}
-use Rattle.jepcheck.specs.declared.run.Command.TheVariants.{Reads as the_reads, Edges as the_edges}
+use Rattle.jepcheck.specs.declared.run.Command.TheVariants.{Reads as the_reads, Edges as the_edges, Check as the_check}
 
 abbrev is_memory : Status → Bool
 is_memory statuses.Memory = true
@@ -37,6 +39,30 @@ reported the_reads text events given = by_reads (has_bad_read events) refl
         (statuses.NoPhenomenon, reads_text events, not_memory statuses.NoPhenomenon refl, record { events = events; given = given; reported = (rw e refl, refl) })
 reported the_edges text events given =
     (statuses.NoPhenomenon, edges_text events, not_memory statuses.NoPhenomenon refl, record { events = events; given = given; reported = (refl, refl) })
+reported the_check text events given = by_named (names_cycle verdict || has_bad_read events) refl
+  where
+    printed : List ℕ
+    printed = verdict_lines events (has_finding G0 events).0 (has_finding G1c events).0 (has_finding GSingle events).0 (has_finding G2Item events).0
+
+    verdict : IsVerdictText events printed
+    verdict =
+        record {
+          g0 = (has_finding G0 events).0;
+          g1c = (has_finding G1c events).0;
+          single = (has_finding GSingle events).0;
+          item = (has_finding G2Item events).0;
+          is_g0 = (has_finding G0 events).1;
+          is_g1c = (has_finding G1c events).1;
+          is_single = (has_finding GSingle events).1;
+          is_item = (has_finding G2Item events).1;
+          lines = refl;
+        }
+
+    by_named : (named : Bool) → (names_cycle verdict || has_bad_read events) ≡ named → HasAnswer the_check text
+    by_named true e =
+        (statuses.SomePhenomenon, printed, not_memory statuses.SomePhenomenon refl, record { events = events; given = given; reported = record { text = verdict; status_is = rw e refl } })
+    by_named false e =
+        (statuses.NoPhenomenon, printed, not_memory statuses.NoPhenomenon refl, record { events = events; given = given; reported = record { text = verdict; status_is = rw e refl } })
 
 judged : (command : Command) (text : List ℕ) (operations : List Operation) → GivesOperations text operations → HasAnswer command text
 judged command text operations given = by_rules (first_broken [] operations) refl

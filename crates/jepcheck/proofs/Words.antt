@@ -12,7 +12,7 @@ use Rattle.jepcheck.specs.Lines.{word_of, program_app, NameSubcommand, AskFor}
 use Rattle.jepcheck.specs.declared.command_line.Asked.{Asked}
 use Rattle.jepcheck.specs.declared.command_line.Asked.TheVariants.{Run}
 use Rattle.jepcheck.specs.declared.run.Command.{Command}
-use Rattle.jepcheck.specs.declared.run.Command.TheVariants.{Reads, Edges}
+use Rattle.jepcheck.specs.declared.run.Command.TheVariants.{Reads, Edges, Check}
 
 -- clap's definitions speak of the program's lines
 program_is_simple : is_simple program_app ≡ true
@@ -35,15 +35,18 @@ pub command_is_asked : (command : Command) (name : List ℕ) → NameSubcommand 
 unfolding clap_on_literals
 command_is_asked Reads name = record { no_fault = refl; named = refl }
 command_is_asked Edges name = record { no_fault = refl; named = refl }
+command_is_asked Check name = record { no_fault = refl; named = refl }
 
 -- words that were not taken for a command name none
-pub no_command : (command : Command) (word : List ℕ) → word ≢ codes "reads" → word ≢ codes "edges" → word ≡ word_of command → ⊥
-no_command Reads word reads edges e = reads e
-no_command Edges word reads edges e = edges e
+pub no_command : (command : Command) (word : List ℕ) → word ≢ codes "reads" → word ≢ codes "edges" → word ≢ codes "check" → word ≡ word_of command → ⊥
+no_command Reads word reads edges check e = reads e
+no_command Edges word reads edges check e = edges e
+no_command Check word reads edges check e = check e
 
 pub some_command : (command : Command) → Some (word_of command) ≡ None → ⊥
 some_command Reads e = absurd cc
 some_command Edges e = absurd cc
+some_command Check e = absurd cc
 
 -- the firsts of pairs that may be there
 firsts : {A B C : Type 0} (f : A → B) (g : A → C) (o : Option A) → option_map (λ (p : B × C). p.0) (option_map (λ (x : A). (f x, g x)) o) ≡ option_map f o

@@ -1,11 +1,11 @@
 -- What the program answers to a text.
-use Rattle.std.specs.Prelude.{◌≡◌, ◌≢◌, ◌⊎◌, ℕ, List, [], Option, Some, None, option_map}
+use Rattle.std.specs.Prelude.{◌≡◌, ◌≢◌, ◌⊎◌, ℕ, List, [], Bool, ◌||◌, Option, Some, None, option_map, is_some}
 use Rattle.hist_types.specs.Operations.{Operation}
 use Rattle.hist_types.specs.Entries.{Entry, operations_of}
 use Rattle.hist_types.specs.Reading.{Reads}
 use Rattle.hist_types.specs.Journal.{first_broken}
 use Rattle.hist_types.specs.Refusals.{event_fault, memory_fault}
-use Rattle.hist_types.specs.Texts.{reads_text, edges_text, has_bad_read, refusal_line}
+use Rattle.hist_types.specs.Texts.{reads_text, edges_text, has_bad_read, IsVerdictText, refusal_line}
 use Rattle.hist_types.specs.declared.types.Fault.{Fault}
 use Rattle.jepcheck.specs.Statuses.{status_by}
 use Rattle.jepcheck.specs.declared.answer.Status.{Status}
@@ -37,10 +37,20 @@ pub record GivesEvents (text : List ℕ) (events : List Operation) : Type 0 wher
 abbrev pub IsRefused : List ℕ → Fault → Type 0
 IsRefused text fault = GivesFault text fault ⊎ ((operations : List Operation) × GivesOperations text operations × (journal_fault operations ≡ Some fault))
 
+-- whether the text of a verdict names a phenomenon that a cycle shows
+abbrev pub names_cycle : {events : List Operation} {text : List ℕ} → IsVerdictText events text → Bool
+names_cycle verdict = is_some verdict.g0 || is_some verdict.g1c || is_some verdict.single || is_some verdict.item
+
+-- the text of a verdict, with status 1 exactly where it names one of the six phenomena
+pub record IsVerdict (events : List Operation) (status : Status) (printed : List ℕ) : Type 0 where
+  pub text : IsVerdictText events printed
+  pub status_is : status ≡ status_by (names_cycle text || has_bad_read events)
+
 -- what a command prints of the events, and the status with it
 abbrev pub Reports : Command → List Operation → Status → List ℕ → Type 0
 Reports commands.Reads events status printed = (status ≡ status_by (has_bad_read events)) × (printed ≡ reads_text events)
 Reports commands.Edges events status printed = (status ≡ statuses.NoPhenomenon) × (printed ≡ edges_text events)
+Reports commands.Check events status printed = IsVerdict events status printed
 
 -- the report of a command on the events that the text gives
 pub record IsReport (command : Command) (text : List ℕ) (status : Status) (printed : List ℕ) : Type 0 where

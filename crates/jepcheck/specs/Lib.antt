@@ -3,5 +3,6 @@ pub mod Blocks
 pub mod Pieces
 pub mod Leaving
 pub mod Statuses
+pub mod Verdicts
 pub mod Lines
 pub mod Runs

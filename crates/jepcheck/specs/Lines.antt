@@ -7,7 +7,7 @@ use Rattle.jepcheck.specs.declared.command_line.LineFault.{LineFault}
 use Rattle.jepcheck.specs.declared.command_line.LineFault.TheVariants.{Usage, Memory}
 use Rattle.jepcheck.specs.declared.command_line.TheConstants.{HELP}
 use Rattle.jepcheck.specs.declared.run.Command.{Command}
-use Rattle.jepcheck.specs.declared.run.Command.TheVariants.{Reads, Edges}
+use Rattle.jepcheck.specs.declared.run.Command.TheVariants.{Reads, Edges, Check}
 
 -- a command of which one of the subcommands has to be named
 abbrev pub with_required : App → App
@@ -17,13 +17,14 @@ with_required a = record a { top = record a.top { subcommand_required = true } }
 abbrev pub word_of : Command → List ℕ
 word_of Reads = codes "reads"
 word_of Edges = codes "edges"
+word_of Check = codes "check"
 
 abbrev pub with_command : App → Command → App
 with_command a command = with_subcommand a (new_app (word_of command)).top
 
 -- a subcommand for each command
 abbrev pub program_app : App
-program_app = with_command (with_command (with_required (new_app (codes "jepcheck"))) Reads) Edges
+program_app = with_command (with_command (with_command (with_required (new_app (codes "jepcheck"))) Reads) Edges) Check
 
 -- by the definitions of the library that parses the words nothing is at fault in them, and they name this subcommand
 pub record NameSubcommand (name : List ℕ) (words : List (List ℕ)) : Type 0 where

@@ -48,6 +48,9 @@ Commands:
            that nobody wrote
   edges    print the dependency edges between transactions: which of them wrote after another one wrote (ww),
            read what it wrote (wr), or wrote after it read (rw)
+  check    print which of the phenomena G0, G1a, G1b, G1c, G-single and G2-item the history has, each with the
+           edges or the read that shows it; a cycle is looked for along dependency edges alone (plain), then
+           with the order of each process (process), then with the order in real time (realtime)
 
 The history is read from standard input. The status is 0 where nothing was found, 1 where something was,
 2 where the history or the command line was refused, 3 where a device failed and 4 where memory ran out.
@@ -63,8 +66,12 @@ fn program<'a>(alloc: Global) -> Result<clap::Command<'a>, AllocError>
 {
     let reads = clap::Command::new(alloc, "reads");
     let edges = clap::Command::new(alloc, "edges");
+    let check = clap::Command::new(alloc, "check");
     let program = clap::Command::new(alloc, "jepcheck").subcommand_required(true);
-    program.subcommand(reads)?.subcommand(edges)
+    program
+        .subcommand(reads)?
+        .subcommand(edges)?
+        .subcommand(check)
 }
 
 /// A message, which may be empty, and the help behind it.
@@ -125,6 +132,7 @@ pub fn command_line<'a>(alloc: Global, words: &'a [String]) -> Result<Asked, Lin
     match matches.subcommand_name() {
         Some("reads") => Ok(Asked::Run(Command::Reads)),
         Some("edges") => Ok(Asked::Run(Command::Edges)),
+        Some("check") => Ok(Asked::Run(Command::Check)),
         _ => Err(usage(Ok(String::new(alloc)))),
     }
 }

@@ -7,13 +7,17 @@ ghost use Rattle.jepcheck.specs.declared.answer.Status.{Status};
 ghost use Rattle.jepcheck.specs.declared.answer.Status.TheVariants.{Memory};
 ghost use Rattle.jepcheck.specs.declared.command_line.Asked.TheVariants.{Run};
 ghost use Rattle.jepcheck.specs.declared.run.Command.{Command};
+ghost use Rattle.jepcheck.specs.declared.run.Command.TheVariants.{Check};
 
 use hist_types::laws::texts_have_one_reading;
 
-/// A text has one answer of a command at most, beside the one that is out of memory: one status, and one output with it.
+/// A text has one answer of a command at most, beside the one that is out of memory: one status, and one output with it. Only
+/// the outputs of `check` may differ, in their witnesses.
 pub fn one_answer_to_a_text()
-    ensures { (command : Command) (text : List ℕ) (status other : Status) (printed others : List ℕ) → status ≢ Memory → other ≢ Memory
-        → IsAnswer command text status printed → IsAnswer command text other others → (status ≡ other) × (printed ≡ others) }
+    ensures status { (command : Command) (text : List ℕ) (status other : Status) (printed others : List ℕ) → status ≢ Memory → other ≢ Memory
+        → IsAnswer command text status printed → IsAnswer command text other others → status ≡ other }
+    ensures printed { (command : Command) (text : List ℕ) (status other : Status) (printed others : List ℕ) → status ≢ Memory → other ≢ Memory
+        → command ≢ Check → IsAnswer command text status printed → IsAnswer command text other others → printed ≡ others }
 {
     texts_have_one_reading();
 }

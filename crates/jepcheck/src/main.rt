@@ -3,6 +3,7 @@
 
 mod answer;
 mod blocks;
+mod check;
 mod command_line;
 mod devices;
 mod dispatch;

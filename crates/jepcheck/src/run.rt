@@ -11,7 +11,7 @@ ghost use Rattle.jepcheck.specs.Statuses.{code_of};
 use crate::answer::{Answer, Status, refuse};
 use crate::devices::{ReadFault, read_all, write_all};
 use crate::inputs::{journal_of, read_blocks};
-use crate::{edges, reads};
+use crate::{check, edges, reads};
 use hist_types::device::{Failed, Sink, Source};
 use hist_types::types::{Fault, Refusal};
 use std::alloc::{AllocError, Global};
@@ -23,6 +23,8 @@ pub enum Command {
     Reads,
     /// Print the dependency edges between transactions.
     Edges,
+    /// Print which phenomena the history has, with what shows each.
+    Check,
 }
 
 /// The report of a command on a text, unless that is refused.
@@ -35,6 +37,7 @@ fn judge(alloc: Global, command: Command, text: &[u8]) -> Result<Answer, Fault>
     match command {
         Command::Reads => reads::report(alloc, &events),
         Command::Edges => edges::report(alloc, &events),
+        Command::Check => check::report(alloc, &events),
     }
 }
 

@@ -304,6 +304,27 @@ const KEYS_OF_EACH_KIND: &[u8] =
 {:type :ok, :process 1, :value [[:r x 1] [:r \"x\" 1] [:r :x 1] [:r 10 1] [:r 9 1]]}
 ";
 
+/// Each of two transactions read nil where the other wrote, and no order of events is between them.
+const WRITE_SKEW: &[u8] = b"{:type :invoke, :process 0, :value [[:r :x nil] [:w :y 1]]}
+{:type :invoke, :process 1, :value [[:r :y nil] [:w :x 1]]}
+{:type :ok, :process 0, :value [[:r :x nil] [:w :y 1]]}
+{:type :ok, :process 1, :value [[:r :y nil] [:w :x 1]]}
+";
+
+/// The read began after the write was done, in another process.
+const STALE_READ: &[u8] = b"{:type :invoke, :process 0, :value [[:w :x 1]]}
+{:type :ok, :process 0, :value [[:w :x 1]]}
+{:type :invoke, :process 1, :value [[:r :x nil]]}
+{:type :ok, :process 1, :value [[:r :x nil]]}
+";
+
+/// One process read nil after its own write.
+const OWN_WRITE_MISSED: &[u8] = b"{:type :invoke, :process 0, :value [[:w :x 1]]}
+{:type :ok, :process 0, :value [[:w :x 1]]}
+{:type :invoke, :process 0, :value [[:r :x nil]]}
+{:type :ok, :process 0, :value [[:r :x nil]]}
+";
+
 /// One transaction read nil and the first value, of which nil comes first.
 const NIL_FIRST: &[u8] = b"{:type :invoke, :process 0, :value [[:w :x 1]]}
 {:type :ok, :process 0, :value [[:w :x 1]]}
@@ -338,6 +359,47 @@ fn edges_in_order(rt: HostRuntime) -> Result<(), Fail> {
         answers_by(&rt, Command::Edges, history, 0, text);
     }
     answers_by(&rt, Command::Edges, BUSY, 2, b"refused 1 Busy event 1\n");
+    Ok(())
+}
+
+#[test]
+fn verdicts(rt: HostRuntime) -> Result<(), Fail> {
+    let histories: [(&[u8], u8, &[u8]); 6] = [
+        (
+            CLEAN,
+            0,
+            b"prefix 4\ntxns 2\nG0 none\nG1a none\nG1b none\nG1c none\nG-single none\nG2-item none\nstray 0\n",
+        ),
+        (
+            ABORTED_READ,
+            1,
+            b"prefix 4\ntxns 2\nG0 none\nG1a yes\n  T2 read :x 1 of T0\nG1b none\nG1c none\nG-single none\nG2-item none\nstray 0\n",
+        ),
+        (
+            INTERMEDIATE_READ,
+            1,
+            b"prefix 4\ntxns 2\nG0 none\nG1a none\nG1b yes\n  T1 read :x 1 of T0\nG1c none\nG-single none\nG2-item none\nstray 0\n",
+        ),
+        (
+            WRITE_SKEW,
+            1,
+            b"prefix 4\ntxns 2\nG0 none\nG1a none\nG1b none\nG1c none\nG-single none\nG2-item plain\n  T0 -rw :x nil 1-> T1\n  T1 -rw :y nil 1-> T0\nstray 0\n",
+        ),
+        (
+            STALE_READ,
+            1,
+            b"prefix 4\ntxns 2\nG0 none\nG1a none\nG1b none\nG1c none\nG-single realtime\n  T0 -realtime 1 2-> T2\n  T2 -rw :x nil 1-> T0\nG2-item realtime\n  T0 -realtime 1 2-> T2\n  T2 -rw :x nil 1-> T0\nstray 0\n",
+        ),
+        (
+            OWN_WRITE_MISSED,
+            1,
+            b"prefix 4\ntxns 2\nG0 none\nG1a none\nG1b none\nG1c none\nG-single process\n  T0 -process 0-> T2\n  T2 -rw :x nil 1-> T0\nG2-item process\n  T0 -process 0-> T2\n  T2 -rw :x nil 1-> T0\nstray 0\n",
+        ),
+    ];
+    for (history, status, text) in histories {
+        answers_by(&rt, Command::Check, history, status, text);
+    }
+    answers_by(&rt, Command::Check, BUSY, 2, b"refused 1 Busy event 1\n");
     Ok(())
 }
 

@@ -40,10 +40,22 @@ fn laws_return() {
 }
 
 #[test]
-fn one_command_line_is_known(rt: HostRuntime) -> Result<(), Fail> {
+fn each_command_is_known(rt: HostRuntime) -> Result<(), Fail> {
     for words in [["reads"].as_slice(), &["reads", "--"]] {
         assert!(rt; matches!(asked(rt.alloc(), words)?, Ok(Asked::Run(Command::Reads))));
     }
+    assert!(rt;
+        matches!(
+            asked(rt.alloc(), &["edges"])?,
+            Ok(Asked::Run(Command::Edges))
+        )
+    );
+    assert!(rt;
+        matches!(
+            asked(rt.alloc(), &["check"])?,
+            Ok(Asked::Run(Command::Check))
+        )
+    );
     Ok(())
 }
 
@@ -56,7 +68,7 @@ fn every_other_line_gets_a_text_that_helps(rt: HostRuntime) -> Result<(), Fail> 
         &["help", "reads"],
         &["--help"],
         &["-h"],
-        &["check"],
+        &["verdict"],
         &["Reads"],
         &["reads", "history.edn"],
         &["reads", "--help"],

@@ -17,13 +17,17 @@ pub returns-in-Some-edges-clause-only : goal.returns-in-Some-edges-clause-only
 returns-in-Some-edges-clause-only c =
     names_subcommand _ _ _ _ c.in_ok-program.ensures c.in-Ok.ensures.matches c.in-Ok.ensures.kinds (sym c.in-Some-edges.ensures ∙ ap Some c.in-Some-edges.is-edges)
 
+pub returns-in-Some-check-clause-only : goal.returns-in-Some-check-clause-only
+returns-in-Some-check-clause-only c =
+    names_subcommand _ _ _ _ c.in_ok-program.ensures c.in-Ok.ensures.matches c.in-Ok.ensures.kinds (sym c.in-Some-check.ensures ∙ ap Some c.in-Some-check.is-check)
+
 pub returns-clause-asked : goal.returns-clause-asked
 returns-clause-asked c = λ asked asks. let met = meets_subcommand _ _ _ _ c.in_ok-program.ensures c.in-Ok.ensures.matches (asked_names asked _ asks) in
     elim c.in_default.branch [
       | in_default-via-in-Some+in_default w ↦
           let other = w.in_default in
           let same : Some other.field-0.now ≡ Some (word_of (command_in asked)) = rw other.is at (c.subcommand_name.ensures ∙ met) in
-          absurd (no_command (command_in asked) other.field-0.now (λ e. other.not-reads cc) (λ e. other.not-edges cc) (same_Some _ _ same))
+          absurd (no_command (command_in asked) other.field-0.now (λ e. other.not-reads cc) (λ e. other.not-edges cc) (λ e. other.not-check cc) (same_Some _ _ same))
       | in_default-via-in_default w ↦
           let none : None ≡ Some (word_of (command_in asked)) = rw w.in_default.is at (c.subcommand_name.ensures ∙ met) in
           absurd (some_command (command_in asked) (sym none))

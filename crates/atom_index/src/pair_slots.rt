@@ -1,0 +1,46 @@
+//! A table for pairs of a small key and a small value.
+
+ghost use Rattle.std.specs.Prelude.{◌≡◌, length, IfOk};
+ghost use Rattle.atom_index.specs.Slots.{HoldsPairs, slot_of_pair};
+
+use std::alloc::{AllocError, Global};
+
+/// How many values of a key have places in the table of pairs: those with the smallest numbers.
+pub(crate) const VALUES_OF_KEY: usize = 64;
+
+/// The place of a pair in a table with so many slots: that of a small key and a small value, by their numbers. The values
+/// of a key are side by side.
+pub(crate) fn slot_of(pair: (usize, Option<usize>), slots: usize) -> Option<usize>
+    ensures { result ≡ slot_of_pair pair slots }
+{
+    let (key, value) = pair;
+    let value = value?;
+    let slot = key.checked_mul(VALUES_OF_KEY)?.checked_add(value)?;
+    if value < VALUES_OF_KEY && slot < slots {
+        Some(slot)
+    } else {
+        None
+    }
+}
+
+/// The table of the small pairs, with their places there.
+pub(crate) fn table_of(
+    alloc: Global,
+    pairs: &[(usize, Option<usize>)],
+    slots: usize,
+) -> Result<Vec<Option<usize>>, AllocError>
+    ensures len { IfOk result (λ table. length table.items ≡ slots) }
+    ensures places { IfOk result (λ table. HoldsPairs table.items pairs.now) }
+{
+    let mut table = vec![in alloc; None; slots]?;
+    let mut number = 0;
+    for pair in pairs {
+        if let Some(slot) = slot_of(*pair, slots) {
+            if table[slot].is_none() {
+                table[slot] = Some(number);
+            }
+        }
+        number += 1;
+    }
+    Ok(table)
+}
