@@ -59,7 +59,7 @@ no_nil_read false bytes reads is_not (inr atom) = atom
 -- ---- tokens in a text
 
 within : (text : List ℕ) (t : Item) → IsTokenIn text t → IsWithin text (short_span_of t)
-within text t here = record { ordered = omega arith; end = here.0 }
+within text t here = here.0
 
 text_of_token :
     (text : List ℕ) (t : Item) (atom : Atom)

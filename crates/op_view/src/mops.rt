@@ -118,7 +118,8 @@ fn slice_at(text: &[u8], span: ShortSpan) -> &[u8]
     requires { IsWithin text.now span }
     ensures { result.now ≡ bytes_at text.now span }
 {
-    &text[span.start as usize..span.end as usize]
+    let start = usize::from(span.start);
+    &text[start..start + usize::from(span.len)]
 }
 
 /// The atom that the bytes are known to be.
