@@ -1,10 +1,9 @@
 -- The tables in front of the maps, and one item more.
-use Rattle.std.proofs.Common.{◌≡◌, inl, inr, ℕ, ◌+◌, ◌*◌, ◌/◌, ◌%◌, ◌<◌, pos, negsuc, List, [], ◌∷◌, ◌++◌, length, get_or, take, Bool, true, false, Option, Some, None, refl, sym, ◌∙◌, ap, subst, arith}
+use Rattle.std.proofs.Common.{◌≡◌, inl, inr, ℕ, ◌+◌, ◌*◌, ◌/◌, ◌%◌, ◌<◌, pos, negsuc, List, [], ◌∷◌, ◌++◌, length, get_or, take, map, replicate, zero, suc, ◌-◌, Bool, true, false, Option, Some, None, refl, sym, ◌∙◌, ap, subst, arith}
 use Rattle.std.specs.Prelude.{nat_lt, ◌≢◌, ◌&&◌, ◌==◌, nat_eq}
 use Rattle.std.proofs.lemmas.List.{take_more, get_or-set_same, get_or-set_other, length-set}
 use Rattle.std.proofs.Math.ListN.{set}
 use Rattle.std.specs.Option.{is_some, option_eq}
-use Rattle.std.proofs.lemmas.Option.{get_or_from_slice_get, slice_get_read}
 use Rattle.std.proofs.lemmas.List.{length-take-le}
 use Rattle.std.proofs.lemmas.Nat.{div-mul-add, mod-mul-add}
 use Rattle.std.proofs.lemmas.Bool.{cases_Bool, true≢false, lt-ltb, ltb-true, eqb-true, and_parts, false_from_ne_true}
@@ -12,8 +11,20 @@ use Rattle.hist_types.specs.Atoms.{Atom, integer, keyword, string, symbol, atom_
 use Rattle.hist_types.proofs.Equality.{atom_eq-same, atom_eq-itself}
 use Rattle.atom_index.specs.declared.pair_slots.TheConstants.{VALUES_OF_KEY}
 use Rattle.atom_index.specs.Numbers.{number_in, pair_eq}
-use Rattle.atom_index.specs.Slots.{slot_of, integer_at, slot_of_pair, pair_at, HoldsNumbersOf}
+use Rattle.atom_index.specs.Slots.{number_of_entry, slot_of, integer_at, slot_of_pair, pair_at, HoldsNumbersOf}
 use Rattle.atom_index.proofs.Pushed.{number_first, number_last, number_kept, pair_eq-itself}
+
+-- ---- what is kept in a slot
+
+pub entry_of : (number : ℕ) → number_of_entry (number + 1) ≡ Some number
+entry_of number =
+    let some : nat_lt 0 (number + 1) ≡ true = lt-ltb 0 (number + 1) (omega arith) in
+    let is : number + 1 - 1 ≡ number = omega arith in
+    rw (some, is) refl
+
+pub map-replicate : {A B : Type 0} (f : A → B) (n : ℕ) (x : A) → map f (replicate n x) ≡ replicate n (f x)
+map-replicate f zero x = refl
+map-replicate f (suc n) x = ap (λ (ys : List _). f x ∷ ys) (map-replicate f n x)
 
 no_slot : (s : ℕ) → None ≡ Some s → ⊥
 no_slot s e = cc
@@ -181,18 +192,15 @@ module _ {A : Type 0} {eq : A → A → Bool} {place_of : A → ℕ → Option �
     next_item table items i item h is (table_without table (take i items) item (same_places item (length table) size None seen.1 told) seen.2),
   )
 
-  any_default : (table : List (Option ℕ)) (slot : ℕ) (entry : Option ℕ) → slot < length table → entry ≡ get_or table slot entry → get_or table slot None ≡ entry
-  any_default table slot entry within is = get_or_from_slice_get table slot entry None (slice_get_read table (length table) slot entry refl within is)
-
   pub seen_taken :
       (number i size : ℕ) (table : List (Option ℕ)) (items : List A) (item : A) (slot : ℕ) (entry : Option ℕ)
       → HasSeen number i size table items → i < length items → item ≡ get_or items i item → Some slot ≡ place_of item size
-      → entry ≡ get_or table slot entry → is_some entry ≡ true
+      → entry ≡ get_or table slot None → is_some entry ≡ true
       → HasSeen (number + 1) (i + 1) size table items
   seen_taken number i size table items item slot None seen h is told at some = absurd (true≢false (sym some))
   seen_taken number i size table items item slot (Some k) seen h is told at some =
       let here = same_places item (length table) size (Some slot) seen.1 told in
-      let taken = any_default table slot (Some k) (slots.told item (length table) slot here).within at in (
+      let taken = sym at in (
         ap (λ (n : ℕ). n + 1) seen.0,
         seen.1,
         next_item table items i item h is (table_taken table (take i items) item slot k here taken seen.2),
@@ -201,12 +209,12 @@ module _ {A : Type 0} {eq : A → A → Bool} {place_of : A → ℕ → Option �
   pub seen_set :
       (number i size : ℕ) (table : List (Option ℕ)) (items : List A) (item : A) (slot : ℕ) (entry : Option ℕ)
       → HasSeen number i size table items → i < length items → item ≡ get_or items i item → Some slot ≡ place_of item size
-      → entry ≡ get_or table slot entry → is_some entry ≡ false
+      → entry ≡ get_or table slot None → is_some entry ≡ false
       → HasSeen (number + 1) (i + 1) size (set table slot (Some number)) items
   seen_set number i size table items item slot (Some k) seen h is told at none = absurd (true≢false none)
   seen_set number i size table items item slot None seen h is told at none =
       let here = same_places item (length table) size (Some slot) seen.1 told in
-      let free = any_default table slot None (slots.told item (length table) slot here).within at in
+      let free = sym at in
       let place : length (take i items) ≡ number = length-take-le i items (omega arith) ∙ sym seen.0 in
       let holds = table_set table (take i items) item slot here free seen.2 in (
         ap (λ (n : ℕ). n + 1) seen.0,

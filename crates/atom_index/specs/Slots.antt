@@ -1,8 +1,12 @@
 -- The tables in front of the maps.
-use Rattle.std.specs.Prelude.{◌≡◌, ◌<◌, ◌+◌, ◌*◌, ◌/◌, ◌%◌, ◌&&◌, ℕ, pos, List, length, get_or, Bool, Option, Some, None, nat_lt, if◌then◌else◌}
+use Rattle.std.specs.Prelude.{◌≡◌, ◌<◌, ◌+◌, ◌-◌, ◌*◌, ◌/◌, ◌%◌, ◌&&◌, ℕ, pos, List, length, get_or, Bool, Option, Some, None, nat_lt, if◌then◌else◌}
 use Rattle.hist_types.specs.Atoms.{Atom, integer, atom_eq}
 use Rattle.atom_index.specs.Numbers.{number_in, pair_eq}
 use Rattle.atom_index.specs.declared.pair_slots.TheConstants.{VALUES_OF_KEY}
+
+-- what is kept in a slot: one more than the number there, or 0 for none
+abbrev pub number_of_entry : ℕ → Option ℕ
+number_of_entry entry = if nat_lt 0 entry then Some (entry - 1) else None
 
 -- Each slot of the table has the number of its item among the items, if it is among them.
 abbrev pub HoldsNumbersOf : {A : Type 0} → (A → A → Bool) → (item_at : ℕ → A) → List (Option ℕ) → List A → Type 0

@@ -5,6 +5,7 @@ ghost use Rattle.hist_types.specs.Atoms.{atom_eq};
 ghost use Rattle.atom_index.specs.Numbers.{number_in, with_item};
 
 use crate::slots::{slot_of, table_of};
+use crate::table::{MAX_NUMBERS, Table};
 use indexmap::IndexMap;
 use op_view::atom::Atom;
 use std::alloc::{AllocError, Global};
@@ -21,15 +22,12 @@ pub struct AtomIndex<'a, S: BuildHasher = BuildHasherDefault<FoldHasher>> {
     /// By number.
     atoms: Vec<Atom<'a>>,
     /// The number of each small integer that has one.
-    small: Vec<Option<usize>>,
+    small: Table,
     /// The numbers of the other atoms.
     others: IndexMap<Atom<'a>, usize, S>,
 }
 
 impl<'a, S: BuildHasher> Model for AtomIndex<'a, S> {
-    ghost use Rattle.std.specs.Prelude.{◌-◌, min};
-    ghost use Rattle.std.specs.Vec.{vec_len, vec_capacity};
-    ghost use Rattle.indexmap.specs.IndexMap.{spare};
     ghost use Rattle.hist_types.specs.Atoms.{Atom as AnAtom};
     ghost use Rattle.atom_index.specs.Numbers.{Index, atom_index_code};
 
@@ -37,11 +35,11 @@ impl<'a, S: BuildHasher> Model for AtomIndex<'a, S> {
 
     ghost coded = { atom_index_code };
 
-    ghost use Rattle.atom_index.specs.Lookups.{IsIndexed};
+    ghost use Rattle.atom_index.specs.Lookups.{index_in, IsIndexed};
 
-    ghost view = { λ x. record { items = x.atoms.items; spare = min (vec_capacity x.atoms - vec_len x.atoms) (spare x.others) } };
+    ghost view = { λ x. index_in x.atoms x.others };
 
-    ghost invariant = { λ x. IsIndexed x.atoms.items x.small.items x.others };
+    ghost invariant = { λ x. IsIndexed x.atoms.items x.small x.others };
 }
 
 impl<'a> AtomIndex<'a> {
@@ -61,7 +59,7 @@ impl<'a, S: BuildHasher> AtomIndex<'a, S> {
         AtomIndex {
             alloc,
             atoms: Vec::new(alloc),
-            small: Vec::new(alloc),
+            small: Table::new(alloc),
             others: IndexMap::with_hasher(alloc, hasher),
         }
     }
@@ -96,12 +94,12 @@ impl<'a, S: BuildHasher> AtomIndex<'a, S> {
         ensures { result ≡ number_in atom_eq atom.now self.now.items }
     {
         match slot_of(atom, self.small.len()) {
-            Some(slot) => self.small[slot],
+            Some(slot) => self.small.get(slot),
             None => self.others.get(atom).copied(),
         }
     }
 
-    /// Makes room for so many more atoms. Out of memory leaves the atoms as they are.
+    /// Makes room for so many more atoms. Out of memory leaves the atoms as they are. So does room for more than 4,294,967,295.
     pub fn reserve(&mut self, additional: usize) -> Result<(), AllocError>
         ensures items { self.new.items ≡ self.old.items }
         ensures room { OnOk result (additional ≤ self.new.spare) }
@@ -109,6 +107,9 @@ impl<'a, S: BuildHasher> AtomIndex<'a, S> {
         self.atoms.try_reserve(additional)?;
         self.others.reserve(additional)?;
         let wanted = self.atoms.len() + additional;
+        if wanted > MAX_NUMBERS {
+            return Err(AllocError);
+        }
         if self.small.len() < wanted {
             let slots = wanted.saturating_mul(2);
             self.small = table_of(self.alloc, &self.atoms, slots)?;
@@ -152,7 +153,7 @@ impl<'a, S: BuildHasher> AtomIndex<'a, S> {
     {
         let number = self.atoms.len();
         match slot_of(&atom, self.small.len()) {
-            Some(slot) => self.small[slot] = Some(number),
+            Some(slot) => self.small.set(slot, number),
             None => {
                 self.others.insert(atom.copy(), number).unwrap();
             }

@@ -5,5 +5,6 @@ pub mod atoms;
 mod pair_slots;
 pub mod pairs;
 mod slots;
+mod table;
 #[cfg(test)]
 mod tests;

@@ -1,8 +1,10 @@
 //! A table for pairs of a small key and a small value.
 
-ghost use Rattle.std.specs.Prelude.{◌≡◌, length, IfOk};
+ghost use Rattle.std.specs.Prelude.{◌≡◌, ◌≤◌, length, IfOk};
+ghost use Rattle.atom_index.specs.declared.table.TheConstants.{MAX_NUMBERS};
 ghost use Rattle.atom_index.specs.Slots.{HoldsPairs, slot_of_pair};
 
+use crate::table::Table;
 use std::alloc::{AllocError, Global};
 
 /// How many values of a key have places in the table of pairs: those with the smallest numbers.
@@ -28,16 +30,17 @@ pub(crate) fn table_of(
     alloc: Global,
     pairs: &[(usize, Option<usize>)],
     slots: usize,
-) -> Result<Vec<Option<usize>>, AllocError>
-    ensures len { IfOk result (λ table. length table.items ≡ slots) }
-    ensures places { IfOk result (λ table. HoldsPairs table.items pairs.now) }
+) -> Result<Table, AllocError>
+    requires { length pairs.now ≤ MAX_NUMBERS }
+    ensures len { IfOk result (λ table. length table ≡ slots) }
+    ensures places { IfOk result (λ table. HoldsPairs table pairs.now) }
 {
-    let mut table = vec![in alloc; None; slots]?;
+    let mut table = Table::with_slots(alloc, slots)?;
     let mut number = 0;
     for pair in pairs {
         if let Some(slot) = slot_of(*pair, slots) {
-            if table[slot].is_none() {
-                table[slot] = Some(number);
+            if table.get(slot).is_none() {
+                table.set(slot, number);
             }
         }
         number += 1;

@@ -1,8 +1,10 @@
 //! A table for small integers.
 
-ghost use Rattle.std.specs.Prelude.{◌≡◌, length, IfOk};
+ghost use Rattle.std.specs.Prelude.{◌≡◌, ◌≤◌, length, IfOk};
+ghost use Rattle.atom_index.specs.declared.table.TheConstants.{MAX_NUMBERS};
 ghost use Rattle.atom_index.specs.Slots.{HoldsNumbers, slot_of as slot_of_atom};
 
+use crate::table::Table;
 use op_view::atom::Atom;
 use std::alloc::{AllocError, Global};
 
@@ -15,20 +17,17 @@ pub(crate) fn slot_of(atom: &Atom, slots: usize) -> Option<usize>
 }
 
 /// The table of the small integers among the atoms, with their places there.
-pub(crate) fn table_of(
-    alloc: Global,
-    atoms: &[Atom],
-    slots: usize,
-) -> Result<Vec<Option<usize>>, AllocError>
-    ensures len { IfOk result (λ table. length table.items ≡ slots) }
-    ensures places { IfOk result (λ table. HoldsNumbers table.items atoms.now) }
+pub(crate) fn table_of(alloc: Global, atoms: &[Atom], slots: usize) -> Result<Table, AllocError>
+    requires { length atoms.now ≤ MAX_NUMBERS }
+    ensures len { IfOk result (λ table. length table ≡ slots) }
+    ensures places { IfOk result (λ table. HoldsNumbers table atoms.now) }
 {
-    let mut table = vec![in alloc; None; slots]?;
+    let mut table = Table::with_slots(alloc, slots)?;
     let mut number = 0;
     for atom in atoms {
         if let Some(slot) = slot_of(atom, slots) {
-            if table[slot].is_none() {
-                table[slot] = Some(number);
+            if table.get(slot).is_none() {
+                table.set(slot, number);
             }
         }
         number += 1;

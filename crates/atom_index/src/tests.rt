@@ -113,6 +113,9 @@ fn numbered<S: BuildHasher + Copy + Drop>(rt: &impl Abort, alloc: Global, hasher
         assert_eq!(rt; pairs.insert(number, Some(i / 2)).expect(rt, "memory"), i);
     }
     assert_eq!(rt; pairs.insert(0, Some(2)).expect(rt, "memory"), 4);
+    let pairs_in_order = pairs.into_pairs();
+    assert_eq!(rt; pairs_in_order.len(), 5);
+    assert_eq!(rt; pairs_in_order[3], (3, Some(1)));
     let in_order = atoms.into_atoms();
     assert_eq!(rt; in_order.len(), 4);
     for i in 0..4 {

@@ -11,13 +11,13 @@ loop-pair-preserved c =
     let is : pair ≡ get_or c.args.pairs.now c.loop-pair.pair-index pair =
     get_or_default c.args.pairs.now c.loop-pair.pair-index none pair c.loop-pair-test.true in
     elim c.match-slot_of.branch [
-      | in-Some+then-is_none w ↦ rw w.table-is
-          (seen_set pair_slots c.loop-pair.number c.loop-pair.pair-index c.args.slots c.loop-pair.table.items c.args.pairs.now pair w.in-Some.slot w.index.result.now
-          c.loop-pair.invariant c.loop-pair-test.true is w.in-Some.ensures w.index.ensures w.if-is_none.ensures)
+      | in-Some+then-is_none w ↦ rw (w.table-is, w.set.ensures)
+          (seen_set pair_slots c.loop-pair.number c.loop-pair.pair-index c.args.slots c.loop-pair.table c.args.pairs.now pair w.in-Some.slot w.get.result
+          c.loop-pair.invariant c.loop-pair-test.true is w.in-Some.ensures w.get.ensures w.if-is_none.ensures)
       | in-Some+else-is_none w ↦ rw w.table-is
-          (seen_taken pair_slots c.loop-pair.number c.loop-pair.pair-index c.args.slots c.loop-pair.table.items c.args.pairs.now pair w.in-Some.slot w.index.result.now
-          c.loop-pair.invariant c.loop-pair-test.true is w.in-Some.ensures w.index.ensures w.if-is_none.ensures)
+          (seen_taken pair_slots c.loop-pair.number c.loop-pair.pair-index c.args.slots c.loop-pair.table c.args.pairs.now pair w.in-Some.slot w.get.result
+          c.loop-pair.invariant c.loop-pair-test.true is w.in-Some.ensures w.get.ensures w.if-is_none.ensures)
       | in_default w ↦ rw w.table-is
-          (seen_without pair_slots c.loop-pair.number c.loop-pair.pair-index c.args.slots c.loop-pair.table.items c.args.pairs.now pair
+          (seen_without pair_slots c.loop-pair.number c.loop-pair.pair-index c.args.slots c.loop-pair.table c.args.pairs.now pair
           c.loop-pair.invariant c.loop-pair-test.true is w.in_default.ensures)
     ]

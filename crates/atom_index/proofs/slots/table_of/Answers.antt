@@ -4,13 +4,13 @@ use Rattle.atom_index.proofs.slots.table_of.Goals as goal
 
 pub loop-atom-preserved : goal.loop-atom-preserved
 loop-atom-preserved c = elim c.match-slot_of.branch [
-  | in-Some+then-is_none w ↦ rw w.table-is
-      (seen_set atom_slots c.loop-atom.number c.loop-atom.atom-index c.args.slots c.loop-atom.table.items c.args.atoms.now c.atom-item.result w.in-Some.slot w.index.result.now
-      c.loop-atom.invariant c.loop-atom-test.true c.atom-item.is w.in-Some.ensures w.index.ensures w.if-is_none.ensures)
+  | in-Some+then-is_none w ↦ rw (w.table-is, w.set.ensures)
+      (seen_set atom_slots c.loop-atom.number c.loop-atom.atom-index c.args.slots c.loop-atom.table c.args.atoms.now c.atom-item.result w.in-Some.slot w.get.result
+      c.loop-atom.invariant c.loop-atom-test.true c.atom-item.is w.in-Some.ensures w.get.ensures w.if-is_none.ensures)
   | in-Some+else-is_none w ↦ rw w.table-is
-      (seen_taken atom_slots c.loop-atom.number c.loop-atom.atom-index c.args.slots c.loop-atom.table.items c.args.atoms.now c.atom-item.result w.in-Some.slot w.index.result.now
-      c.loop-atom.invariant c.loop-atom-test.true c.atom-item.is w.in-Some.ensures w.index.ensures w.if-is_none.ensures)
+      (seen_taken atom_slots c.loop-atom.number c.loop-atom.atom-index c.args.slots c.loop-atom.table c.args.atoms.now c.atom-item.result w.in-Some.slot w.get.result
+      c.loop-atom.invariant c.loop-atom-test.true c.atom-item.is w.in-Some.ensures w.get.ensures w.if-is_none.ensures)
   | in_default w ↦ rw w.table-is
-      (seen_without atom_slots c.loop-atom.number c.loop-atom.atom-index c.args.slots c.loop-atom.table.items c.args.atoms.now c.atom-item.result
+      (seen_without atom_slots c.loop-atom.number c.loop-atom.atom-index c.args.slots c.loop-atom.table c.args.atoms.now c.atom-item.result
       c.loop-atom.invariant c.loop-atom-test.true c.atom-item.is w.in_default.ensures)
 ]

@@ -1,0 +1,72 @@
+//! Tables of numbers.
+
+ghost use Rattle.std.specs.Prelude.{◌≡◌, ◌<◌, [], length, get_or, replicate, None, Some, IfOk};
+ghost use Rattle.std.proofs.Math.ListN.{set};
+
+use std::alloc::{AllocError, Global};
+use std::marker::Model;
+
+/// How many numbers there can be in a table: those from 0 up to this one.
+pub(crate) const MAX_NUMBERS: usize = 4_294_967_295;
+
+/// The number in each of some slots, where there is one. A slot takes 4 bytes.
+#[derive(Drop)]
+pub(crate) struct Table {
+    /// One more than the number, or 0 for none.
+    entries: Vec<u32>,
+}
+
+impl Model for Table {
+    ghost use Rattle.std.specs.Prelude.{ℕ, List, Option, map};
+    ghost use Rattle.std.specs.Coded.{coded_list, coded_option, coded_ℕ};
+    ghost use Rattle.atom_index.specs.Slots.{number_of_entry};
+
+    ghost Value = { List (Option ℕ) };
+
+    ghost coded = { coded_list (coded_option coded_ℕ) };
+
+    ghost view = { λ t. map number_of_entry t.entries.items };
+}
+
+impl Table {
+    /// A table without slots.
+    pub fn new(alloc: Global) -> Self
+        ensures { result ≡ [] }
+    {
+        Table {
+            entries: Vec::new(alloc),
+        }
+    }
+
+    /// A table with so many slots, and no number in them.
+    pub fn with_slots(alloc: Global, slots: usize) -> Result<Self, AllocError>
+        ensures { IfOk result (λ table. table ≡ replicate slots None) }
+    {
+        let entries = vec![in alloc; 0; slots]?;
+        Ok(Table { entries })
+    }
+
+    /// How many slots there are.
+    pub fn len(&self) -> usize
+        ensures { result ≡ length self.now }
+    {
+        self.entries.len()
+    }
+
+    /// The number in a slot.
+    pub fn get(&self, slot: usize) -> Option<usize>
+        requires { slot < length self.now }
+        ensures { result ≡ get_or self.now slot None }
+    {
+        (self.entries[slot] as usize).checked_sub(1)
+    }
+
+    /// Puts a number in a slot.
+    pub fn set(&mut self, slot: usize, number: usize)
+        requires slot { slot < length self.old }
+        requires number { number < MAX_NUMBERS }
+        ensures { self.new ≡ set self.old slot (Some number) }
+    {
+        self.entries[slot] = number as u32 + 1;
+    }
+}
