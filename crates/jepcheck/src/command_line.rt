@@ -22,7 +22,7 @@ pub enum Asked {
 /// Why a command line asks for nothing that can be done.
 #[derive(Debug, Drop)]
 pub enum LineFault {
-    /// It asks for help, and the text is the help; or it is none of the program's lines, and the text says what is wrong.
+    /// It asks for help, and the text is the help; or it is none of the program's lines, and the text says why.
     Usage(String),
     Memory,
 }
