@@ -15,7 +15,7 @@ pub(crate) struct Span {
     end: u32,
 }
 
-/// What each transaction reads and installs, of which contracts see the list, by place.
+/// What each transaction reads and installs, by place.
 #[derive(Drop)]
 pub(crate) struct Accesses {
     /// The numbers of all transactions.
