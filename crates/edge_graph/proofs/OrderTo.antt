@@ -10,7 +10,7 @@ use Rattle.hist_types.specs.Transactions.{Transaction, is_node, nodes}
 use Rattle.hist_types.specs.declared.types.Level.{Level}
 use Rattle.hist_types.specs.declared.types.Level.TheVariants.{Plain, Process, Realtime}
 use Rattle.hist_types.proofs.Members.{In, in_from_Contains, Contains_from_in, in_each, in_some, in_mapped, in_map, in_filter, in_filtered, passes_filter}
-use Rattle.order_frontier.specs.Predecessors.{Before, process_edge, realtime_edge, edges_to, edges_of, name_of}
+use Rattle.order_frontier.specs.Predecessors.{Before, before_at, process_edge, realtime_edge, edges_to, edges_of, name_of}
 use Rattle.order_frontier.specs.declared.types.Predecessor.{Predecessor}
 use Rattle.dep_edges.specs.Histories.{AreOfHistory}
 use Rattle.dep_edges.specs.Tables.{txn_at}
@@ -19,7 +19,7 @@ use Rattle.dep_edges.proofs.Out.{one_by_invocation}
 use Rattle.hist_types.proofs.WrittenOnce.{AreApart}
 use Rattle.edge_graph.specs.Made.{order_labels_to, order_edges_to}
 use Rattle.edge_graph.specs.Parts.{IsOrderOf}
-use Rattle.edge_graph.specs.Successors.{predecessors_at, has_invocation, before_at, is_successor, list_at, lists_at, AreSuccessors}
+use Rattle.edge_graph.specs.Successors.{predecessors_at, has_invocation, is_successor, list_at, lists_at, AreSuccessors}
 use Rattle.edge_graph.proofs.Ordered.{Joins, joins, long, in_at}
 use Rattle.edge_graph.proofs.Txns.{txn_there, txn_in}
 
@@ -55,7 +55,7 @@ realtime_member true (Some c) i l (inl e) = ap (λ (l : Label). l ∷ []) e
 realtime_member true (Some c) i l (inr among) = absurd among
 realtime_member false o i l among = absurd among
 
-before_there : (order : List Before) (place : ℕ) → place < length order → In (before_at order place) order
+pub before_there : (order : List Before) (place : ℕ) → place < length order → In (before_at order place) order
 before_there order place h =
     let none : Before = record { process = 0; invocation = 0; in_process = []; in_realtime = [] } in
     subst (λ b. In b order) (sym (ap (λ o. unwrap_or o none) (slice_get-get_or order place none h))) (in_at order place none h)

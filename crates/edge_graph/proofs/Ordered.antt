@@ -6,7 +6,7 @@ use Rattle.std.proofs.lemmas.Bool.{eqb-true, eqb-false, eq-eqb, ne_eqb}
 use Rattle.std.proofs.lemmas.List.{length-map, get_or-map, get_or_default}
 use Rattle.std.proofs.lemmas.List.Elements.{filter-append}
 use Rattle.std.proofs.lemmas.Map.Keys.{apart_from_distinct, IsDistinct-from_apart}
-use Rattle.std.proofs.lemmas.Option.{slice_get_within, slice_get-get_or, get_or_from_slice_get, same_Some, unwrap_or-slice_get}
+use Rattle.std.proofs.lemmas.Option.{slice_get_within, slice_get-get_or, get_or_from_slice_get, same_Some}
 use Rattle.hist_types.specs.Edges.{Label, Edge, edge, order_labels, all_order_edges}
 use Rattle.hist_types.specs.Transactions.{Transaction}
 use Rattle.hist_types.specs.declared.types.Level.{Level}
@@ -20,7 +20,7 @@ use Rattle.dep_edges.specs.Tables.{txn_at}
 use Rattle.dep_edges.proofs.Lists.{all_in}
 use Rattle.dep_edges.proofs.Out.{one_by_invocation}
 use Rattle.edge_graph.specs.Parts.{IsOrderOf}
-use Rattle.edge_graph.specs.Successors.{ArePlaces, place_of, predecessors_at, HavePlaces, HaveOwnPlaces, has_place, has_invocation, before_at, is_successor, list_at, AreFirstSuccessors}
+use Rattle.edge_graph.specs.Successors.{ArePlaces, place_of, predecessors_at, HavePlaces, HaveOwnPlaces, has_place, has_invocation, is_successor, list_at, AreFirstSuccessors}
 use Rattle.edge_graph.proofs.Lists.{txn_read}
 
 -- ---- tests and lists
@@ -174,11 +174,6 @@ module _ (ts : List Transaction) (order : List Before) (kept : AreOfHistory ts) 
         (ap (slice_index places) (sym same ∙ ap (λ (x : Transaction). x.invocation) one) ∙ get_or_from_slice_get places v.invocation first 0 found)))
 
   -- ---- lists of successors
-
-  pub before_read : (place : ℕ) (u : Before) → place < length order → u ≡ get_or order place u → u ≡ before_at order place
-  before_read place u h at =
-      let none : Before = record { process = 0; invocation = 0; in_process = []; in_realtime = [] } in
-      at ∙ get_or_default order place u none h ∙ sym (unwrap_or-slice_get order place none)
 
   pub no_successors : (level : Level) (lists : List (List ℕ)) → length lists ≡ length ts → ((place : ℕ) → list_at lists place ≡ []) → AreFirstSuccessors ts order level 0 lists
   no_successors level lists count empty = record { count = count; each = λ place h. empty place }

@@ -1,11 +1,11 @@
 -- The order turned round: for each transaction, the nodes that it comes before.
-use Rattle.std.specs.Prelude.{◌≡◌, ℕ, ◌<◌, List, [], length, Bool, ◌&&◌, ◌==◌, Some, unwrap_or, slice_get, slice_index, slice_index_or, map, filter, nat_eq, All}
+use Rattle.std.specs.Prelude.{◌≡◌, ℕ, ◌<◌, List, [], length, Bool, ◌&&◌, ◌==◌, Some, slice_get, slice_index, slice_index_or, map, filter, nat_eq, All}
 use Rattle.std.specs.List.{list_any, range_with_len, IsDistinct}
 use Rattle.hist_types.specs.Transactions.{Transaction, is_node}
 use Rattle.hist_types.specs.declared.types.Level.{Level}
 use Rattle.hist_types.specs.declared.types.Level.TheVariants.{Plain, Process, Realtime}
 use Rattle.dep_edges.specs.Tables.{txn_at}
-use Rattle.order_frontier.specs.Predecessors.{Before}
+use Rattle.order_frontier.specs.Predecessors.{Before, before_at}
 use Rattle.order_frontier.specs.declared.types.Predecessor.{Predecessor}
 
 -- ---- places of transactions
@@ -40,10 +40,6 @@ abbrev pub has_invocation : List Predecessor → ℕ → Bool
 has_invocation ps invocation = list_any (λ (p : Predecessor). p.invocation == invocation) ps
 
 -- ---- all transactions
-
-abbrev pub before_at : List Before → ℕ → Before
-before_at order place =
-    unwrap_or (slice_get order place) (record { process = 0; invocation = 0; in_process = []; in_realtime = [] })
 
 -- the second place has a node with the transaction at the first one among its predecessors
 abbrev pub is_successor : List Transaction → List Before → Level → ℕ → ℕ → Bool

@@ -3,6 +3,7 @@
 ghost use Rattle.std.specs.Prelude.{◌≡◌, ◌<◌, ◌++◌, ◌∷◌, [], ℕ, length, map, if◌then◌else◌, OnOk, IfOk};
 ghost use Rattle.hist_types.specs.Thinning.{AreInvokedInOrder};
 ghost use Rattle.dep_edges.specs.Histories.{AreOfHistory};
+ghost use Rattle.order_frontier.specs.Predecessors.{before_at};
 ghost use Rattle.edge_graph.specs.Parts.{IsOrderOf};
 ghost use Rattle.edge_graph.specs.Successors.{ArePlaces, predecessors_at, HavePlaces, HaveOwnPlaces, has_place, list_at, lists_at, AreSuccessors};
 ghost use Rattle.hist_types.specs.declared.types.Level.TheVariants.{Process, Realtime};
@@ -10,7 +11,7 @@ ghost use Rattle.hist_types.specs.declared.types.Level.TheVariants.{Process, Rea
 use crate::rows::number;
 use dep_edges::deps::Deps;
 use hist_types::types::Level;
-use order_frontier::types::{Order, Predecessor, Predecessors};
+use order_frontier::types::{Order, Predecessor};
 use smallvec::SmallVec;
 use std::alloc::{AllocError, Global};
 use std::marker::Model;
@@ -19,7 +20,7 @@ use txn_pairs::types::Txn;
 /// The places of the nodes that a transaction comes before.
 #[derive(Drop)]
 pub(crate) struct Successors {
-    places: SmallVec<u32, 2>,
+    places: SmallVec<u32, 4>,
 }
 
 impl Model for Successors {
@@ -67,13 +68,14 @@ pub fn places(alloc: Global, txns: &[Txn<'_>]) -> Result<Vec<usize>, AllocError>
     Ok(places)
 }
 
-fn predecessors(before: &Predecessors, level: Level) -> &[Predecessor]
-    ensures { result.now ≡ predecessors_at level before.now }
+fn predecessors(order: &Order, place: usize, level: Level) -> &[Predecessor]
+    requires { place < length order.now }
+    ensures { result.now ≡ predecessors_at level (before_at order.now place) }
 {
     match level {
         Level::Plain => &[],
-        Level::Process => before.in_process(),
-        Level::Realtime => before.in_realtime(),
+        Level::Process => order.in_process(place),
+        Level::Realtime => order.in_realtime(place),
     }
 }
 
@@ -110,7 +112,7 @@ fn empty_lists(alloc: Global, count: usize) -> Result<Vec<Successors>, AllocErro
 fn turned(
     alloc: Global,
     deps: &Deps<'_, '_>,
-    order: &[Predecessors],
+    order: &Order,
     places: &[usize],
     level: Level,
 ) -> Result<Vec<Successors>, AllocError>
@@ -120,10 +122,10 @@ fn turned(
     ensures { IfOk result (λ lists. AreSuccessors deps.now order.now level lists.items) }
 {
     let mut lists = empty_lists(alloc, order.len())?;
-    for (place, before) in order.iter().enumerate() {
+    for place in 0..order.len() {
         if deps.is_node(place) {
             push_to_each(
-                predecessors(before, level),
+                predecessors(order, place, level),
                 places,
                 number(place)?,
                 &mut lists,
@@ -146,7 +148,6 @@ impl Orders {
         ensures process { IfOk result (λ orders. AreSuccessors deps.now order.now Process orders.in_process.items) }
         ensures realtime { IfOk result (λ orders. AreSuccessors deps.now order.now Realtime orders.in_realtime.items) }
     {
-        let order = order.as_slice();
         let places = places(alloc, deps.history().txns())?;
         Ok(Orders {
             in_process: turned(alloc, deps, order, &places, Level::Process)?,

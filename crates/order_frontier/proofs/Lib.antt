@@ -9,3 +9,4 @@ pub mod Advancing
 pub mod Apart
 pub mod Passes
 pub mod AllPairs
+pub mod Ranges

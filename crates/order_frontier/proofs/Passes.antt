@@ -27,7 +27,7 @@ taken_in v (suc k) [] i = elim i [ ]
 taken_in v (suc k) (d ∷ done) (inl e) = inl e
 taken_in v (suc k) (d ∷ done) (inr i) = inr (taken_in v k done i)
 
-rising_take : (k : ℕ) (done : List Completed) → AreRising done → AreRising (take k done)
+pub rising_take : (k : ℕ) (done : List Completed) → AreRising done → AreRising (take k done)
 rising_take zero done rising = tt
 rising_take (suc k) [] rising = tt
 rising_take (suc k) (d ∷ done) rising = (

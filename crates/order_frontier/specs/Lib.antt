@@ -1,4 +1,5 @@
 pub mod Predecessors
+pub mod Ranges
 pub mod Completions
 pub mod Events
 pub mod Summaries

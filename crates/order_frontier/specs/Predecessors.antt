@@ -1,5 +1,5 @@
 -- What comes before each transaction, and the order edges that this gives.
-use Rattle.std.specs.Prelude.{◌≡◌, nat_eq, ℕ, Bool, ◌&&◌, Some, IsTrue, IsFalse, List, [], map, flat_map, Contains, ◌↔◌}
+use Rattle.std.specs.Prelude.{◌≡◌, nat_eq, ℕ, Bool, ◌&&◌, Some, unwrap_or, slice_get, IsTrue, IsFalse, List, [], map, flat_map, Contains, ◌↔◌}
 use Rattle.std.specs.List.{IsDistinct, list_any}
 use Rattle.hist_types.specs.Operations.{Operation}
 use Rattle.hist_types.specs.Transactions.{Transaction, is_ok, transactions_of}
@@ -15,6 +15,11 @@ pub record Before : Type 0 where
   pub invocation : ℕ
   pub in_process : List Predecessor
   pub in_realtime : List Predecessor
+
+-- the one at a place
+abbrev pub before_at : List Before → ℕ → Before
+before_at order place =
+    unwrap_or (slice_get order place) (record { process = 0; invocation = 0; in_process = []; in_realtime = [] })
 
 abbrev pub process_edge : (process invocation : ℕ) → Predecessor → Edge
 process_edge number invocation p = record { from = p.invocation; to = invocation; label = process number }

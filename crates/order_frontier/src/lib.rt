@@ -29,8 +29,7 @@ pub fn all_pairs(alloc: Global, txns: &Txns<'_>) -> Result<Order, Fault>
     ensures transactions { IfOk result (λ order. names order ≡ map name_of txns.now) }
     ensures err { IfErr result (λ fault. fault ≡ memory_fault) }
 {
-    let list = pairs::all(alloc, txns.as_slice())?;
-    Ok(Order::new(list))
+    Ok(pairs::all(alloc, txns.as_slice())?)
 }
 
 /// The thinned predecessors of each transaction: its process's last ok transaction before it, and the moving frontier
@@ -44,6 +43,5 @@ pub fn thin(alloc: Global, txns: &Txns<'_>) -> Result<Order, Fault>
     ensures transactions { IfOk result (λ order. names order ≡ map name_of txns.now) }
     ensures err { IfErr result (λ fault. fault ≡ memory_fault) }
 {
-    let list = thinning::thinned(alloc, txns.as_slice())?;
-    Ok(Order::new(list))
+    Ok(thinning::thinned(alloc, txns.as_slice())?)
 }

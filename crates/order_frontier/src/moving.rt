@@ -35,6 +35,17 @@ impl Moving {
         self.recent.as_slice()
     }
 
+    /// The last ok transaction of a process, if there is one.
+    pub fn last(&self, alloc: Global, process: u64) -> Result<SmallVec<Predecessor, 1>, AllocError>
+        ensures { IfOk result (λ found. found.items ≡ option_to_list (get nat_eq self.now.last process)) }
+    {
+        let mut found = SmallVec::new(alloc);
+        if let Some(last) = self.last.get(&process) {
+            found.push(*last)?;
+        }
+        Ok(found)
+    }
+
     /// The thinned predecessors of a transaction that is invoked now.
     pub fn before(
         &self,
@@ -44,10 +55,7 @@ impl Moving {
     ) -> Result<Predecessors, AllocError>
         ensures { IfOk result (λ u. u ≡ record { process = process; invocation = invocation; in_process = option_to_list (get nat_eq self.now.last process); in_realtime = self.now.recent.items }) }
     {
-        let mut in_process = SmallVec::new(alloc);
-        if let Some(last) = self.last.get(&process) {
-            in_process.push(*last)?;
-        }
+        let in_process = self.last(alloc, process)?;
         let in_realtime = SmallVec::from_slice(alloc, self.recent.as_slice())?;
         Ok(Predecessors::new(process, invocation, in_process, in_realtime))
     }

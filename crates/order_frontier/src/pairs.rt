@@ -5,7 +5,7 @@ ghost use Rattle.order_frontier.specs.Pairs.{all_before};
 ghost use Rattle.order_frontier.specs.Predecessors.{AreOfEvents, HasOrderEdges, NoneTwice, name_of, names};
 
 use crate::completions::completions;
-use crate::types::{Completed, Predecessors};
+use crate::types::{Completed, Order, Predecessors};
 use smallvec::SmallVec;
 use std::alloc::{AllocError, Global};
 use txn_pairs::types::Txn;
@@ -28,15 +28,15 @@ fn all_before(alloc: Global, done: &[Completed], txn: &Txn<'_>) -> Result<Predec
 }
 
 /// The predecessors of each transaction: all of them.
-pub fn all(alloc: Global, txns: &[Txn<'_>]) -> Result<Vec<Predecessors>, AllocError>
-    ensures edges { IfOk result (λ order. HasOrderEdges txns.now order.items) }
-    ensures once { AreOfEvents txns.now → IfOk result (λ order. All NoneTwice order.items) }
-    ensures names { IfOk result (λ order. names order.items ≡ map name_of txns.now) }
+pub fn all(alloc: Global, txns: &[Txn<'_>]) -> Result<Order, AllocError>
+    ensures edges { IfOk result (λ order. HasOrderEdges txns.now order) }
+    ensures once { AreOfEvents txns.now → IfOk result (λ order. All NoneTwice order) }
+    ensures names { IfOk result (λ order. names order ≡ map name_of txns.now) }
 {
     let done = completions(alloc, txns)?;
-    let mut order = Vec::new(alloc);
+    let mut order = Order::new(alloc);
     for txn in txns {
-        order.push(all_before(alloc, &done, txn)?)?;
+        order.push(alloc, &all_before(alloc, &done, txn)?)?;
     }
     Ok(order)
 }

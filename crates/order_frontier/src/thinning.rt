@@ -1,13 +1,14 @@
 //! The pass that thins the order.
 
-ghost use Rattle.std.specs.Prelude.{◌≡◌, ◌<◌, ◌≤◌, ℕ, List, map, take, ◌++◌, length, nat_eq, All, IfOk, slice_index_or};
+ghost use Rattle.std.specs.Prelude.{◌≡◌, ◌<◌, ◌≤◌, ℕ, List, map, take, ◌++◌, ◌-◌, length, nat_eq, All, IfOk, slice_index_or};
 ghost use Rattle.std.specs.HashMap.{get};
-ghost use Rattle.order_frontier.specs.Completions.{AreKept, AreRising, AreTimely};
+ghost use Rattle.std.specs.Option.{option_to_list};
+ghost use Rattle.order_frontier.specs.Completions.{AreKept, AreRising, AreTimely, predecessor_of};
 ghost use Rattle.order_frontier.specs.Predecessors.{AreOfEvents, HasThinned, NoneTwice, name_of, names};
 
 use crate::completions::completions;
 use crate::moving::Moving;
-use crate::types::{Completed, Predecessors};
+use crate::types::{Completed, Order, Predecessor, Row};
 use std::alloc::{AllocError, Global};
 use txn_pairs::types::Txn;
 
@@ -27,22 +28,43 @@ fn advance(moving: &mut Moving, done: &[Completed], index: u64) -> Result<usize,
     Ok(done.len())
 }
 
+/// The predecessors that ok transactions are, in the same order.
+fn predecessors(alloc: Global, done: &[Completed]) -> Result<Vec<Predecessor>, AllocError>
+    ensures { IfOk result (λ list. list.items ≡ map predecessor_of done.now) }
+{
+    let mut list = Vec::with_capacity(alloc, done.len())?;
+    for ok in done {
+        list.push(ok.predecessor())?;
+    }
+    Ok(list)
+}
+
+/// What comes before a transaction that is invoked now. What the frontier keeps of the ok transactions that it took are the
+/// last ones.
+fn row_of(alloc: Global, moving: &Moving, txn: &Txn<'_>, taken: usize) -> Result<Row, AllocError>
+    requires { length moving.now.recent.items ≤ taken }
+    ensures { IfOk result (λ row. row ≡ record { process = txn.now.process; invocation = txn.now.invocation; in_process = option_to_list (get nat_eq moving.now.last txn.now.process); start = taken - length moving.now.recent.items; end = taken }) }
+{
+    let in_process = moving.last(alloc, txn.process())?;
+    let start = taken - moving.frontier().len();
+    Row::new(txn.process(), txn.invocation(), in_process, start, taken)
+}
+
 /// The thinned predecessors of each transaction.
-pub fn thinned(alloc: Global, txns: &[Txn<'_>]) -> Result<Vec<Predecessors>, AllocError>
+pub fn thinned(alloc: Global, txns: &[Txn<'_>]) -> Result<Order, AllocError>
     requires { AreOfEvents txns.now }
-    ensures thinned { IfOk result (λ order. All (HasThinned txns.now) order.items) }
-    ensures once { IfOk result (λ order. All NoneTwice order.items) }
-    ensures names { IfOk result (λ order. names order.items ≡ map name_of txns.now) }
+    ensures thinned { IfOk result (λ order. All (HasThinned txns.now) order) }
+    ensures once { IfOk result (λ order. All NoneTwice order) }
+    ensures names { IfOk result (λ order. names order ≡ map name_of txns.now) }
 {
     let done = completions(alloc, txns)?;
+    let in_realtime = predecessors(alloc, &done)?;
     let mut moving = Moving::new(alloc);
-    let mut order = Vec::new(alloc);
+    let mut rows = Vec::with_capacity(alloc, txns.len())?;
     let mut taken = 0;
     for txn in txns {
-        let invocation = txn.invocation();
-        taken += advance(&mut moving, &done[taken..], invocation)?;
-        let before = moving.before(alloc, txn.process(), invocation)?;
-        order.push(before)?;
+        taken += advance(&mut moving, &done[taken..], txn.invocation())?;
+        rows.push(row_of(alloc, &moving, txn, taken)?)?;
     }
-    Ok(order)
+    Ok(Order::of_ranges(rows, in_realtime))
 }

@@ -1,9 +1,11 @@
 //! What comes before each transaction.
 
-ghost use Rattle.std.specs.Prelude.{◌≡◌};
+ghost use Rattle.std.specs.Prelude.{◌≡◌, ◌==◌, ◌<◌, ◌++◌, ◌∷◌, [], length, map, All, IfOk, OnOk};
+ghost use Rattle.order_frontier.specs.Predecessors.{before_at};
+ghost use Rattle.order_frontier.specs.Ranges.{before_in, IsRangeIn};
 
 use smallvec::SmallVec;
-use std::alloc::Global;
+use std::alloc::{AllocError, Global};
 use std::marker::Model;
 
 /// An ok transaction that comes before another one, by the indexes of its invocation and its completion.
@@ -97,31 +99,138 @@ impl Predecessors {
     }
 }
 
-/// The predecessors of each transaction, in the order of the transactions.
+/// A transaction, what comes before it in its process, and the range of its order's list that comes before it in real
+/// time.
+#[derive(Drop)]
+pub(crate) struct Row {
+    process: u64,
+    invocation: u64,
+    in_process: SmallVec<Predecessor, 1>,
+    start: u32,
+    end: u32,
+}
+
+impl Model for Row {
+    ghost use Rattle.order_frontier.specs.Ranges.{Ranged};
+
+    ghost Value = { Ranged };
+
+    ghost view = { λ r. record { process = r.process; invocation = r.invocation; in_process = r.in_process.items; start = r.start; end = r.end } };
+}
+
+/// No memory holds more predecessors than there are such numbers.
+fn number(place: usize) -> Result<u32, AllocError>
+    ensures { IfOk result (λ n. n ≡ place) }
+{
+    u32::try_from(place).map_err(|_| AllocError)
+}
+
+impl Row {
+    pub fn new(
+        process: u64,
+        invocation: u64,
+        in_process: SmallVec<Predecessor, 1>,
+        start: usize,
+        end: usize,
+    ) -> Result<Self, AllocError>
+        ensures { IfOk result (λ row. row ≡ record { process = process; invocation = invocation; in_process = in_process.items; start = start; end = end }) }
+    {
+        Ok(Row {
+            process,
+            invocation,
+            in_process,
+            start: number(start)?,
+            end: number(end)?,
+        })
+    }
+}
+
+/// The predecessors of each transaction, in the order of the transactions. Transactions share one list of predecessors in
+/// real time, since those of a thinned order are next to each other by their completions.
 #[derive(Drop)]
 pub struct Order {
-    list: Vec<Predecessors>,
+    rows: Vec<Row>,
+    in_realtime: Vec<Predecessor>,
 }
 
 impl Model for Order {
-    ghost use Rattle.std.specs.Prelude.{List};
+    ghost use Rattle.std.specs.Prelude.{List, map, All};
     ghost use Rattle.order_frontier.specs.Predecessors.{Before};
+    ghost use Rattle.order_frontier.specs.Ranges.{before_in, IsRangeIn};
 
     ghost Value = { List Before };
 
-    ghost view = { λ order. order.list.items };
+    ghost view = { λ order. map (before_in order.in_realtime.items) order.rows.items };
+
+    ghost invariant = { λ order. All (IsRangeIn order.in_realtime.items) order.rows.items };
 }
 
 impl Order {
-    pub(crate) fn new(list: Vec<Predecessors>) -> Self
-        ensures { result ≡ list.items }
+    /// No transactions.
+    pub(crate) fn new(alloc: Global) -> Self
+        ensures { result ≡ [] }
     {
-        Order { list }
+        Order {
+            rows: Vec::new(alloc),
+            in_realtime: Vec::new(alloc),
+        }
     }
 
-    pub fn as_slice(&self) -> &[Predecessors]
-        ensures { result.now ≡ self.now }
+    /// Transactions with ranges of a list.
+    pub(crate) fn of_ranges(rows: Vec<Row>, in_realtime: Vec<Predecessor>) -> Self
+        requires { All (IsRangeIn in_realtime.items) rows.items }
+        ensures { result ≡ map (before_in in_realtime.items) rows.items }
     {
-        &self.list
+        Order { rows, in_realtime }
+    }
+
+    /// Adds the next transaction, with a range of its own.
+    pub(crate) fn push(&mut self, alloc: Global, before: &Predecessors) -> Result<(), AllocError>
+        ensures { OnOk result (self.new ≡ self.old ++ before.now ∷ []) }
+    {
+        let in_process = SmallVec::from_slice(alloc, before.in_process())?;
+        let start = self.in_realtime.len();
+        self.in_realtime.extend_from_slice(before.in_realtime())?;
+        let end = self.in_realtime.len();
+        let row = Row::new(
+            before.process(),
+            before.invocation(),
+            in_process,
+            start,
+            end,
+        )?;
+        self.rows.push(row)?;
+        Ok(())
+    }
+
+    /// How many transactions there are.
+    pub fn len(&self) -> usize
+        ensures { result ≡ length self.now }
+    {
+        self.rows.len()
+    }
+
+    /// Whether there is no transaction.
+    pub fn is_empty(&self) -> bool
+        ensures { result ≡ (length self.now == 0) }
+    {
+        self.len() == 0
+    }
+
+    /// What comes before a transaction in its own process.
+    pub fn in_process(&self, place: usize) -> &[Predecessor]
+        requires { place < length self.now }
+        ensures { result.now ≡ (before_at self.now place).in_process }
+    {
+        self.rows[place].in_process.as_slice()
+    }
+
+    /// What comes before a transaction in real time.
+    pub fn in_realtime(&self, place: usize) -> &[Predecessor]
+        requires { place < length self.now }
+        ensures { result.now ≡ (before_at self.now place).in_realtime }
+    {
+        let row = &self.rows[place];
+        &self.in_realtime[row.start as usize..row.end as usize]
     }
 }

@@ -1,9 +1,8 @@
-use Rattle.std.proofs.Common.{sym, subst}
+use Rattle.std.proofs.Common.{subst}
 use Rattle.hist_types.specs.Edges.{all_order_edges}
 use Rattle.order_frontier.specs.Predecessors.{HasEdges}
 use Rattle.order_frontier.proofs.all_pairs.Goals as goal
 
 pub returns-clause-edges : goal.returns-clause-edges
 returns-clause-edges c =
-    subst (λ order. HasEdges order (λ level. all_order_edges level c.args.txns.now)) (sym c.new.ensures)
-    (subst (λ ts. HasEdges c.in_ok-list.list.items (λ level. all_order_edges level ts)) c.as_slice.ensures c.in_ok-list.ensures.edges)
+    subst (λ ts. HasEdges c.in_ok-all.field-0 (λ level. all_order_edges level ts)) c.as_slice.ensures c.in_ok-all.ensures.edges

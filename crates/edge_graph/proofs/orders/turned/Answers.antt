@@ -2,11 +2,12 @@ use Rattle.std.proofs.Common.{◌≡◌, ◌∙◌, ℕ, List, [], ◌∷◌, �
 use Rattle.std.proofs.lemmas.List.{with_items_is}
 use Rattle.hist_types.specs.Transactions.{is_node}
 use Rattle.dep_edges.specs.Tables.{txn_at}
-use Rattle.hist_types.proofs.Members.{In, in_from_Contains}
-use Rattle.order_frontier.specs.Predecessors.{Before}
+use Rattle.hist_types.proofs.Members.{In}
+use Rattle.order_frontier.specs.Predecessors.{Before, before_at}
 use Rattle.order_frontier.specs.declared.types.Predecessor.{Predecessor}
-use Rattle.edge_graph.specs.Successors.{HavePlaces, HaveOwnPlaces, predecessors_at, has_place, has_invocation, before_at, is_successor, list_at}
-use Rattle.edge_graph.proofs.Ordered.{have_places, have_own_places, places_tell, before_read, next_successors}
+use Rattle.edge_graph.specs.Successors.{HavePlaces, HaveOwnPlaces, predecessors_at, has_place, has_invocation, is_successor, list_at}
+use Rattle.edge_graph.proofs.OrderTo.{before_there}
+use Rattle.edge_graph.proofs.Ordered.{have_places, have_own_places, places_tell, next_successors}
 use Rattle.edge_graph.proofs.orders.turned.Goals as goal
 use Rattle.edge_graph.proofs.orders.turned.Goals.{then-is_node+in_ok-number+in_ok-push_to_each, else-is_node}
 
@@ -15,8 +16,8 @@ push_to_each-requires-clause-within c =
     let ts = c.args.deps.now in
     let order = c.args.order.now in
     let places = c.args.places.now in
-    let u : Before = c.index-order-place.result in
-    let i : In u order = in_from_Contains u order (c.loop-place.place, c.loop-place-test.true, sym c.index-order-place.is) in
+    let u : Before = before_at order c.loop-place.place in
+    let i : In u order = before_there order c.loop-place.place (let test = c.loop-place-test.true in omega (arith, test, c.len-place-end.ensures)) in
     let n : length c.deref_mut.result.now ≡ length ts = ap length c.deref_mut.ensures.value ∙ c.loop-place.invariant.count in
     subst (λ k. HavePlaces places k c.predecessors.result.now) (sym n)
     (subst (λ (ps : List Predecessor). HavePlaces places (length ts) ps) (sym c.predecessors.ensures)
@@ -27,8 +28,8 @@ push_to_each-requires-clause-apart c =
     let ts = c.args.deps.now in
     let order = c.args.order.now in
     let places = c.args.places.now in
-    let u : Before = c.index-order-place.result in
-    let i : In u order = in_from_Contains u order (c.loop-place.place, c.loop-place-test.true, sym c.index-order-place.is) in
+    let u : Before = before_at order c.loop-place.place in
+    let i : In u order = before_there order c.loop-place.place (let test = c.loop-place-test.true in omega (arith, test, c.len-place-end.ensures)) in
     subst (HaveOwnPlaces places) (sym c.predecessors.ensures)
     (have_own_places ts order c.requires.kept c.requires.order places c.requires.places c.args.level u i)
 
@@ -40,10 +41,9 @@ loop-place-preserved c =
     let level = c.args.level in
     let next = c.loop-place.place in
     let lists = c.loop-place.lists.items in
-    let u : Before = c.index-order-place.result in
-    let i : In u order = in_from_Contains u order (next, c.loop-place-test.true, sym c.index-order-place.is) in
+    let u : Before = before_at order next in
     let known = λ (first : ℕ) (b : Before). has_invocation (predecessors_at level b) (txn_at ts first).invocation in
-    let read : u ≡ before_at order next = before_read ts order c.requires.kept c.requires.order next u c.loop-place-test.true c.index-order-place.is in
+    let i : In u order = before_there order next (let test = c.loop-place-test.true in omega (arith, test, c.len-place-end.ensures)) in
     elim c.if-is_node.branch [
       | then-is_node+in_ok-number+in_ok-push_to_each w ↦
           let new = w.push_to_each.new.lists in
@@ -58,7 +58,7 @@ loop-place-preserved c =
           let test : has_place places w.predecessors.result.now first ≡ is_successor ts order level first next =
           ap (λ (ps : List Predecessor). has_place places ps first) w.predecessors.ensures
           ∙ places_tell ts order c.requires.kept c.requires.order places c.requires.places level u first i h
-          ∙ ap (known first) read ∙ sym (ap (λ b. b && known first (before_at order next)) node) in
+          ∙ sym (ap (λ b. b && known first (before_at order next)) node) in
           ap (λ xs. list_at xs first) items ∙ w.in_ok-push_to_each.ensures first (omega (arith, h, long_before, c.loop-place.invariant.count))
           ∙ ap (λ xs. list_at xs first ++ (if has_place places w.predecessors.result.now first then w.in_ok-number.field-0 ∷ [] else [])) w.deref_mut.ensures.value
           ∙ ap (λ n. list_at lists first ++ (if has_place places w.predecessors.result.now first then n ∷ [] else [])) number

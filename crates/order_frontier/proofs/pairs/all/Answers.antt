@@ -6,7 +6,7 @@ use Rattle.order_frontier.specs.Predecessors.{Before, HasEdges, NoneTwice, names
 use Rattle.order_frontier.proofs.AllPairs.{has_all, names_all, all_distinct}
 use Rattle.order_frontier.proofs.pairs.all.Goals as goal
 
-whole : (c : goal.After-drop-done-2) → c.loop-txn.order.items ≡ map (all_before c.in_ok-done.done.items) c.args.txns.now
+whole : (c : goal.After-drop-done-2) → c.loop-txn.order ≡ map (all_before c.in_ok-done.done.items) c.args.txns.now
 whole c =
     c.loop-txn.invariant
     ∙ ap (map (all_before c.in_ok-done.done.items)) (take_all c.loop-txn.txn-index c.args.txns.now c.loop-txn-test.false)

@@ -4,4 +4,4 @@ use Rattle.order_frontier.specs.Pairs.{all_before}
 use Rattle.order_frontier.proofs.pairs.all.Given as goal
 
 abbrev pub invariant-loop-txn : goal.invariant-loop-txn
-invariant-loop-txn l = l.order.items ≡ map (all_before l.done.items) (take l.txn-index l.txns)
+invariant-loop-txn l = l.order ≡ map (all_before l.done.items) (take l.txn-index l.txns)

@@ -1,9 +1,12 @@
--- The predecessors so far are those of the transactions so far.
-use Rattle.std.proofs.Common.{nat_eq}
+-- The predecessors so far are those of the transactions so far, in ranges of the list.
+use Rattle.std.proofs.Common.{nat_eq, map, All}
 use Rattle.std.specs.HashMap.{get}
+use Rattle.order_frontier.specs.Ranges.{before_in, IsRangeIn}
 use Rattle.order_frontier.proofs.Passes.{IsPart}
 use Rattle.order_frontier.proofs.thinning.thinned.Given as goal
 
 abbrev pub invariant-loop-txn : goal.invariant-loop-txn
-invariant-loop-txn l =
-    IsPart l.txns l.done.items l.txn-index l.taken l.moving.recent.items (get nat_eq l.moving.last) l.order.items
+invariant-loop-txn l = record {
+  part : IsPart l.txns l.done.items l.txn-index l.taken l.moving.recent.items (get nat_eq l.moving.last) (map (before_in l.in_realtime.items) l.rows.items);
+  ranges : All (IsRangeIn l.in_realtime.items) l.rows.items;
+}
