@@ -99,7 +99,8 @@ impl<'a, S: BuildHasher> AtomIndex<'a, S> {
         }
     }
 
-    /// Makes room for so many more atoms. Out of memory leaves the atoms as they are. So does room for more than 4,294,967,295.
+    /// Makes room for so many more atoms. Out of memory, which more than 4,294,967,295 of them are, leaves the atoms as they
+    /// are.
     pub fn reserve(&mut self, additional: usize) -> Result<(), AllocError>
         ensures items { self.new.items ≡ self.old.items }
         ensures room { OnOk result (additional ≤ self.new.spare) }

@@ -5,7 +5,7 @@ ghost use Rattle.dep_edges.specs.Histories.{AreOfHistory};
 ghost use Rattle.edge_graph.specs.Parts.{IsOrderOf};
 ghost use Rattle.key_versions.specs.Tables.{IsTableOf};
 
-use cycle_find::{find, rules_out_cycles};
+use cycle_find::ranked_graph::RankedGraph;
 use dep_edges::edges;
 use edge_graph::graph::Graph;
 use hist_types::types::{Fault, Level, Phenomenon};
@@ -100,22 +100,18 @@ fn order_of(alloc: Global, txns: &Txns<'_>, form: Form) -> Result<Order, Fault>
 
 fn predecessor_count(order: &Order) -> u64 {
     let mut count: u64 = 0;
-    for predecessors in order.as_slice() {
-        count = count.wrapping_add(predecessors.in_process().len() as u64);
-        count = count.wrapping_add(predecessors.in_realtime().len() as u64);
+    for place in 0..order.len() {
+        count = count.wrapping_add(order.in_process(place).len() as u64);
+        count = count.wrapping_add(order.in_realtime(place).len() as u64);
     }
     count
 }
 
 /// At how many levels the phenomenon is found.
-fn level_count(
-    alloc: Global,
-    graph: &Graph<'_, '_, '_>,
-    phenomenon: Phenomenon,
-) -> Result<u64, Fault> {
+fn level_count(graph: &RankedGraph<'_, '_, '_, '_>, phenomenon: Phenomenon) -> Result<u64, Fault> {
     let mut count: u64 = 0;
     for level in &LEVELS {
-        if find(alloc, graph, phenomenon, *level)?.is_some() {
+        if graph.find(phenomenon, *level)?.is_some() {
             count = count.wrapping_add(1);
         }
     }
@@ -124,12 +120,11 @@ fn level_count(
 
 /// The lowest level of the phenomenon.
 fn lowest_of(
-    alloc: Global,
-    graph: &Graph<'_, '_, '_>,
+    graph: &RankedGraph<'_, '_, '_, '_>,
     phenomenon: Phenomenon,
 ) -> Result<Option<Level>, Fault> {
     for level in &LEVELS {
-        if find(alloc, graph, phenomenon, *level)?.is_some() {
+        if graph.find(phenomenon, *level)?.is_some() {
             return Ok(Some(*level));
         }
     }
@@ -145,12 +140,12 @@ pub struct Lowest {
     pub item: Option<Level>,
 }
 
-fn levels_of(alloc: Global, graph: &Graph<'_, '_, '_>) -> Result<Lowest, Fault> {
+fn levels_of(graph: &RankedGraph<'_, '_, '_, '_>) -> Result<Lowest, Fault> {
     Ok(Lowest {
-        g0: lowest_of(alloc, graph, Phenomenon::G0)?,
-        g1c: lowest_of(alloc, graph, Phenomenon::G1c)?,
-        single: lowest_of(alloc, graph, Phenomenon::GSingle)?,
-        item: lowest_of(alloc, graph, Phenomenon::G2Item)?,
+        g0: lowest_of(graph, Phenomenon::G0)?,
+        g1c: lowest_of(graph, Phenomenon::G1c)?,
+        single: lowest_of(graph, Phenomenon::GSingle)?,
+        item: lowest_of(graph, Phenomenon::G2Item)?,
     })
 }
 
@@ -162,20 +157,20 @@ pub enum Found {
 }
 
 fn in_graph(alloc: Global, graph: &Graph<'_, '_, '_>, stage: Stage) -> Result<Found, Fault> {
+    if stage == Stage::Graph {
+        return Ok(Found::Number(graph.len() as u64));
+    }
+    let graph = RankedGraph::new(alloc, graph)?;
     match stage {
-        Stage::Settle => {
-            let settled = rules_out_cycles(alloc, graph, Level::Realtime)?;
-            Ok(Found::Number(u64::from(settled)))
-        }
         Stage::Find => {
             let mut count: u64 = 0;
             for phenomenon in &PHENOMENA {
-                count = count.wrapping_add(level_count(alloc, graph, *phenomenon)?);
+                count = count.wrapping_add(level_count(&graph, *phenomenon)?);
             }
             Ok(Found::Number(count))
         }
-        Stage::Levels => Ok(Found::Levels(levels_of(alloc, graph)?)),
-        _ => Ok(Found::Number(graph.len() as u64)),
+        Stage::Levels => Ok(Found::Levels(levels_of(&graph)?)),
+        _ => Ok(Found::Number(u64::from(graph.rules_out_cycles()))),
     }
 }
 
