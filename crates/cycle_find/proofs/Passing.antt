@@ -11,10 +11,11 @@ use Rattle.edge_graph.specs.Parts.{Parts}
 use Rattle.edge_graph.specs.Vertices.{IsArc, AreArcs}
 use Rattle.edge_graph.specs.declared.types.Kinds.{Kinds}
 use Rattle.cycle_find.specs.Dependencies.{needed, way_back, whole}
-use Rattle.cycle_find.specs.Ranked.{AreRanksOver}
+use Rattle.cycle_find.specs.Ranked.{AreRanksOver, AreRanksWithin, NeverFalls}
 use Rattle.cycle_find.specs.Tasks.{Task, needed_kinds, back_kinds, whole_kinds, HasReturnBetween, IsShownOr, NoneBy, NoneFrom}
 use Rattle.cycle_find.specs.Ways.{RisesBy, RisesFrom}
-use Rattle.cycle_find.proofs.RankedArcs.{raise, fewer, fewer_plain}
+use Rattle.cycle_find.proofs.RankedArcs.{raise, within, IsArcWithin, rising_within, fewer, fewer_plain, fewer_within}
+use Rattle.edge_graph.proofs.EdgeArcs.{more_than_plain}
 
 -- what holds of each vertex in the list holds of each to which an arc leads
 pub each_arc : (g : Parts) (kinds : Kinds) (lists : List (List ℕ)) (v : ℕ) (P : ℕ → Type 0) → AreArcs g kinds lists
@@ -62,8 +63,40 @@ none_from_above task ranks from by are up to place leads (edge, (walk, is)) =
       | inr (absent, other, arc) ↦ (fewer_plain g (needed ph) (whole ph) task.level ranks (needed_of_whole ph) are).rising by to arc
     ] in
     let down : get_or ranks to 0 ≤ get_or ranks from 0 =
-    raise g (back_kinds task) ranks (fewer g (way_back ph) (whole ph) task.level ranks (back_of_whole ph) are) to from walk is.steps in
+    raise (IsArc g (back_kinds task)) ranks (fewer g (way_back ph) (whole ph) task.level ranks (back_of_whole ph) are).rising to from walk is.steps in
     omega (arith, up, on, down)
+
+-- no ranks fall along a needed arc, nor along two of them
+pub never_falls : (task : Task) (from by : ℕ) → IsArc task.graph (needed_kinds task) from by → NeverFalls task.graph (whole_kinds task) from by
+never_falls task from by arc ranks are =
+    (fewer_plain task.graph (needed task.phenomenon) (whole task.phenomenon) task.level ranks (needed_of_whole task.phenomenon) are).rising from by arc
+
+pub never_falls_by : (task : Task) (from by to : ℕ) → IsArc task.graph (needed_kinds task) from by → IsArc task.graph (needed_kinds task) by to → NeverFalls task.graph (whole_kinds task) from to
+never_falls_by task from by to arc on ranks are = omega (arith, never_falls task from by arc ranks are, never_falls task by to on ranks are)
+
+-- where it leads up within one coarse rank, no way leads back either
+pub none_from_above_within : (task : Task) (coarse ranks : List ℕ) (from by : ℕ) → AreRanksOver task.graph (whole_kinds task) coarse → AreRanksWithin task.graph (whole_kinds task) coarse ranks → IsArc task.graph (needed_kinds task) from by
+    → get_or ranks from 0 < get_or ranks by 0 → NoneBy task from by
+none_from_above_within task coarse ranks from by over are first up to place leads (edge, (walk, is)) =
+    let g = task.graph in
+    let ph = task.phenomenon in
+    let whole_back = back_of_whole ph in
+    let over_back = fewer g (way_back ph) (whole ph) task.level coarse whole_back over in
+    let start : get_or coarse from 0 ≤ get_or coarse by 0 = never_falls task from by first coarse over in
+    let end : get_or coarse to 0 ≤ get_or coarse from 0 = raise (IsArc g (back_kinds task)) coarse over_back.rising to from walk is.steps in
+    let on : get_or coarse by 0 ≤ get_or coarse to 0 = elim leads [
+      | inl same ↦ subst (λ v. get_or coarse by 0 ≤ get_or coarse v 0) same (omega arith)
+      | inr (absent, other, arc) ↦ never_falls task by to arc coarse over
+    ] in
+    let same_coarse : get_or coarse by 0 ≡ get_or coarse to 0 = omega (arith, start, end, on) in
+    let higher : get_or ranks by 0 ≤ get_or ranks to 0 = elim leads [
+      | inl same ↦ subst (λ v. get_or ranks by 0 ≤ get_or ranks v 0) same (omega arith)
+      | inr (absent, other, arc) ↦ are.rising by to (more_than_plain g (needed ph) (whole ph) (needed_of_whole ph) task.level by to arc) same_coarse
+    ] in
+    let back = within g (back_kinds task) coarse over_back to from walk (omega (arith, start, on)) is.steps in
+    let down : get_or ranks to 0 ≤ get_or ranks from 0 =
+    raise (IsArcWithin g (back_kinds task) coarse) ranks (rising_within g (back_kinds task) coarse ranks (fewer_within g (way_back ph) (whole ph) task.level coarse ranks whole_back are)) to from walk back in
+    omega (arith, up, higher, down)
 
 pub none_by_txn : (task : Task) (from by : ℕ) → IsPlace task.graph.txns by → ¬ HasReturnBetween task from by → NoneBy task from by
 none_by_txn task from by place none to place' leads = elim leads [

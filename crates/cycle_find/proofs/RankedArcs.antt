@@ -1,17 +1,19 @@
 -- Ranks along the arcs of a graph.
-use Rattle.std.proofs.Common.{◌≡◌, ◌∙◌, ◌<◌, ◌≤◌, ◌+◌, ◌-◌, ℕ, zero, suc, List, length, get_or, ap, subst, arith}
+use Rattle.std.proofs.Common.{◌≡◌, ◌⊎◌, ◌∙◌, ◌<◌, ◌≤◌, ◌+◌, ◌-◌, ℕ, zero, suc, List, [], length, get_or, inl, inr, Bool, if◌then◌else◌, Contains, ap, sym, subst, arith}
 use Rattle.std.proofs.lemmas.Option.{slice_get_within}
 use Rattle.hist_types.specs.declared.types.Level.{Level}
-use Rattle.hist_types.specs.declared.types.Level.TheVariants.{Plain}
+use Rattle.hist_types.specs.declared.types.Level.TheVariants.{Plain, Realtime}
 use Rattle.graph_search.specs.Graphs.{AreRanks, IsWalk}
 use Rattle.dep_edges.specs.Tables.{IsPlace}
 use Rattle.edge_graph.specs.Kinds.{kinds_of, AreAmong}
 use Rattle.edge_graph.specs.Parts.{Parts}
 use Rattle.edge_graph.specs.Vertices.{Vertex, txn, version, IsVertex, IsArc, LeadsTo, graph_by, AreArcs}
 use Rattle.edge_graph.specs.declared.types.Dependencies.{Dependencies}
+use Rattle.edge_graph.specs.declared.types.Dependencies.TheVariants.{All}
 use Rattle.edge_graph.specs.declared.types.Kinds.{Kinds}
 use Rattle.edge_graph.proofs.EdgeArcs.{more_at_level, more_than_plain}
-use Rattle.cycle_find.specs.Ranked.{AreRanksOver}
+use Rattle.cycle_find.specs.Ranked.{AreRanksOver, AreRanksWithin}
+use Rattle.cycle_find.specs.Sharing.{AreSharing, leaving}
 
 -- ---- vertices of arcs
 
@@ -39,7 +41,7 @@ behind_version g kinds v w absent (x, y, at, at', leads) = behind g kinds v w x 
 pub along : (L M : ℕ → ℕ → Type 0) (from to : ℕ) (walk : List ℕ) → ((v w : ℕ) → L v w → M v w) → IsWalk L from to walk → IsWalk M from to walk
 along L M from to walk each is = record { some = is.some; begins = is.begins; ends = is.ends; joined = λ k h. each (get_or walk k 0) (get_or walk (k + 1) 0) (is.joined k h) }
 
-module _ (g : Parts) (kinds : Kinds) (ranks : List ℕ) (are : AreRanksOver g kinds ranks) (from to : ℕ) (walk : List ℕ) (is : IsWalk (IsArc g kinds) from to walk) where
+module _ (L : ℕ → ℕ → Type 0) (ranks : List ℕ) (rising : (v w : ℕ) → L v w → get_or ranks v 0 ≤ get_or ranks w 0) (from to : ℕ) (walk : List ℕ) (is : IsWalk L from to walk) where
   rises : (j n : ℕ) → j + n < length walk → get_or ranks (get_or walk j 0) 0 ≤ get_or ranks (get_or walk (j + n) 0) 0
   rises j zero h =
       let e : j ≡ j + 0 = omega arith in
@@ -49,7 +51,7 @@ module _ (g : Parts) (kinds : Kinds) (ranks : List ℕ) (are : AreRanksOver g ki
       let e : j + n + 1 ≡ j + suc n = omega arith in
       let before : get_or ranks (get_or walk j 0) 0 ≤ get_or ranks (get_or walk (j + n) 0) 0 = rises j n (omega arith) in
       let next : get_or ranks (get_or walk (j + n) 0) 0 ≤ get_or ranks (get_or walk (j + n + 1) 0) 0 =
-      are.rising (get_or walk (j + n) 0) (get_or walk (j + n + 1) 0) (is.joined (j + n) (omega arith)) in
+      rising (get_or walk (j + n) 0) (get_or walk (j + n + 1) 0) (is.joined (j + n) (omega arith)) in
       let both : get_or ranks (get_or walk j 0) 0 ≤ get_or ranks (get_or walk (j + n + 1) 0) 0 = omega (arith, before, next) in
       subst (λ m. get_or ranks (get_or walk j 0) 0 ≤ get_or ranks (get_or walk m 0) 0) e both
 
@@ -59,8 +61,37 @@ module _ (g : Parts) (kinds : Kinds) (ranks : List ℕ) (are : AreRanksOver g ki
       let up : get_or ranks (get_or walk k 0) 0 ≤ get_or ranks (get_or walk (k + (length walk - 1 - k)) 0) 0 = rises k (length walk - 1 - k) (omega arith) in
       subst (λ v. get_or ranks (get_or walk k 0) 0 ≤ get_or ranks v 0) (ap (λ m. get_or walk m 0) e ∙ is.ends) up
 
+  pub from_first : (k : ℕ) → k < length walk → get_or ranks from 0 ≤ get_or ranks (get_or walk k 0) 0
+  from_first k h =
+      let e : 0 + k ≡ k = omega arith in
+      let up : get_or ranks (get_or walk 0 0) 0 ≤ get_or ranks (get_or walk (0 + k) 0) 0 = rises 0 k (omega (arith, h)) in
+      subst (λ v. get_or ranks v 0 ≤ get_or ranks (get_or walk k 0) 0) is.begins (subst (λ m. get_or ranks (get_or walk 0 0) 0 ≤ get_or ranks (get_or walk m 0) 0) e up)
+
   pub raise : get_or ranks from 0 ≤ get_or ranks to 0
   raise = subst (λ v. get_or ranks v 0 ≤ get_or ranks to 0) is.begins (to_last 0 is.some)
+
+-- ---- walks within one coarse rank
+
+-- an arc of the kinds between two vertices of one coarse rank
+abbrev pub IsArcWithin : Parts → Kinds → List ℕ → ℕ → ℕ → Type 0
+IsArcWithin g kinds coarse v w = IsArc g kinds v w × (get_or coarse v 0 ≡ get_or coarse w 0)
+
+pub rising_within : (g : Parts) (kinds : Kinds) (coarse ranks : List ℕ) → AreRanksWithin g kinds coarse ranks → (v w : ℕ) → IsArcWithin g kinds coarse v w → get_or ranks v 0 ≤ get_or ranks w 0
+rising_within g kinds coarse ranks are v w h = are.rising v w h.0 h.1
+
+-- a walk between vertices of one coarse rank keeps it
+pub within : (g : Parts) (kinds : Kinds) (coarse : List ℕ) → AreRanksOver g kinds coarse → (from to : ℕ) (walk : List ℕ) → get_or coarse to 0 ≤ get_or coarse from 0 → IsWalk (IsArc g kinds) from to walk
+    → IsWalk (IsArcWithin g kinds coarse) from to walk
+within g kinds coarse are from to walk no_lower is = record {
+  some = is.some;
+  begins = is.begins;
+  ends = is.ends;
+  joined = λ k h.
+      let up : get_or coarse (get_or walk k 0) 0 ≤ get_or coarse (get_or walk (k + 1) 0) 0 = are.rising (get_or walk k 0) (get_or walk (k + 1) 0) (is.joined k h) in
+      let first : get_or coarse from 0 ≤ get_or coarse (get_or walk k 0) 0 = from_first (IsArc g kinds) coarse are.rising from to walk is k (omega (arith, h)) in
+      let last : get_or coarse (get_or walk (k + 1) 0) 0 ≤ get_or coarse to 0 = to_last (IsArc g kinds) coarse are.rising from to walk is (k + 1) h in
+      (is.joined k h, omega (arith, up, first, last, no_lower));
+}
 
 -- ---- ranks
 
@@ -73,3 +104,31 @@ fewer g few more level ranks among are = record { one_each = are.one_each; risin
 
 pub fewer_plain : (g : Parts) (few more : Dependencies) (level : Level) (ranks : List ℕ) → AreAmong few more → AreRanksOver g (kinds_of more level) ranks → AreRanksOver g (kinds_of few Plain) ranks
 fewer_plain g few more level ranks among are = record { one_each = are.one_each; rising = λ v w h. are.rising v w (more_than_plain g few more among level v w h) }
+
+-- ranks within coarse ones, likewise
+pub fewer_within : (g : Parts) (few more : Dependencies) (level : Level) (coarse ranks : List ℕ) → AreAmong few more → AreRanksWithin g (kinds_of more level) coarse ranks → AreRanksWithin g (kinds_of few level) coarse ranks
+fewer_within g few more level coarse ranks among are = record { one_each = are.one_each; rising = λ v w h same. are.rising v w (more_at_level g few more among level v w h) same }
+
+-- ranks over the arcs that leave vertices which share their coarse rank
+pub ranks_within : (g : Parts) (kinds : Kinds) (lists : List (List ℕ)) (coarse ranks : List ℕ) (shared : List Bool) → AreArcs g kinds lists → AreRanksOver g kinds coarse → AreSharing coarse shared → AreRanks (leaving (graph_by lists) shared) ranks
+    → AreRanksWithin g kinds coarse ranks
+ranks_within g kinds lists coarse ranks shared arcs over sharing are = record {
+  one_each = are.one_each ∙ arcs.count;
+  rising = λ v w h same.
+      let count = over.one_each in
+      let left = arc_from_within g kinds v w h in
+      let right = arc_to_within g kinds v w h in
+      elim (sharing.two v w (omega (arith, count, left)) (omega (arith, count, right)) same) [
+        | inl one ↦ subst (λ u. get_or ranks v 0 ≤ get_or ranks u 0) one (omega arith)
+        | inr is ↦
+            let arc = (arcs.arcs v w).1 h in
+            are.rising v w (arc.0, subst (λ (b : Bool). Contains (if b then get_or lists v [] else []) w) (sym is) arc.1)
+      ];
+}
+
+-- ranks at real time are ranks at the plain level too
+pub ranked_at : (g : Parts) (ranks : List ℕ) (level : Level) → (level ≡ Plain) ⊎ (level ≡ Realtime) → AreRanksOver g (kinds_of All Realtime) ranks → AreRanksOver g (kinds_of All level) ranks
+ranked_at g ranks level which are = elim which [
+  | inl plain ↦ subst (λ (l : Level). AreRanksOver g (kinds_of All l) ranks) (sym plain) (fewer_plain g All All Realtime ranks (record { ww = λ h. h; wr = λ h. h; rw = λ h. h }) are)
+  | inr same ↦ subst (λ (l : Level). AreRanksOver g (kinds_of All l) ranks) (sym same) are
+]

@@ -25,7 +25,7 @@ use Rattle.edge_graph.proofs.EdgeArcs.{arc_of_ww, arc_of_wr, way_of_rw, walk_ove
 use Rattle.cycle_find.specs.Dependencies.{needed, way_back}
 use Rattle.cycle_find.specs.Found.{ShowNothing}
 use Rattle.cycle_find.specs.Ranked.{AreRanksOver}
-use Rattle.cycle_find.specs.Tasks.{Task, needed_kinds, back_kinds, HasReturnBetween, NoneFrom}
+use Rattle.cycle_find.specs.Tasks.{Task, task_of, needed_kinds, back_kinds, HasReturnBetween, NoneFrom}
 use Rattle.cycle_find.specs.Ways.{LeadsOn, Rises}
 use Rattle.cycle_find.proofs.Closing.{back_kind}
 use Rattle.cycle_find.proofs.RankedArcs.{raise, fewer}
@@ -126,9 +126,6 @@ module _ (task : Task) (kept : AreOfHistory task.graph.txns) (by_versions : RwBy
     },
   )
 
-abbrev task_of : Parts → Phenomenon → Level → Task
-task_of graph phenomenon level = record { graph = graph; phenomenon = phenomenon; level = level }
-
 met : (phenomenon : Phenomenon) (graph : Parts) (level : Level) → AreOfHistory graph.txns → RwByVersions graph → HasReturn phenomenon (edges_in graph level)
     → (from by to : ℕ) × IsMet (task_of graph phenomenon level) from by to
 met G0 graph level kept by_versions (e, among, is, walk, back) =
@@ -167,5 +164,5 @@ settled graph level ranks kept by_versions are rise phenomenon over =
     rise from is.first by (more_at_level graph (needed phenomenon) AllOfThem among Plain from by is.arc) to is.last (more_leads_on graph (needed phenomenon) among from by to is.leads) in
     let walk = is.back.1.0 in
     let down : get_or ranks to 0 ≤ get_or ranks from 0 =
-    raise graph (kinds_of (way_back phenomenon) level) ranks (fewer graph (way_back phenomenon) AllOfThem level ranks (back_of_all phenomenon) are) to from walk is.back.1.1.steps in
+    raise (IsArc graph (kinds_of (way_back phenomenon) level)) ranks (fewer graph (way_back phenomenon) AllOfThem level ranks (back_of_all phenomenon) are).rising to from walk is.back.1.1.steps in
     absurd (omega (arith, up, down))

@@ -1,5 +1,6 @@
 pub mod Found
 pub mod Dependencies
+pub mod Sharing
 pub mod Ranked
 pub mod Ways
 pub mod Tasks

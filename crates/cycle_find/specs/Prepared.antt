@@ -6,17 +6,18 @@ use Rattle.edge_graph.specs.Kinds.{kinds_of}
 use Rattle.edge_graph.specs.Vertices.{AreArcs, RwByVersions}
 use Rattle.edge_graph.specs.declared.types.Dependencies.TheVariants.{All}
 use Rattle.hist_types.specs.declared.types.Level.TheVariants.{Plain}
-use Rattle.cycle_find.specs.Ranked.{AreRanksOver}
+use Rattle.cycle_find.specs.Ranked.{AreRanksOver, AreRanksWithin}
 use Rattle.cycle_find.specs.Tasks.{Task, needed_kinds, back_kinds, whole_kinds}
 
--- the arcs of the needed edges and of the way back, and ranks over the whole walk and over the way back
-pub record IsPrepared (task : Task) (needed back : List (List ℕ)) (ranks finer : List ℕ) : Type 0 where
+-- the arcs of the needed edges and of the way back, and coarse ranks with ranks within them over the whole walk and over the way back
+pub record IsPrepared (task : Task) (needed back : List (List ℕ)) (coarse ranks finer : List ℕ) : Type 0 where
   pub kept : AreOfHistory task.graph.txns
   pub by_versions : RwByVersions task.graph
   pub needed_arcs : AreArcs task.graph (needed_kinds task) needed
   pub back_arcs : AreArcs task.graph (back_kinds task) back
-  pub whole_ranks : AreRanksOver task.graph (whole_kinds task) ranks
-  pub back_ranks : AreRanksOver task.graph (back_kinds task) finer
+  pub coarse_ranks : AreRanksOver task.graph (whole_kinds task) coarse
+  pub whole_ranks : AreRanksWithin task.graph (whole_kinds task) coarse ranks
+  pub back_ranks : AreRanksWithin task.graph (back_kinds task) coarse finer
 
 -- the arcs of all dependency edges, and ranks over them
 pub record AreRanked (g : Parts) (arcs : List (List ℕ)) (ranks : List ℕ) : Type 0 where

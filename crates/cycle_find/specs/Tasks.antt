@@ -1,5 +1,7 @@
 -- What a search looks for, and where: an edge of the needed kind from one transaction to another, with a way back.
-use Rattle.std.specs.Prelude.{ℕ, List, Option, Some, None}
+use Rattle.std.specs.Prelude.{ℕ, List, Option, Some, None, option_map, Vec}
+use Rattle.std.specs.Global.{Global}
+use Rattle.graph_search.specs.Graphs.{IsWalkIfAny}
 use Rattle.hist_types.specs.Edges.{Edge}
 use Rattle.hist_types.specs.Thinning.{ShowsOver}
 use Rattle.hist_types.specs.declared.types.Level.{Level}
@@ -19,6 +21,9 @@ pub record Task : Type 0 where
   pub phenomenon : Phenomenon
   pub level : Level
 
+abbrev pub task_of : Parts → Phenomenon → Level → Task
+task_of graph phenomenon level = record { graph = graph; phenomenon = phenomenon; level = level }
+
 -- the kinds of its needed edge, which is a dependency, of its way back, and of all of its walk
 abbrev pub needed_kinds : Task → Kinds
 needed_kinds task = kinds_of (needed task.phenomenon) Plain
@@ -35,6 +40,10 @@ whole_kinds task = kinds_of (whole task.phenomenon) task.level
 abbrev pub HasReturnBetween : Task → (from to : ℕ) → Type 0
 HasReturnBetween task from to =
     HasEdgeBetween task.graph (needed_kinds task) from to × HasWalkBetween task.graph (back_kinds task) to from
+
+-- a walk over the arcs of a way back, or nothing where there is none
+abbrev pub IsWayBackIfAny : Task → (from to : ℕ) → Option (Vec ℕ Global) → Type 0
+IsWayBackIfAny task from to way = IsWalkIfAny (IsArc task.graph (back_kinds task)) from to (option_map (λ (walk : Vec ℕ Global). walk.items) way)
 
 -- a walk that shows the phenomenon, or nothing where this holds
 abbrev pub IsShownOr : Task → Type 0 → Option (List Edge) → Type 0

@@ -1,15 +1,14 @@
 //! The search for one phenomenon at one level.
 
-ghost use Rattle.std.specs.Prelude.{◌≡◌, ◌+◌, ◌<◌, length, option_map, IfOk};
+ghost use Rattle.std.specs.Prelude.{◌≡◌, ◌+◌, ◌<◌, length, IfOk};
 ghost use Rattle.dep_edges.specs.Tables.{IsPlace};
 ghost use Rattle.edge_graph.specs.Kinds.{kinds_of};
 ghost use Rattle.edge_graph.specs.Parts.{edges_in};
 ghost use Rattle.edge_graph.specs.Vertices.{IsArc};
-ghost use Rattle.graph_search.specs.Graphs.{IsWalkIfAny};
 ghost use Rattle.cycle_find.specs.Dependencies as dependencies;
 ghost use Rattle.cycle_find.specs.Found.{IsFound};
-ghost use Rattle.cycle_find.specs.Ranked.{AreRanksOver};
-ghost use Rattle.cycle_find.specs.Tasks.{needed_kinds, back_kinds, HasReturnBetween, IsShownOr, NoneBy, NoneFrom};
+ghost use Rattle.cycle_find.specs.Ranked.{AreRanksOver, AreRanksWithin, NeverFalls};
+ghost use Rattle.cycle_find.specs.Tasks.{needed_kinds, whole_kinds, HasReturnBetween, IsShownOr, IsWayBackIfAny, NoneBy, NoneFrom, task_of};
 
 use crate::kinds::{needed, way_back};
 use crate::ranking::NotAbove;
@@ -36,20 +35,22 @@ pub(crate) struct Finder<'r, 'g, 'v, 'a> {
     /// The arcs of the way back.
     back: GraphArcs<'r>,
     /// They don't fall along any arc of a closed walk.
+    coarse: &'r Ranks,
+    /// Where those are the same, these don't fall along any arc of a closed walk either.
     ranks: &'r Ranks,
-    /// They don't fall along any arc of a way back, and may be apart where the other ones are not.
+    /// Nor these along any arc of a way back; they may be apart where the other ones are not.
     finer: &'r Ranks,
 }
 
 impl<'r, 'g, 'v, 'a> Model for Finder<'r, 'g, 'v, 'a> {
     ghost use Rattle.cycle_find.specs.Prepared.{IsPrepared};
-    ghost use Rattle.cycle_find.specs.Tasks.{Task};
+    ghost use Rattle.cycle_find.specs.Tasks.{Task, task_of};
 
     ghost Value = { Task };
 
-    ghost view = { λ f. record { graph = f.graph.now; phenomenon = f.phenomenon; level = f.level } };
+    ghost view = { λ f. task_of f.graph.now f.phenomenon f.level };
 
-    ghost invariant = { λ f. IsPrepared (record { graph = f.graph.now; phenomenon = f.phenomenon; level = f.level }) f.needed f.back f.ranks.now f.finer.now };
+    ghost invariant = { λ f. IsPrepared (task_of f.graph.now f.phenomenon f.level) f.needed f.back f.coarse.now f.ranks.now f.finer.now };
 }
 
 impl<'r, 'g, 'v, 'a> Finder<'r, 'g, 'v, 'a> {
@@ -58,12 +59,14 @@ impl<'r, 'g, 'v, 'a> Finder<'r, 'g, 'v, 'a> {
         graph: &'r Graph<'g, 'v, 'a>,
         phenomenon: Phenomenon,
         level: Level,
+        coarse: &'r Ranks,
         ranks: &'r Ranks,
         finer: &'r Ranks,
     ) -> Self
-        requires ranks { AreRanksOver graph.now (kinds_of (dependencies.whole phenomenon) level) ranks.now }
-        requires finer { AreRanksOver graph.now (kinds_of (dependencies.way_back phenomenon) level) finer.now }
-        ensures { result ≡ record { graph = graph.now; phenomenon = phenomenon; level = level } }
+        requires coarse { AreRanksOver graph.now (kinds_of (dependencies.whole phenomenon) level) coarse.now }
+        requires ranks { AreRanksWithin graph.now (kinds_of (dependencies.whole phenomenon) level) coarse.now ranks.now }
+        requires finer { AreRanksWithin graph.now (kinds_of (dependencies.way_back phenomenon) level) coarse.now finer.now }
+        ensures { result ≡ task_of graph.now phenomenon level }
     {
         Finder {
             alloc,
@@ -72,6 +75,7 @@ impl<'r, 'g, 'v, 'a> Finder<'r, 'g, 'v, 'a> {
             level,
             needed: graph.arcs(needed(phenomenon), Level::Plain),
             back: graph.arcs(way_back(phenomenon), level),
+            coarse,
             ranks,
             finer,
         }
@@ -121,7 +125,9 @@ impl<'r, 'g, 'v, 'a> Finder<'r, 'g, 'v, 'a> {
         ensures search { search.new ≡ search.old }
         ensures found { IfOk result (IsShownOr self.now (NoneBy self.now from by)) }
     {
-        if self.ranks.rank(by) > self.ranks.rank(from) {
+        let above = self.coarse.rank(by) > self.coarse.rank(from)
+            || self.ranks.rank(by) > self.ranks.rank(from);
+        if above {
             Ok(None)
         } else if by < self.graph.len() {
             self.close(search, from, by)
@@ -167,6 +173,7 @@ impl<'r, 'g, 'v, 'a> Finder<'r, 'g, 'v, 'a> {
         requires search { search.old ≡ length self.now.graph.txns + length self.now.graph.versions }
         requires from { IsPlace self.now.graph.txns from }
         requires to { IsPlace self.now.graph.txns to }
+        requires rising { NeverFalls self.now.graph (whole_kinds self.now) from to }
         ensures search { search.new ≡ search.old }
         ensures found { IfOk result (IsShownOr self.now (¬ HasReturnBetween self.now from to)) }
     {
@@ -196,10 +203,13 @@ impl<'r, 'g, 'v, 'a> Finder<'r, 'g, 'v, 'a> {
         requires search { search.old ≡ length self.now.graph.txns + length self.now.graph.versions }
         requires from { from < length self.now.graph.txns + length self.now.graph.versions }
         requires to { to < length self.now.graph.txns + length self.now.graph.versions }
+        requires rising { NeverFalls self.now.graph (whole_kinds self.now) to from }
         ensures search { search.new ≡ search.old }
-        ensures way { IfOk result (λ found. IsWalkIfAny (IsArc self.now.graph (back_kinds self.now)) from to (option_map (λ way. way.items) found)) }
+        ensures way { IfOk result (IsWayBackIfAny self.now from to) }
     {
         let allowed = NotAbove {
+            coarse: self.coarse,
+            most_coarse: self.coarse.rank(to),
             ranks: self.ranks,
             most: self.ranks.rank(to),
             finer: self.finer,

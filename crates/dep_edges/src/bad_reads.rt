@@ -1,9 +1,9 @@
 //! Reads of what should not have been seen.
 
-ghost use Rattle.std.specs.Prelude.{◌≡◌, ◌++◌, map, OnOk, IfOk, vec_len};
+ghost use Rattle.std.specs.Prelude.{◌≡◌, OnOk, IfOk, vec_len};
 ghost use Rattle.hist_types.specs.Phenomena.{first_of, g1a, g1b, stray};
-ghost use Rattle.dep_edges.specs.Tables.{IsPlace, txn_at, version_at};
-ghost use Rattle.dep_edges.specs.Reads.{aborted_in, intermediate_in, stray_in};
+ghost use Rattle.dep_edges.specs.Tables.{IsPlace, txn_at};
+ghost use Rattle.dep_edges.specs.Reads.{aborted_in, intermediate_in, AddsStraysAt};
 
 use crate::history::History;
 use crate::nodes::is_failed;
@@ -77,7 +77,7 @@ fn add_strays(
     strays: &mut Vec<u32>,
 ) -> Result<(), AllocError>
     requires { IsPlace history.now.txns place }
-    ensures { OnOk result (map (version_at history.now.table) strays.new.items ≡ map (version_at history.now.table) strays.old.items ++ stray_in history.now.txns (txn_at history.now.txns place)) }
+    ensures { OnOk result (AddsStraysAt history.now place strays.old.items strays.new.items) }
 {
     for number in history.reads(place) {
         if history.is_stray(*number as usize) {

@@ -1,12 +1,12 @@
 //! A history's transactions with the table of their versions.
 
 ghost use Rattle.std.specs.Prelude.{◌≡◌, length, map, IsSome, All, Some};
-ghost use Rattle.hist_types.specs.Phenomena.{aborted_writers, intermediate_writers, is_stray};
-ghost use Rattle.hist_types.specs.Transactions.{Transaction, installed_by};
+ghost use Rattle.hist_types.specs.Phenomena.{is_stray};
+ghost use Rattle.hist_types.specs.Transactions.{installed_by};
 ghost use Rattle.key_versions.specs.Histories.{read_by, writer_of, readers_of, followers_of};
 ghost use Rattle.key_versions.specs.Tables.{IsTableOf};
 ghost use Rattle.dep_edges.specs.Histories.{AreOfHistory};
-ghost use Rattle.dep_edges.specs.Reads.{failed_one, other_over};
+ghost use Rattle.dep_edges.specs.Reads.{DecidesAborted, DecidesIntermediate};
 ghost use Rattle.dep_edges.specs.Tables.{IsPlace, IsNumber, IsWritten, AreNamedOnce, txn_at, version_at, IsWriterPlace, later_in, IsBehind};
 
 use key_versions::table::Versions;
@@ -95,8 +95,8 @@ impl<'v, 'a> History<'v, 'a> {
         requires { IsNumber self.now.table number }
         ensures value { result ≡ writer_of self.now.txns (version_at self.now.table number) }
         ensures within { IsWriterPlace self.now.txns result }
-        ensures aborted { aborted_writers self.now.txns (version_at self.now.table number) ≡ failed_one self.now.txns result }
-        ensures intermediate { (reader : Transaction) → intermediate_writers self.now.txns reader (version_at self.now.table number) ≡ other_over self.now.txns reader result }
+        ensures aborted { DecidesAborted self.now.txns (version_at self.now.table number) result }
+        ensures intermediate { DecidesIntermediate self.now.txns (version_at self.now.table number) result }
     {
         self.versions.writer(number)
     }

@@ -1,6 +1,6 @@
 pub mod Lists
 pub mod Leaving
-pub mod Pieces
+pub mod FirstLines
 pub mod Moved
 pub mod Readings
 pub mod Judging

@@ -6,8 +6,8 @@ use Rattle.std.specs.Fmt.{digits}
 use Rattle.hist_types.specs.Refusals.{memory_fault}
 use Rattle.hist_types.specs.Texts.{refusal_line}
 use Rattle.hist_types.specs.declared.device.Sink.{Ghosts}
+use Rattle.verdict.specs.Pieces.{HasTaken}
 use Rattle.jepcheck.specs.Answers.{IsAnswer}
-use Rattle.jepcheck.specs.Pieces.{HasTaken}
 use Rattle.jepcheck.specs.Runs.{HasPrinted, HasAnswered}
 use Rattle.jepcheck.specs.declared.answer.Status.{Status}
 use Rattle.jepcheck.specs.declared.answer.Status.TheVariants as statuses

@@ -1,14 +1,15 @@
 -- What the parse takes.
-use Rattle.std.proofs.Common.{◌≡◌, ◌∙◌, ℕ, List, [], ◌∷◌, Option, Some, None, option_map, refl, sym, ap, subst, codes, true, inl, inr}
+use Rattle.std.proofs.Common.{◌≡◌, ◌∙◌, ℕ, List, [], ◌∷◌, Option, Some, None, option_map, refl, sym, ap, subst, codes, true, ◌⊎◌, inl, inr}
 use Rattle.std.specs.Prelude.{◌≢◌}
-use Rattle.clap.specs.Words.{App, is_simple, is_simple_and_free, subcommand_rows_of, HasMatchesOf, HasKind, Kinds, fault_of, kind_of}
+use Rattle.clap.specs.Words.{App, is_simple, is_simple_and_free, subcommand_rows_of, HasMatchesOf, HasKind, IsAmong, Kinds, fault_of, kind_of}
 use Rattle.clap.specs.Matches.{subcommand_name_of}
 use Rattle.clap.specs.declared.error.Error.{Error}
-use Rattle.clap.specs.declared.error.kind.ErrorKind.TheVariants.{OutOfMemory}
+use Rattle.clap.specs.declared.error.kind.ErrorKind.{ErrorKind}
+use Rattle.clap.specs.declared.error.kind.ErrorKind.TheVariants.{OutOfMemory, DisplayHelp}
 use Rattle.clap.specs.declared.parser.matches.ArgMatches.{ArgMatches}
 use Rattle.clap.specs.declared.parser.matches.ArgMatches.TheViews.{out-ArgMatches}
 use Rattle.clap.proofs.OnLiterals.{clap_on_literals}
-use Rattle.jepcheck.specs.Lines.{word_of, program_app, NameSubcommand, AskFor}
+use Rattle.jepcheck.specs.Lines.{word_of, program_app, NameSubcommand, AskFor, AskForHelp, MayAskForHelp}
 use Rattle.jepcheck.specs.declared.command_line.Asked.{Asked}
 use Rattle.jepcheck.specs.declared.command_line.Asked.TheVariants.{Run}
 use Rattle.jepcheck.specs.declared.run.Command.{Command}
@@ -36,6 +37,18 @@ unfolding clap_on_literals
 command_is_asked Reads name = record { no_fault = refl; named = refl }
 command_is_asked Edges name = record { no_fault = refl; named = refl }
 command_is_asked Check name = record { no_fault = refl; named = refl }
+
+-- a name and `--help` ask for help
+pub help_is_asked : (name : List ℕ) → AskForHelp (name ∷ codes "--help" ∷ [])
+unfolding clap_on_literals
+help_is_asked name = refl
+
+-- a name, a command's word and `--help` ask for help
+pub help_with_a_command : (command : Command) (name : List ℕ) → AskForHelp (name ∷ word_of command ∷ codes "--help" ∷ [])
+unfolding clap_on_literals
+help_with_a_command Reads name = refl
+help_with_a_command Edges name = refl
+help_with_a_command Check name = refl
 
 -- words that were not taken for a command name none
 pub no_command : (command : Command) (word : List ℕ) → word ≢ codes "reads" → word ≢ codes "edges" → word ≢ codes "check" → word ≡ word_of command → ⊥
@@ -87,3 +100,43 @@ fails_for_memory app words error name e fails asked =
     memory_alone [] e (inl memory) = memory
     memory_alone [] e (inr among) = absurd among
     memory_alone (kind ∷ kinds) e has = absurd cc
+
+-- words that ask for help fail by that request, or for want of memory
+pub fails_by_request : (app : App) (words : List (List ℕ)) (error : Error) → app ≡ program_app
+    → (is_simple_and_free app ≡ true → HasKind (fault_of app words) error) → AskForHelp words
+    → (kind_of error ≡ OutOfMemory) ⊎ (kind_of error ≡ DisplayHelp)
+fails_by_request app words error e fails asked =
+    let has : is_simple_and_free program_app ≡ true → HasKind (fault_of program_app words) error =
+    subst (λ (a : App). is_simple_and_free a ≡ true → HasKind (fault_of a words) error) e fails in
+    by_kind (rw asked at (has program_is_free))
+  where
+    by_kind : HasKind (DisplayHelp ∷ []) error → (kind_of error ≡ OutOfMemory) ⊎ (kind_of error ≡ DisplayHelp)
+    by_kind (inl memory) = inl memory
+    by_kind (inr (inl help)) = inr help
+    by_kind (inr (inr none)) = absurd none
+
+-- words that ask for help have matches only where the parse finds no fault in them
+pub no_matches_for_help : (app : App) (words : List (List ℕ)) → app ≡ program_app
+    → (is_simple_and_free app ≡ true → fault_of app words ≡ []) → AskForHelp words → ⊥
+no_matches_for_help app words e faultless asked =
+    let none : is_simple_and_free program_app ≡ true → fault_of program_app words ≡ [] =
+    subst (λ (a : App). is_simple_and_free a ≡ true → fault_of a words ≡ []) e faultless in
+    both _ asked (none program_is_free)
+  where
+    both : (kinds : Kinds) → kinds ≡ DisplayHelp ∷ [] → kinds ≡ [] → ⊥
+    both kinds e f = absurd cc
+
+-- words that don't ask for help fail by no such request
+pub fails_by_no_request : (app : App) (words : List (List ℕ)) (error : Error) → app ≡ program_app
+    → (is_simple_and_free app ≡ true → HasKind (fault_of app words) error) → (MayAskForHelp words → ⊥) → kind_of error ≢ DisplayHelp
+fails_by_no_request app words error e fails unasked help =
+    let has : is_simple_and_free program_app ≡ true → HasKind (fault_of program_app words) error =
+    subst (λ (a : App). is_simple_and_free a ≡ true → HasKind (fault_of a words) error) e fails in
+    by_kind (has program_is_free)
+  where
+    both : (kind : ErrorKind) → kind ≡ OutOfMemory → kind ≡ DisplayHelp → ⊥
+    both kind e f = absurd cc
+
+    by_kind : HasKind (fault_of program_app words) error → ⊥
+    by_kind (inl memory) = both _ memory help
+    by_kind (inr among) = unasked (subst (λ kind. IsAmong kind (fault_of program_app words)) help among)

@@ -1,11 +1,13 @@
 -- The command lines that the program takes, and what every other one gets.
-use Rattle.std.specs.Prelude.{◌≡◌, ℕ, List, [], ◌++◌, codes, true, Some, option_map, string_bytes}
-use Rattle.clap.specs.Words.{App, new_app, with_subcommand, subcommand_of, fault_of}
+use Rattle.std.specs.Prelude.{◌≡◌, ◌==◌, ℕ, List, [], ◌∷◌, ◌++◌, codes, true, not, Some, option_map, string_bytes}
+use Rattle.std.specs.List.{before_first, list_all}
+use Rattle.clap.specs.Words.{App, new_app, with_subcommand, subcommand_of, fault_of, IsAmong}
+use Rattle.clap.specs.declared.error.kind.ErrorKind.TheVariants.{DisplayHelp}
 use Rattle.jepcheck.specs.declared.command_line.Asked.{Asked}
 use Rattle.jepcheck.specs.declared.command_line.Asked.TheVariants.{Run}
 use Rattle.jepcheck.specs.declared.command_line.LineFault.{LineFault}
 use Rattle.jepcheck.specs.declared.command_line.LineFault.TheVariants.{Usage, Memory}
-use Rattle.jepcheck.specs.declared.command_line.TheConstants.{HELP}
+use Rattle.jepcheck.specs.declared.command_line.TheConstants.{HELP, SEE_HELP}
 use Rattle.jepcheck.specs.declared.run.Command.{Command}
 use Rattle.jepcheck.specs.declared.run.Command.TheVariants.{Reads, Edges, Check}
 
@@ -35,7 +37,34 @@ pub record NameSubcommand (name : List ℕ) (words : List (List ℕ)) : Type 0 w
 abbrev pub AskFor : Asked → List (List ℕ) → Type 0
 AskFor (Run command) words = NameSubcommand (word_of command) words
 
--- the text of a fault ends with the help
+-- by the definitions of the library that parses the words they ask for help, alone
+abbrev pub AskForHelp : List (List ℕ) → Type 0
+AskForHelp words = fault_of program_app words ≡ DisplayHelp ∷ []
+
+-- a request for help is among what the words may be refused for
+abbrev pub MayAskForHelp : List (List ℕ) → Type 0
+MayAskForHelp words = IsAmong DisplayHelp (fault_of program_app words)
+
+-- a text up to its first line feed
+abbrev pub first_line : List ℕ → List ℕ
+first_line text = before_first (λ b. b == 10) text
+
+-- no line feed is in it
+abbrev pub IsOneLine : List ℕ → Type 0
+IsOneLine message = list_all (λ b. not (b == 10)) message ≡ true
+
+-- one line, and the line that says where help is
+pub record IsComplaint (text : List ℕ) : Type 0 where
+  pub message : List ℕ
+  pub one_line : IsOneLine message
+  pub text_is : text ≡ message ++ (codes "\n" ++ SEE_HELP.now)
+
+-- what is said of a line that asks for help: the help
 abbrev pub Helps : LineFault → Type 0
-Helps (Usage text) = (message : List ℕ) × (string_bytes text ≡ message ++ HELP.now)
+Helps (Usage text) = string_bytes text ≡ HELP.now
 Helps Memory = Unit {0}
+
+-- what is said of every other faulty line
+abbrev pub SaysWhatIsWrong : LineFault → Type 0
+SaysWhatIsWrong (Usage text) = IsComplaint (string_bytes text)
+SaysWhatIsWrong Memory = Unit {0}

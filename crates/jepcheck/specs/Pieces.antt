@@ -1,8 +1,8 @@
 -- What comes in and goes out.
-use Rattle.std.specs.Prelude.{◌≡◌, ◌⊎◌, ℕ, List, take}
-use Rattle.std.specs.Io.KnownBytes.{Appends}
+use Rattle.std.specs.Prelude.{◌≡◌, ◌⊎◌, ℕ, List}
 use Rattle.hist_types.specs.Devices.{CountsFailure}
 use Rattle.hist_types.specs.declared.device.Sink.{Ghosts}
+use Rattle.verdict.specs.Pieces.{HasTaken, HasFailedBehind}
 use Rattle.jepcheck.specs.declared.devices.ReadFault.{ReadFault}
 use Rattle.jepcheck.specs.declared.devices.ReadFault.TheVariants.{Device, Memory}
 
@@ -10,17 +10,6 @@ use Rattle.jepcheck.specs.declared.devices.ReadFault.TheVariants.{Device, Memory
 abbrev pub IsCounted : ReadFault → ℕ → ℕ → Type 0
 IsCounted Device old new = CountsFailure old new
 IsCounted Memory old new = new ≡ old
-
--- the sink took all these bytes
-pub record HasTaken {T : Type 0} (device : Ghosts T) (sink sink' : T) (bytes : List ℕ) : Type 0 where
-  pub taken : Appends (device.contents sink) (device.contents sink') bytes
-  pub no_failure : device.failures sink' ≡ device.failures sink
-
--- the sink failed, and took a beginning of these bytes
-pub record HasFailedBehind {T : Type 0} (device : Ghosts T) (sink sink' : T) (bytes : List ℕ) : Type 0 where
-  pub count : ℕ
-  pub taken : Appends (device.contents sink) (device.contents sink') (take count bytes)
-  pub failed : CountsFailure (device.failures sink) (device.failures sink')
 
 -- the sink took all these bytes, unless it failed
 abbrev pub HasTakenUnlessFailed : {T : Type 0} → Ghosts T → (sink sink' : T) → List ℕ → Type 0

@@ -6,8 +6,8 @@ use Rattle.hist_types.specs.Refusals.{memory_fault}
 use Rattle.hist_types.specs.Texts.{refusal_line}
 use Rattle.hist_types.specs.declared.device.Source.{Ghosts as Source}
 use Rattle.hist_types.specs.declared.device.Sink.{Ghosts as Sink}
+use Rattle.verdict.specs.Pieces.{HasTaken, HasFailedBehind}
 use Rattle.jepcheck.specs.Answers.{IsAnswer}
-use Rattle.jepcheck.specs.Pieces.{HasTaken, HasFailedBehind}
 use Rattle.jepcheck.specs.Statuses.{code_of}
 use Rattle.jepcheck.specs.declared.answer.Status.{Status}
 use Rattle.jepcheck.specs.declared.answer.Status.TheVariants as statuses

@@ -1,10 +1,11 @@
 //! The command line.
 
-ghost use Rattle.std.specs.Prelude.{◌≡◌, map, IfErr, IfOk, string_bytes};
+ghost use Rattle.std.specs.Prelude.{◌≡◌, ◌≢◌, map, IfErr, IfOk, string_bytes};
 ghost use Rattle.std.specs.IoError.{error_kind};
 ghost use Rattle.std.specs.declared.io.ErrorKind.TheVariants.{OutOfMemory};
 ghost use Rattle.clap.specs.Words.{app_of, kind_of};
-ghost use Rattle.jepcheck.specs.Lines.{program_app, AskFor, Helps};
+ghost use Rattle.jepcheck.specs.Lines.{program_app, first_line, AskFor, AskForHelp, MayAskForHelp};
+ghost use Rattle.jepcheck.specs.Lines.{IsComplaint, Helps, SaysWhatIsWrong};
 ghost use Rattle.jepcheck.specs.declared.command_line.Asked.{Asked};
 
 use crate::run::Command;
@@ -21,7 +22,7 @@ pub enum Asked {
 /// Why a command line asks for nothing that can be done.
 #[derive(Debug, Drop)]
 pub enum LineFault {
-    /// It is none of the program's lines, or asks for help. The text says how the program is used.
+    /// It asks for help, and the text is the help; or it is none of the program's lines, and the text says why.
     Usage(String),
     Memory,
 }
@@ -37,28 +38,39 @@ impl From<AllocError> for LineFault {
     }
 }
 
+/// What the program is, its version first.
 const HELP: &str = "\
-jepcheck judges the history of a Jepsen test of register transactions.
+jepcheck 0.1.0: reports where a run of a Jepsen test broke strict serializability.
 
 Usage: jepcheck COMMAND < HISTORY
 
 Commands:
+  check    print which of the phenomena G0, G1a, G1b, G1c, G-single and G2-item the history has, each with the
+           edges or the read that shows it; a cycle is looked for along dependency edges alone (plain), then
+           with the order of each process (process), then with the order in real time (realtime)
   reads    print the first read of a value that a failed transaction wrote (G1a), the first read of a value
            that another transaction wrote and wrote over in itself (G1b), and how many reads return a value
            that nobody wrote
   edges    print the dependency edges between transactions: which of them wrote after another one wrote (ww),
            read what it wrote (wr), or wrote after it read (rw)
-  check    print which of the phenomena G0, G1a, G1b, G1c, G-single and G2-item the history has, each with the
-           edges or the read that shows it; a cycle is looked for along dependency edges alone (plain), then
-           with the order of each process (process), then with the order in real time (realtime)
 
-The history is read from standard input. The status is 0 where nothing was found, 1 where something was,
-2 where the history or the command line was refused, 3 where a device failed and 4 where memory ran out.
-`edges` looks for nothing, and ends with 0 unless it was refused or failed.
+The history is read from standard input, to its end. It is the file history.edn that Jepsen leaves in the
+folder of a test whose operations are transactions over registers: `:f :txn`, with reads [:r key value] and
+writes [:w key value].
+
+Exit status:
+  0    nothing was found (`edges`, which looks for nothing: the edges were printed)
+  1    something was found
+  2    the history was refused, or the command line was, or help was asked for
+  3    a device failed
+  4    out of memory
 
 Example:
-  jepcheck reads < examples/aborted-read.edn
+  jepcheck check < store/NAME/TIME/history.edn
 ";
+
+/// Where help is.
+const SEE_HELP: &str = "For more information, try 'jepcheck --help'.\n";
 
 /// The lines that there are.
 fn program<'a>(alloc: Global) -> Result<clap::Command<'a>, AllocError>
@@ -74,20 +86,41 @@ fn program<'a>(alloc: Global) -> Result<clap::Command<'a>, AllocError>
         .subcommand(check)
 }
 
-/// A message, which may be empty, and the help behind it.
-fn with_help(message: Result<String, AllocError>) -> Result<String, AllocError>
-    ensures { IfOk result (λ text. Helps (LineFault.Usage text)) }
+/// The text up to its first line feed.
+fn first_line(text: &str) -> &str
+    ensures { result.now ≡ first_line text.now }
 {
-    let mut text = message?;
-    text.push_str(HELP)?;
+    match text.split_once('\n') {
+        Some((line, _)) => line,
+        None => text,
+    }
+}
+
+/// The first line of a message, and the line that says where help is.
+fn complaint(alloc: Global, message: &str) -> Result<String, AllocError>
+    ensures { IfOk result (λ text. IsComplaint (string_bytes text)) }
+{
+    let mut text = String::from_str(alloc, first_line(message))?;
+    text.push_str("\n")?;
+    text.push_str(SEE_HELP)?;
     Ok(text)
 }
 
-/// The fault of a line with this message.
-fn usage(message: Result<String, AllocError>) -> LineFault
+/// The fault of a line that asks for help.
+fn help(alloc: Global) -> LineFault
     ensures { Helps result }
 {
-    match with_help(message) {
+    match String::from_str(alloc, HELP) {
+        Ok(text) => LineFault::Usage(text),
+        Err(error) => LineFault::from(error),
+    }
+}
+
+/// The fault of a line with this message, of which the first line is printed.
+fn wrong(alloc: Global, message: &str) -> LineFault
+    ensures { SaysWhatIsWrong result }
+{
+    match complaint(alloc, message) {
         Ok(text) => LineFault::Usage(text),
         Err(error) => LineFault::from(error),
     }
@@ -96,23 +129,27 @@ fn usage(message: Result<String, AllocError>) -> LineFault
 /// The fault of a line that the parse refuses, a request for help among them.
 fn line_fault(alloc: Global, error: &clap::Error) -> LineFault
     ensures memory { kind_of error.now ≡ ErrorKind.OutOfMemory → result ≡ LineFault.Memory }
-    ensures helps { Helps result }
+    ensures help { kind_of error.now ≡ ErrorKind.DisplayHelp → Helps result }
+    ensures wrong { kind_of error.now ≢ ErrorKind.DisplayHelp → SaysWhatIsWrong result }
 {
     match error.kind() {
         ErrorKind::OutOfMemory => LineFault::Memory,
-        ErrorKind::DisplayHelp => usage(Ok(String::new(alloc))),
-        _ => usage(format!(in alloc; "{error}\n")),
+        ErrorKind::DisplayHelp => help(alloc),
+        _ => match format!(in alloc; "{error}") {
+            Ok(message) => wrong(alloc, &message),
+            Err(error) => LineFault::from(error),
+        },
     }
 }
 
 /// The fault of a line whose words can't be had: out of memory, or one of them isn't UTF-8.
 pub fn unread_line(alloc: Global, error: &io::Error) -> LineFault
     ensures memory { error_kind error.now ≡ OutOfMemory → result ≡ LineFault.Memory }
-    ensures helps { Helps result }
+    ensures wrong { SaysWhatIsWrong result }
 {
     match error.kind() {
         io::ErrorKind::OutOfMemory => LineFault::Memory,
-        _ => usage(String::from_str(alloc, "error: a word of the command line is not UTF-8\n\n")),
+        _ => wrong(alloc, "error: a word of the command line is not UTF-8"),
     }
 }
 
@@ -122,8 +159,9 @@ pub fn command_line<'a>(alloc: Global, words: &'a [String]) -> Result<Asked, Lin
     ensures only { IfOk result (λ asked. AskFor asked (map string_bytes words.entry.now)) }
     ensures asked { (asked : Asked) → AskFor asked (map string_bytes words.entry.now)
         → IfErr result (λ fault. fault ≡ LineFault.Memory) }
-    // Every other line gets help.
-    ensures helps { IfErr result Helps }
+    // A request for help is answered with it, and every other line with what is wrong.
+    ensures help { AskForHelp (map string_bytes words.entry.now) → IfErr result Helps }
+    ensures wrong { (MayAskForHelp (map string_bytes words.entry.now) → ⊥) → IfErr result SaysWhatIsWrong }
 {
     let matches = match program(alloc)?.try_get_matches_from(words) {
         Ok(matches) => matches,
@@ -133,6 +171,6 @@ pub fn command_line<'a>(alloc: Global, words: &'a [String]) -> Result<Asked, Lin
         Some("reads") => Ok(Asked::Run(Command::Reads)),
         Some("edges") => Ok(Asked::Run(Command::Edges)),
         Some("check") => Ok(Asked::Run(Command::Check)),
-        _ => Err(usage(Ok(String::new(alloc)))),
+        _ => Err(wrong(alloc, "error: no command is named")),
     }
 }

@@ -1,10 +1,10 @@
-//! Whole inputs and whole outputs.
+//! Whole inputs.
 
-ghost use Rattle.std.specs.Prelude.{◌≡◌, OnOk, OnErr, IfOk, IfErr, IfSome, ◌<◌, vec_len};
+ghost use Rattle.std.specs.Prelude.{◌≡◌, OnOk, IfOk, IfErr, IfSome, ◌<◌, vec_len};
 ghost use Rattle.std.specs.Io.KnownBytes.{IsAtEnd};
-ghost use Rattle.jepcheck.specs.Pieces.{IsCounted, HasTaken, HasFailedBehind};
+ghost use Rattle.jepcheck.specs.Pieces.{IsCounted};
 
-use hist_types::device::{Failed, Sink, Source};
+use hist_types::device::{Failed, Source};
 use std::alloc::{AllocError, Global};
 
 /// How many bytes are asked of a source at once.
@@ -66,16 +66,4 @@ pub fn read_all<S: Source>(alloc: Global, source: &mut S) -> Result<Vec<u8>, Rea
         taken.extend_from_slice(&room[..count])?;
     }
     Err(ReadFault::Memory)
-}
-
-/// Hands all the bytes to a sink, or a beginning of them where it fails.
-pub fn write_all<T: Sink>(sink: &mut T, bytes: &[u8]) -> Result<(), Failed>
-    ensures ok { OnOk result (HasTaken T.Sink sink.old sink.new bytes.now) }
-    ensures err { OnErr result (HasFailedBehind T.Sink sink.old sink.new bytes.now) }
-{
-    let mut done = 0;
-    while done < bytes.len() {
-        done += sink.write(&bytes[done..])?;
-    }
-    Ok(())
 }

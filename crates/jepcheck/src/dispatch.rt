@@ -6,12 +6,12 @@ ghost use Rattle.jepcheck.specs.Runs.{HasDone, HasRefusedLine, complaint};
 
 use crate::answer::Status;
 use crate::command_line::{Asked, LineFault};
-use crate::devices::write_all;
 use crate::run::{print_memory, run};
 use hist_types::device::{Sink, Source};
 use std::alloc::Global;
+use verdict::devices::write_all;
 
-/// What is said on standard error: how the program is used, or that a device failed.
+/// What is said on standard error: the help, what is wrong with the command line, or that a device failed.
 fn complaint(asked: &Result<Asked, LineFault>, status: Status) -> &[u8]
     ensures { result.now ≡ complaint asked.now status }
 {
@@ -36,7 +36,7 @@ pub fn dispatch<S: Source, T: Sink, E: Sink>(
     // A fault of the command line is refused, and the source is left alone.
     ensures refused { IfErr asked (λ fault. HasRefusedLine T.Sink fault result sink.old sink.new) }
     ensures unread { OnErr asked (source.new ≡ source.old) }
-    // The sink for errors is told how the program is used, or that a device failed.
+    // The sink for errors is told the help, what is wrong with the command line, or that a device failed.
     ensures errors { HasTakenUnlessFailed E.Sink errors.old errors.new (complaint asked result) }
 {
     let status = match &asked {

@@ -9,12 +9,13 @@ ghost use Rattle.jepcheck.specs.Runs.{HasPrinted, HasAnswered, FailedBy};
 ghost use Rattle.jepcheck.specs.Statuses.{code_of};
 
 use crate::answer::{Answer, Status, refuse};
-use crate::devices::{ReadFault, read_all, write_all};
+use crate::devices::{ReadFault, read_all};
 use crate::inputs::{journal_of, read_blocks};
 use crate::{check, edges, reads};
 use hist_types::device::{Failed, Sink, Source};
 use hist_types::types::{Fault, Refusal};
 use std::alloc::{AllocError, Global};
+use verdict::devices::write_all;
 
 /// What is done with a history.
 #[derive(Clone, Copy, Debug, PartialEq, Eq)]
@@ -28,11 +29,13 @@ pub enum Command {
 }
 
 /// The report of a command on a text, unless that is refused.
-fn judge(alloc: Global, command: Command, text: &[u8]) -> Result<Answer, Fault>
-    ensures ok { IfOk result (λ answer. IsAnswer command text.now answer.status answer.printed.items) }
-    ensures err { IfErr result (λ fault. (fault ≡ memory_fault) ⊎ IsRefused text.now fault) }
+fn judge(alloc: Global, command: Command, text: Vec<u8>) -> Result<Answer, Fault>
+    ensures ok { IfOk result (λ answer. IsAnswer command text.items answer.status answer.printed.items) }
+    ensures err { IfErr result (λ fault. (fault ≡ memory_fault) ⊎ IsRefused text.items fault) }
 {
-    let blocks = read_blocks(alloc, text)?;
+    let blocks = read_blocks(alloc, &text)?;
+    // The blocks have copies of what they need.
+    drop(text);
     let events = journal_of(alloc, &blocks)?;
     match command {
         Command::Reads => reads::report(alloc, &events),
@@ -42,8 +45,8 @@ fn judge(alloc: Global, command: Command, text: &[u8]) -> Result<Answer, Fault>
 }
 
 /// The answer of a command to a text.
-fn answer_to(alloc: Global, command: Command, text: &[u8]) -> Result<Answer, AllocError>
-    ensures { IfOk result (λ answer. IsAnswer command text.now answer.status answer.printed.items) }
+fn answer_to(alloc: Global, command: Command, text: Vec<u8>) -> Result<Answer, AllocError>
+    ensures { IfOk result (λ answer. IsAnswer command text.items answer.status answer.printed.items) }
 {
     match judge(alloc, command, text) {
         Ok(answer) => Ok(answer),
@@ -89,7 +92,7 @@ pub fn run<S: Source, T: Sink>(
         Err(ReadFault::Device) => return Status::DeviceFault,
         Err(ReadFault::Memory) => return print_memory(sink),
     };
-    match answer_to(alloc, command, &text) {
+    match answer_to(alloc, command, text) {
         Ok(answer) => print(sink, answer.status, &answer.printed),
         Err(AllocError) => print_memory(sink),
     }

@@ -37,6 +37,7 @@ fn laws_return() {
     laws::one_answer_to_a_text();
     laws::an_answer_to_each_text();
     laws::commands_are_asked_for();
+    laws::help_is_asked_for();
 }
 
 #[test]
@@ -59,34 +60,77 @@ fn each_command_is_known(rt: HostRuntime) -> Result<(), Fail> {
     Ok(())
 }
 
+/// What is said of these words, which ask for nothing that can be done.
+fn said_of(alloc: Global, words: &[&str]) -> Result<String, Fail> {
+    match asked(alloc, words)? {
+        Err(LineFault::Usage(text)) => Ok(text),
+        _ => Err(Fail::from("no fault of the line")),
+    }
+}
+
 #[test]
-fn every_other_line_gets_a_text_that_helps(rt: HostRuntime) -> Result<(), Fail> {
-    let lines: [&[&str]; 11] = [
-        &[],
-        &[""],
+fn a_request_for_help_gets_the_help(rt: HostRuntime) -> Result<(), Fail> {
+    let lines: [&[&str]; 5] = [
         &["help"],
         &["help", "reads"],
         &["--help"],
         &["-h"],
-        &["verdict"],
-        &["Reads"],
-        &["reads", "history.edn"],
         &["reads", "--help"],
-        &["--", "reads"],
     ];
     for words in lines {
-        match asked(rt.alloc(), words)? {
-            Err(LineFault::Usage(text)) => assert!(rt; text.contains("Usage: jepcheck")),
-            _ => assert!(rt; false),
-        }
+        let said = said_of(rt.alloc(), words)?;
+        assert!(rt; said.starts_with("jepcheck 0.1.0: "));
+        assert!(rt; said.contains("\nUsage: jepcheck COMMAND < HISTORY\n"));
+        assert!(rt; said.contains("\nExample:\n  jepcheck check < "));
+    }
+    Ok(())
+}
+
+const SEE_HELP: &str = "\nFor more information, try 'jepcheck --help'.\n";
+
+/// Whether these words get this line, and the one that says where help is.
+fn gets(alloc: Global, words: &[&str], line: &str) -> Result<bool, Fail> {
+    let said = said_of(alloc, words)?;
+    Ok(said.strip_suffix(SEE_HELP) == Some(line))
+}
+
+#[test]
+fn a_line_without_a_command_is_told_so(rt: HostRuntime) -> Result<(), Fail> {
+    let line = "error: 'jepcheck' requires a subcommand but one was not provided";
+    assert!(rt; gets(rt.alloc(), &[], line)?);
+    Ok(())
+}
+
+#[test]
+fn an_unknown_command_is_named(rt: HostRuntime) -> Result<(), Fail> {
+    let lines = [
+        (["verdict"], "error: unrecognized subcommand 'verdict'"),
+        (["Reads"], "error: unrecognized subcommand 'Reads'"),
+        ([""], "error: unrecognized subcommand ''"),
+        (["two\nlines"], "error: unrecognized subcommand 'two"),
+    ];
+    for (words, line) in lines {
+        assert!(rt; gets(rt.alloc(), &words, line)?);
     }
     Ok(())
 }
 
 #[test]
-fn words_that_are_not_utf_8_get_a_text_that_helps(rt: HostRuntime) -> Result<(), Fail> {
+fn a_word_too_many_is_named(rt: HostRuntime) -> Result<(), Fail> {
+    let line = "error: unexpected argument 'history.edn' found";
+    assert!(rt; gets(rt.alloc(), &["reads", "history.edn"], line)?);
+    let line = "error: unexpected argument '--keys' found";
+    assert!(rt; gets(rt.alloc(), &["check", "--keys"], line)?);
+    Ok(())
+}
+
+#[test]
+fn words_that_are_not_utf_8_are_told_so(rt: HostRuntime) -> Result<(), Fail> {
     match unread(rt.alloc(), io::ErrorKind::InvalidData) {
-        LineFault::Usage(text) => assert!(rt; text.contains("Usage: jepcheck")),
+        LineFault::Usage(text) => {
+            let line = "error: a word of the command line is not UTF-8";
+            assert_eq!(rt; text.strip_suffix(SEE_HELP), Some(line));
+        }
         LineFault::Memory => assert!(rt; false),
     }
     assert!(rt;

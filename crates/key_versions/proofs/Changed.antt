@@ -74,7 +74,7 @@ length-written place rows (w ∷ ws) =
     let f = with_writer (record { txn = place; over = has_nil w.nil ws }) in
     length-written place (change f w.version rows) ws ∙ length-change f w.version rows
 
-all_behind : {A : Type 0} (P : A → Type 0) (x : A) (xs : List A) → All P (x ∷ xs) → All P xs
+pub all_behind : {A : Type 0} (P : A → Type 0) (x : A) (xs : List A) → All P (x ∷ xs) → All P xs
 all_behind P x xs h = λ k d below. h (suc k) d (omega arith)
 
 pub all_cons : {A : Type 0} (P : A → Type 0) (x : A) (xs : List A) → P x → All P xs → All P (x ∷ xs)

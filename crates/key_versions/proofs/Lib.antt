@@ -1,4 +1,5 @@
 mod Changed
+mod Spans
 mod Places
 mod Numbered
 mod Growing

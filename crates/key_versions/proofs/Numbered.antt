@@ -180,21 +180,23 @@ one_key keys values pairs nils key old new =
       nil_of_each = length_push nils (length pairs) ∙ ap (λ n. n + 1) old.nil_of_each ∙ sym (length_push keys key);
     }
 
+-- a new key gets the next number
+pub new_place :
+    (s : Numbers) (key : Atom) (number : ℕ) (keys : List Atom) → IsNumbering s.keys s.values s.pairs s.nils
+    → keys ≡ with_item atom_eq s.keys key → number_in atom_eq key keys ≡ Some number → number_in atom_eq key s.keys ≡ None
+    → number ≡ length s.keys
+new_place s key number keys old keyed numbered new =
+    same_item number (length s.keys)
+    (sym numbered ∙ ap (number_in atom_eq key) (keyed ∙ with_item-new atom_eq s.keys key new) ∙ number_last atom_eq key s.keys key new (atom_eq-itself key))
+
 -- what a new key leaves
 pub new_key :
     (s : Numbers) (key : Atom) (number nil : ℕ) (keys : List Atom) (pairs : List (ℕ × Option ℕ)) (nils : List ℕ) → IsNumbering s.keys s.values s.pairs s.nils
-    → keys ≡ with_item atom_eq s.keys key → number_in atom_eq key keys ≡ Some number → number ≡ length s.nils
+    → keys ≡ with_item atom_eq s.keys key → number_in atom_eq key keys ≡ Some number → number_in atom_eq key s.keys ≡ None
     → pairs ≡ with_item pair_eq s.pairs (number, None) → number_in pair_eq (number, None) pairs ≡ Some nil → nils ≡ s.nils ++ nil ∷ []
     → IsNumbering keys s.values pairs nils × (numbers keys s.values pairs nils ≡ with_key s key)
-new_key s key number nil keys pairs nils old keyed numbered at paired nilled pushed =
-    let new : number_in atom_eq key s.keys ≡ None = elim (cases_number atom_eq key s.keys) [
-      | inl there ↦ (
-          let same : number ≡ there.0 = same_item number there.0 (sym numbered ∙ ap (number_in atom_eq key) (keyed ∙ with_item-there atom_eq s.keys key there.0 there.1) ∙ there.1) in
-          let below : there.0 < length s.keys = number_within atom_eq key s.keys there.0 there.1 in
-          absurd (omega (arith, old.nil_of_each)))
-      | inr new ↦ new
-    ] in
-    let place : number ≡ length s.keys = at ∙ old.nil_of_each in
+new_key s key number nil keys pairs nils old keyed numbered new paired nilled pushed =
+    let place : number ≡ length s.keys = new_place s key number keys old keyed numbered new in
     let none_there = fresh s.keys s.values s.pairs old.in_range in
     let k : keys ≡ s.keys ++ key ∷ [] = keyed ∙ with_item-new atom_eq s.keys key new in
     let p : pairs ≡ s.pairs ++ (length s.keys, None) ∷ [] =
@@ -213,20 +215,10 @@ new_key s key number nil keys pairs nils old keyed numbered at paired nilled pus
           ∙ ap (numbers (s.keys ++ key ∷ []) s.values (with_item pair_eq s.pairs (length s.keys, None))) ns ∙ sym after,
     )
 
--- what a known key leaves
-pub known_key :
-    (s : Numbers) (key : Atom) (number : ℕ) (keys : List Atom) → IsNumbering s.keys s.values s.pairs s.nils
-    → keys ≡ with_item atom_eq s.keys key → number_in atom_eq key keys ≡ Some number → (number ≡ length s.nils → ⊥)
-    → (keys ≡ s.keys) × (s ≡ with_key s key)
-known_key s key number keys old keyed numbered apart = elim (cases_number atom_eq key s.keys) [
-  | inl there ↦ (
-    keyed ∙ with_item-there atom_eq s.keys key there.0 there.1,
-    sym (ap (λ (o : Option ℕ). cond (is_some o) s (numbers (s.keys ++ key ∷ []) s.values (with_item pair_eq s.pairs (length s.keys, None)) (s.nils ++ length s.pairs ∷ []))) there.1),
-  )
-  | inr new ↦ absurd (apart (
-      same_item number (length s.keys) (sym numbered ∙ ap (number_in atom_eq key) (keyed ∙ with_item-new atom_eq s.keys key new) ∙ number_last atom_eq key s.keys key new (atom_eq-itself key))
-      ∙ sym old.nil_of_each))
-]
+-- a known key leaves all as it was
+pub known_key : (s : Numbers) (key : Atom) (number : ℕ) → number_in atom_eq key s.keys ≡ Some number → s ≡ with_key s key
+known_key s key number there =
+    sym (ap (λ (o : Option ℕ). cond (is_some o) s (numbers (s.keys ++ key ∷ []) s.values (with_item pair_eq s.pairs (length s.keys, None)) (s.nils ++ length s.pairs ∷ []))) there)
 
 -- ---- what a key's number tells
 

@@ -1,5 +1,6 @@
 pub mod Histories
 pub mod Tables
 pub mod Rows
+pub mod Spans
 pub mod Numbering
 pub mod Views

@@ -26,18 +26,18 @@ impl<'a, S: BuildHasher> Model for Building<'a, S> {
 
     ghost Value = { Table };
 
-    ghost view = { λ b. table_by (versions_of b.numbering) b.rows.rows.items b.rows.accesses.items };
+    ghost view = { λ b. table_by (versions_of b.numbering) b.rows.rows.items b.rows.accesses };
 }
 
 impl<'a, S: BuildHasher + Copy> Building<'a, S> {
-    /// No transaction was taken yet.
-    pub fn new(alloc: Global, hasher: S) -> Self
-        ensures { IsTableOf [] result }
+    /// No transaction was taken yet, and there is room for so many.
+    pub fn with_capacity(alloc: Global, hasher: S, transactions: usize) -> Result<Self, AllocError>
+        ensures { IfOk result (IsTableOf []) }
     {
-        Building {
+        Ok(Building {
             numbering: Numbering::new(alloc, hasher),
-            rows: Rows::new(alloc),
-        }
+            rows: Rows::with_capacity(alloc, transactions)?,
+        })
     }
 
     /// Takes the next transaction.
@@ -51,17 +51,17 @@ impl<'a, S: BuildHasher + Copy> Building<'a, S> {
         Ok(())
     }
 
-    pub fn finish(self) -> Result<Versions<'a>, AllocError>
+    pub fn finish(self) -> Versions<'a>
         requires { length self.writers ≡ length self.versions }
-        ensures { IfOk result (λ table. table ≡ self.entry) }
+        ensures { result ≡ self.entry }
     {
-        let numbered = self.numbering.finish()?;
-        Ok(Versions::new(
+        let numbered = self.numbering.finish();
+        Versions::new(
             numbered.keys,
             numbered.values,
             numbered.pairs,
             self.rows.rows,
             self.rows.accesses,
-        ))
+        )
     }
 }

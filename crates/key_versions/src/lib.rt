@@ -5,6 +5,7 @@ ghost use Rattle.std.specs.Prelude.{◌≡◌, IfOk, IfErr};
 ghost use Rattle.hist_types.specs.Refusals.{memory_fault};
 ghost use Rattle.key_versions.specs.Tables.{IsTableOf};
 
+mod accesses;
 mod building;
 mod numbering;
 mod rows;
@@ -32,9 +33,9 @@ pub fn versions<'a, S: BuildHasher + Copy>(
     ensures ok { IfOk result (IsTableOf txns.now) }
     ensures err { IfErr result (λ fault. fault ≡ memory_fault) }
 {
-    let mut building = Building::new(alloc, hasher);
+    let mut building = Building::with_capacity(alloc, hasher, txns.as_slice().len())?;
     for txn in txns.as_slice() {
         building.take(txn)?;
     }
-    Ok(building.finish()?)
+    Ok(building.finish())
 }

@@ -9,7 +9,7 @@ ghost use Rattle.hist_types.specs.Versions.{nil_of};
 ghost use Rattle.key_versions.specs.Histories.{named_in, read_by};
 ghost use Rattle.key_versions.specs.Numbering.{Numbers, key_at, version_with, versions_in, versions_of, AreInRange, with_versions, IsAccess, AreAccesses};
 
-use crate::rows::{Access, has_key};
+use crate::rows::{Access, has_key, number_of};
 use atom_index::atoms::AtomIndex;
 use atom_index::pairs::PairIndex;
 use op_view::atom::Atom;
@@ -56,13 +56,6 @@ pub(crate) struct Numbered<'a> {
     pub pairs: Vec<(usize, Option<usize>)>,
 }
 
-/// No memory holds as many versions as there are numbers.
-fn number_of(place: usize) -> Result<u32, AllocError>
-    ensures { IfOk result (λ number. number ≡ place) }
-{
-    u32::try_from(place).map_err(|_| AllocError)
-}
-
 impl<'a, S: BuildHasher> Numbering<'a, S> {
     pub fn new(alloc: Global, hasher: S) -> Self
     where
@@ -90,13 +83,14 @@ impl<'a, S: BuildHasher> Numbering<'a, S> {
         ensures number { IfOk result (λ number. number_in atom_eq key.entry self.new.keys ≡ Some number) }
         ensures versions { OnOk result (versions_of self.new ≡ with_item version_eq (versions_of self.old) (nil_of key.entry)) }
     {
+        if let Some(number) = self.keys.get(&key) {
+            return Ok(number);
+        }
         self.pairs.reserve(1)?;
         self.nils.try_reserve(1)?;
         let number = self.keys.insert(key)?;
-        if number == self.nils.len() {
-            let nil = self.pairs.insert_reserved(number, None);
-            self.nils.push_reserved(nil);
-        }
+        let nil = self.pairs.insert_reserved(number, None);
+        self.nils.push_reserved(nil);
         Ok(number)
     }
 
@@ -148,17 +142,16 @@ impl<'a, S: BuildHasher> Numbering<'a, S> {
         Ok(Accessed { reads, writes })
     }
 
-    pub fn finish(self) -> Result<Numbered<'a>, AllocError>
+    pub fn finish(self) -> Numbered<'a>
     where
         S: Drop,
-        ensures versions { IfOk result (λ n. versions_in n.keys.items n.values.items n.pairs.items ≡ versions_of self.entry) }
-        ensures in_range { IfOk result (λ n. AreInRange n.keys.items n.values.items n.pairs.items) }
+        ensures versions { versions_in result.keys.items result.values.items result.pairs.items ≡ versions_of self.entry }
+        ensures in_range { AreInRange result.keys.items result.values.items result.pairs.items }
     {
-        let pairs = Vec::from_slice(self.alloc, self.pairs.as_slice())?;
-        Ok(Numbered {
+        Numbered {
             keys: self.keys.into_atoms(),
             values: self.values.into_atoms(),
-            pairs,
-        })
+            pairs: self.pairs.into_pairs(),
+        }
     }
 }

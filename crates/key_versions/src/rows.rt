@@ -1,8 +1,9 @@
 //! What is known of each version, over numbers alone.
 
 ghost use Rattle.std.specs.Prelude.{◌≡◌, ◌≤◌, ◌<◌, ◌++◌, ◌∷◌, [], length, fold, IfOk, OnOk, All};
-ghost use Rattle.key_versions.specs.Rows.{Known, Accessed, unknown, with_writer, has_nil, lasts, written_rows, with_follower, installed_rows, is_behind, with_reader, has_number, read_rows, numbers_of, accessed, rows_after, grown, IsWithin};
+ghost use Rattle.key_versions.specs.Rows.{Known, unknown, with_writer, has_nil, lasts, written_rows, with_follower, installed_rows, is_behind, with_reader, has_number, read_rows, accessed, rows_after, grown, IsWithin};
 
+use crate::accesses::Accesses;
 use crate::types::{Follower, Writer};
 use smallvec::SmallVec;
 use std::alloc::{AllocError, Global};
@@ -102,53 +103,11 @@ impl Row {
     }
 }
 
-/// The numbers of what a transaction reads and of what it installs.
-#[derive(Drop)]
-pub(crate) struct Accesses {
-    reads: SmallVec<u32, 2>,
-    installs: SmallVec<u32, 2>,
-}
-
-impl Model for Accesses {
-    ghost use Rattle.key_versions.specs.Rows.{Accessed};
-
-    ghost Value = { Accessed };
-
-    ghost view = { λ a. record { reads = a.reads.items; installs = a.installs.items } };
-}
-
-impl Accesses {
-    fn new(alloc: Global, reads: &[Access], installs: &[Access]) -> Result<Self, AllocError>
-        ensures { IfOk result (λ a. a ≡ record { reads = numbers_of reads.now; installs = numbers_of installs.now }) }
-    {
-        Ok(Accesses {
-            reads: numbers(alloc, reads)?,
-            installs: numbers(alloc, installs)?,
-        })
-    }
-
-    pub fn reads(&self) -> &[u32]
-        ensures { result.now ≡ self.now.reads }
-    {
-        self.reads.as_slice()
-    }
-
-    pub fn installs(&self) -> &[u32]
-        ensures { result.now ≡ self.now.installs }
-    {
-        self.installs.as_slice()
-    }
-}
-
-fn numbers(alloc: Global, accesses: &[Access]) -> Result<SmallVec<u32, 2>, AllocError>
-    ensures { IfOk result (λ numbers. numbers.items ≡ numbers_of accesses.now) }
+/// A place as a number. What has more places than there are numbers is out of memory.
+pub(crate) fn number_of(place: usize) -> Result<u32, AllocError>
+    ensures { IfOk result (λ number. number ≡ place) }
 {
-    let mut numbers = SmallVec::new(alloc);
-    numbers.reserve(accesses.len())?;
-    for access in accesses {
-        numbers.push(access.version)?;
-    }
-    Ok(numbers)
+    u32::try_from(place).map_err(|_| AllocError)
 }
 
 /// Whether one of them is of the key with this nil version.
@@ -223,26 +182,26 @@ fn add_reads(
 pub(crate) struct Rows {
     alloc: Global,
     pub rows: Vec<Row>,
-    /// By place.
-    pub accesses: Vec<Accesses>,
+    pub accesses: Accesses,
 }
 
 impl Rows {
-    pub fn new(alloc: Global) -> Self
-        ensures rows { result.rows.items ≡ [] }
-        ensures accesses { result.accesses.items ≡ [] }
+    /// No rows yet, with room for so many transactions.
+    pub fn with_capacity(alloc: Global, transactions: usize) -> Result<Self, AllocError>
+        ensures rows { IfOk result (λ r. r.rows.items ≡ []) }
+        ensures accesses { IfOk result (λ r. r.accesses ≡ []) }
     {
-        Rows {
+        Ok(Rows {
             alloc,
             rows: Vec::new(alloc),
-            accesses: Vec::new(alloc),
-        }
+            accesses: Accesses::with_capacity(alloc, transactions)?,
+        })
     }
 
     /// Adds rows until there are as many.
     pub fn grow(&mut self, versions: usize) -> Result<(), AllocError>
         ensures rows { OnOk result (self.new.rows.items ≡ grown versions self.old.rows.items) }
-        ensures accesses { OnOk result (self.new.accesses.items ≡ self.old.accesses.items) }
+        ensures accesses { OnOk result (self.new.accesses ≡ self.old.accesses) }
     {
         while self.rows.len() < versions {
             self.rows.push(Row::new(self.alloc))?;
@@ -254,16 +213,13 @@ impl Rows {
     pub fn add(&mut self, reads: &[Access], writes: &[Access]) -> Result<(), AllocError>
         requires reads { All (IsWithin (length self.old.rows.items)) reads.now }
         requires writes { All (IsWithin (length self.old.rows.items)) writes.now }
-        ensures rows { OnOk result (self.new.rows.items ≡ rows_after (length self.old.accesses.items) reads.now writes.now self.old.rows.items) }
-        ensures accesses { OnOk result (self.new.accesses.items ≡ self.old.accesses.items ++ accessed reads.now writes.now ∷ []) }
+        ensures rows { OnOk result (self.new.rows.items ≡ rows_after (length self.old.accesses) reads.now writes.now self.old.rows.items) }
+        ensures accesses { OnOk result (self.new.accesses ≡ self.old.accesses ++ accessed reads.now writes.now ∷ []) }
     {
-        // No memory holds more transactions than there are places.
-        let place = u32::try_from(self.accesses.len()).map_err(|_| AllocError)?;
+        let place = number_of(self.accesses.len())?;
         let installs = add_writes(self.alloc, &mut self.rows, place, writes)?;
         add_installs(&mut self.rows, place, installs.as_slice())?;
         add_reads(&mut self.rows, place, reads, installs.as_slice())?;
-        let accesses = Accesses::new(self.alloc, reads, installs.as_slice())?;
-        self.accesses.push(accesses)?;
-        Ok(())
+        self.accesses.push(reads, installs.as_slice())
     }
 }

@@ -4,7 +4,8 @@ ghost use Rattle.std.specs.Prelude.{◌≡◌, ◌<◌, length, Some, slice_get}
 ghost use Rattle.key_versions.specs.Numbering.{versions_in};
 ghost use Rattle.key_versions.specs.Views.{AreVersions, table_by};
 
-use crate::rows::{Accesses, Row};
+use crate::accesses::Accesses;
+use crate::rows::Row;
 use crate::types::{Follower, VersionRef, Writer};
 use op_view::atom::Atom;
 use std::marker::Model;
@@ -18,8 +19,7 @@ pub struct Versions<'a> {
     /// The key and the value of each version, by their numbers. None stands for nil.
     pairs: Vec<(usize, Option<usize>)>,
     rows: Vec<Row>,
-    /// By place.
-    accesses: Vec<Accesses>,
+    accesses: Accesses,
 }
 
 impl<'a> Model for Versions<'a> {
@@ -29,7 +29,7 @@ impl<'a> Model for Versions<'a> {
 
     ghost Value = { Table };
 
-    ghost view = { λ v. table_by (versions_in v.keys.items v.values.items v.pairs.items) v.rows.items v.accesses.items };
+    ghost view = { λ v. table_by (versions_in v.keys.items v.values.items v.pairs.items) v.rows.items v.accesses };
 
     ghost invariant = { λ v. AreVersions v.keys.items v.values.items v.pairs.items v.rows.items };
 }
@@ -41,10 +41,10 @@ impl<'a> Versions<'a> {
         values: Vec<Atom<'a>>,
         pairs: Vec<(usize, Option<usize>)>,
         rows: Vec<Row>,
-        accesses: Vec<Accesses>,
+        accesses: Accesses,
     ) -> Self
         requires { AreVersions keys.items values.items pairs.items rows.items }
-        ensures { result ≡ table_by (versions_in keys.entry.items values.entry.items pairs.items) rows.items accesses.items }
+        ensures { result ≡ table_by (versions_in keys.entry.items values.entry.items pairs.items) rows.items accesses }
     {
         Versions {
             keys,
@@ -114,7 +114,7 @@ impl<'a> Versions<'a> {
         requires { place < length self.now.reads }
         ensures { slice_get self.now.reads place ≡ Some result.now }
     {
-        self.accesses[place].reads()
+        self.accesses.reads(place)
     }
 
     /// The numbers of what the transaction at this place installs, in order.
@@ -122,6 +122,6 @@ impl<'a> Versions<'a> {
         requires { place < length self.now.installs }
         ensures { slice_get self.now.installs place ≡ Some result.now }
     {
-        self.accesses[place].installs()
+        self.accesses.installs(place)
     }
 }

@@ -1,13 +1,15 @@
 -- The first bytes of a text that is an atom tell its kind.
-use Rattle.std.proofs.Common.{◌≡◌, inl, inr, ℕ, List, Bool, true, false, not, Some, None, refl, sym, ◌∙◌, ap}
+use Rattle.std.proofs.Common.{◌≡◌, inl, inr, ℕ, List, [], ◌∷◌, Bool, true, false, not, Some, None, refl, sym, ◌∙◌, ap, arith}
 use Rattle.std.specs.Prelude.{◌==◌, ◌&&◌, ◌||◌}
 use Rattle.std.specs.Char.{is_ascii_digit}
+use Rattle.std.specs.List.{list_all}
 use Rattle.std.proofs.lemmas.Bool.{true≢false, and_parts, cases_Bool, eqb-true}
 use Rattle.hist_types.specs.Atoms.{Atom}
-use Rattle.hist_types.specs.Bytes.{colon, hash, dot}
+use Rattle.hist_types.specs.Bytes.{quote, colon, hash, dot}
 use Rattle.hist_types.specs.Tokens.{ItemKind, Int, Keyword, Symbol, Str, first_byte, second_byte, is_sign, is_symbol, begins_with_number}
 use Rattle.op_view.specs.AtomTexts.{IsTokenOf}
 use Rattle.op_view.specs.Fronts.{kind_by_front}
+use Rattle.op_view.proofs.Numbers.{digit_range, other_byte}
 use Rattle.op_view.proofs.Tokens.{token_begins}
 use Rattle.hist_types.proofs.Fronts.{word_is, str_begins, int_begins}
 
@@ -77,3 +79,18 @@ kind_told Str text atom h =
     let is_quote = str_begins text (token_begins Str text h.0) in
     rw is_quote refl
 kind_told kind text atom h = absurd (no_atom atom h.1)
+
+-- digits alone that are an atom are an integer
+pub digits_told :
+    (kind : ItemKind) (text : List ℕ) (atom : Atom)
+    → IsTokenOf kind text atom
+    → list_all is_ascii_digit text ≡ true
+    → Int ≡ kind
+digits_told kind [] atom h digits = absurd (token_begins kind [] h.0)
+digits_told kind (b ∷ bs) atom h digits =
+    let range = digit_range b bs digits in
+    let no_quote = other_byte b quote range (inl (omega arith)) in
+    let no_colon = other_byte b colon range (inr (omega arith)) in
+    let digit = (and_parts (is_ascii_digit b) _ digits).0 in
+    let int : kind_by_front (b ∷ bs) ≡ Int = rw (no_quote, no_colon, digit) refl in
+    sym int ∙ kind_told kind (b ∷ bs) atom h

@@ -132,10 +132,10 @@ int_utf8 run h = IsUtf8-from_ascii (without_n run) (int_numeral run h).ascii
 
 -- ---- digits alone
 
-digit_range : (b : ℕ) (bs : List ℕ) → list_all is_ascii_digit (b ∷ bs) ≡ true → (48 ≤ b) × (b ≤ 57)
+pub digit_range : (b : ℕ) (bs : List ℕ) → list_all is_ascii_digit (b ∷ bs) ≡ true → (48 ≤ b) × (b ≤ 57)
 digit_range b bs h = (tells_all_ascii_digits.parts b bs (sym (same_test (b ∷ bs)) ∙ h)).0
 
-other_byte : (b c : ℕ) → (48 ≤ b) × (b ≤ 57) → (c < 48) ⊎ (57 < c) → (b == c) ≡ false
+pub other_byte : (b c : ℕ) → (48 ≤ b) × (b ≤ 57) → (c < 48) ⊎ (57 < c) → (b == c) ≡ false
 other_byte b c range (inl below) = false_from_ne_true _ (λ h. omega (arith, eqb-true b c h, range.0, below))
 other_byte b c range (inr above) = false_from_ne_true _ (λ h. omega (arith, eqb-true b c h, range.1, above))
 
@@ -183,14 +183,18 @@ digits_number text count number whole fits h =
     let digits : list_all is_ascii_digit text ≡ true = subst (λ (ds : List ℕ). list_all is_ascii_digit ds ≡ true) all h.digits in
     let value : pos (digits_value 10 text) ≡ to_z w64 number = ap (λ (ds : List ℕ). pos (digits_value 10 ds)) (sym all) ∙ ap pos (sym h.value) ∙ sym (to_z_pos w64 number fits) in
     record {
+      digits = digits;
       means = ap (signed_digits_value 10) (plain_n text digits) ∙ plain_sign text digits ∙ value;
       fits = ap is_64_bit (to_z_pos w64 number fits) ∙ lt-ltb number (2 ^ 63) fits;
     }
 
 -- as the machine holds it
+pub number_kept : (text : List ℕ) (number : ℤ) → IsNumberOf text number → to_z w64 (of_z w64 number) ≡ number
+number_kept text number h = to_z-of_z w64 number (fits number h.fits)
+
 pub number_from_digits :
     (text : List ℕ) (number : ℤ) → IsNumberOf text number
     → Some (to_z w64 (of_z w64 number)) ≡ cond (is_64_bit (int_value text)) (Some (int_value text)) None
 number_from_digits text number h =
     let holds : is_64_bit (int_value text) ≡ true = ap is_64_bit h.means ∙ h.fits in
-    rw holds (ap Some (to_z-of_z w64 number (fits number h.fits) ∙ sym h.means))
+    rw holds (ap Some (number_kept text number h ∙ sym h.means))

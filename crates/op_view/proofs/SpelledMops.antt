@@ -1,12 +1,12 @@
 -- The micro-operations of an operation are in the places that its shape gives.
-use Rattle.std.proofs.Common.{◌≡◌, inl, inr, ℕ, ◌<◌, pos, List, [], ◌∷◌, length, map, Bool, true, false, Option, Some, None, refl, sym, ◌∙◌, ap, subst, arith}
+use Rattle.std.proofs.Common.{◌≡◌, inl, inr, ℕ, ◌<◌, pos, List, [], ◌∷◌, length, map, true, false, Option, Some, None, refl, sym, ◌∙◌, ap, subst, arith}
 use Rattle.std.specs.List.{All, AllByRecursion}
 use Rattle.std.specs.Option.{unwrap_or, IfSome}
 use Rattle.std.specs.List.{slice_get}
 use Rattle.std.proofs.lemmas.Bool.{true≢false}
 use Rattle.std.proofs.lemmas.Option.{none-some, slice_get_cases}
 use Rattle.std.proofs.lemmas.List.Elements.{recursion_from_All}
-use Rattle.hist_types.specs.Atoms.{Atom, integer}
+use Rattle.hist_types.specs.Atoms.{Atom, Value, integer}
 use Rattle.hist_types.specs.AtomTokens.{atom_of_token}
 use Rattle.hist_types.specs.Entries.{PlacedMop, PlacedOperation, operation as entry, operation_of}
 use Rattle.hist_types.specs.Operations.{Mop, Operation, read, write}
@@ -18,9 +18,11 @@ use Rattle.hist_types.specs.declared.types.OpKind.{OpKind}
 use Rattle.op_block.specs.Contents.{BlockOperation}
 use Rattle.op_block.specs.Shapes.{short_span_of, short_mop_of, IsShapeOf}
 use Rattle.op_block.specs.declared.shapes.ShapeRef.{ShapeRef}
-use Rattle.edn_ops.specs.SourceTexts.{IsAtomText}
+use Rattle.edn_ops.specs.SourceTexts.{IsAtomText, IsValueText, IsMopText}
+use Rattle.edn_ops.specs.declared.write.MopText.{MopText}
 use Rattle.op_view.specs.AtomTexts.{IsTokenOf}
-use Rattle.op_view.specs.MopTexts.{atom_in, is_nil, value_in, IsAtom, IsValue, bytes_at, mop_at, mops_at, operation_at, IsWithin, IsMopAt, AreMopsAt}
+use Rattle.op_view.specs.Mops.{value_of}
+use Rattle.op_view.specs.MopTexts.{atom_in, is_nil, value_in, mop_in, IsAtom, bytes_at, mop_at, mops_at, operation_at, IsWithin, IsMopAt, AreMopsAt}
 use Rattle.op_view.proofs.KindsByFront.{kind_told}
 use Rattle.op_view.proofs.NilTokens.{nil_text, atom_no_nil}
 
@@ -36,7 +38,7 @@ atom_in-is bytes atom (kind, token, means) =
     ap (λ (k : ItemKind). unwrap_or (atom_of_token k bytes) (integer (pos 0))) (kind_told kind bytes atom (token, means))
     ∙ ap (λ (a : Option Atom). unwrap_or a (integer (pos 0))) means
 
-is_atom : (bytes : List ℕ) (atom : Atom) → IsAtomText bytes atom → IsAtom bytes
+pub is_atom : (bytes : List ℕ) (atom : Atom) → IsAtomText bytes atom → IsAtom bytes
 is_atom bytes atom is = subst (IsAtomText bytes) (sym (atom_in-is bytes atom is)) is
 
 value_of_nil : (bytes : List ℕ) → is_nil bytes ≡ true → value_in bytes ≡ None
@@ -45,21 +47,45 @@ value_of_nil bytes is = rw is refl
 value_of_atom : (bytes : List ℕ) (atom : Atom) → IsAtomText bytes atom → value_in bytes ≡ Some atom
 value_of_atom bytes atom is = rw (atom_no_nil bytes atom is) (ap Some (atom_in-is bytes atom is))
 
--- what is read and is not nil is an atom
-pub no_nil_read :
-    (is_write : Bool) (bytes : List ℕ)
-    → is_write ≡ false
-    → is_nil bytes ≡ false
-    → IsValue is_write bytes
-    → IsAtom bytes
-no_nil_read true bytes reads is_not h = absurd (true≢false reads)
-no_nil_read false bytes reads is_not (inl is) = absurd (true≢false (sym is ∙ is_not))
-no_nil_read false bytes reads is_not (inr atom) = atom
+-- ---- micro-operations by the texts of their keys and values
+
+pub value_in-is : (bytes : List ℕ) (value : Value) → IsValueText bytes value → value_in bytes ≡ value
+value_in-is bytes None is = ap value_in is
+value_in-is bytes (Some atom) is = value_of_atom bytes atom is
+
+-- a text that is an atom or nil spells the value that it means
+pub is_value : (bytes : List ℕ) (value : Value) → IsValueText bytes value → IsValueText bytes (value_in bytes)
+is_value bytes value is = subst (IsValueText bytes) (sym (value_in-is bytes value is)) is
+
+pub read_by :
+    (key value : List ℕ) (a : Atom) (v : Value)
+    → IsAtomText key a
+    → IsValueText value v
+    → mop_in false key value ≡ read a v
+read_by key value a v is_key is_value =
+    ap (λ (k : Atom). read k (value_in value)) (atom_in-is key a is_key) ∙ ap (read a) (value_in-is value v is_value)
+
+pub write_by :
+    (key value : List ℕ) (a v : Atom)
+    → IsAtomText key a
+    → IsAtomText value v
+    → mop_in true key value ≡ write a v
+write_by key value a v is_key is_value =
+    ap (λ (k : Atom). write k (atom_in value)) (atom_in-is key a is_key) ∙ ap (write a) (atom_in-is value v is_value)
+
+value_no_nil : (text : List ℕ) (atom : Atom) → is_nil text ≡ true → IsAtomText text atom → ⊥
+value_no_nil text atom is h = true≢false (sym is ∙ atom_no_nil text atom h)
+
+-- Only a read has nil for its value.
+pub nil_read : (t : MopText) (mop : Mop) → IsMopText t mop → is_nil t.value.now ≡ true → value_of mop ≡ None
+nil_read t (read key None) h is = refl
+nil_read t (read key (Some value)) h is = absurd (value_no_nil t.value.now value is h.2)
+nil_read t (write key value) h is = absurd (value_no_nil t.value.now value is h.2)
 
 -- ---- tokens in a text
 
 within : (text : List ℕ) (t : Item) → IsTokenIn text t → IsWithin text (short_span_of t)
-within text t here = record { ordered = omega arith; end = here.0 }
+within text t here = here.0
 
 text_of_token :
     (text : List ℕ) (t : Item) (atom : Atom)

@@ -1,5 +1,7 @@
 -- Texts that are one atom.
 use Rattle.std.specs.Prelude.{◌≡◌, ℕ, ℤ, List, true, Option, Some, None}
+use Rattle.std.specs.Char.{is_ascii_digit}
+use Rattle.std.specs.List.{list_all}
 use Rattle.hist_types.specs.Atoms.{Atom, integer}
 use Rattle.hist_types.specs.AtomTokens.{atom_of_token, int_value, is_64_bit}
 use Rattle.hist_types.specs.Tokens.{Item, ItemKind}
@@ -18,7 +20,8 @@ abbrev pub number_of : Atom → Option ℤ
 number_of (integer number) = Some number
 number_of atom = None
 
--- The text is the number's, which has 64 bits.
+-- The text is digits alone, and the number that they write has 64 bits.
 pub record IsNumberOf (text : List ℕ) (number : ℤ) : Type 0 where
+  pub digits : list_all is_ascii_digit text ≡ true
   pub means : int_value text ≡ number
   pub fits : is_64_bit number ≡ true

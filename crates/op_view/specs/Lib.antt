@@ -6,4 +6,3 @@ pub mod Hashing
 pub mod AtomLaws
 pub mod Mops
 pub mod MopTexts
-pub mod MopParts

@@ -13,7 +13,7 @@ ghost use Rattle.op_view.specs.Hashing.{atom_writes};
 ghost use Rattle.op_view.specs.AtomLaws.{atom_eq_equiv, atom_ties, same_writes};
 
 use crate::content::{between_quotes, compare, feed};
-use crate::spelling::{Spelling, spelling_of, token_kind};
+use crate::spelling::{Spelling, known_spelling, spelling_of};
 use edn_lex::lexer::Lexer;
 use edn_lex::types::TokenKind;
 use std::cmp::Ordering;
@@ -74,8 +74,10 @@ impl<'a> Atom<'a> {
         requires { (atom : AnAtom) × IsAtomText text.now atom }
         ensures { (atom : AnAtom) → IsAtomText text.now atom → result ≡ atom }
     {
-        let spelling = spelling_of(token_kind(text), text).unwrap();
-        Atom { text, spelling }
+        Atom {
+            text,
+            spelling: known_spelling(text),
+        }
     }
 
     /// The same atom.

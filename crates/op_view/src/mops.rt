@@ -8,7 +8,7 @@ ghost use Rattle.hist_types.specs.Atoms.{atom_eq};
 ghost use Rattle.hist_types.specs.Journal.{same_mop};
 ghost use Rattle.hist_types.specs.Operations.{read, write};
 ghost use Rattle.edn_ops.specs.Shapes.{is_write};
-ghost use Rattle.edn_ops.specs.SourceTexts.{IsMopText};
+ghost use Rattle.edn_ops.specs.SourceTexts.{IsMopText, IsValueText};
 ghost use Rattle.op_view.specs.MopTexts.{bytes_at, atom_in, mop_at as mop_of_text, mops_at, IsAtom, IsWithin, IsMopAt, AreMopsAt};
 ghost use Rattle.op_view.specs.Mops.{key_of, value_of};
 
@@ -18,16 +18,15 @@ use op_block::shapes::{ShortMop, ShortSpan};
 use std::iter::ExactSizeIterator;
 use std::marker::Model;
 
-#[derive(Drop)]
-enum Parts<'a> {
-    Read(Atom<'a>, Option<Atom<'a>>),
-    Write(Atom<'a>, Atom<'a>),
-}
+/// The text of the value of a read of nil.
+const NIL: &[u8] = b"nil";
 
-/// A read of a key with what it returned, nil or an atom, or a write of an atom to a key.
+/// A read of a key with what it returned, nil or an atom, or a write of an atom to a key, by the texts of both.
+///
+/// A text is parsed each time it is asked for as an atom.
 #[derive(Drop)]
 pub struct Mop<'a> {
-    parts: Parts<'a>,
+    text: MopText<'a>,
 }
 
 impl<'a> Model for Mop<'a> {
@@ -38,9 +37,22 @@ impl<'a> Model for Mop<'a> {
 
     ghost coded = { coded_mop };
 
-    ghost use Rattle.op_view.specs.MopParts.{mop_of};
+    ghost use Rattle.edn_ops.specs.SourceTexts.{IsMopText};
+    ghost use Rattle.op_view.specs.MopTexts.{mop_by};
 
-    ghost view = { λ m. mop_of m.parts };
+    ghost view = { λ m. mop_by m.text };
+
+    ghost invariant = { λ m. IsMopText m.text (mop_by m.text) };
+}
+
+/// The text of what a read returned. None stands for nil.
+fn value_text<'a>(value: Option<Atom<'a>>) -> &'a [u8]
+    ensures { IsValueText result.now value.entry }
+{
+    match value {
+        None => NIL,
+        Some(atom) => atom.text(),
+    }
 }
 
 impl<'a> Mop<'a> {
@@ -48,44 +60,46 @@ impl<'a> Mop<'a> {
     pub fn r(key: Atom<'a>, value: Option<Atom<'a>>) -> Self
         ensures { result ≡ read key.entry value.entry }
     {
-        Mop {
-            parts: Parts::Read(key, value),
-        }
+        let text = MopText {
+            is_write: false,
+            key: key.text(),
+            value: value_text(value),
+        };
+        Mop { text }
     }
 
     /// A write.
     pub fn w(key: Atom<'a>, value: Atom<'a>) -> Self
         ensures { result ≡ write key.entry value.entry }
     {
-        Mop {
-            parts: Parts::Write(key, value),
-        }
+        let text = MopText {
+            is_write: true,
+            key: key.text(),
+            value: value.text(),
+        };
+        Mop { text }
     }
 
     pub fn is_write(&self) -> bool
         ensures { result ≡ is_write self.now }
     {
-        match &self.parts {
-            Parts::Read(_, _) => false,
-            Parts::Write(_, _) => true,
-        }
+        self.text.is_write
     }
 
     pub fn key(&self) -> Atom<'a>
         ensures { result ≡ key_of self.now }
     {
-        match &self.parts {
-            Parts::Read(key, _) | Parts::Write(key, _) => key.copy(),
-        }
+        atom_of(self.text.key)
     }
 
     /// What was read or is written. None stands for nil, which only a read has.
     pub fn value(&self) -> Option<Atom<'a>>
         ensures { result ≡ value_of self.now }
     {
-        match &self.parts {
-            Parts::Read(_, None) => None,
-            Parts::Read(_, Some(value)) | Parts::Write(_, value) => Some(value.copy()),
+        if self.text.value == NIL {
+            None
+        } else {
+            Some(atom_of(self.text.value))
         }
     }
 
@@ -93,23 +107,7 @@ impl<'a> Mop<'a> {
     pub fn text(&self) -> MopText<'a>
         ensures { IsMopText result self.now }
     {
-        match &self.parts {
-            Parts::Read(key, None) => MopText {
-                is_write: false,
-                key: key.text(),
-                value: b"nil",
-            },
-            Parts::Read(key, Some(value)) => MopText {
-                is_write: false,
-                key: key.text(),
-                value: value.text(),
-            },
-            Parts::Write(key, value) => MopText {
-                is_write: true,
-                key: key.text(),
-                value: value.text(),
-            },
-        }
+        self.text
     }
 }
 
@@ -118,7 +116,8 @@ fn slice_at(text: &[u8], span: ShortSpan) -> &[u8]
     requires { IsWithin text.now span }
     ensures { result.now ≡ bytes_at text.now span }
 {
-    &text[span.start as usize..span.end as usize]
+    let start = usize::from(span.start);
+    &text[start..start + usize::from(span.len)]
 }
 
 /// The atom that the bytes are known to be.
@@ -134,15 +133,12 @@ fn mop_at(text: &[u8], shape: ShortMop) -> Mop<'_>
     requires { IsMopAt text.now shape }
     ensures { result ≡ mop_of_text text.now shape }
 {
-    let key = atom_of(slice_at(text, shape.key));
-    let value = slice_at(text, shape.value);
-    if shape.is_write {
-        Mop::w(key, atom_of(value))
-    } else if value == b"nil".as_slice() {
-        Mop::r(key, None)
-    } else {
-        Mop::r(key, Some(atom_of(value)))
-    }
+    let text = MopText {
+        is_write: shape.is_write,
+        key: slice_at(text, shape.key),
+        value: slice_at(text, shape.value),
+    };
+    Mop { text }
 }
 
 /// Whether the bytes are the same atom. Equal bytes are, and only others are parsed.

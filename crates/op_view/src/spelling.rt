@@ -1,13 +1,14 @@
 //! How an atom's text spells it.
 
 ghost use Rattle.std.specs.Prelude.{◌≡◌, true, None, cond, Some, Option, MatchOption, IfSome, false, ℕ, List};
-ghost use Rattle.hist_types.specs.Atoms.{rank as rank_of_atom};
+ghost use Rattle.hist_types.specs.Atoms.{Atom as AnAtom, rank as rank_of_atom};
 ghost use Rattle.hist_types.specs.AtomTokens.{int_value, is_64_bit, atom_of_token, between_quotes as bytes_between_quotes};
-ghost use Rattle.hist_types.specs.Tokens.{without_n as before_n, is_int, Str, begins_with_number};
+ghost use Rattle.hist_types.specs.Tokens.{ItemKind, without_n as before_n, is_int, Str, begins_with_number};
 ghost use Rattle.edn_lex.specs.Kinds.{kind_of};
 ghost use Rattle.hist_types.specs.Placed.{IsTokenAlone};
 ghost use Rattle.op_view.specs.Decoding.{has_content};
-ghost use Rattle.op_view.specs.AtomTexts.{IsNumberOf};
+ghost use Rattle.edn_ops.specs.SourceTexts.{IsAtomText};
+ghost use Rattle.op_view.specs.AtomTexts.{IsNumberOf, IsTokenOf};
 ghost use Rattle.op_view.specs.Fronts.{kind_by_front};
 ghost use Rattle.op_view.specs.Spellings.{IsSpelled, atom_spelled};
 
@@ -123,7 +124,7 @@ fn begins_as_int(text: &[u8]) -> bool
 }
 
 /// The kind of token that an atom's text is, by its first bytes.
-pub(crate) fn token_kind(text: &[u8]) -> TokenKind
+fn token_kind(text: &[u8]) -> TokenKind
     ensures { kind_of result ≡ kind_by_front text.now }
 {
     match text.first() {
@@ -131,5 +132,17 @@ pub(crate) fn token_kind(text: &[u8]) -> TokenKind
         Some(b':') => TokenKind::Keyword,
         _ if begins_as_int(text) => TokenKind::Int,
         _ => TokenKind::Symbol,
+    }
+}
+
+/// How a text that is known to be an atom spells it.
+pub(crate) fn known_spelling(text: &[u8]) -> Spelling
+    requires { (atom : AnAtom) × IsAtomText text.now atom }
+    ensures { (kind : ItemKind) → (atom : AnAtom) → IsTokenOf kind text.now atom → IsSpelled kind text.now result }
+{
+    // Most integers are digits alone, which one pass over them tells.
+    match number_of_digits(text) {
+        Some(number) => Spelling::Integer(number),
+        None => spelling_of(token_kind(text), text).unwrap(),
     }
 }

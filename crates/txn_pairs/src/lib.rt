@@ -22,6 +22,8 @@ pub fn pair<'a>(alloc: Global, prefix: &Prefix<'a>) -> Result<Txns<'a>, Fault>
     ensures err { IfErr result (λ fault. fault ≡ memory_fault) }
 {
     let mut pairing = Pairing::new(alloc);
+    // Each completion has an invocation of its own, so at least half of the events are invocations.
+    pairing.reserve(prefix.events() as usize / 2)?;
     for index in 0..prefix.events() {
         pairing.take(index, prefix.op(index))?;
     }

@@ -61,6 +61,13 @@ impl<'a> Pairing<'a> {
         }
     }
 
+    /// Makes room for so many more transactions. It changes nothing else.
+    pub fn reserve(&mut self, transactions: usize) -> Result<(), AllocError>
+        ensures { self.new ≡ self.old }
+    {
+        self.list.try_reserve(transactions)
+    }
+
     /// Takes the event with this index, which comes after all that were taken. Out of memory leaves the state as it was.
     pub fn take(&mut self, index: u64, op: OpView<'a>) -> Result<(), AllocError>
         requires { index < MAX_EVENTS }

@@ -8,8 +8,8 @@ ghost use Rattle.verdict.specs.Lowest.{IsThinned, IsLowest};
 ghost use Rattle.verdict.specs.Verdicts.{AreFindings};
 
 use crate::report::{Finding, Findings};
+use cycle_find::ranked_graph::RankedGraph;
 use cycle_find::types::Walk;
-use cycle_find::{find, rules_out_cycles};
 use cycle_show::tighten;
 use dep_edges::deps::Deps;
 use edge_graph::graph::Graph;
@@ -36,8 +36,7 @@ impl<'a> Model for Lowest<'a> {
 
 /// The lowest level of the phenomenon, if it is there at any.
 fn find_lowest<'a>(
-    alloc: Global,
-    graph: &Graph<'_, '_, 'a>,
+    graph: &RankedGraph<'_, '_, '_, 'a>,
     phenomenon: Phenomenon,
 ) -> Result<Option<Lowest<'a>>, Fault>
     requires { IsThinned graph.now }
@@ -45,16 +44,16 @@ fn find_lowest<'a>(
     ensures err { IfErr result (λ fault. fault ≡ memory_fault) }
 {
     // What is there at some level is there at the highest one.
-    let Some(highest) = find(alloc, graph, phenomenon, Level::Realtime)? else {
+    let Some(highest) = graph.find(phenomenon, Level::Realtime)? else {
         return Ok(None);
     };
-    if let Some(walk) = find(alloc, graph, phenomenon, Level::Plain)? {
+    if let Some(walk) = graph.find(phenomenon, Level::Plain)? {
         return Ok(Some(Lowest {
             level: Level::Plain,
             walk,
         }));
     }
-    if let Some(walk) = find(alloc, graph, phenomenon, Level::Process)? {
+    if let Some(walk) = graph.find(phenomenon, Level::Process)? {
         return Ok(Some(Lowest {
             level: Level::Process,
             walk,
@@ -69,14 +68,14 @@ fn find_lowest<'a>(
 /// What is found of the phenomenon.
 fn find_phenomenon<'a>(
     alloc: Global,
-    graph: &Graph<'_, '_, 'a>,
+    graph: &RankedGraph<'_, '_, '_, 'a>,
     phenomenon: Phenomenon,
 ) -> Result<Option<Finding<'a>>, Fault>
     requires { IsThinned graph.now }
     ensures ok { IfOk result (IsFinding phenomenon graph.now.txns) }
     ensures err { IfErr result (λ fault. fault ≡ memory_fault) }
 {
-    let Some(lowest) = find_lowest(alloc, graph, phenomenon)? else {
+    let Some(lowest) = find_lowest(graph, phenomenon)? else {
         return Ok(None);
     };
     let witness = tighten(alloc, &lowest.walk)?;
@@ -92,14 +91,15 @@ fn find_each<'a>(alloc: Global, graph: &Graph<'_, '_, 'a>) -> Result<Findings<'a
     ensures ok { IfOk result (AreFindings graph.now.txns) }
     ensures err { IfErr result (λ fault. fault ≡ memory_fault) }
 {
-    if rules_out_cycles(alloc, graph, Level::Realtime)? {
+    let graph = RankedGraph::new(alloc, graph)?;
+    if graph.rules_out_cycles() {
         return Ok(Findings::none());
     }
     Ok(Findings {
-        g0: find_phenomenon(alloc, graph, Phenomenon::G0)?,
-        g1c: find_phenomenon(alloc, graph, Phenomenon::G1c)?,
-        single: find_phenomenon(alloc, graph, Phenomenon::GSingle)?,
-        item: find_phenomenon(alloc, graph, Phenomenon::G2Item)?,
+        g0: find_phenomenon(alloc, &graph, Phenomenon::G0)?,
+        g1c: find_phenomenon(alloc, &graph, Phenomenon::G1c)?,
+        single: find_phenomenon(alloc, &graph, Phenomenon::GSingle)?,
+        item: find_phenomenon(alloc, &graph, Phenomenon::G2Item)?,
     })
 }
 

@@ -1,7 +1,9 @@
-use Rattle.std.proofs.Common.{◌≡◌, ◌∙◌, Some, None, sym, ap}
+use Rattle.std.proofs.Common.{◌≡◌, ◌∙◌, ◌⊎◌, inl, inr, Some, None, sym, ap}
 use Rattle.std.proofs.lemmas.Option.{same_Some}
-use Rattle.jepcheck.specs.Lines.{word_of}
-use Rattle.jepcheck.proofs.Words.{command_in, asked_names, no_command, some_command, names_subcommand, meets_subcommand, fails_for_memory}
+use Rattle.clap.specs.Words.{kind_of}
+use Rattle.clap.specs.declared.error.kind.ErrorKind.TheVariants.{OutOfMemory, DisplayHelp}
+use Rattle.jepcheck.specs.Lines.{word_of, Helps}
+use Rattle.jepcheck.proofs.Words.{command_in, asked_names, no_command, some_command, names_subcommand, meets_subcommand, fails_for_memory, fails_by_request, fails_by_no_request, no_matches_for_help}
 use Rattle.jepcheck.proofs.command_line.command_line.Goals as goal
 use Rattle.jepcheck.proofs.command_line.command_line.Goals.{in_default-via-in-Some+in_default, in_default-via-in_default}
 
@@ -32,3 +34,18 @@ returns-clause-asked c = λ asked asks. let met = meets_subcommand _ _ _ _ c.in_
           let none : None ≡ Some (word_of (command_in asked)) = rw w.in_default.is at (c.subcommand_name.ensures ∙ met) in
           absurd (some_command (command_in asked) (sym none))
     ]
+
+pub returns-in-Err-clause-wrong : goal.returns-in-Err-clause-wrong
+returns-in-Err-clause-wrong c = λ unasked.
+    c.line_fault.ensures.wrong (fails_by_no_request _ _ c.in-Err.error c.in_ok-program.ensures c.in-Err.ensures.kinds unasked)
+
+pub returns-in-Err-clause-help : goal.returns-in-Err-clause-help
+returns-in-Err-clause-help c = λ asked.
+    helped (fails_by_request _ _ c.in-Err.error c.in_ok-program.ensures c.in-Err.ensures.kinds asked)
+  where
+    helped : (kind_of c.in-Err.error ≡ OutOfMemory) ⊎ (kind_of c.in-Err.error ≡ DisplayHelp) → Helps c.line_fault.result
+    helped (inl memory) = rw (c.line_fault.ensures.memory memory) tt
+    helped (inr help) = c.line_fault.ensures.help help
+
+pub returns-clause-help : goal.returns-clause-help
+returns-clause-help c = λ asked. absurd (no_matches_for_help _ _ c.in_ok-program.ensures c.in-Ok.ensures.kinds asked)

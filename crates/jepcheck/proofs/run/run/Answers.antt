@@ -10,9 +10,8 @@ returns-in-Err-Memory-clause-answered g c = of_any _ _ (λ text. printed_answer 
 
 pub returns-in-Ok-answer_to-clause-answered : goal.returns-in-Ok-answer_to-clause-answered
 returns-in-Ok-answer_to-clause-answered g c =
-    let printed = rw c.deref-in-Ok-answer_to.ensures.value at c.print.ensures in
-    let answer = rw c.deref.ensures.value at c.in-Ok-answer_to.ensures in
-    (c.in-Ok.text.items, c.in-Ok.ensures.all, printed_answer g.T.Sink c.args.command _ _ _ _ _ _ answer printed)
+    let printed = rw c.deref.ensures.value at c.print.ensures in
+    (c.in-Ok.text.items, c.in-Ok.ensures.all, printed_answer g.T.Sink c.args.command _ _ _ _ _ _ c.in-Ok-answer_to.ensures printed)
 
-pub returns-clause-answered : goal.returns-clause-answered
-returns-clause-answered g c = of_any _ _ (λ text. printed_answer g.T.Sink c.args.command text _ _ _ _ _ refl c.print_memory-in-Err.ensures)
+pub returns-in-Err-clause-answered : goal.returns-in-Err-clause-answered
+returns-in-Err-clause-answered g c = of_any _ _ (λ text. printed_answer g.T.Sink c.args.command text _ _ _ _ _ refl c.print_memory-in-Err.ensures)

@@ -10,7 +10,7 @@ find_by-requires-clause-by c =
     let a = c.self.inside in
     let task : Task = c.args.self.now in
     let kinds = needed_kinds task in
-    let prepared : IsPrepared task a.needed a.back a.ranks.now a.finer.now = subst (λ task. IsPrepared task a.needed a.back a.ranks.now a.finer.now) c.self.view_is c.self.invariant in
+    let prepared : IsPrepared task a.needed a.back a.coarse.now a.ranks.now a.finer.now = subst (λ task. IsPrepared task a.needed a.back a.coarse.now a.ranks.now a.finer.now) c.self.view_is c.self.invariant in
     let there : c.args.from < length task.graph.txns + length task.graph.versions = omega (arith, c.requires.from) in
     let at : c.loop-index.index < length (get_or a.needed c.args.from []) = omega (arith, c.loop-index-test.true, c.out_degree-index-end.ensures) in
     subst (IsArc task.graph kinds c.args.from) (sym c.successor-by.ensures.successor)
@@ -33,5 +33,5 @@ pub returns-clause-found : goal.returns-clause-found
 returns-clause-found c =
     let a = c.self.inside in
     let task : Task = c.args.self.now in
-    let prepared : IsPrepared task a.needed a.back a.ranks.now a.finer.now = subst (λ task. IsPrepared task a.needed a.back a.ranks.now a.finer.now) c.self.view_is c.self.invariant in
+    let prepared : IsPrepared task a.needed a.back a.coarse.now a.ranks.now a.finer.now = subst (λ task. IsPrepared task a.needed a.back a.coarse.now a.ranks.now a.finer.now) c.self.view_is c.self.invariant in
     none_from task a.needed c.args.from prepared.needed_arcs (λ k h. c.loop-index.invariant.passed k (omega (arith, h, c.loop-index-test.false, c.out_degree-index-end.ensures)))

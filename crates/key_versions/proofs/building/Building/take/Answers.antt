@@ -36,7 +36,7 @@ returns g c = λ ts is.
     let us = versions_of c.take.new.self in
     let vs = versions_of c.self.inside.numbering in
     let rows = c.self.inside.rows.rows.items in
-    let accesses = c.self.inside.rows.accesses.items in
+    let accesses = c.self.inside.rows.accesses in
     let rs = c.in_ok-accessed.accessed.reads.items in
     let ws = c.in_ok-accessed.accessed.writes.items in
     let grew : c.grow.new.self.rows.items ≡ grown (length us) rows = c.in_ok-grow.ensures.rows ∙ ap (λ n. grown n rows) c.len.ensures in
@@ -46,11 +46,11 @@ returns g c = λ ts is.
     ∙ ap (λ (xs : List Access). rows_after (length accesses) xs c.as_slice-2.result.now c.grow.new.self.rows.items) c.as_slice.ensures
     ∙ ap (λ (xs : List Access). rows_after (length accesses) rs xs c.grow.new.self.rows.items) c.as_slice-2.ensures
     ∙ ap (rows_after (length accesses) rs ws) grew in
-    let accesses_now : c.add.new.self.accesses.items ≡ accesses ++ accessed rs ws ∷ [] =
+    let accesses_now : c.add.new.self.accesses ≡ accesses ++ accessed rs ws ∷ [] =
     c.in_ok-add.ensures.accesses
     ∙ ap (λ (as1 : List Accessed). as1 ++ accessed c.as_slice.result.now c.as_slice-2.result.now ∷ []) c.in_ok-grow.ensures.accesses
     ∙ ap (λ (xs : List Access). accesses ++ accessed xs c.as_slice-2.result.now ∷ []) c.as_slice.ensures
     ∙ ap (λ (xs : List Access). accesses ++ accessed rs xs ∷ []) c.as_slice-2.ensures in
     let done = told ts c.args.txn.now vs us rows accesses rs ws (subst (IsTableOf ts) (sym c.self.view_is) is) c.in_ok-accessed.ensures.versions c.in_ok-accessed.ensures.reads c.in_ok-accessed.ensures.writes in
-    subst (λ (xs : List Known). IsTableOf (ts ++ c.args.txn.now ∷ []) (table_by us xs c.add.new.self.accesses.items)) (sym rows_now)
+    subst (λ (xs : List Known). IsTableOf (ts ++ c.args.txn.now ∷ []) (table_by us xs c.add.new.self.accesses)) (sym rows_now)
     (subst (λ (as1 : List Accessed). IsTableOf (ts ++ c.args.txn.now ∷ []) (table_by us (rows_after (length accesses) rs ws (grown (length us) rows)) as1)) (sym accesses_now) done)

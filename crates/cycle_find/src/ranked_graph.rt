@@ -1,0 +1,133 @@
+//! Graphs that are ready for searches.
+
+ghost use Rattle.std.specs.Prelude.{◌≡◌, IfOk, IfErr};
+ghost use Rattle.std.specs.Bool.{OnTrue};
+ghost use Rattle.hist_types.specs.Refusals.{memory_fault};
+ghost use Rattle.hist_types.specs.declared.types.Level.TheVariants.{Realtime};
+ghost use Rattle.edge_graph.specs.Kinds.{kinds_of};
+ghost use Rattle.edge_graph.specs.Parts.{edges_in};
+ghost use Rattle.edge_graph.specs.declared.types.Dependencies.TheVariants.{All};
+ghost use Rattle.cycle_find.specs.Found.{IsFound, ShowNothing};
+ghost use Rattle.cycle_find.specs.Ranked.{AreRanksOver};
+ghost use Rattle.cycle_find.specs.Sharing.{AreSharing};
+
+use crate::finder::Finder;
+use crate::kinds::{way_back, whole};
+use crate::ranking::{ranks_over, ranks_within};
+use crate::settle::RankedEdges;
+use crate::sharing::sharing;
+use crate::types::Walk;
+use edge_graph::graph::Graph;
+use edge_graph::types::Dependencies;
+use graph_search::ranks::Ranks;
+use hist_types::types::{Fault, Level, Phenomenon};
+use std::alloc::{AllocError, Global};
+use std::marker::Model;
+
+/// A graph with what the searches for its cycles share: ranks of its vertices at real time.
+#[derive(Drop)]
+pub struct RankedGraph<'r, 'g, 'v, 'a> {
+    alloc: Global,
+    graph: &'r Graph<'g, 'v, 'a>,
+    ranks: Ranks,
+    /// Which vertices share their rank with another one. All cycles are among them.
+    shared: Vec<bool>,
+}
+
+impl<'r, 'g, 'v, 'a> Model for RankedGraph<'r, 'g, 'v, 'a> {
+    ghost use Rattle.hist_types.specs.declared.types.Level.TheVariants.{Realtime};
+    ghost use Rattle.edge_graph.specs.Kinds.{kinds_of};
+    ghost use Rattle.edge_graph.specs.Parts.{Parts};
+    ghost use Rattle.edge_graph.specs.declared.types.Dependencies.TheVariants.{All};
+    ghost use Rattle.cycle_find.specs.Ranked.{AreRanksOver};
+    ghost use Rattle.cycle_find.specs.Sharing.{AreSharing};
+
+    ghost Value = { Parts };
+
+    ghost view = { λ r. r.graph.now };
+
+    ghost invariant = { λ r. AreRanksOver r.graph.now (kinds_of All Realtime) r.ranks × AreSharing r.ranks r.shared.items };
+}
+
+impl<'r, 'g, 'v, 'a> RankedGraph<'r, 'g, 'v, 'a> {
+    /// Takes a few numbers for each vertex. Only memory can run out.
+    pub fn new(alloc: Global, graph: &'r Graph<'g, 'v, 'a>) -> Result<Self, Fault>
+        ensures ok { IfOk result (λ ranked. ranked ≡ graph.now) }
+        ensures err { IfErr result (λ fault. fault ≡ memory_fault) }
+    {
+        let ranks = ranks_over(alloc, graph, Dependencies::All, Level::Realtime)?;
+        let shared = sharing(alloc, &ranks)?;
+        Ok(RankedGraph {
+            alloc,
+            graph,
+            ranks,
+            shared,
+        })
+    }
+
+    /// Whether a single look at each edge settles that no phenomenon is shown at real time. Where it doesn't, that says nothing.
+    pub fn rules_out_cycles(&self) -> bool
+        ensures { OnTrue result (ShowNothing (edges_in self.now Realtime)) }
+    {
+        RankedEdges::new(self.graph, &self.ranks).rise()
+    }
+
+    /// A closed walk that shows the phenomenon at the level, or none where the graph's edges have none.
+    ///
+    /// Only memory can run out. It takes a few numbers for each vertex, and no edges are stored but those of the walk.
+    pub fn find(&self, phenomenon: Phenomenon, level: Level) -> Result<Option<Walk<'a>>, Fault>
+        ensures found { IfOk result (IsFound phenomenon (edges_in self.now level)) }
+        ensures err { IfErr result (λ fault. fault ≡ memory_fault) }
+    {
+        let found = match level {
+            // Its order isn't among the arcs that have been ranked.
+            Level::Process => find_afresh(self.alloc, self.graph, phenomenon, level)?,
+            Level::Plain | Level::Realtime => find_within(
+                self.alloc,
+                self.graph,
+                &self.ranks,
+                &self.shared,
+                phenomenon,
+                level,
+            )?,
+        };
+        Ok(found)
+    }
+}
+
+/// Ranks the graph at the level, and searches it.
+fn find_afresh<'a>(
+    alloc: Global,
+    graph: &Graph<'_, '_, 'a>,
+    phenomenon: Phenomenon,
+    level: Level,
+) -> Result<Option<Walk<'a>>, AllocError>
+    ensures { IfOk result (IsFound phenomenon (edges_in graph.now level)) }
+{
+    let ranks = ranks_over(alloc, graph, Dependencies::All, level)?;
+    let shared = sharing(alloc, &ranks)?;
+    find_within(alloc, graph, &ranks, &shared, phenomenon, level)
+}
+
+/// Ranks what the phenomenon's walks use, within ranks of the whole graph, and searches it.
+fn find_within<'a>(
+    alloc: Global,
+    graph: &Graph<'_, '_, 'a>,
+    coarse: &Ranks,
+    shared: &[bool],
+    phenomenon: Phenomenon,
+    level: Level,
+) -> Result<Option<Walk<'a>>, AllocError>
+    requires ranks { AreRanksOver graph.now (kinds_of All level) coarse.now }
+    requires shared { AreSharing coarse.now shared.now }
+    ensures { IfOk result (IsFound phenomenon (edges_in graph.now level)) }
+{
+    let ranks = ranks_within(alloc, graph, coarse, shared, whole(phenomenon), level)?;
+    match phenomenon {
+        Phenomenon::GSingle => {
+            let finer = ranks_within(alloc, graph, coarse, shared, way_back(phenomenon), level)?;
+            Finder::new(alloc, graph, phenomenon, level, coarse, &ranks, &finer).find()
+        }
+        _ => Finder::new(alloc, graph, phenomenon, level, coarse, &ranks, &ranks).find(),
+    }
+}

@@ -1,0 +1,142 @@
+-- Numbers of transactions side by side in one list.
+use Rattle.std.proofs.Common.{◌≡◌, ◌≤◌, ◌<◌, ◌-◌, ℕ, zero, suc, List, [], ◌∷◌, ◌++◌, length, map, get_or, take, drop, All, Option, Some, option_map, refl, sym, ◌∙◌, ap, subst, arith}
+use Rattle.std.specs.Prelude.{slice_get}
+use Rattle.std.proofs.Math.Seq.{drop-append_seam, take-append_seam}
+use Rattle.std.proofs.lemmas.List.{append_assoc, map-append, length-append, length-drop, length-map, take-append-le, drop-append-le}
+use Rattle.std.proofs.lemmas.Option.{slice_get-get_or, slice_get-map}
+use Rattle.key_versions.specs.declared.accesses.Span.{Span}
+use Rattle.key_versions.specs.Rows.{Accessed}
+use Rattle.key_versions.specs.Spans.{IsSpan, between, accessed_at}
+use Rattle.key_versions.proofs.Changed.{all_behind}
+
+abbrev accessed_by : List ℕ → List ℕ → Accessed
+accessed_by reads installs = record { reads = reads; installs = installs }
+
+abbrev span_by : ℕ → ℕ → ℕ → Span
+span_by reads installs end = record { reads = reads; installs = installs; end = end }
+
+-- ---- more numbers
+
+between_kept : (from to : ℕ) (xs ys : List ℕ) → from ≤ to → to ≤ length xs → between from to (xs ++ ys) ≡ between from to xs
+between_kept from to xs ys rises within =
+    let below : from ≤ length xs = omega arith in
+    let enough : to - from ≤ length (drop from xs) = omega (arith, length-drop from xs) in
+    ap (take (to - from)) (drop-append-le from xs ys below) ∙ take-append-le (to - from) (drop from xs) ys enough
+
+one_kept : (xs ys : List ℕ) (s : Span) → IsSpan (length xs) s → accessed_at (xs ++ ys) s ≡ accessed_at xs s
+one_kept xs ys s is =
+    let middle : s.installs ≤ length xs = let a = is.1 in let b = is.2 in omega arith in
+    ap (λ (rs : List ℕ). accessed_by rs (between s.installs s.end (xs ++ ys))) (between_kept s.reads s.installs xs ys is.0 middle)
+    ∙ ap (accessed_by (between s.reads s.installs xs)) (between_kept s.installs s.end xs ys is.1 is.2)
+
+spans_kept : (xs ys : List ℕ) (ss : List Span) → All (IsSpan (length xs)) ss → map (accessed_at (xs ++ ys)) ss ≡ map (accessed_at xs) ss
+spans_kept xs ys [] all = refl
+spans_kept xs ys (s ∷ ss) all =
+    ap (λ (a : Accessed). a ∷ map (accessed_at (xs ++ ys)) ss) (one_kept xs ys s (all 0 s (omega arith)))
+    ∙ ap (λ (as1 : List Accessed). accessed_at xs s ∷ as1) (spans_kept xs ys ss (all_behind (IsSpan (length xs)) s ss all))
+
+pub spans_wider : (n m : ℕ) (ss : List Span) → n ≤ m → All (IsSpan n) ss → All (IsSpan m) ss
+spans_wider n m ss more all k d below =
+    let is = all k d below in
+    let last : (get_or ss k d).end ≤ n = is.2 in
+    let wider : (get_or ss k d).end ≤ m = omega arith in
+    (is.0, is.1, wider)
+
+spans_within : (xs ys : List ℕ) (ss : List Span) → All (IsSpan (length xs)) ss → All (IsSpan (length (xs ++ ys))) ss
+spans_within xs ys ss all =
+    let more : length xs ≤ length (xs ++ ys) = omega (arith, length-append xs ys) in
+    spans_wider (length xs) (length (xs ++ ys)) ss more all
+
+-- ---- one transaction more
+
+all_pushed : {A : Type 0} (P : A → Type 0) (xs : List A) (x : A) → All P xs → P x → All P (xs ++ x ∷ [])
+all_pushed P [] x all is zero d below = is
+all_pushed P [] x all is (suc k) d below = absurd (omega arith)
+all_pushed P (y ∷ xs) x all is zero d below = all 0 d (omega arith)
+all_pushed P (y ∷ xs) x all is (suc k) d below =
+    let behind : k < length (xs ++ x ∷ []) = omega arith in
+    all_pushed P xs x (all_behind P y xs all) is k d behind
+
+-- the numbers that were appended
+appended : (xs ys zs : List ℕ) → between (length xs) (length (xs ++ ys)) ((xs ++ ys) ++ zs) ≡ ys
+appended xs ys zs =
+    let count : length (xs ++ ys) - length xs ≡ length ys = omega (arith, length-append xs ys) in
+    ap (λ n. take n (drop (length xs) ((xs ++ ys) ++ zs))) count
+    ∙ ap (λ (ns : List ℕ). take (length ys) (drop (length xs) ns)) (append_assoc xs ys zs)
+    ∙ ap (take (length ys)) (drop-append_seam xs (ys ++ zs))
+    ∙ take-append_seam ys zs
+
+last_appended : (xs ys : List ℕ) → between (length xs) (length (xs ++ ys)) (xs ++ ys) ≡ ys
+last_appended xs ys =
+    let count : length (xs ++ ys) - length xs ≡ length ys = omega (arith, length-append xs ys) in
+    ap (λ n. take n (drop (length xs) (xs ++ ys))) count
+    ∙ ap (take (length ys)) (drop-append_seam xs ys)
+    ∙ all_taken ys
+  where
+    all_taken : (ys : List ℕ) → take (length ys) ys ≡ ys
+    all_taken [] = refl
+    all_taken (y ∷ ys) = ap (λ (ns : List ℕ). y ∷ ns) (all_taken ys)
+
+-- the span of a transaction whose reads and installs were appended
+abbrev appended_span : (numbers reads installs : List ℕ) → Span
+appended_span numbers reads installs =
+    span_by (length numbers) (length (numbers ++ reads)) (length ((numbers ++ reads) ++ installs))
+
+pushed_within :
+    (numbers reads installs : List ℕ) (ss : List Span) → All (IsSpan (length numbers)) ss
+    → All (IsSpan (length ((numbers ++ reads) ++ installs))) (ss ++ appended_span numbers reads installs ∷ [])
+pushed_within numbers reads installs ss all =
+    let end = length ((numbers ++ reads) ++ installs) in
+    let first : length numbers ≤ length (numbers ++ reads) = omega (arith, length-append numbers reads) in
+    let second : length (numbers ++ reads) ≤ end = omega (arith, length-append (numbers ++ reads) installs) in
+    let last : end ≤ end = omega arith in
+    all_pushed (IsSpan end) ss (appended_span numbers reads installs)
+    (spans_within (numbers ++ reads) installs ss (spans_within numbers reads ss all)) (first, second, last)
+
+pushed_accessed :
+    (numbers reads installs : List ℕ) (ss : List Span) → All (IsSpan (length numbers)) ss
+    → map (accessed_at ((numbers ++ reads) ++ installs)) (ss ++ appended_span numbers reads installs ∷ [])
+    ≡ map (accessed_at numbers) ss ++ accessed_by reads installs ∷ []
+pushed_accessed numbers reads installs ss all =
+    let now = (numbers ++ reads) ++ installs in
+    let s = appended_span numbers reads installs in
+    map-append (accessed_at now) ss (s ∷ [])
+    ∙ ap (λ (as1 : List Accessed). as1 ++ accessed_at now s ∷ [])
+    (spans_kept (numbers ++ reads) installs ss (spans_within numbers reads ss all) ∙ spans_kept numbers reads ss all)
+    ∙ ap (λ (rs : List ℕ). map (accessed_at numbers) ss ++ accessed_by rs (between s.installs s.end now) ∷ []) (appended numbers reads installs)
+    ∙ ap (λ (is : List ℕ). map (accessed_at numbers) ss ++ accessed_by reads is ∷ []) (last_appended (numbers ++ reads) installs)
+
+-- what a push leaves
+pub pushed :
+    (numbers read now : List ℕ) (reads installs : List ℕ) (ss after : List Span) (start middle end : ℕ) → All (IsSpan (length numbers)) ss
+    → read ≡ numbers ++ reads → now ≡ read ++ installs → start ≡ length numbers → middle ≡ length read → end ≡ length now
+    → after ≡ ss ++ span_by start middle end ∷ []
+    → All (IsSpan (length now)) after × (map (accessed_at now) after ≡ map (accessed_at numbers) ss ++ accessed_by reads installs ∷ [])
+pushed numbers read now reads installs ss after start middle end all first second at_start at_middle at_end last =
+    let whole : now ≡ (numbers ++ reads) ++ installs = second ∙ ap (λ (xs : List ℕ). xs ++ installs) first in
+    let span : span_by start middle end ≡ appended_span numbers reads installs =
+    ap (λ n. span_by n middle end) at_start
+    ∙ ap (λ n. span_by (length numbers) n end) (at_middle ∙ ap length first)
+    ∙ ap (span_by (length numbers) (length (numbers ++ reads))) (at_end ∙ ap length whole) in
+    let spans : after ≡ ss ++ appended_span numbers reads installs ∷ [] = last ∙ ap (λ (s : Span). ss ++ s ∷ []) span in (
+      rw (whole, spans) (pushed_within numbers reads installs ss all),
+      ap (λ (xs : List ℕ). map (accessed_at xs) after) whole
+          ∙ ap (map (accessed_at ((numbers ++ reads) ++ installs))) spans
+          ∙ pushed_accessed numbers reads installs ss all,
+    )
+
+-- ---- one transaction of those
+
+pub told_at :
+    (f : Accessed → List ℕ) (numbers seen : List ℕ) (ss : List Span) (accesses : List Accessed) (place : ℕ) (s : Span)
+    → map (accessed_at numbers) ss ≡ accesses → place < length accesses → s ≡ get_or ss place s → seen ≡ numbers
+    → slice_get (map f accesses) place ≡ Some (f (accessed_at seen s))
+told_at f numbers seen ss accesses place s is below at same =
+    let count : length accesses ≡ length ss = ap length (sym is) ∙ length-map ss (accessed_at numbers) in
+    let within : place < length ss = subst (λ n. place < n) count below in
+    slice_get-map f accesses place
+    ∙ ap (λ (as1 : List Accessed). option_map f (slice_get as1 place)) (sym is)
+    ∙ ap (λ (o : Option Accessed). option_map f o) (slice_get-map (accessed_at numbers) ss place)
+    ∙ ap (λ (o : Option Span). option_map f (option_map (accessed_at numbers) o)) (slice_get-get_or ss place s within)
+    ∙ ap (λ (t : Span). Some (f (accessed_at numbers t))) (sym at)
+    ∙ ap (λ (ns : List ℕ). Some (f (accessed_at ns s))) (sym same)

@@ -1,0 +1,100 @@
+//! What transactions read and install, by the numbers of versions.
+
+ghost use Rattle.std.specs.Prelude.{◌≡◌, ◌<◌, ◌≤◌, ◌++◌, ◌∷◌, [], map, length, IfOk, OnOk, Some, slice_get};
+ghost use Rattle.key_versions.specs.Rows.{Accessed, numbers_of};
+
+use crate::rows::{Access, number_of};
+use std::alloc::{AllocError, Global};
+use std::marker::Model;
+
+/// Where the numbers of a transaction are: those of its reads, and behind them those of its installs.
+#[derive(Clone, Copy, Debug, Default, PartialEq, Eq)]
+pub(crate) struct Span {
+    reads: u32,
+    installs: u32,
+    end: u32,
+}
+
+/// What each transaction reads and installs, by place.
+#[derive(Drop)]
+pub(crate) struct Accesses {
+    /// The numbers of all transactions.
+    numbers: Vec<u32>,
+    /// By place.
+    spans: Vec<Span>,
+}
+
+impl Model for Accesses {
+    ghost use Rattle.std.specs.Prelude.{List, map, length, All};
+    ghost use Rattle.key_versions.specs.Rows.{Accessed};
+    ghost use Rattle.key_versions.specs.Spans.{IsSpan, accessed_at};
+
+    ghost Value = { List Accessed };
+
+    ghost view = { λ a. map (accessed_at a.numbers.items) a.spans.items };
+
+    ghost invariant = { λ a. All (IsSpan (length a.numbers.items)) a.spans.items };
+}
+
+/// Appends the numbers of the versions.
+fn append(numbers: &mut Vec<u32>, accesses: &[Access]) -> Result<(), AllocError>
+    ensures ok { OnOk result (numbers.new.items ≡ numbers.old.items ++ numbers_of accesses.now) }
+    ensures kept { length numbers.old.items ≤ length numbers.new.items }
+{
+    for access in accesses {
+        numbers.push(access.version)?;
+    }
+    Ok(())
+}
+
+impl Accesses {
+    /// No transaction yet, with room for so many.
+    pub fn with_capacity(alloc: Global, transactions: usize) -> Result<Self, AllocError>
+        ensures { IfOk result (λ accesses. accesses ≡ []) }
+    {
+        Ok(Accesses {
+            numbers: Vec::new(alloc),
+            spans: Vec::with_capacity(alloc, transactions)?,
+        })
+    }
+
+    /// How many transactions there are.
+    pub fn len(&self) -> usize
+        ensures { result ≡ length self.now }
+    {
+        self.spans.len()
+    }
+
+    /// Adds the next transaction.
+    pub fn push(&mut self, reads: &[Access], installs: &[Access]) -> Result<(), AllocError>
+        ensures { OnOk result (self.new ≡ self.old ++ record { reads = numbers_of reads.now; installs = numbers_of installs.now } ∷ []) }
+    {
+        let start = number_of(self.numbers.len())?;
+        append(&mut self.numbers, reads)?;
+        let middle = number_of(self.numbers.len())?;
+        append(&mut self.numbers, installs)?;
+        let end = number_of(self.numbers.len())?;
+        self.spans.push(Span {
+            reads: start,
+            installs: middle,
+            end,
+        })?;
+        Ok(())
+    }
+
+    pub fn reads(&self, place: usize) -> &[u32]
+        requires { place < length self.now }
+        ensures { slice_get (map (λ a. a.reads) self.now) place ≡ Some result.now }
+    {
+        let span = self.spans[place];
+        &self.numbers[span.reads as usize..span.installs as usize]
+    }
+
+    pub fn installs(&self, place: usize) -> &[u32]
+        requires { place < length self.now }
+        ensures { slice_get (map (λ a. a.installs) self.now) place ≡ Some result.now }
+    {
+        let span = self.spans[place];
+        &self.numbers[span.installs as usize..span.end as usize]
+    }
+}
