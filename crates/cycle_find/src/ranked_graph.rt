@@ -79,19 +79,31 @@ impl<'r, 'g, 'v, 'a> RankedGraph<'r, 'g, 'v, 'a> {
         ensures found { IfOk result (IsFound phenomenon (edges_in self.now level)) }
         ensures err { IfErr result (λ fault. fault ≡ memory_fault) }
     {
-        let found = match level {
-            // Its order isn't among the arcs that have been ranked.
-            Level::Process => find_afresh(self.alloc, self.graph, phenomenon, level)?,
-            Level::Plain | Level::Realtime => find_within(
+        let found = if serve_at(self.graph, &self.ranks, level) {
+            find_within(
                 self.alloc,
                 self.graph,
                 &self.ranks,
                 &self.shared,
                 phenomenon,
                 level,
-            )?,
+            )?
+        } else {
+            find_afresh(self.alloc, self.graph, phenomenon, level)?
         };
         Ok(found)
+    }
+}
+
+/// Whether ranks at real time are ranks at the level as well.
+fn serve_at(graph: &Graph<'_, '_, '_>, ranks: &Ranks, level: Level) -> bool
+    requires { AreRanksOver graph.now (kinds_of All Realtime) ranks.now }
+    ensures { OnTrue result (AreRanksOver graph.now (kinds_of All level) ranks.now) }
+{
+    match level {
+        Level::Plain | Level::Realtime => true,
+        // Its order isn't among the arcs that were ranked. Mostly they have a walk wherever it has an edge.
+        Level::Process => ranks.hold_in(&graph.arcs(Dependencies::All, level)),
     }
 }
 

@@ -8,14 +8,14 @@ use crate::arcs::Arcs;
 use std::alloc::{AllocError, Global};
 
 /// The number of a vertex that hasn't been reached.
-const UNSEEN: usize = usize::MAX;
+const UNSEEN: u32 = u32::MAX;
 
 /// A vertex on the way from a root to where the search is.
 #[derive(Clone, Copy)]
 struct Frame {
-    vertex: usize,
+    vertex: u32,
     /// Its place among the pending vertices.
-    place: usize,
+    place: u32,
     /// How many of its arcs were followed.
     followed: usize,
 }
@@ -26,26 +26,34 @@ struct Components {
     /// Of a pending vertex, the lowest place of a vertex that it is known to lead to. Of one whose
     /// component is complete, that component's rank. It is above the places of all pending
     /// vertices, so it lowers no number.
-    numbers: Vec<usize>,
+    numbers: Vec<u32>,
     /// The vertices that were reached and whose component isn't complete yet, in the order in which
     /// they were reached.
-    pending: Vec<usize>,
+    pending: Vec<u32>,
     path: Vec<Frame>,
     /// A component is complete after all that it leads to, so ranks count down.
-    rank: usize,
+    rank: u32,
     ghost in_pending: { All (λ vertex. vertex < length numbers.items) pending.items },
     ghost in_path: { All (λ frame. frame.vertex < length numbers.items) path.items },
+}
+
+/// A vertex or a place as a number. What has more of them than there are numbers is out of memory.
+fn number_of(place: usize) -> Result<u32, AllocError>
+    ensures { IfOk result (λ number. number ≡ place) }
+{
+    u32::try_from(place).map_err(|_| AllocError)
 }
 
 impl Components {
     fn new(alloc: Global, vertices: usize) -> Result<Components, AllocError>
         ensures { IfOk result (λ components. length components.numbers.items ≡ vertices) }
     {
+        let rank = number_of(vertices)?;
         Ok(Components {
             numbers: vec![in alloc; UNSEEN; vertices]?,
             pending: Vec::new(alloc),
             path: Vec::new(alloc),
-            rank: vertices,
+            rank,
         })
     }
 
@@ -54,11 +62,12 @@ impl Components {
         requires { vertex < length self.old.numbers.items }
         ensures { length self.new.numbers.items ≡ length self.old.numbers.items }
     {
-        let place = self.pending.len();
+        let place = number_of(self.pending.len())?;
+        let number = number_of(vertex)?;
         self.numbers[vertex] = place;
-        self.pending.push(vertex)?;
+        self.pending.push(number)?;
         self.path.push(Frame {
-            vertex,
+            vertex: number,
             place,
             followed: 0,
         })?;
@@ -74,17 +83,26 @@ impl Components {
         self.numbers[vertex] = self.numbers[vertex].min(self.numbers[other]);
     }
 
+    /// Makes a component of a vertex that leads nowhere.
+    fn complete_alone(&mut self, vertex: usize)
+        requires { vertex < length self.old.numbers.items }
+        ensures { length self.new.numbers.items ≡ length self.old.numbers.items }
+    {
+        // There are no more components than vertices.
+        self.rank = self.rank.saturating_sub(1);
+        self.numbers[vertex] = self.rank;
+    }
+
     /// Makes one component of the pending vertices from a place on.
     fn complete(&mut self, place: usize)
         ensures { length self.new.numbers.items ≡ length self.old.numbers.items }
     {
-        // There are no more components than vertices.
         self.rank = self.rank.saturating_sub(1);
         while self.pending.len() > place {
             let Some(vertex) = self.pending.pop() else {
                 break;
             };
-            self.numbers[vertex] = self.rank;
+            self.numbers[vertex as usize] = self.rank;
         }
     }
 
@@ -93,51 +111,54 @@ impl Components {
         requires { frame.vertex < length self.old.numbers.items }
         ensures { length self.new.numbers.items ≡ length self.old.numbers.items }
     {
-        if self.numbers[frame.vertex] == frame.place {
-            self.complete(frame.place);
+        let vertex = frame.vertex as usize;
+        if self.numbers[vertex] == frame.place {
+            self.complete(frame.place as usize);
         } else if let Some(parent) = self.path.last() {
-            let parent = parent.vertex;
-            self.lower(parent, frame.vertex);
+            let parent = parent.vertex as usize;
+            self.lower(parent, vertex);
         }
     }
 
-    /// Follows one arc of the last vertex on the path, or goes back from it. It returns whether
-    /// there was one.
+    /// Follows the arcs of the last vertex on the path to the first vertex from which the search
+    /// goes on, or goes back from it. It returns whether there was one.
     fn step<G: Arcs>(&mut self, graph: &G) -> Result<bool, AllocError>
         requires { (G.graph graph.now).count ≡ length self.old.numbers.items }
         ensures { length self.new.numbers.items ≡ length self.old.numbers.items }
     {
-        let Some(mut frame) = self.path.pop() else {
+        let Some(frame) = self.path.pop() else {
             return Ok(false);
         };
-        if frame.followed >= graph.out_degree(frame.vertex) {
-            self.leave(frame);
-            return Ok(true);
+        let vertex = frame.vertex as usize;
+        for index in frame.followed..graph.out_degree(vertex) {
+            let next = graph.successor(vertex, index);
+            if self.numbers[next] != UNSEEN {
+                self.lower(vertex, next);
+            } else if graph.out_degree(next) == 0 {
+                self.complete_alone(next);
+            } else {
+                self.path.push(Frame {
+                    vertex: frame.vertex,
+                    place: frame.place,
+                    followed: index + 1,
+                })?;
+                self.enter(next)?;
+                return Ok(true);
+            }
         }
-        let next = graph.successor(frame.vertex, frame.followed);
-        frame.followed += 1;
-        self.path.push(frame)?;
-        if self.numbers[next] == UNSEEN {
-            self.enter(next)?;
-        } else {
-            self.lower(frame.vertex, next);
-        }
+        self.leave(frame);
         Ok(true)
     }
 
-    /// Completes the components of all vertices that a root leads to, in a bounded number of steps.
-    fn search<G: Arcs>(
-        &mut self,
-        graph: &G,
-        root: usize,
-        most_steps: usize,
-    ) -> Result<(), AllocError>
+    /// Completes the components of all vertices that a root leads to.
+    fn search<G: Arcs>(&mut self, graph: &G, root: usize) -> Result<(), AllocError>
         requires graph { (G.graph graph.now).count ≡ length self.old.numbers.items }
         requires root { root < length self.old.numbers.items }
         ensures { length self.new.numbers.items ≡ length self.old.numbers.items }
     {
         self.enter(root)?;
-        for _ in 0..most_steps {
+        // Each vertex is entered once and left once, so this ends long before.
+        for _ in 0..u64::MAX {
             if !self.step(graph)? {
                 break;
             }
@@ -146,25 +167,19 @@ impl Components {
     }
 }
 
-/// Each arc is followed once, and each vertex left once; then one more step finds nothing left to
-/// do.
-fn most_steps<G: Arcs>(graph: &G) -> usize {
-    let mut steps = graph.vertices().saturating_add(1);
-    for vertex in 0..graph.vertices() {
-        steps = steps.saturating_add(graph.out_degree(vertex));
-    }
-    steps
-}
-
 /// For each vertex a number of its strongly connected component, which don't fall along any arc.
-pub(crate) fn component_ranks<G: Arcs>(alloc: Global, graph: &G) -> Result<Vec<usize>, AllocError>
+pub(crate) fn component_ranks<G: Arcs>(alloc: Global, graph: &G) -> Result<Vec<u32>, AllocError>
     ensures { IfOk result (λ numbers. length numbers.items ≡ (G.graph graph.now).count) }
 {
-    let most_steps = most_steps(graph);
     let mut components = Components::new(alloc, graph.vertices())?;
     for root in 0..graph.vertices() {
-        if components.numbers[root] == UNSEEN {
-            components.search(graph, root, most_steps)?;
+        if components.numbers[root] != UNSEEN {
+            continue;
+        }
+        if graph.out_degree(root) == 0 {
+            components.complete_alone(root);
+        } else {
+            components.search(graph, root)?;
         }
     }
     Ok(components.numbers)

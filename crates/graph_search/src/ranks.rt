@@ -11,7 +11,7 @@ use std::marker::Model;
 /// A rank for each vertex of a graph.
 #[derive(Drop)]
 pub struct Ranks {
-    ranks: Vec<usize>,
+    ranks: Vec<u32>,
 }
 
 impl Model for Ranks {
@@ -37,6 +37,14 @@ impl Ranks {
         Ok(Ranks { ranks })
     }
 
+    /// Whether they don't fall along any arc of this graph either.
+    pub fn hold_in<G: Arcs>(&self, graph: &G) -> bool
+        requires { length self.now ≡ (G.graph graph.now).count }
+        ensures { IsTrue result ↔ AreRanks (G.graph graph.now) self.now }
+    {
+        never_fall(graph, &self.ranks)
+    }
+
     /// How many vertices have a rank.
     pub fn len(&self) -> usize
         ensures { result ≡ length self.now }
@@ -49,12 +57,12 @@ impl Ranks {
         requires { vertex < length self.now }
         ensures { result ≡ slice_index self.now vertex }
     {
-        self.ranks[vertex]
+        self.ranks[vertex] as usize
     }
 }
 
 /// Whether ranks fall along none of a vertex's arcs.
-fn never_fall_from<G: Arcs>(graph: &G, ranks: &[usize], vertex: usize) -> bool
+fn never_fall_from<G: Arcs>(graph: &G, ranks: &[u32], vertex: usize) -> bool
     requires ranks { length ranks.now ≡ (G.graph graph.now).count }
     requires vertex { vertex < (G.graph graph.now).count }
     ensures { IsTrue result ↔ ((w : ℕ) → HasArc (G.graph graph.now) vertex w → slice_index ranks.now vertex ≤ slice_index ranks.now w) }
@@ -69,7 +77,7 @@ fn never_fall_from<G: Arcs>(graph: &G, ranks: &[usize], vertex: usize) -> bool
 }
 
 /// Whether ranks fall along no arc.
-fn never_fall<G: Arcs>(graph: &G, ranks: &[usize]) -> bool
+fn never_fall<G: Arcs>(graph: &G, ranks: &[u32]) -> bool
     requires { length ranks.now ≡ (G.graph graph.now).count }
     ensures { IsTrue result ↔ AreRanks (G.graph graph.now) ranks.now }
 {
