@@ -102,7 +102,7 @@ fn serve_at(graph: &Graph<'_, '_, '_>, ranks: &Ranks, level: Level) -> bool
 {
     match level {
         Level::Plain | Level::Realtime => true,
-        // Its order isn't among the arcs that were ranked. Mostly they have a walk wherever it has an edge.
+        // Its order was not ranked. Mostly it goes along walks in real time, where no rank falls.
         Level::Process => ranks.hold_in(&graph.arcs(Dependencies::All, level)),
     }
 }
