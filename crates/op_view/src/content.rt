@@ -37,10 +37,10 @@ fn escape_value(escape: u8) -> Option<u8>
 }
 
 /// The first byte of the content, and what stands behind its spelling. None at the end, and where the escape is unknown.
-fn split_first(between: &[u8]) -> Option<(u8, &[u8])>
-    ensures { MatchOption result (HasNoByte between.now) (λ x. BeginsWithByte between.now x.0 x.1.now) }
+fn split_first(left: &[u8]) -> Option<(u8, &[u8])>
+    ensures { MatchOption result (HasNoByte left.now) (λ x. BeginsWithByte left.now x.0 x.1.now) }
 {
-    match between {
+    match left {
         [b'\\', escape, behind @ ..] => {
             let byte = escape_value(*escape)?;
             Some((byte, behind))
