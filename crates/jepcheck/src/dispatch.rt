@@ -5,8 +5,8 @@ ghost use Rattle.jepcheck.specs.Pieces.{HasTakenUnlessFailed};
 ghost use Rattle.jepcheck.specs.Runs.{HasDone, HasRefusedLine, complaint};
 
 use crate::answer::Status;
-use crate::command_line::{Asked, LineFault};
 use crate::run::{print_memory, run};
+use command_line::types::{Asked, LineFault};
 use hist_types::device::{Sink, Source};
 use std::alloc::Global;
 use verdict::devices::write_all;

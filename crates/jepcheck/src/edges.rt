@@ -9,7 +9,7 @@ ghost use Rattle.dep_edges.specs.Tables.{IsPlace, txn_at};
 ghost use Rattle.jepcheck.specs.Answers.{Reports};
 ghost use Rattle.cycle_show.specs.Lines.{edge_lines};
 ghost use Rattle.jepcheck.specs.Leaving.{edges_leaving};
-ghost use Rattle.jepcheck.specs.declared.run.Command.TheVariants.{Edges};
+ghost use Rattle.command_line.specs.declared.types.Command.TheVariants.{Edges};
 
 use crate::answer::{Answer, Status};
 use crate::edge_order::sort_edges;

@@ -12,21 +12,11 @@ use crate::answer::{Answer, Status, refuse};
 use crate::devices::{ReadFault, read_all};
 use crate::inputs::{journal_of, read_blocks};
 use crate::{check, edges, reads};
+use command_line::types::Command;
 use hist_types::device::{Failed, Sink, Source};
 use hist_types::types::{Fault, Refusal};
 use std::alloc::{AllocError, Global};
 use verdict::devices::write_all;
-
-/// What is done with a history.
-#[derive(Clone, Copy, Debug, PartialEq, Eq)]
-pub enum Command {
-    /// Print the aborted and the intermediate reads, and how many reads return what nobody wrote.
-    Reads,
-    /// Print the dependency edges between transactions.
-    Edges,
-    /// Print which phenomena the history has, with what shows each.
-    Check,
-}
 
 /// The report of a command on a text, unless that is refused.
 fn judge(alloc: Global, command: Command, text: Vec<u8>) -> Result<Answer, Fault>

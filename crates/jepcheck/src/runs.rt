@@ -3,10 +3,10 @@
 ghost use Rattle.std.specs.Prelude.{None};
 
 use crate::answer::Status;
-use crate::command_line::{Asked, LineFault};
 use crate::dispatch::dispatch;
-use crate::run::{Command, run};
+use crate::run::run;
 use arrayvec::ArrayVec;
+use command_line::types::{Asked, Command, LineFault};
 use hist_types::device::{Failed, MemorySource, Sink, Source};
 use std::alloc::{AllocError, Global};
 use std::process::Abort;

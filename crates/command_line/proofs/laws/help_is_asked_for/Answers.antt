@@ -1,5 +1,5 @@
-use Rattle.jepcheck.proofs.Words.{help_is_asked, help_with_a_command}
-use Rattle.jepcheck.proofs.laws.help_is_asked_for.Goals as goal
+use Rattle.command_line.proofs.Parses.{help_is_asked, help_with_a_command}
+use Rattle.command_line.proofs.laws.help_is_asked_for.Goals as goal
 
 pub returns-clause-alone : goal.returns-clause-alone
 returns-clause-alone c = help_is_asked

@@ -9,11 +9,11 @@ use Rattle.clap.specs.declared.error.kind.ErrorKind.TheVariants.{OutOfMemory, Di
 use Rattle.clap.specs.declared.parser.matches.ArgMatches.{ArgMatches}
 use Rattle.clap.specs.declared.parser.matches.ArgMatches.TheViews.{out-ArgMatches}
 use Rattle.clap.proofs.OnLiterals.{clap_on_literals}
-use Rattle.jepcheck.specs.Lines.{word_of, program_app, NameSubcommand, AskFor, AskForHelp, MayAskForHelp}
-use Rattle.jepcheck.specs.declared.command_line.Asked.{Asked}
-use Rattle.jepcheck.specs.declared.command_line.Asked.TheVariants.{Run}
-use Rattle.jepcheck.specs.declared.run.Command.{Command}
-use Rattle.jepcheck.specs.declared.run.Command.TheVariants.{Reads, Edges, Check}
+use Rattle.command_line.specs.Lines.{word_of, program_app, NameSubcommand, AskFor, AskForHelp, MayAskForHelp}
+use Rattle.command_line.specs.declared.types.Asked.{Asked}
+use Rattle.command_line.specs.declared.types.Asked.TheVariants.{Run}
+use Rattle.command_line.specs.declared.types.Command.{Command}
+use Rattle.command_line.specs.declared.types.Command.TheVariants.{Reads, Edges, Check}
 
 -- clap's definitions speak of the program's lines
 program_is_simple : is_simple program_app ≡ true

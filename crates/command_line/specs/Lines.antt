@@ -3,13 +3,13 @@ use Rattle.std.specs.Prelude.{◌≡◌, ◌==◌, ℕ, List, [], ◌∷◌, ◌
 use Rattle.std.specs.List.{before_first, list_all}
 use Rattle.clap.specs.Words.{App, new_app, with_subcommand, subcommand_of, fault_of, IsAmong}
 use Rattle.clap.specs.declared.error.kind.ErrorKind.TheVariants.{DisplayHelp}
-use Rattle.jepcheck.specs.declared.command_line.Asked.{Asked}
-use Rattle.jepcheck.specs.declared.command_line.Asked.TheVariants.{Run}
-use Rattle.jepcheck.specs.declared.command_line.LineFault.{LineFault}
-use Rattle.jepcheck.specs.declared.command_line.LineFault.TheVariants.{Usage, Memory}
-use Rattle.jepcheck.specs.declared.command_line.TheConstants.{HELP, SEE_HELP}
-use Rattle.jepcheck.specs.declared.run.Command.{Command}
-use Rattle.jepcheck.specs.declared.run.Command.TheVariants.{Reads, Edges, Check}
+use Rattle.command_line.specs.declared.types.Asked.{Asked}
+use Rattle.command_line.specs.declared.types.Asked.TheVariants.{Run}
+use Rattle.command_line.specs.declared.types.LineFault.{LineFault}
+use Rattle.command_line.specs.declared.types.LineFault.TheVariants.{Usage, Memory}
+use Rattle.command_line.specs.declared.words.TheConstants.{HELP, SEE_HELP}
+use Rattle.command_line.specs.declared.types.Command.{Command}
+use Rattle.command_line.specs.declared.types.Command.TheVariants.{Reads, Edges, Check}
 
 -- a command of which one of the subcommands has to be named
 abbrev pub with_required : App → App

@@ -2,8 +2,8 @@
 use Rattle.std.proofs.Common.{◌≡◌, ◌∙◌, ℕ, suc, ◌+◌, List, [], ◌∷◌, ◌++◌, Bool, true, false, ◌&&◌, cond, codes, take, refl, ap, arith}
 use Rattle.std.proofs.lemmas.List.{append_assoc}
 use Rattle.std.specs.List.{list_all, prefix_len}
-use Rattle.jepcheck.specs.Lines.{first_line, IsOneLine, IsComplaint}
-use Rattle.jepcheck.specs.declared.command_line.TheConstants.{SEE_HELP}
+use Rattle.command_line.specs.Lines.{first_line, IsOneLine, IsComplaint}
+use Rattle.command_line.specs.declared.words.TheConstants.{SEE_HELP}
 
 -- each element at the front of a list passes a test, as far as they do
 front_passes : (q : ℕ → Bool) (xs : List ℕ) → list_all q (take (prefix_len q xs) xs) ≡ true

@@ -1,42 +1,17 @@
-//! The command line.
+//! What the words of a command line ask for.
 
 ghost use Rattle.std.specs.Prelude.{◌≡◌, ◌≢◌, map, IfErr, IfOk, string_bytes};
 ghost use Rattle.std.specs.IoError.{error_kind};
 ghost use Rattle.std.specs.declared.io.ErrorKind.TheVariants.{OutOfMemory};
 ghost use Rattle.clap.specs.Words.{app_of, kind_of};
-ghost use Rattle.jepcheck.specs.Lines.{program_app, first_line, AskFor, AskForHelp, MayAskForHelp};
-ghost use Rattle.jepcheck.specs.Lines.{IsComplaint, Helps, SaysWhatIsWrong};
-ghost use Rattle.jepcheck.specs.declared.command_line.Asked.{Asked};
+ghost use Rattle.command_line.specs.Lines.{program_app, first_line, AskFor, AskForHelp, MayAskForHelp};
+ghost use Rattle.command_line.specs.Lines.{IsComplaint, Helps, SaysWhatIsWrong};
+ghost use Rattle.command_line.specs.declared.types.Asked.{Asked};
 
-use crate::run::Command;
+use crate::types::{Asked, Command, LineFault};
 use clap::error::ErrorKind;
 use std::alloc::{AllocError, Global};
 use std::io;
-
-/// What a command line asks for.
-#[derive(Clone, Copy, Debug, PartialEq, Eq)]
-pub enum Asked {
-    Run(Command),
-}
-
-/// Why a command line asks for nothing that can be done.
-#[derive(Debug, Drop)]
-pub enum LineFault {
-    /// It asks for help, and the text is the help; or it is none of the program's lines, and the text says why.
-    Usage(String),
-    Memory,
-}
-
-impl From<AllocError> for LineFault {
-    ghost use Rattle.std.specs.Prelude.{◌≡◌};
-    ghost use Rattle.jepcheck.specs.declared.command_line.LineFault.TheVariants.{Memory};
-
-    ghost from_gives = { λ _ fault. fault ≡ Memory };
-
-    fn from(_: AllocError) -> LineFault {
-        LineFault::Memory
-    }
-}
 
 /// What the program is, its version first.
 const HELP: &str = "\
@@ -154,7 +129,7 @@ pub fn unread_line(alloc: Global, error: &io::Error) -> LineFault
 }
 
 /// What the words ask for, of which the first is the program's name.
-pub fn command_line<'a>(alloc: Global, words: &'a [String]) -> Result<Asked, LineFault>
+pub fn asked_for<'a>(alloc: Global, words: &'a [String]) -> Result<Asked, LineFault>
     // The answer is what the words ask for, and where they ask for something only memory can be missing.
     ensures only { IfOk result (λ asked. AskFor asked (map string_bytes words.entry.now)) }
     ensures asked { (asked : Asked) → AskFor asked (map string_bytes words.entry.now)

@@ -2,10 +2,10 @@ use Rattle.std.proofs.Common.{◌≡◌, ◌∙◌, ◌⊎◌, inl, inr, Some, N
 use Rattle.std.proofs.lemmas.Option.{same_Some}
 use Rattle.clap.specs.Words.{kind_of}
 use Rattle.clap.specs.declared.error.kind.ErrorKind.TheVariants.{OutOfMemory, DisplayHelp}
-use Rattle.jepcheck.specs.Lines.{word_of, Helps}
-use Rattle.jepcheck.proofs.Words.{command_in, asked_names, no_command, some_command, names_subcommand, meets_subcommand, fails_for_memory, fails_by_request, fails_by_no_request, no_matches_for_help}
-use Rattle.jepcheck.proofs.command_line.command_line.Goals as goal
-use Rattle.jepcheck.proofs.command_line.command_line.Goals.{in_default-via-in-Some+in_default, in_default-via-in_default}
+use Rattle.command_line.specs.Lines.{word_of, Helps}
+use Rattle.command_line.proofs.Parses.{command_in, asked_names, no_command, some_command, names_subcommand, meets_subcommand, fails_for_memory, fails_by_request, fails_by_no_request, no_matches_for_help}
+use Rattle.command_line.proofs.words.asked_for.Goals as goal
+use Rattle.command_line.proofs.words.asked_for.Goals.{in_default-via-in-Some+in_default, in_default-via-in_default}
 
 pub returns-in-Err-clause-asked : goal.returns-in-Err-clause-asked
 returns-in-Err-clause-asked c = λ asked asks.

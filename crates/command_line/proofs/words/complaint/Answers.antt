@@ -1,7 +1,7 @@
 use Rattle.std.proofs.Common.{◌∙◌, ap, ◌++◌, codes}
-use Rattle.jepcheck.proofs.FirstLines.{complaint_of}
-use Rattle.jepcheck.specs.declared.command_line.TheConstants.{SEE_HELP}
-use Rattle.jepcheck.proofs.command_line.complaint.Goals as goal
+use Rattle.command_line.proofs.FirstLines.{complaint_of}
+use Rattle.command_line.specs.declared.words.TheConstants.{SEE_HELP}
+use Rattle.command_line.proofs.words.complaint.Goals as goal
 
 pub returns : goal.returns
 returns c =

@@ -2,9 +2,9 @@ use Rattle.std.proofs.Common.{rules, ap, ap₂, codes, ◌≡◌, ◌∙◌}
 use Rattle.std.proofs.lemmas.Result.{IfOk-weaker}
 use Rattle.clap.specs.Simple.{app_of_fields}
 use Rattle.clap.specs.Words.{App, app_of, new_app, with_subcommand}
-use Rattle.jepcheck.specs.Lines.{with_required, with_command}
-use Rattle.jepcheck.specs.declared.run.Command.TheVariants.{Reads, Edges}
-use Rattle.jepcheck.proofs.command_line.program.Goals as goal
+use Rattle.command_line.specs.Lines.{with_required, with_command}
+use Rattle.command_line.specs.declared.types.Command.TheVariants.{Reads, Edges}
+use Rattle.command_line.proofs.words.program.Goals as goal
 
 pub returns : goal.returns
 returns c =
