@@ -4,7 +4,7 @@ use Rattle.std.specs.List.{list_any}
 use Rattle.std.specs.Option.{option_or}
 use Rattle.key_versions.specs.declared.types.Writer.{Writer}
 use Rattle.key_versions.specs.declared.types.Follower.{Follower}
-use Rattle.key_versions.specs.declared.rows.Access.{Access}
+use Rattle.key_versions.specs.declared.pending.Access.{Access}
 
 -- the versions of an access are among so many
 abbrev pub IsWithin : ℕ → Access → Type 0
@@ -70,6 +70,10 @@ installed_rows place rows (w ∷ ws) = installed_rows place (change (with_follow
 -- whether an install follows what is read, where that is not nil
 abbrev pub is_behind : Access → Access → Bool
 is_behind r w = (not (r.version == r.nil) && (w.nil == r.nil)) && not (w.version == r.version)
+
+-- the transaction at the place is one reader more
+abbrev pub with_place : ℕ → Known → Known
+with_place place known = record { writer = known.writer; readers = known.readers ++ place ∷ []; followers = known.followers }
 
 abbrev pub with_reader : ℕ → Access → List Access → Known → Known
 with_reader place r installs known =

@@ -3,7 +3,8 @@
 ghost use Rattle.std.specs.Prelude.{◌≡◌, ◌<◌, ◌≤◌, ◌++◌, ◌∷◌, [], map, length, IfOk, OnOk, Some, slice_get};
 ghost use Rattle.key_versions.specs.Rows.{Accessed, numbers_of};
 
-use crate::rows::{Access, number_of};
+use crate::pending::Access;
+use crate::rows::number_of;
 use std::alloc::{AllocError, Global};
 use std::marker::Model;
 
