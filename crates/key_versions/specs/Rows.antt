@@ -97,6 +97,11 @@ read_rows place installs rows before (r ∷ rs) =
 abbrev pub numbers_of : List Access → List ℕ
 numbers_of accesses = map (λ (a : Access). a.version) accesses
 
+-- what transactions read and install, with one transaction more
+abbrev pub with_accessed : List Accessed → List Access → List Access → List Accessed
+with_accessed transactions reads installs =
+    transactions ++ record { reads = numbers_of reads; installs = numbers_of installs } ∷ []
+
 abbrev pub accessed : List Access → List Access → Accessed
 accessed reads writes = record { reads = numbers_of reads; installs = numbers_of (lasts writes) }
 

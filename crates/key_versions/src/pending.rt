@@ -70,16 +70,15 @@ pub(crate) struct Pending {
 }
 
 impl Model for Pending {
-    ghost use Rattle.std.specs.Prelude.{List, length, All};
-    ghost use Rattle.key_versions.specs.Groups.{IsNumbered};
-    ghost use Rattle.key_versions.specs.Pending.{known_from};
+    ghost use Rattle.std.specs.Prelude.{List};
+    ghost use Rattle.key_versions.specs.Pending.{known_from, AreOfVersions};
     ghost use Rattle.key_versions.specs.Rows.{Known};
 
     ghost Value = { List Known };
 
     ghost view = { λ p. known_from 0 p.writers.items p.readers.items p.followers.items };
 
-    ghost invariant = { λ p. All (IsNumbered (length p.writers.items)) p.readers.items × All (IsNumbered (length p.writers.items)) p.followers.items };
+    ghost invariant = { λ p. AreOfVersions p.writers.items p.readers.items p.followers.items };
 }
 
 /// What is known of each version, by its number.
