@@ -7,7 +7,9 @@ ghost use Rattle.key_versions.specs.Tables.{IsTableOf};
 
 mod accesses;
 mod building;
+mod groups;
 mod numbering;
+mod pending;
 mod rows;
 pub mod table;
 #[cfg(test)]
@@ -37,5 +39,5 @@ pub fn versions<'a, S: BuildHasher + Copy>(
     for txn in txns.as_slice() {
         building.take(txn)?;
     }
-    Ok(building.finish())
+    Ok(building.finish(alloc)?)
 }
