@@ -51,7 +51,7 @@ impl<'a, S: BuildHasher + Copy> Building<'a, S> {
         Ok(())
     }
 
-    /// Puts the table together. Only memory can be refused.
+    /// Puts the table together. The only error is out of memory.
     pub fn finish(self, alloc: Global) -> Result<Versions<'a>, AllocError>
         requires { length self.writers ≡ length self.versions }
         ensures { IfOk result (λ versions. versions ≡ self.entry) }
