@@ -14,7 +14,7 @@ fn line(alloc: Global, words: &[&str]) -> Result<Vec<String>, AllocError> {
     Ok(line)
 }
 
-/// What these words ask for; asked once more where memory was refused.
+/// What these words ask for; asked once more where memory ran out.
 fn asked(alloc: Global, words: &[&str]) -> Result<Result<Asked, LineFault>, AllocError> {
     let line = line(alloc, words).or_else(|_| line(alloc, words))?;
     match asked_for(alloc, &line) {
@@ -23,7 +23,7 @@ fn asked(alloc: Global, words: &[&str]) -> Result<Result<Asked, LineFault>, Allo
     }
 }
 
-/// The fault of words that couldn't be read; asked for once more where memory was refused.
+/// The fault of words that couldn't be read; asked for once more where memory ran out.
 fn unread(alloc: Global, kind: io::ErrorKind) -> LineFault {
     let error = io::Error::from(kind);
     match unread_line(alloc, &error) {

@@ -62,7 +62,7 @@ impl Blocks {
         }
     }
 
-    /// Appends the operation that has this shape in the text. Only memory can be refused, and nothing changes then.
+    /// Appends the operation that has this shape in the text. The only error is out of memory, and nothing changes then.
     pub fn push(&mut self, text: &[u8], shape: &OpShape) -> Result<(), Fault>
         requires { IsShapeIn text.now shape.now }
         ensures ok { (o : PlacedOperation) → IsIn text.now o → IsShapeOf shape.now o → OnOk result (self.new ≡ self.old ++ operation_of o ∷ []) }
@@ -77,7 +77,7 @@ impl Blocks {
         self.last.push(text, shape)
     }
 
-    /// The blocks. Only memory can be refused.
+    /// The blocks. The only error is out of memory.
     pub fn finish(mut self) -> Result<Vec<Block>, Fault>
         ensures ok { IfOk result (λ blocks. operations_in blocks.items ≡ self) }
         ensures err { IfErr result (λ fault. fault ≡ memory_fault) }

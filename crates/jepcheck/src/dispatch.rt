@@ -36,7 +36,7 @@ pub fn dispatch<S: Source, T: Sink, E: Sink>(
     // A fault of the command line is refused, and the source is left alone.
     ensures refused { IfErr asked (λ fault. HasRefusedLine T.Sink fault result sink.old sink.new) }
     ensures unread { OnErr asked (source.new ≡ source.old) }
-    // The sink for errors is told the help, what is wrong with the command line, or that a device failed.
+    // The sink for errors gets the help, what is wrong with the command line, or that a device failed.
     ensures errors { HasTakenUnlessFailed E.Sink errors.old errors.new (complaint asked result) }
 {
     let status = match &asked {

@@ -69,7 +69,7 @@ pub fn run<S: Source, T: Sink>(
     source: &mut S,
     sink: &mut T,
 ) -> Status
-    // What is printed is the answer to a text, which is the source's bytes where it tells them.
+    // What is printed is the answer to a text, which is the source's bytes where they are known.
     ensures answered { (text : List ℕ) × IfSome (S.remaining source.old) (λ rest. text ≡ rest)
         × HasAnswered command text result (T.contents sink.old) (T.contents sink.new) }
     // With the statuses 0 to 2 the source was read to its end.

@@ -1,4 +1,4 @@
-//! A table that is told one transaction after another.
+//! A table that takes one transaction after another.
 
 ghost use Rattle.std.specs.Prelude.{◌≡◌, ◌++◌, ◌∷◌, [], List, length, OnOk, IfOk};
 ghost use Rattle.hist_types.specs.Transactions.{Transaction};

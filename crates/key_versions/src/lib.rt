@@ -26,7 +26,7 @@ use txn_pairs::types::Txns;
 /// The versions that the transactions name, in time for their micro-operations but for the square of the length of one
 /// transaction. They borrow the journal's blocks. No answer depends on the hasher.
 ///
-/// Only memory can be refused.
+/// The only error is out of memory.
 pub fn versions<'a, S: BuildHasher + Copy>(
     alloc: Global,
     txns: &Txns<'a>,

@@ -22,7 +22,7 @@ pub(crate) enum Spelling {
     /// The number is parsed once, when the atom is made.
     Integer(i64),
     Keyword,
-    /// What stands between the quotes is the content.
+    /// What is between the quotes is the content.
     PlainString,
     /// Some bytes of the content are escaped.
     EscapedString,
@@ -139,7 +139,7 @@ pub(crate) fn known_spelling(text: &[u8]) -> Spelling
     requires { (atom : AnAtom) × IsAtomText text.now atom }
     ensures { IsKnownSpelling text.now result }
 {
-    // Most integers are digits alone, which one pass over them tells.
+    // Most integers are digits alone, as one pass over them shows.
     match number_of_digits(text) {
         Some(number) => Spelling::Integer(number),
         None => spelling_of(token_kind(text), text).unwrap(),
