@@ -135,7 +135,8 @@ impl Sink for MemorySink {
     }
 }
 
-/// A source over a stream: of its bytes as much is known as of the stream's, and it fails where the stream returns an error of any kind.
+/// A source over a stream. As much is known of its bytes as of the stream's, and it fails where the stream returns an error
+/// of any kind.
 #[derive(Drop)]
 pub struct StreamSource<R> {
     stream: R,
@@ -173,8 +174,8 @@ impl<R: Read> Source for StreamSource<R> {
     }
 }
 
-/// A sink over a stream: of its bytes as much is known as of the stream's, and it fails where the stream returns an error of any kind, or takes
-/// nothing of a piece that isn't empty. It flushes nothing, so the stream should keep no buffer of its own.
+/// A sink over a stream. As much is known of its bytes as of the stream's, and it fails where the stream returns an error of
+/// any kind, or takes nothing of a piece that isn't empty. It flushes nothing, so the stream should keep no buffer of its own.
 #[derive(Drop)]
 pub struct StreamSink<W> {
     stream: W,
