@@ -1,0 +1,161 @@
+//! The verdicts of worked histories.
+
+use crate::histories::{block_of, events_of};
+use crate::texts::{
+    BAD_READS, READS_CROSS, STALE_IN_A_PROCESS, STALE_READ, UPDATE_OF_A_LATER_WRITE_OF_ANOTHER,
+    WRITE_AND_READ, WRITE_SKEW,
+};
+use hist_types::device::MemorySink;
+use hist_types::types::{Fault, Level, Phenomenon};
+use journal_core::prefix::Prefix;
+use std::alloc::Global;
+use std::hash::{BuildHasherDefault, FoldHasher};
+use std::process::Abort;
+use std::test::Fail;
+use verdict::types::Verdict;
+use verdict::{laws, verdict, write_verdict};
+
+/// The lowest levels of G0, G1c, G-single and G2-item.
+type Levels = [Option<Level>; 4];
+
+const NONE: Levels = [None, None, None, None];
+
+/// The verdict of the events, tried once more where memory runs out.
+fn verdict_of<'a>(alloc: Global, prefix: &Prefix<'a>) -> Result<Verdict<'a>, Fault> {
+    let hasher = BuildHasherDefault::<FoldHasher>::new();
+    match verdict(alloc, prefix, hasher) {
+        Ok(verdict) => Ok(verdict),
+        Err(_) => verdict(alloc, prefix, hasher),
+    }
+}
+
+fn levels(verdict: &Verdict<'_>) -> Levels {
+    [
+        verdict.level(Phenomenon::G0),
+        verdict.level(Phenomenon::G1c),
+        verdict.level(Phenomenon::GSingle),
+        verdict.level(Phenomenon::G2Item),
+    ]
+}
+
+/// What a sink takes of a verdict, which is a beginning of its text where memory runs out for it.
+fn check_written(rt: &impl Abort, alloc: Global, verdict: &Verdict<'_>, text: &[u8]) {
+    let mut sink = MemorySink::new(alloc);
+    match write_verdict(verdict, &mut sink) {
+        Ok(()) => assert_eq!(rt; sink.bytes(), text),
+        Err(_) => assert!(rt; text.starts_with(sink.bytes())),
+    }
+}
+
+fn check(
+    rt: &impl Abort,
+    alloc: Global,
+    events: &[u8],
+    wanted: Levels,
+    text: &[u8],
+) -> Result<(), Fault> {
+    let blocks = [block_of(alloc, events)?];
+    let verdict = verdict_of(alloc, &events_of(alloc, &blocks)?)?;
+    assert_eq!(rt; verdict.text(), text);
+    assert_eq!(rt; levels(&verdict), wanted);
+    assert_eq!(rt;
+        verdict.witness(Phenomenon::G0).is_some(),
+        verdict.level(Phenomenon::G0).is_some()
+    );
+    check_written(rt, alloc, &verdict, text);
+    Ok(())
+}
+
+#[test]
+fn law_returns() {
+    laws::verdicts_in_text();
+}
+
+#[test]
+fn nothing_is_found_where_nothing_is_wrong(rt: HostRuntime) -> Result<(), Fail> {
+    check(
+        &rt,
+        rt.alloc(),
+        WRITE_AND_READ,
+        NONE,
+        b"prefix 4\ntxns 2\nG0 none\nG1a none\nG1b none\nG1c none\nG-single none\nG2-item none\nstray 0\n",
+    )?;
+    check(
+        &rt,
+        rt.alloc(),
+        b"",
+        NONE,
+        b"prefix 0\ntxns 0\nG0 none\nG1a none\nG1b none\nG1c none\nG-single none\nG2-item none\nstray 0\n",
+    )?;
+    Ok(())
+}
+
+#[test]
+fn two_read_each_other(rt: HostRuntime) -> Result<(), Fail> {
+    check(
+        &rt,
+        rt.alloc(),
+        READS_CROSS,
+        [None, Some(Level::Plain), None, None],
+        b"prefix 4\ntxns 2\nG0 none\nG1a none\nG1b none\nG1c plain\n  T0 -wr :x 1-> T1\n  T1 -wr :y 1-> T0\nG-single none\nG2-item none\nstray 0\n",
+    )?;
+    Ok(())
+}
+
+#[test]
+fn two_write_what_the_other_read(rt: HostRuntime) -> Result<(), Fail> {
+    check(
+        &rt,
+        rt.alloc(),
+        WRITE_SKEW,
+        [None, None, None, Some(Level::Plain)],
+        b"prefix 4\ntxns 2\nG0 none\nG1a none\nG1b none\nG1c none\nG-single none\nG2-item plain\n  T0 -rw :x nil 1-> T1\n  T1 -rw :y nil 1-> T0\nstray 0\n",
+    )?;
+    Ok(())
+}
+
+#[test]
+fn reads_are_stale(rt: HostRuntime) -> Result<(), Fail> {
+    check(
+        &rt,
+        rt.alloc(),
+        STALE_READ,
+        [None, None, Some(Level::Realtime), Some(Level::Realtime)],
+        b"prefix 4\ntxns 2\nG0 none\nG1a none\nG1b none\nG1c none\nG-single realtime\n  T0 -realtime 1 2-> T2\n  T2 -rw :x nil 1-> T0\nG2-item realtime\n  T0 -realtime 1 2-> T2\n  T2 -rw :x nil 1-> T0\nstray 0\n",
+    )?;
+    check(
+        &rt,
+        rt.alloc(),
+        STALE_IN_A_PROCESS,
+        [None, None, Some(Level::Process), Some(Level::Process)],
+        b"prefix 4\ntxns 2\nG0 none\nG1a none\nG1b none\nG1c none\nG-single process\n  T0 -process 7-> T2\n  T2 -rw :x nil 1-> T0\nG2-item process\n  T0 -process 7-> T2\n  T2 -rw :x nil 1-> T0\nstray 0\n",
+    )?;
+    Ok(())
+}
+
+#[test]
+fn write_is_overwritten_before_its_time(rt: HostRuntime) -> Result<(), Fail> {
+    check(
+        &rt,
+        rt.alloc(),
+        UPDATE_OF_A_LATER_WRITE_OF_ANOTHER,
+        [Some(Level::Realtime), Some(Level::Realtime), None, None],
+        b"prefix 4\ntxns 2\nG0 realtime\n  T0 -realtime 1 2-> T2\n  T2 -ww :x 1 2-> T0\nG1a none\nG1b none\nG1c realtime\n  T0 -realtime 1 2-> T2\n  T2 -wr :x 1-> T0\nG-single none\nG2-item none\nstray 0\n",
+    )?;
+    Ok(())
+}
+
+#[test]
+fn bad_reads_are_told(rt: HostRuntime) -> Result<(), Fail> {
+    let text =
+        b"prefix 6\ntxns 3\nG0 none\nG1a yes\n  T2 read :x 1 of T0\nG1b yes\n  T2 read :y 1 of T1\nG1c none\nG-single none\nG2-item none\nstray 1\n";
+    check(&rt, rt.alloc(), BAD_READS, NONE, text)?;
+    let blocks = [block_of(rt.alloc(), BAD_READS)?];
+    let verdict = verdict_of(rt.alloc(), &events_of(rt.alloc(), &blocks)?)?;
+    assert_eq!(rt; verdict.prefix(), 6);
+    assert_eq!(rt; verdict.txns(), 3);
+    assert_eq!(rt; verdict.stray(), 1);
+    assert_eq!(rt; verdict.g1a().map(|read| read.writer()), Some(0));
+    assert_eq!(rt; verdict.g1b().map(|read| read.writer()), Some(1));
+    Ok(())
+}
