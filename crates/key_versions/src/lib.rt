@@ -10,8 +10,6 @@ mod building;
 mod numbering;
 mod rows;
 pub mod table;
-#[cfg(test)]
-mod tests;
 pub mod types;
 
 use crate::building::Building;
