@@ -9,8 +9,6 @@ mod completions;
 pub mod frontier;
 mod moving;
 mod pairs;
-#[cfg(test)]
-mod tests;
 mod thinning;
 pub mod types;
 

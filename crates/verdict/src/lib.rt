@@ -10,8 +10,6 @@ pub mod devices;
 mod findings;
 pub mod laws;
 mod report;
-#[cfg(test)]
-mod tests;
 mod text;
 pub mod types;
 

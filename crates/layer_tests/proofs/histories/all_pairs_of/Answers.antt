@@ -1,5 +1,5 @@
 use Rattle.edge_graph.proofs.Orderings.{order_of_pairs-if_ok}
-use Rattle.cycle_find.proofs.tests.all_pairs_of.Goals as goal
+use Rattle.layer_tests.proofs.histories.all_pairs_of.Goals as goal
 
 pub returns : goal.returns
 returns c =

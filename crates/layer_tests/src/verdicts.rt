@@ -1,60 +1,31 @@
-//! Worked histories.
+//! The verdicts of worked histories.
 
-use crate::types::Verdict;
-use crate::{laws, verdict, write_verdict};
-use edn_ops::reader::OpReader;
+use crate::histories::{block_of, events_of};
+use crate::texts::{
+    BAD_READS, READS_CROSS, STALE_IN_A_PROCESS, STALE_READ, UPDATE_OF_A_LATER_WRITE_OF_ANOTHER,
+    WRITE_AND_READ, WRITE_SKEW,
+};
 use hist_types::device::MemorySink;
-use hist_types::limits::MAX_BLOCK_OPERATIONS;
 use hist_types::types::{Fault, Level, Phenomenon};
-use journal_core::journal::Core;
-use op_block::block::Block;
-use op_block::builder::BlockBuilder;
-use op_block::stamp::Stamp;
+use journal_core::prefix::Prefix;
 use std::alloc::Global;
 use std::hash::{BuildHasherDefault, FoldHasher};
 use std::process::Abort;
 use std::test::Fail;
+use verdict::types::Verdict;
+use verdict::{laws, verdict, write_verdict};
 
 /// The lowest levels of G0, G1c, G-single and G2-item.
 type Levels = [Option<Level>; 4];
 
 const NONE: Levels = [None, None, None, None];
 
-/// A block with the operations of a text.
-fn block_once(alloc: Global, text: &[u8]) -> Result<Block, Fault> {
-    let mut builder = BlockBuilder::new(alloc);
-    let mut reader = OpReader::new(alloc, text);
-    for _ in 0..MAX_BLOCK_OPERATIONS {
-        let Some(shape) = reader.next_op()? else {
-            break;
-        };
-        builder.push(text, &shape)?;
-    }
-    Ok(builder.freeze(Stamp { seat: 0, call: 0 }))
-}
-
-/// The block of a text, tried once more where memory runs out.
-fn block_of(alloc: Global, text: &[u8]) -> Result<Block, Fault> {
-    match block_once(alloc, text) {
-        Ok(block) => Ok(block),
-        Err(_) => block_once(alloc, text),
-    }
-}
-
-fn verdict_once<'a>(alloc: Global, block: &'a Block) -> Result<Verdict<'a>, Fault> {
-    let mut core = Core::new(alloc);
-    core.judge(block)?;
-    core.reserve_for(block)?;
-    core.take(block);
-    let prefix = core.prefix()?;
-    verdict(alloc, &prefix, BuildHasherDefault::<FoldHasher>::new())
-}
-
-/// The verdict of a block's events, tried once more where memory runs out.
-fn verdict_of<'a>(alloc: Global, block: &'a Block) -> Result<Verdict<'a>, Fault> {
-    match verdict_once(alloc, block) {
+/// The verdict of the events, tried once more where memory runs out.
+fn verdict_of<'a>(alloc: Global, prefix: &Prefix<'a>) -> Result<Verdict<'a>, Fault> {
+    let hasher = BuildHasherDefault::<FoldHasher>::new();
+    match verdict(alloc, prefix, hasher) {
         Ok(verdict) => Ok(verdict),
-        Err(_) => verdict_once(alloc, block),
+        Err(_) => verdict(alloc, prefix, hasher),
     }
 }
 
@@ -83,8 +54,8 @@ fn check(
     wanted: Levels,
     text: &[u8],
 ) -> Result<(), Fault> {
-    let block = block_of(alloc, events)?;
-    let verdict = verdict_of(alloc, &block)?;
+    let blocks = [block_of(alloc, events)?];
+    let verdict = verdict_of(alloc, &events_of(alloc, &blocks)?)?;
     assert_eq!(rt; verdict.text(), text);
     assert_eq!(rt; levels(&verdict), wanted);
     assert_eq!(rt;
@@ -105,11 +76,7 @@ fn nothing_is_found_where_nothing_is_wrong(rt: HostRuntime) -> Result<(), Fail> 
     check(
         &rt,
         rt.alloc(),
-        b"{:type :invoke, :process 0, :value [[:w :x 1]]}
-{:type :ok, :process 0, :value [[:w :x 1]]}
-{:type :invoke, :process 1, :value [[:r :x nil]]}
-{:type :ok, :process 1, :value [[:r :x 1]]}
-",
+        WRITE_AND_READ,
         NONE,
         b"prefix 4\ntxns 2\nG0 none\nG1a none\nG1b none\nG1c none\nG-single none\nG2-item none\nstray 0\n",
     )?;
@@ -128,11 +95,7 @@ fn two_read_each_other(rt: HostRuntime) -> Result<(), Fail> {
     check(
         &rt,
         rt.alloc(),
-        b"{:type :invoke, :process 0, :value [[:w :x 1] [:r :y nil]]}
-{:type :invoke, :process 1, :value [[:w :y 1] [:r :x nil]]}
-{:type :ok, :process 0, :value [[:w :x 1] [:r :y 1]]}
-{:type :ok, :process 1, :value [[:w :y 1] [:r :x 1]]}
-",
+        READS_CROSS,
         [None, Some(Level::Plain), None, None],
         b"prefix 4\ntxns 2\nG0 none\nG1a none\nG1b none\nG1c plain\n  T0 -wr :x 1-> T1\n  T1 -wr :y 1-> T0\nG-single none\nG2-item none\nstray 0\n",
     )?;
@@ -144,11 +107,7 @@ fn two_write_what_the_other_read(rt: HostRuntime) -> Result<(), Fail> {
     check(
         &rt,
         rt.alloc(),
-        b"{:type :invoke, :process 0, :value [[:r :x nil] [:w :y 1]]}
-{:type :invoke, :process 1, :value [[:r :y nil] [:w :x 1]]}
-{:type :ok, :process 0, :value [[:r :x nil] [:w :y 1]]}
-{:type :ok, :process 1, :value [[:r :y nil] [:w :x 1]]}
-",
+        WRITE_SKEW,
         [None, None, None, Some(Level::Plain)],
         b"prefix 4\ntxns 2\nG0 none\nG1a none\nG1b none\nG1c none\nG-single none\nG2-item plain\n  T0 -rw :x nil 1-> T1\n  T1 -rw :y nil 1-> T0\nstray 0\n",
     )?;
@@ -160,22 +119,14 @@ fn reads_are_stale(rt: HostRuntime) -> Result<(), Fail> {
     check(
         &rt,
         rt.alloc(),
-        b"{:type :invoke, :process 0, :value [[:w :x 1]]}
-{:type :ok, :process 0, :value [[:w :x 1]]}
-{:type :invoke, :process 1, :value [[:r :x nil]]}
-{:type :ok, :process 1, :value [[:r :x nil]]}
-",
+        STALE_READ,
         [None, None, Some(Level::Realtime), Some(Level::Realtime)],
         b"prefix 4\ntxns 2\nG0 none\nG1a none\nG1b none\nG1c none\nG-single realtime\n  T0 -realtime 1 2-> T2\n  T2 -rw :x nil 1-> T0\nG2-item realtime\n  T0 -realtime 1 2-> T2\n  T2 -rw :x nil 1-> T0\nstray 0\n",
     )?;
     check(
         &rt,
         rt.alloc(),
-        b"{:type :invoke, :process 7, :value [[:w :x 1]]}
-{:type :ok, :process 7, :value [[:w :x 1]]}
-{:type :invoke, :process 7, :value [[:r :x nil]]}
-{:type :ok, :process 7, :value [[:r :x nil]]}
-",
+        STALE_IN_A_PROCESS,
         [None, None, Some(Level::Process), Some(Level::Process)],
         b"prefix 4\ntxns 2\nG0 none\nG1a none\nG1b none\nG1c none\nG-single process\n  T0 -process 7-> T2\n  T2 -rw :x nil 1-> T0\nG2-item process\n  T0 -process 7-> T2\n  T2 -rw :x nil 1-> T0\nstray 0\n",
     )?;
@@ -187,11 +138,7 @@ fn write_is_overwritten_before_its_time(rt: HostRuntime) -> Result<(), Fail> {
     check(
         &rt,
         rt.alloc(),
-        b"{:type :invoke, :process 0, :value [[:r :x nil] [:w :x 2]]}
-{:type :ok, :process 0, :value [[:r :x 1] [:w :x 2]]}
-{:type :invoke, :process 1, :value [[:w :x 1]]}
-{:type :ok, :process 1, :value [[:w :x 1]]}
-",
+        UPDATE_OF_A_LATER_WRITE_OF_ANOTHER,
         [Some(Level::Realtime), Some(Level::Realtime), None, None],
         b"prefix 4\ntxns 2\nG0 realtime\n  T0 -realtime 1 2-> T2\n  T2 -ww :x 1 2-> T0\nG1a none\nG1b none\nG1c realtime\n  T0 -realtime 1 2-> T2\n  T2 -wr :x 1-> T0\nG-single none\nG2-item none\nstray 0\n",
     )?;
@@ -200,18 +147,11 @@ fn write_is_overwritten_before_its_time(rt: HostRuntime) -> Result<(), Fail> {
 
 #[test]
 fn bad_reads_are_told(rt: HostRuntime) -> Result<(), Fail> {
-    let events = b"{:type :invoke, :process 0, :value [[:w :x 1]]}
-{:type :invoke, :process 1, :value [[:w :y 1] [:w :y 2]]}
-{:type :invoke, :process 2, :value [[:r :x nil] [:r :y nil] [:r :z nil]]}
-{:type :ok, :process 2, :value [[:r :x 1] [:r :y 1] [:r :z 9]]}
-{:type :fail, :process 0}
-{:type :ok, :process 1, :value [[:w :y 1] [:w :y 2]]}
-";
     let text =
         b"prefix 6\ntxns 3\nG0 none\nG1a yes\n  T2 read :x 1 of T0\nG1b yes\n  T2 read :y 1 of T1\nG1c none\nG-single none\nG2-item none\nstray 1\n";
-    check(&rt, rt.alloc(), events, NONE, text)?;
-    let block = block_of(rt.alloc(), events)?;
-    let verdict = verdict_of(rt.alloc(), &block)?;
+    check(&rt, rt.alloc(), BAD_READS, NONE, text)?;
+    let blocks = [block_of(rt.alloc(), BAD_READS)?];
+    let verdict = verdict_of(rt.alloc(), &events_of(rt.alloc(), &blocks)?)?;
     assert_eq!(rt; verdict.prefix(), 6);
     assert_eq!(rt; verdict.txns(), 3);
     assert_eq!(rt; verdict.stray(), 1);

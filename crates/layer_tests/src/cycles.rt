@@ -1,33 +1,20 @@
-//! Worked histories.
+//! The phenomena of worked histories, at each level.
 
-ghost use Rattle.std.specs.Prelude.{◌≡◌, IfOk};
-ghost use Rattle.dep_edges.specs.Histories.{AreOfHistory};
-ghost use Rattle.edge_graph.specs.Parts.{IsOrderOf};
-ghost use Rattle.key_versions.specs.Tables.{IsTableOf};
-
-use crate::ranked_graph::RankedGraph;
-use crate::types::Walk;
-use dep_edges::edges;
+use crate::histories::{all_pairs_of, block_of, deps_of, table_of, thinned, txns_of};
+use crate::texts::{
+    BOTH_UPDATE_NIL, CROSSED_UPDATES, FAILED_WRITE, ONE_AFTER_ANOTHER, READ_SKEW, READS_CROSS,
+    STALE_IN_A_PROCESS, STALE_READ, TWO_STALE_READS, UPDATE_OF_A_LATER_WRITE,
+    UPDATE_OF_A_LATER_WRITE_OF_ANOTHER, WRITE_SKEW,
+};
+use cycle_find::ranked_graph::RankedGraph;
+use cycle_find::types::Walk;
 use dep_edges::types::{Edge, Label};
 use edge_graph::graph::Graph;
-use edn_ops::reader::OpReader;
-use hist_types::limits::MAX_BLOCK_OPERATIONS;
 use hist_types::types::{Fault, Level, Phenomenon};
-use journal_core::journal::Core;
-use journal_core::prefix::Prefix;
-use key_versions::table::Versions;
-use key_versions::versions;
-use op_block::block::Block;
-use op_block::builder::BlockBuilder;
-use op_block::stamp::Stamp;
-use order_frontier::types::Order;
-use order_frontier::{all_pairs, thin};
 use std::alloc::Global;
 use std::hash::{BuildHasherDefault, FoldHasher};
 use std::process::Abort;
 use std::test::Fail;
-use txn_pairs::pair;
-use txn_pairs::types::Txns;
 
 /// The lowest level at which each phenomenon is shown.
 #[derive(Clone, Copy)]
@@ -44,55 +31,6 @@ const NOTHING: Lowest = Lowest {
     g_single: None,
     g2_item: None,
 };
-
-/// A block with the operations of a text.
-fn block_of(alloc: Global, text: &[u8]) -> Result<Block, Fault> {
-    let mut builder = BlockBuilder::new(alloc);
-    let mut reader = OpReader::new(alloc, text);
-    for _ in 0..MAX_BLOCK_OPERATIONS {
-        let Some(shape) = reader.next_op()? else {
-            break;
-        };
-        builder.push(text, &shape)?;
-    }
-    Ok(builder.freeze(Stamp { seat: 0, call: 0 }))
-}
-
-fn events_of<'a>(alloc: Global, block: &'a Block) -> Result<Prefix<'a>, Fault> {
-    let mut core = Core::new(alloc);
-    core.judge(block)?;
-    core.reserve_for(block)?;
-    core.take(block);
-    core.prefix()
-}
-
-fn txns_of<'a>(alloc: Global, block: &'a Block) -> Result<Txns<'a>, Fault>
-    ensures { IfOk result (λ txns. AreOfHistory txns) }
-{
-    let prefix = events_of(alloc, block)?;
-    let _events = prefix.events();
-    pair(alloc, &prefix)
-}
-
-fn table<'a>(alloc: Global, txns: &Txns<'a>) -> Result<Versions<'a>, Fault>
-    ensures { IfOk result (IsTableOf txns.now) }
-{
-    versions(alloc, txns, BuildHasherDefault::<FoldHasher>::new())
-}
-
-fn thinned(alloc: Global, txns: &Txns<'_>) -> Result<Order, Fault>
-    requires { AreOfHistory txns.now }
-    ensures { IfOk result (IsOrderOf txns.now) }
-{
-    thin(alloc, txns)
-}
-
-fn all_pairs_of(alloc: Global, txns: &Txns<'_>) -> Result<Order, Fault>
-    requires { AreOfHistory txns.now }
-    ensures { IfOk result (IsOrderOf txns.now) }
-{
-    all_pairs(alloc, txns)
-}
 
 fn is_ww(edge: &Edge<'_>) -> bool {
     matches!(edge.label(), Label::Ww { .. })
@@ -196,37 +134,21 @@ fn check_over(
 
 /// A history shows what is wanted, with all pairs in order and with few.
 fn check(rt: &impl Abort, alloc: Global, text: &[u8], lowest: Lowest) -> Result<(), Fault> {
-    let block = block_of(alloc, text)?;
-    let txns = txns_of(alloc, &block)?;
-    let table = table(alloc, &txns)?;
-    let deps = edges(alloc, &txns, &table)?;
+    let blocks = [block_of(alloc, text)?];
+    let txns = txns_of(alloc, &blocks)?;
+    let table = table_of(rt, alloc, &txns, BuildHasherDefault::<FoldHasher>::new())?;
+    let deps = deps_of(rt, alloc, &txns, &table)?;
     let pairs = all_pairs_of(alloc, &txns)?;
     check_over(rt, alloc, &Graph::new(alloc, &deps, &pairs)?, lowest)?;
     let few = thinned(alloc, &txns)?;
     check_over(rt, alloc, &Graph::new(alloc, &deps, &few)?, lowest)
 }
 
-const ONE_AFTER_ANOTHER: &[u8] = b"
-{:type :invoke, :process 0, :value [[:r :x nil] [:w :x 1]]}
-{:type :ok, :process 0, :value [[:r :x nil] [:w :x 1]]}
-{:type :invoke, :process 1, :value [[:r :x nil] [:w :x 2]]}
-{:type :ok, :process 1, :value [[:r :x 1] [:w :x 2]]}
-{:type :invoke, :process 0, :value [[:r :x nil]]}
-{:type :ok, :process 0, :value [[:r :x 2]]}
-";
-
 #[test]
 fn nothing_in_a_serial_history(rt: HostRuntime) -> Result<(), Fail> {
     check(&rt, rt.alloc(), ONE_AFTER_ANOTHER, NOTHING)?;
     Ok(())
 }
-
-const CROSSED_UPDATES: &[u8] = b"
-{:type :invoke, :process 0, :value [[:w :x 1] [:r :y nil] [:w :y 2]]}
-{:type :invoke, :process 1, :value [[:w :y 1] [:r :x nil] [:w :x 2]]}
-{:type :ok, :process 0, :value [[:w :x 1] [:r :y 1] [:w :y 2]]}
-{:type :ok, :process 1, :value [[:w :y 1] [:r :x 1] [:w :x 2]]}
-";
 
 #[test]
 fn updates_cross(rt: HostRuntime) -> Result<(), Fail> {
@@ -239,13 +161,6 @@ fn updates_cross(rt: HostRuntime) -> Result<(), Fail> {
     Ok(())
 }
 
-const UPDATE_OF_A_LATER_WRITE: &[u8] = b"
-{:type :invoke, :process 0, :value [[:r :x nil] [:w :x 2]]}
-{:type :ok, :process 0, :value [[:r :x 1] [:w :x 2]]}
-{:type :invoke, :process 0, :value [[:w :x 1]]}
-{:type :ok, :process 0, :value [[:w :x 1]]}
-";
-
 #[test]
 fn update_is_of_a_later_write_of_its_process(rt: HostRuntime) -> Result<(), Fail> {
     let lowest = Lowest {
@@ -256,13 +171,6 @@ fn update_is_of_a_later_write_of_its_process(rt: HostRuntime) -> Result<(), Fail
     check(&rt, rt.alloc(), UPDATE_OF_A_LATER_WRITE, lowest)?;
     Ok(())
 }
-
-const UPDATE_OF_A_LATER_WRITE_OF_ANOTHER: &[u8] = b"
-{:type :invoke, :process 0, :value [[:r :x nil] [:w :x 2]]}
-{:type :ok, :process 0, :value [[:r :x 1] [:w :x 2]]}
-{:type :invoke, :process 1, :value [[:w :x 1]]}
-{:type :ok, :process 1, :value [[:w :x 1]]}
-";
 
 #[test]
 fn update_is_of_a_later_write_of_another(rt: HostRuntime) -> Result<(), Fail> {
@@ -275,13 +183,6 @@ fn update_is_of_a_later_write_of_another(rt: HostRuntime) -> Result<(), Fail> {
     Ok(())
 }
 
-const READS_CROSS: &[u8] = b"
-{:type :invoke, :process 0, :value [[:w :x 1] [:r :y nil]]}
-{:type :invoke, :process 1, :value [[:w :y 1] [:r :x nil]]}
-{:type :ok, :process 0, :value [[:w :x 1] [:r :y 1]]}
-{:type :ok, :process 1, :value [[:w :y 1] [:r :x 1]]}
-";
-
 #[test]
 fn two_read_each_other(rt: HostRuntime) -> Result<(), Fail> {
     let lowest = Lowest {
@@ -291,13 +192,6 @@ fn two_read_each_other(rt: HostRuntime) -> Result<(), Fail> {
     check(&rt, rt.alloc(), READS_CROSS, lowest)?;
     Ok(())
 }
-
-const READ_SKEW: &[u8] = b"
-{:type :invoke, :process 0, :value [[:w :x 1] [:w :y 1]]}
-{:type :invoke, :process 1, :value [[:r :x nil] [:r :y nil]]}
-{:type :ok, :process 0, :value [[:w :x 1] [:w :y 1]]}
-{:type :ok, :process 1, :value [[:r :x nil] [:r :y 1]]}
-";
 
 #[test]
 fn half_of_a_transaction_is_read(rt: HostRuntime) -> Result<(), Fail> {
@@ -310,13 +204,6 @@ fn half_of_a_transaction_is_read(rt: HostRuntime) -> Result<(), Fail> {
     Ok(())
 }
 
-const WRITE_SKEW: &[u8] = b"
-{:type :invoke, :process 0, :value [[:r :x nil] [:w :y 1]]}
-{:type :invoke, :process 1, :value [[:r :y nil] [:w :x 1]]}
-{:type :ok, :process 0, :value [[:r :x nil] [:w :y 1]]}
-{:type :ok, :process 1, :value [[:r :y nil] [:w :x 1]]}
-";
-
 #[test]
 fn two_miss_each_others_writes(rt: HostRuntime) -> Result<(), Fail> {
     let lowest = Lowest {
@@ -327,13 +214,6 @@ fn two_miss_each_others_writes(rt: HostRuntime) -> Result<(), Fail> {
     Ok(())
 }
 
-const BOTH_UPDATE_NIL: &[u8] = b"
-{:type :invoke, :process 0, :value [[:r :x nil] [:w :x 1]]}
-{:type :invoke, :process 1, :value [[:r :x nil] [:w :x 2]]}
-{:type :ok, :process 0, :value [[:r :x nil] [:w :x 1]]}
-{:type :ok, :process 1, :value [[:r :x nil] [:w :x 2]]}
-";
-
 #[test]
 fn an_update_is_lost(rt: HostRuntime) -> Result<(), Fail> {
     let lowest = Lowest {
@@ -343,13 +223,6 @@ fn an_update_is_lost(rt: HostRuntime) -> Result<(), Fail> {
     check(&rt, rt.alloc(), BOTH_UPDATE_NIL, lowest)?;
     Ok(())
 }
-
-const STALE_READ: &[u8] = b"
-{:type :invoke, :process 0, :value [[:w :x 1]]}
-{:type :ok, :process 0, :value [[:w :x 1]]}
-{:type :invoke, :process 1, :value [[:r :x nil]]}
-{:type :ok, :process 1, :value [[:r :x nil]]}
-";
 
 #[test]
 fn read_is_stale_in_real_time(rt: HostRuntime) -> Result<(), Fail> {
@@ -362,13 +235,6 @@ fn read_is_stale_in_real_time(rt: HostRuntime) -> Result<(), Fail> {
     Ok(())
 }
 
-const STALE_IN_A_PROCESS: &[u8] = b"
-{:type :invoke, :process 0, :value [[:w :x 1]]}
-{:type :ok, :process 0, :value [[:w :x 1]]}
-{:type :invoke, :process 0, :value [[:r :x nil]]}
-{:type :ok, :process 0, :value [[:r :x nil]]}
-";
-
 #[test]
 fn read_is_stale_in_its_process(rt: HostRuntime) -> Result<(), Fail> {
     let lowest = Lowest {
@@ -380,17 +246,6 @@ fn read_is_stale_in_its_process(rt: HostRuntime) -> Result<(), Fail> {
     Ok(())
 }
 
-const TWO_STALE_READS: &[u8] = b"
-{:type :invoke, :process 0, :value [[:w :x 1]]}
-{:type :ok, :process 0, :value [[:w :x 1]]}
-{:type :invoke, :process 1, :value [[:w :y 1]]}
-{:type :invoke, :process 0, :value [[:r :y nil]]}
-{:type :ok, :process 1, :value [[:w :y 1]]}
-{:type :ok, :process 0, :value [[:r :y nil]]}
-{:type :invoke, :process 1, :value [[:r :x nil]]}
-{:type :ok, :process 1, :value [[:r :x nil]]}
-";
-
 #[test]
 fn two_reads_are_stale_together(rt: HostRuntime) -> Result<(), Fail> {
     let lowest = Lowest {
@@ -401,13 +256,6 @@ fn two_reads_are_stale_together(rt: HostRuntime) -> Result<(), Fail> {
     check(&rt, rt.alloc(), TWO_STALE_READS, lowest)?;
     Ok(())
 }
-
-const FAILED_WRITE: &[u8] = b"
-{:type :invoke, :process 0, :value [[:w :x 1]]}
-{:type :fail, :process 0}
-{:type :invoke, :process 1, :value [[:r :x nil]]}
-{:type :ok, :process 1, :value [[:r :x nil]]}
-";
 
 #[test]
 fn nothing_where_the_write_failed(rt: HostRuntime) -> Result<(), Fail> {

@@ -1,36 +1,26 @@
-//! Worked histories.
+//! The graphs of worked histories: their edges, arcs and walks.
 
-ghost use Rattle.std.specs.Prelude.{◌≡◌, ◌<◌, true, length, IfOk};
-ghost use Rattle.dep_edges.specs.Histories.{AreOfHistory};
+ghost use Rattle.std.specs.Prelude.{◌≡◌, ◌<◌, true, length};
 ghost use Rattle.edge_graph.specs.Parts.{IsOrderOf};
-ghost use Rattle.key_versions.specs.Tables.{IsTableOf};
 
-use crate::arcs::GraphArcs;
-use crate::graph::Graph;
-use crate::types::{Dependencies, Kinds};
+use crate::histories::{all_pairs_of, block_of, check_edges, deps_of, table_of, thinned, txns_of};
+use crate::texts::{
+    BOTH_UPDATE_NIL, CROSSED_UPDATES, INFO_WRITER, ONE_COMPLETES, OPEN_AFTER_ALL, READS_CROSS,
+    STALE_IN_A_PROCESS, STALE_READ, UPDATE_AND_ITS_READER, UPDATE_OF_A_LATER_WRITE,
+};
 use dep_edges::deps::Deps;
-use dep_edges::edges;
 use dep_edges::types::{Edge, Label};
-use edn_ops::reader::OpReader;
+use edge_graph::arcs::GraphArcs;
+use edge_graph::graph::Graph;
+use edge_graph::types::{Dependencies, Kinds};
 use graph_search::arcs::{Arcs, Vertices};
 use graph_search::breadth_first::Search;
-use hist_types::limits::MAX_BLOCK_OPERATIONS;
 use hist_types::types::{Fault, Level};
-use journal_core::journal::Core;
-use journal_core::prefix::Prefix;
-use key_versions::table::Versions;
-use key_versions::versions;
-use op_block::block::Block;
-use op_block::builder::BlockBuilder;
-use op_block::stamp::Stamp;
-use op_view::atom::Atom;
 use order_frontier::types::Order;
-use order_frontier::{all_pairs, thin};
 use std::alloc::{AllocError, Global};
 use std::hash::{BuildHasherDefault, FoldHasher};
 use std::process::Abort;
 use std::test::Fail;
-use txn_pairs::pair;
 use txn_pairs::types::Txns;
 
 const ALL: Kinds = Kinds {
@@ -46,141 +36,6 @@ struct Wanted {
     dependencies: &'static [&'static [u8]],
     process: &'static [&'static [u8]],
     realtime: &'static [&'static [u8]],
-}
-
-/// A block with the operations of a text.
-fn block_of(alloc: Global, text: &[u8]) -> Result<Block, Fault> {
-    let mut builder = BlockBuilder::new(alloc);
-    let mut reader = OpReader::new(alloc, text);
-    for _ in 0..MAX_BLOCK_OPERATIONS {
-        let Some(shape) = reader.next_op()? else {
-            break;
-        };
-        builder.push(text, &shape)?;
-    }
-    Ok(builder.freeze(Stamp { seat: 0, call: 0 }))
-}
-
-fn events_of<'a>(alloc: Global, block: &'a Block) -> Result<Prefix<'a>, Fault> {
-    let mut core = Core::new(alloc);
-    core.judge(block)?;
-    core.reserve_for(block)?;
-    core.take(block);
-    core.prefix()
-}
-
-fn txns_of<'a>(alloc: Global, block: &'a Block) -> Result<Txns<'a>, Fault>
-    ensures { IfOk result (λ txns. AreOfHistory txns) }
-{
-    let prefix = events_of(alloc, block)?;
-    let _events = prefix.events();
-    pair(alloc, &prefix)
-}
-
-fn table<'a>(alloc: Global, txns: &Txns<'a>) -> Result<Versions<'a>, Fault>
-    ensures { IfOk result (IsTableOf txns.now) }
-{
-    versions(alloc, txns, BuildHasherDefault::<FoldHasher>::new())
-}
-
-fn thinned(alloc: Global, txns: &Txns<'_>) -> Result<Order, Fault>
-    requires { AreOfHistory txns.now }
-    ensures { IfOk result (IsOrderOf txns.now) }
-{
-    thin(alloc, txns)
-}
-
-fn all_pairs_of(alloc: Global, txns: &Txns<'_>) -> Result<Order, Fault>
-    requires { AreOfHistory txns.now }
-    ensures { IfOk result (IsOrderOf txns.now) }
-{
-    all_pairs(alloc, txns)
-}
-
-fn add_number(alloc: Global, line: &mut Vec<u8>, number: u64) -> Result<(), AllocError> {
-    let digits = format!(in alloc; "{number}")?;
-    line.extend_from_slice(digits.as_bytes())
-}
-
-fn add_word(line: &mut Vec<u8>, word: &[u8]) -> Result<(), AllocError> {
-    line.extend_from_slice(word)?;
-    line.extend_from_slice(b" ")
-}
-
-fn text_of<'a>(value: &Option<Atom<'a>>) -> &'a [u8] {
-    match value {
-        None => b"nil",
-        Some(value) => value.text(),
-    }
-}
-
-fn add_label(alloc: Global, line: &mut Vec<u8>, label: &Label) -> Result<(), AllocError> {
-    match label {
-        Label::Ww {
-            key,
-            earlier,
-            later,
-        } => {
-            add_word(line, b"ww")?;
-            add_word(line, key.text())?;
-            add_word(line, earlier.text())?;
-            add_word(line, later.text())
-        }
-        Label::Wr { key, value } => {
-            add_word(line, b"wr")?;
-            add_word(line, key.text())?;
-            add_word(line, value.text())
-        }
-        Label::Rw {
-            key,
-            earlier,
-            later,
-        } => {
-            add_word(line, b"rw")?;
-            add_word(line, key.text())?;
-            add_word(line, text_of(earlier))?;
-            add_word(line, later.text())
-        }
-        Label::Process { process } => {
-            add_word(line, b"process")?;
-            add_number(alloc, line, *process)?;
-            add_word(line, b"")
-        }
-        Label::Realtime {
-            completion,
-            invocation,
-        } => {
-            add_word(line, b"realtime")?;
-            add_number(alloc, line, *completion)?;
-            add_word(line, b"")?;
-            add_number(alloc, line, *invocation)?;
-            add_word(line, b"")
-        }
-    }
-}
-
-/// An edge's first end, label and second end.
-fn edge_line(alloc: Global, edge: &Edge) -> Result<Vec<u8>, AllocError> {
-    let mut line = Vec::new(alloc);
-    add_number(alloc, &mut line, edge.from())?;
-    add_word(&mut line, b"")?;
-    add_label(alloc, &mut line, edge.label())?;
-    add_number(alloc, &mut line, edge.to())?;
-    Ok(line)
-}
-
-fn check_edges(
-    rt: &impl Abort,
-    alloc: Global,
-    found: &[Edge],
-    wanted: &[&[u8]],
-) -> Result<(), AllocError> {
-    assert_eq!(rt; found.len(), wanted.len());
-    for edge in found {
-        let line = edge_line(alloc, edge)?;
-        assert!(rt; wanted.iter().any(|wanted| *wanted == line.as_slice()));
-    }
-    Ok(())
 }
 
 /// The edges of the kinds, out of each of the transactions.
@@ -241,12 +96,11 @@ fn leads_by_version(arcs: &GraphArcs<'_>, txns: usize, from: usize, to: usize) -
 /// Each edge is an arc, or two by way of a version.
 fn check_arcs(
     rt: &impl Abort,
-    alloc: Global,
     graph: &Graph<'_, '_, '_>,
     txns: &Txns<'_>,
     found: &[Edge],
     level: Level,
-) -> Result<(), AllocError> {
+) {
     let arcs = graph.arcs(Dependencies::All, level);
     let count = txns.as_slice().len();
     for edge in found {
@@ -256,10 +110,8 @@ fn check_arcs(
             Label::Rw { .. } => leads_by_version(&arcs, count, from, to),
             _ => leads(&arcs, from, to),
         };
-        let line = edge_line(alloc, edge)?;
-        assert!(rt; there, "{}", line.len());
+        assert!(rt; there, "from {from} to {to}");
     }
-    Ok(())
 }
 
 /// The graph has as many edges at the level as are wanted, and exactly these order edges.
@@ -277,7 +129,7 @@ fn check_level<'a>(
     let all = all_edges(rt, alloc, graph, txns, Kinds { level, ..ALL })?;
     assert!(rt; all.len() >= dependencies);
     assert_eq!(rt; all.len() - dependencies, order.len());
-    check_arcs(rt, alloc, graph, txns, &all, level)?;
+    check_arcs(rt, graph, txns, &all, level);
     let order_alone = Kinds {
         ww: false,
         wr: false,
@@ -334,27 +186,20 @@ fn check_over<'g, 'a>(
 
 /// The graph of a history has the edges that are wanted, with all pairs in order and with few.
 fn check(rt: &impl Abort, alloc: Global, text: &[u8], wanted: Wanted) -> Result<(), Fault> {
-    let block = block_of(alloc, text)?;
-    let txns = txns_of(alloc, &block)?;
-    let table = table(alloc, &txns)?;
-    let deps = edges(alloc, &txns, &table)?;
+    let blocks = [block_of(alloc, text)?];
+    let txns = txns_of(alloc, &blocks)?;
+    let table = table_of(rt, alloc, &txns, BuildHasherDefault::<FoldHasher>::new())?;
+    let deps = deps_of(rt, alloc, &txns, &table)?;
     let pairs = all_pairs_of(alloc, &txns)?;
     check_over(rt, alloc, &txns, &deps, &pairs, wanted)?;
     let few = thinned(alloc, &txns)?;
     check_over(rt, alloc, &txns, &deps, &few, wanted)
 }
 
-const READS_CROSS: &[u8] = b"
-{:type :invoke, :process 0, :value [[:w :x 1] [:r :y nil]]}
-{:type :invoke, :process 1, :value [[:w :y 1] [:r :x nil]]}
-{:type :ok, :process 0, :value [[:w :x 1] [:r :y 1]]}
-{:type :ok, :process 1, :value [[:w :y 1] [:r :x 1]]}
-";
-
 #[test]
 fn two_read_each_other(rt: HostRuntime) -> Result<(), Fail> {
     let wanted = Wanted {
-        dependencies: &[b"0 wr :x 1 1", b"1 wr :y 1 0"],
+        dependencies: &[b"T0 -wr :x 1-> T1", b"T1 -wr :y 1-> T0"],
         process: &[],
         realtime: &[],
     };
@@ -362,75 +207,47 @@ fn two_read_each_other(rt: HostRuntime) -> Result<(), Fail> {
     Ok(())
 }
 
-const STALE_READ: &[u8] = b"
-{:type :invoke, :process 0, :value [[:w :x 1]]}
-{:type :ok, :process 0, :value [[:w :x 1]]}
-{:type :invoke, :process 1, :value [[:r :x nil]]}
-{:type :ok, :process 1, :value [[:r :x nil]]}
-";
-
 #[test]
 fn read_is_stale_in_real_time(rt: HostRuntime) -> Result<(), Fail> {
     let wanted = Wanted {
-        dependencies: &[b"2 rw :x nil 1 0"],
+        dependencies: &[b"T2 -rw :x nil 1-> T0"],
         process: &[],
-        realtime: &[b"0 realtime 1 2 2"],
+        realtime: &[b"T0 -realtime 1 2-> T2"],
     };
     check(&rt, rt.alloc(), STALE_READ, wanted)?;
     Ok(())
 }
 
-const STALE_IN_A_PROCESS: &[u8] = b"
-{:type :invoke, :process 0, :value [[:w :x 1]]}
-{:type :ok, :process 0, :value [[:w :x 1]]}
-{:type :invoke, :process 0, :value [[:r :x nil]]}
-{:type :ok, :process 0, :value [[:r :x nil]]}
-";
-
 #[test]
 fn read_is_stale_in_its_process(rt: HostRuntime) -> Result<(), Fail> {
     let wanted = Wanted {
-        dependencies: &[b"2 rw :x nil 1 0"],
-        process: &[b"0 process 0 2"],
-        realtime: &[b"0 realtime 1 2 2"],
+        dependencies: &[b"T2 -rw :x nil 1-> T0"],
+        process: &[b"T0 -process 7-> T2"],
+        realtime: &[b"T0 -realtime 1 2-> T2"],
     };
     check(&rt, rt.alloc(), STALE_IN_A_PROCESS, wanted)?;
     Ok(())
 }
 
-const WRITE_SKEW: &[u8] = b"
-{:type :invoke, :process 0, :value [[:r :x nil] [:w :x 1]]}
-{:type :invoke, :process 1, :value [[:r :x nil] [:w :x 2]]}
-{:type :ok, :process 0, :value [[:r :x nil] [:w :x 1]]}
-{:type :ok, :process 1, :value [[:r :x nil] [:w :x 2]]}
-";
-
 #[test]
 fn both_read_nil_and_write(rt: HostRuntime) -> Result<(), Fail> {
     let wanted = Wanted {
-        dependencies: &[b"0 rw :x nil 2 1", b"1 rw :x nil 1 0"],
+        dependencies: &[b"T0 -rw :x nil 2-> T1", b"T1 -rw :x nil 1-> T0"],
         process: &[],
         realtime: &[],
     };
-    check(&rt, rt.alloc(), WRITE_SKEW, wanted)?;
+    check(&rt, rt.alloc(), BOTH_UPDATE_NIL, wanted)?;
     Ok(())
 }
-
-const CROSSED_UPDATES: &[u8] = b"
-{:type :invoke, :process 0, :value [[:w :x 1] [:r :y nil] [:w :y 2]]}
-{:type :invoke, :process 1, :value [[:w :y 1] [:r :x nil] [:w :x 2]]}
-{:type :ok, :process 0, :value [[:w :x 1] [:r :y 1] [:w :y 2]]}
-{:type :ok, :process 1, :value [[:w :y 1] [:r :x 1] [:w :x 2]]}
-";
 
 #[test]
 fn updates_cross(rt: HostRuntime) -> Result<(), Fail> {
     let wanted = Wanted {
         dependencies: &[
-            b"0 ww :x 1 2 1",
-            b"0 wr :x 1 1",
-            b"1 ww :y 1 2 0",
-            b"1 wr :y 1 0",
+            b"T0 -ww :x 1 2-> T1",
+            b"T0 -wr :x 1-> T1",
+            b"T1 -ww :y 1 2-> T0",
+            b"T1 -wr :y 1-> T0",
         ],
         process: &[],
         realtime: &[],
@@ -439,30 +256,16 @@ fn updates_cross(rt: HostRuntime) -> Result<(), Fail> {
     Ok(())
 }
 
-const UPDATE_OF_A_LATER_WRITE: &[u8] = b"
-{:type :invoke, :process 0, :value [[:r :x nil] [:w :x 2]]}
-{:type :ok, :process 0, :value [[:r :x 1] [:w :x 2]]}
-{:type :invoke, :process 0, :value [[:w :x 1]]}
-{:type :ok, :process 0, :value [[:w :x 1]]}
-";
-
 #[test]
 fn update_is_of_a_later_write(rt: HostRuntime) -> Result<(), Fail> {
     let wanted = Wanted {
-        dependencies: &[b"2 ww :x 1 2 0", b"2 wr :x 1 0"],
-        process: &[b"0 process 0 2"],
-        realtime: &[b"0 realtime 1 2 2"],
+        dependencies: &[b"T2 -ww :x 1 2-> T0", b"T2 -wr :x 1-> T0"],
+        process: &[b"T0 -process 0-> T2"],
+        realtime: &[b"T0 -realtime 1 2-> T2"],
     };
     check(&rt, rt.alloc(), UPDATE_OF_A_LATER_WRITE, wanted)?;
     Ok(())
 }
-
-const OPEN_AFTER_ALL: &[u8] = b"
-{:type :invoke, :process 0, :value []}
-{:type :ok, :process 0, :value []}
-{:type :invoke, :process 0, :value []}
-{:type :invoke, :process 1, :value []}
-";
 
 #[test]
 fn open_transactions_that_nobody_read_are_no_nodes(rt: HostRuntime) -> Result<(), Fail> {
@@ -475,40 +278,23 @@ fn open_transactions_that_nobody_read_are_no_nodes(rt: HostRuntime) -> Result<()
     Ok(())
 }
 
-const ONE_COMPLETES: &[u8] = b"
-{:type :invoke, :process 0, :value []}
-{:type :ok, :process 0, :value []}
-{:type :invoke, :process 0, :value []}
-{:type :invoke, :process 1, :value []}
-{:type :ok, :process 0, :value []}
-";
-
 #[test]
 fn completed_transaction_is_a_node(rt: HostRuntime) -> Result<(), Fail> {
     let wanted = Wanted {
         dependencies: &[],
-        process: &[b"0 process 0 2"],
-        realtime: &[b"0 realtime 1 2 2"],
+        process: &[b"T0 -process 0-> T2"],
+        realtime: &[b"T0 -realtime 1 2-> T2"],
     };
     check(&rt, rt.alloc(), ONE_COMPLETES, wanted)?;
     Ok(())
 }
 
-const INFO_WRITER: &[u8] = b"
-{:type :invoke, :process 0, :value [[:w :x 1]]}
-{:type :info, :process 0}
-{:type :invoke, :process 1, :value [[:r :x nil]]}
-{:type :ok, :process 1, :value [[:r :x 1]]}
-{:type :invoke, :process 1, :value [[:r :x nil]]}
-{:type :ok, :process 1, :value [[:r :x nil]]}
-";
-
 #[test]
 fn info_writer_that_was_read_is_a_node(rt: HostRuntime) -> Result<(), Fail> {
     let wanted = Wanted {
-        dependencies: &[b"0 wr :x 1 2", b"4 rw :x nil 1 0"],
-        process: &[b"2 process 1 4"],
-        realtime: &[b"2 realtime 3 4 4"],
+        dependencies: &[b"T0 -wr :x 1-> T2", b"T4 -rw :x nil 1-> T0"],
+        process: &[b"T2 -process 1-> T4"],
+        realtime: &[b"T2 -realtime 3 4-> T4"],
     };
     check(&rt, rt.alloc(), INFO_WRITER, wanted)?;
     Ok(())
@@ -539,10 +325,10 @@ fn readers_of_nil(alloc: Global, count: u64) -> Result<Vec<u8>, AllocError> {
 fn arcs_are_fewer_than_edges(rt: HostRuntime) -> Result<(), Fail> {
     let alloc = rt.alloc();
     let text = readers_of_nil(alloc, 50)?;
-    let block = block_of(alloc, &text)?;
-    let txns = txns_of(alloc, &block)?;
-    let table = table(alloc, &txns)?;
-    let deps = edges(alloc, &txns, &table)?;
+    let blocks = [block_of(alloc, &text)?];
+    let txns = txns_of(alloc, &blocks)?;
+    let table = table_of(&rt, alloc, &txns, BuildHasherDefault::<FoldHasher>::new())?;
+    let deps = deps_of(&rt, alloc, &txns, &table)?;
     let order = thinned(alloc, &txns)?;
     let graph = Graph::new(alloc, &deps, &order)?;
     let found = all_edges(&rt, alloc, &graph, &txns, ALL)?;
@@ -558,10 +344,10 @@ fn arcs_are_fewer_than_edges(rt: HostRuntime) -> Result<(), Fail> {
 #[test]
 fn kinds_are_told_apart(rt: HostRuntime) -> Result<(), Fail> {
     let alloc = rt.alloc();
-    let block = block_of(alloc, CROSSED_UPDATES)?;
-    let txns = txns_of(alloc, &block)?;
-    let table = table(alloc, &txns)?;
-    let deps = edges(alloc, &txns, &table)?;
+    let blocks = [block_of(alloc, CROSSED_UPDATES)?];
+    let txns = txns_of(alloc, &blocks)?;
+    let table = table_of(&rt, alloc, &txns, BuildHasherDefault::<FoldHasher>::new())?;
+    let deps = deps_of(&rt, alloc, &txns, &table)?;
     let order = thinned(alloc, &txns)?;
     let graph = Graph::new(alloc, &deps, &order)?;
     let ww = Kinds {
@@ -570,7 +356,12 @@ fn kinds_are_told_apart(rt: HostRuntime) -> Result<(), Fail> {
         ..ALL
     };
     let found = all_edges(&rt, alloc, &graph, &txns, ww)?;
-    check_edges(&rt, alloc, &found, &[b"0 ww :x 1 2 1", b"1 ww :y 1 2 0"])?;
+    check_edges(
+        &rt,
+        alloc,
+        &found,
+        &[b"T0 -ww :x 1 2-> T1", b"T1 -ww :y 1 2-> T0"],
+    )?;
     // Both lead to both twice, and each reads a version that nobody but itself follows.
     assert_eq!(rt; count(&graph.arcs(Dependencies::Ww, Level::Plain)), 2);
     assert_eq!(rt; count(&graph.arcs(Dependencies::WrAndWw, Level::Plain)), 4);
@@ -655,10 +446,10 @@ fn check_walks(
     there: &[&[u8]],
     back: &[&[u8]],
 ) -> Result<(), Fault> {
-    let block = block_of(alloc, text)?;
-    let txns = txns_of(alloc, &block)?;
-    let table = table(alloc, &txns)?;
-    let deps = edges(alloc, &txns, &table)?;
+    let blocks = [block_of(alloc, text)?];
+    let txns = txns_of(alloc, &blocks)?;
+    let table = table_of(rt, alloc, &txns, BuildHasherDefault::<FoldHasher>::new())?;
+    let deps = deps_of(rt, alloc, &txns, &table)?;
     let order = thinned(alloc, &txns)?;
     let graph = Graph::new(alloc, &deps, &order)?;
     check_walk(rt, alloc, &graph, 0, 1, there)?;
@@ -669,40 +460,33 @@ fn check_walks(
 
 #[test]
 fn walk_goes_by_real_time_and_back_by_a_version(rt: HostRuntime) -> Result<(), Fail> {
-    let there: &[&[u8]] = &[b"0 realtime 1 2 2"];
-    let back: &[&[u8]] = &[b"2 rw :x nil 1 0"];
+    let there: &[&[u8]] = &[b"T0 -realtime 1 2-> T2"];
+    let back: &[&[u8]] = &[b"T2 -rw :x nil 1-> T0"];
     check_walks(&rt, rt.alloc(), STALE_READ, there, back)?;
     Ok(())
 }
 
 #[test]
 fn walk_goes_both_ways_by_versions(rt: HostRuntime) -> Result<(), Fail> {
-    let there: &[&[u8]] = &[b"0 rw :x nil 2 1"];
-    let back: &[&[u8]] = &[b"1 rw :x nil 1 0"];
-    check_walks(&rt, rt.alloc(), WRITE_SKEW, there, back)?;
+    let there: &[&[u8]] = &[b"T0 -rw :x nil 2-> T1"];
+    let back: &[&[u8]] = &[b"T1 -rw :x nil 1-> T0"];
+    check_walks(&rt, rt.alloc(), BOTH_UPDATE_NIL, there, back)?;
     Ok(())
 }
 
-const UPDATE_OF_WHAT_IT_READ: &[u8] = b"
-{:type :invoke, :process 0, :value [[:r :x nil] [:w :x 1]]}
-{:type :ok, :process 0, :value [[:r :x nil] [:w :x 1]]}
-{:type :invoke, :process 1, :value [[:r :x nil]]}
-{:type :ok, :process 1, :value [[:r :x 1]]}
-";
-
 #[test]
 fn nothing_leads_back(rt: HostRuntime) -> Result<(), Fail> {
-    let there: &[&[u8]] = &[b"0 wr :x 1 2"];
-    check_walks(&rt, rt.alloc(), UPDATE_OF_WHAT_IT_READ, there, &[])?;
+    let there: &[&[u8]] = &[b"T0 -wr :x 1-> T2"];
+    check_walks(&rt, rt.alloc(), UPDATE_AND_ITS_READER, there, &[])?;
     Ok(())
 }
 
 /// Some edges between two transactions, each of which updates what the other one read.
 fn check_kinds(rt: &impl Abort, alloc: Global, text: &[u8]) -> Result<(), Fault> {
-    let block = block_of(alloc, text)?;
-    let txns = txns_of(alloc, &block)?;
-    let table = table(alloc, &txns)?;
-    let deps = edges(alloc, &txns, &table)?;
+    let blocks = [block_of(alloc, text)?];
+    let txns = txns_of(alloc, &blocks)?;
+    let table = table_of(rt, alloc, &txns, BuildHasherDefault::<FoldHasher>::new())?;
+    let deps = deps_of(rt, alloc, &txns, &table)?;
     let order = thinned(alloc, &txns)?;
     let graph = Graph::new(alloc, &deps, &order)?;
     check_edge(
@@ -712,9 +496,17 @@ fn check_kinds(rt: &impl Abort, alloc: Global, text: &[u8]) -> Result<(), Fault>
         0,
         1,
         Dependencies::Ww,
-        &[b"0 ww :x 1 2 1"],
+        &[b"T0 -ww :x 1 2-> T1"],
     )?;
-    check_edge(rt, alloc, &graph, 1, 0, Dependencies::Wr, &[b"1 wr :y 1 0"])?;
+    check_edge(
+        rt,
+        alloc,
+        &graph,
+        1,
+        0,
+        Dependencies::Wr,
+        &[b"T1 -wr :y 1-> T0"],
+    )?;
     check_edge(rt, alloc, &graph, 0, 1, Dependencies::Rw, &[])?;
     check_edge(rt, alloc, &graph, 0, 0, Dependencies::All, &[])?;
     Ok(())

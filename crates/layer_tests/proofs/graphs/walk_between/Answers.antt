@@ -6,7 +6,7 @@ use Rattle.edge_graph.specs.Vertices.{graph_by}
 use Rattle.edge_graph.specs.Walks.{IsTxnWalk}
 use Rattle.edge_graph.specs.declared.types.Dependencies.TheVariants.{All}
 use Rattle.hist_types.specs.declared.types.Level.TheVariants.{Realtime}
-use Rattle.edge_graph.proofs.tests.walk_between.Goals as goal
+use Rattle.layer_tests.proofs.graphs.walk_between.Goals as goal
 
 pub edges_along-requires : goal.edges_along-requires
 edges_along-requires c =

@@ -1,10 +1,9 @@
 //! Worked closed walks, each begun at each of its edges, and the text of their witnesses.
 
-use crate::kinds::copy;
-use crate::tighten;
-use crate::types::Witness;
-use crate::write::{write_bad_read, write_edges, write_head, write_number};
 use cycle_find::types::Walk;
+use cycle_show::tighten;
+use cycle_show::types::Witness;
+use cycle_show::write::{write_bad_read, write_edges, write_head, write_number};
 use dep_edges::types::{Edge, Label};
 use hist_types::types::{At, Fault, Refusal};
 use op_view::atom::Atom;
@@ -74,11 +73,47 @@ fn realtime(from: u64, completion: u64, invocation: u64, to: u64) -> Edge<'stati
     Edge::new(from, to, label)
 }
 
+/// The same label.
+fn copy_of_label<'a>(label: &Label<'a>) -> Label<'a> {
+    match label {
+        Label::Ww {
+            key,
+            earlier,
+            later,
+        } => Label::Ww {
+            key: key.copy(),
+            earlier: earlier.copy(),
+            later: later.copy(),
+        },
+        Label::Wr { key, value } => Label::Wr {
+            key: key.copy(),
+            value: value.copy(),
+        },
+        Label::Rw {
+            key,
+            earlier,
+            later,
+        } => Label::Rw {
+            key: key.copy(),
+            earlier: earlier.as_ref().map(|atom| atom.copy()),
+            later: later.copy(),
+        },
+        Label::Process { process } => Label::Process { process: *process },
+        Label::Realtime {
+            completion,
+            invocation,
+        } => Label::Realtime {
+            completion: *completion,
+            invocation: *invocation,
+        },
+    }
+}
+
 /// The walk, begun at the edge at this place.
 fn begun_at<'a>(alloc: Global, edges: &[Edge<'a>], place: usize) -> Result<Walk<'a>, Fault> {
     let mut turned = Vec::new(alloc);
     for edge in edges.iter().skip(place).chain(edges.iter().take(place)) {
-        turned.push(copy(edge))?;
+        turned.push(Edge::new(edge.from(), edge.to(), copy_of_label(edge.label())))?;
     }
     Ok(Walk::new(turned))
 }
