@@ -1,6 +1,6 @@
 -- The lines of edges: as they are in the text of `edges`, and indented below the name of a phenomenon.
 use denote.Bor.{Bor}
-use Rattle.std.specs.Prelude.{◌≡◌, ℕ, List, ◌++◌, flat_map, codes, Option, Vec}
+use Rattle.std.specs.Prelude.{ℕ, List, ◌++◌, flat_map, codes, Option}
 use Rattle.std.specs.Option.{option_copied}
 use Rattle.hist_types.specs.Atoms.{Atom}
 use Rattle.hist_types.specs.Edges.{Edge}
@@ -13,10 +13,6 @@ abbrev pub witness_lines : List Edge → List ℕ
 witness_lines es = flat_map (λ (e : Edge). indented (edge_text e)) es
 
 -- ---- how they are written
-
--- the Vec has this text behind what it had before
-abbrev pub Gains : {A : Type 0} → (before after : Vec ℕ A) → (text : List ℕ) → Type 0
-Gains before after text = after.items ≡ before.items ++ text
 
 -- behind a word, a key and its value
 abbrev pub version_after : (word : List ℕ) → Atom → Option (Bor Atom) → List ℕ

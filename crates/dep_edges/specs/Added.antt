@@ -9,9 +9,9 @@ use Rattle.dep_edges.specs.OutEdges.{node_edge, reader_edges, later_edges, writt
 use Rattle.dep_edges.specs.Tables.{txn_at, version_at}
 use Rattle.dep_edges.specs.declared.types.Label.{Label}
 
--- the Vec has these edges behind those that it had before
-abbrev pub Gains : {A : Type 0} → (before after : Vec Edge A) → List Edge → Type 0
-Gains before after es = after.items ≡ before.items ++ es
+-- the Vec has these items behind those that it had before
+abbrev pub Gains : {X A : Type 0} → (before after : Vec X A) → List X → Type 0
+Gains before after items = after.items ≡ before.items ++ items
 
 -- the edge from a transaction to the one at the place, if that is another node
 abbrev pub edge_at : History → (from place : ℕ) → Label → List Edge
