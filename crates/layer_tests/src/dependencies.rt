@@ -30,7 +30,7 @@ const NOTHING: Wanted = Wanted {
     stray: 0,
 };
 
-/// The edges that leave each transaction, tried once more where memory is refused.
+/// The edges that leave each transaction, tried once more where memory runs out.
 fn all_edges<'a>(
     rt: &impl Abort,
     alloc: Global,
