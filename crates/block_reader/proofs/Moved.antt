@@ -6,7 +6,7 @@ use Rattle.hist_types.specs.Operations.{Mop, Operation}
 use Rattle.hist_types.specs.Placed.{IsIn, IsTextOf, KeepsLimits, between, from_its_start, mop_from}
 use Rattle.edn_ops.specs.Shapes.{IsShapeOf}
 use Rattle.edn_ops.specs.declared.types.OpShape.{OpShape}
-use Rattle.jepcheck.specs.Blocks.{operations_pushed}
+use Rattle.block_reader.specs.Blocks.{operations_pushed}
 use Rattle.op_block.specs.Contents.{BlockOperation, HasRoomFor, length_of, taken_out}
 
 mops_moved : (offset : ℕ) (ms : List PlacedMop) → map (λ (m : PlacedMop). m.mop) (map (mop_from offset) ms) ≡ map (λ (m : PlacedMop). m.mop) ms

@@ -5,7 +5,7 @@ ghost use Rattle.hist_types.specs.Entries.{PlacedOperation, operation_of};
 ghost use Rattle.hist_types.specs.Placed.{IsIn};
 ghost use Rattle.hist_types.specs.Refusals.{memory_fault};
 ghost use Rattle.edn_ops.specs.Shapes.{IsShapeOf, IsShapeIn};
-ghost use Rattle.jepcheck.specs.Blocks.{operations_in, HaveAlso};
+ghost use Rattle.block_reader.specs.Blocks.{operations_in, HaveAlso};
 
 use edn_ops::types::OpShape;
 use hist_types::laws::operations_spell_their_parts;
@@ -21,6 +21,7 @@ use std::mem;
 #[derive(Drop)]
 pub struct Blocks {
     alloc: Global,
+    seat: u32,
     full: Vec<Block>,
     last: BlockBuilder,
 }
@@ -28,22 +29,30 @@ pub struct Blocks {
 impl Model for Blocks {
     ghost use Rattle.std.specs.Prelude.{List, ◌++◌};
     ghost use Rattle.hist_types.specs.Operations.{Operation};
-    ghost use Rattle.jepcheck.specs.Blocks.{operations_in, operations_pushed};
+    ghost use Rattle.block_reader.specs.Blocks.{operations_in, operations_pushed};
 
     ghost Value = { List Operation };
 
     ghost view = { λ b. operations_in b.full.items ++ operations_pushed b.last };
 }
 
-/// Puts the last block behind the full ones, and begins another. Out of memory leaves both as they were.
-fn close(alloc: Global, full: &mut Vec<Block>, last: &mut BlockBuilder) -> Result<(), AllocError>
+/// Puts the last block behind the full ones, unless it is empty, and begins another. Out of memory leaves both as they were.
+fn close(
+    alloc: Global,
+    seat: u32,
+    full: &mut Vec<Block>,
+    last: &mut BlockBuilder,
+) -> Result<(), AllocError>
     ensures full { OnOk result (HaveAlso full.old.items last.old full.new.items) }
     ensures last { OnOk result (last.new ≡ []) }
     ensures err { OnErr result ((full.new.items ≡ full.old.items) × (last.new ≡ last.old)) }
 {
+    if last.is_empty() {
+        return Ok(());
+    }
     full.try_reserve(1)?;
     let stamp = Stamp {
-        seat: 0,
+        seat,
         call: full.len() as u64,
     };
     let filled = mem::replace(last, BlockBuilder::new(alloc));
@@ -52,11 +61,13 @@ fn close(alloc: Global, full: &mut Vec<Block>, last: &mut BlockBuilder) -> Resul
 }
 
 impl Blocks {
-    pub fn new(alloc: Global) -> Self
+    /// None yet. The blocks will have stamps of this seat.
+    pub fn new(alloc: Global, seat: u32) -> Self
         ensures { result ≡ [] }
     {
         Blocks {
             alloc,
+            seat,
             full: Vec::new(alloc),
             last: BlockBuilder::new(alloc),
         }
@@ -73,9 +84,17 @@ impl Blocks {
         operations_spell_their_parts();
         let len = shape.span.end - shape.span.start;
         if !self.last.has_room_for(len) {
-            close(self.alloc, &mut self.full, &mut self.last)?;
+            close(self.alloc, self.seat, &mut self.full, &mut self.last)?;
         }
         self.last.push(text, shape)
+    }
+
+    /// Appends the operations of these blocks, which stay as they are. The only error is out of memory.
+    pub fn append(&mut self, mut blocks: Vec<Block>) -> Result<(), AllocError>
+        ensures { OnOk result (self.new ≡ self.old ++ operations_in blocks.items) }
+    {
+        close(self.alloc, self.seat, &mut self.full, &mut self.last)?;
+        self.full.append(&mut blocks)
     }
 
     /// The blocks. The only error is out of memory.
@@ -83,7 +102,7 @@ impl Blocks {
         ensures ok { IfOk result (λ blocks. operations_in blocks.items ≡ self) }
         ensures err { IfErr result (λ fault. fault ≡ memory_fault) }
     {
-        close(self.alloc, &mut self.full, &mut self.last)?;
+        close(self.alloc, self.seat, &mut self.full, &mut self.last)?;
         Ok(self.full)
     }
 }

@@ -1,9 +1,9 @@
 use Rattle.std.proofs.Common.{◌≡◌, [], ◌++◌, ◌∙◌, ap, refl}
 use Rattle.std.proofs.lemmas.Result.{on_ok_weaker, on_err_weaker}
 use Rattle.op_block.specs.Contents.{HasRoomFor, length_of}
-use Rattle.jepcheck.specs.Blocks.{operations_in, operations_pushed}
-use Rattle.jepcheck.proofs.Lists.{append-nil-right}
-use Rattle.jepcheck.proofs.Moved.{room_in_empty, pushed_behind}
+use Rattle.block_reader.specs.Blocks.{operations_in, operations_pushed}
+use Rattle.block_reader.proofs.Readings.{append-nil-right}
+use Rattle.block_reader.proofs.Moved.{room_in_empty, pushed_behind}
 use Rattle.jepcheck.proofs.blocks.Blocks.push.Goals as goal
 use Rattle.jepcheck.proofs.blocks.Blocks.push.Goals.{then-not-has_room_for+in_ok-close, else-not-has_room_for}
 
