@@ -1,5 +1,5 @@
 -- Parts of a text, each read as if nothing stood before it.
-use Rattle.std.specs.Prelude.{◌≡◌, ◌⊎◌, ◌≤◌, ℕ, List, length, Bool, true, false, Option, Some, None, Result, Ok, Err}
+use Rattle.std.specs.Prelude.{◌≡◌, ◌⊎◌, ◌≤◌, ℕ, List, length, Bool, true, false, Some, None, Result, Ok, Err}
 use Rattle.hist_types.specs.Entries.{Entry, operations_of}
 use Rattle.hist_types.specs.Operations.{Operation}
 use Rattle.hist_types.specs.Reading.{ReadsFrom}
@@ -14,7 +14,7 @@ use Rattle.block_reader.specs.declared.parts.Part.{Part}
 -- These operations were read from the offset on, up to where the reader is.
 pub record HasReadFrom (text : List ℕ) (offset : ℕ) (r : Reader) (operations : List Operation) : Type 0 where
   pub going : r.failed ≡ None
-  pub text : r.state.text ≡ text
+  pub same : r.state.text ≡ text
   pub before : List Entry
   pub goes : Goes (state_at text offset) None before r.state r.list
   pub given : operations_of before ≡ operations

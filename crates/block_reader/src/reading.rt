@@ -50,7 +50,10 @@ fn take_over<'a>(
     ensures ok { OnOk result (HasReadTo text.now reader.new blocks.new) }
     ensures err { IfErr result (λ fault. fault ≡ memory_fault) }
 {
-    if matches!(reader.top_offset(), Some(offset) if offset == part.start) {
+    let Some(offset) = reader.top_offset() else {
+        return Ok(());
+    };
+    if offset == part.start {
         blocks.append(part.blocks)?;
         *reader = OpReader::at(alloc, text, part.end);
     }

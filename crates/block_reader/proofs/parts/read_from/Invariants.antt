@@ -1,4 +1,3 @@
-use Rattle.std.proofs.Common.{◌×◌}
 use Rattle.block_reader.specs.Parts.{HasReadFrom, HasBetween}
 use Rattle.block_reader.proofs.parts.read_from.Given as goal
 

@@ -1,6 +1,4 @@
-use Rattle.std.proofs.Common.{◌×◌, drop}
-use Rattle.std.specs.Prelude.{All, IfSome}
-use Rattle.block_reader.specs.Parts.{HasReadTo, IsPartOf}
+use Rattle.block_reader.specs.Parts.{HasReadTo}
 use Rattle.block_reader.proofs.reading.read_behind.Given as goal
 
 abbrev pub invariant-loop-part : goal.invariant-loop-part

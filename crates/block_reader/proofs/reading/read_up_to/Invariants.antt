@@ -2,4 +2,4 @@ use Rattle.block_reader.specs.Parts.{HasReadTo}
 use Rattle.block_reader.proofs.reading.read_up_to.Given as goal
 
 abbrev pub invariant-loop : goal.invariant-loop
-invariant-loop l = HasReadTo l.text.now l.reader l.blocks
+invariant-loop l = HasReadTo l.text l.reader l.blocks

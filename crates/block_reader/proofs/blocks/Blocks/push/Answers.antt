@@ -4,8 +4,8 @@ use Rattle.op_block.specs.Contents.{HasRoomFor, length_of}
 use Rattle.block_reader.specs.Blocks.{operations_in, operations_pushed}
 use Rattle.block_reader.proofs.Readings.{append-nil-right}
 use Rattle.block_reader.proofs.Moved.{room_in_empty, pushed_behind}
-use Rattle.jepcheck.proofs.blocks.Blocks.push.Goals as goal
-use Rattle.jepcheck.proofs.blocks.Blocks.push.Goals.{then-not-has_room_for+in_ok-close, else-not-has_room_for}
+use Rattle.block_reader.proofs.blocks.Blocks.push.Goals as goal
+use Rattle.block_reader.proofs.blocks.Blocks.push.Goals.{then-not-has_room_for+in_ok-close, else-not-has_room_for}
 
 pub returns-clause-err : goal.returns-clause-err
 returns-clause-err c =
