@@ -9,6 +9,10 @@ use Rattle.hist_types.specs.declared.types.Level.TheVariants.{Plain}
 use Rattle.cycle_find.specs.Ranked.{AreRanksOver, AreRanksWithin}
 use Rattle.cycle_find.specs.Tasks.{Task, needed_kinds, back_kinds, whole_kinds}
 
+-- ranks within coarse ones, none of which falls along an arc of the whole walk
+abbrev pub AreWholeRanks : Task → (coarse ranks : List ℕ) → Type 0
+AreWholeRanks task coarse ranks = AreRanksWithin task.graph (whole_kinds task) coarse ranks
+
 -- the arcs of the needed edges and of the way back, and coarse ranks with ranks within them over the whole walk and over the way back
 pub record IsPrepared (task : Task) (needed back : List (List ℕ)) (coarse ranks finer : List ℕ) : Type 0 where
   pub kept : AreOfHistory task.graph.txns

@@ -8,8 +8,10 @@ ghost use Rattle.edge_graph.specs.Kinds.{kinds_of};
 ghost use Rattle.edge_graph.specs.Parts.{edges_in};
 ghost use Rattle.edge_graph.specs.declared.types.Dependencies.TheVariants.{All};
 ghost use Rattle.cycle_find.specs.Found.{IsFound, ShowNothing};
+ghost use Rattle.cycle_find.specs.Prepared.{AreWholeRanks};
 ghost use Rattle.cycle_find.specs.Ranked.{AreRanksOver};
 ghost use Rattle.cycle_find.specs.Sharing.{AreSharing};
+ghost use Rattle.cycle_find.specs.Tasks.{task_of};
 
 use crate::finder::Finder;
 use crate::kinds::{way_back, whole};
@@ -134,12 +136,38 @@ fn find_within<'a>(
     requires shared { AreSharing coarse.now shared.now }
     ensures { IfOk result (IsFound phenomenon (edges_in graph.now level)) }
 {
-    let ranks = ranks_within(alloc, graph, coarse, shared, whole(phenomenon), level)?;
+    match (phenomenon, level) {
+        // These walks may use all that the coarse ranks were made over: ranking it again would tell no more apart.
+        (Phenomenon::GSingle | Phenomenon::G2Item, Level::Realtime) => {
+            find_ranked(alloc, graph, coarse, shared, coarse, phenomenon, level)
+        }
+        _ => {
+            let ranks = ranks_within(alloc, graph, coarse, shared, whole(phenomenon), level)?;
+            find_ranked(alloc, graph, coarse, shared, &ranks, phenomenon, level)
+        }
+    }
+}
+
+/// Searches the graph by ranks of the whole walk. Where the way back may use less, that is ranked as well.
+fn find_ranked<'a>(
+    alloc: Global,
+    graph: &Graph<'_, '_, 'a>,
+    coarse: &Ranks,
+    shared: &[bool],
+    ranks: &Ranks,
+    phenomenon: Phenomenon,
+    level: Level,
+) -> Result<Option<Walk<'a>>, AllocError>
+    requires coarse { AreRanksOver graph.now (kinds_of All level) coarse.now }
+    requires shared { AreSharing coarse.now shared.now }
+    requires ranks { AreWholeRanks (task_of graph.now phenomenon level) coarse.now ranks.now }
+    ensures { IfOk result (IsFound phenomenon (edges_in graph.now level)) }
+{
     match phenomenon {
         Phenomenon::GSingle => {
             let finer = ranks_within(alloc, graph, coarse, shared, way_back(phenomenon), level)?;
-            Finder::new(alloc, graph, phenomenon, level, coarse, &ranks, &finer).find()
+            Finder::new(alloc, graph, phenomenon, level, coarse, ranks, &finer).find()
         }
-        _ => Finder::new(alloc, graph, phenomenon, level, coarse, &ranks, &ranks).find(),
+        _ => Finder::new(alloc, graph, phenomenon, level, coarse, ranks, ranks).find(),
     }
 }

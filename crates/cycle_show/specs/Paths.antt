@@ -1,6 +1,7 @@
 -- How a closed walk becomes short: it is followed from behind an edge that it needs, and where it comes back to a transaction,
 -- what lies between is left out. Two order edges side by side become one.
-use Rattle.std.specs.Prelude.{◌≡◌, ℕ, ◌+◌, List, [], ◌∷◌, ◌++◌, ◌&&◌, ◌==◌, if◌then◌else◌, Option, Some, take, drop, fold, ⊤}
+use Rattle.std.specs.Prelude.{◌≡◌, ℕ, ◌+◌, ◌≤◌, List, [], ◌∷◌, ◌++◌, ◌&&◌, ◌==◌, nat_eq, if◌then◌else◌, Option, Some, take, drop, fold, slice_index, EachIndex, ⊤}
+use Rattle.std.specs.HashMap.{HashMap, get}
 use Rattle.std.specs.List.{position_from}
 use Rattle.std.specs.Option.{option_or, option_map_or}
 use Rattle.hist_types.specs.Edges.{Label, realtime, Edge}
@@ -36,10 +37,18 @@ extended path next = if is_order next && ends_in_order path then last_joined pat
 abbrev pub followed : List Edge → Edge → List Edge
 followed path next = extended (path_to next.from path) next
 
+-- the path, further along all edges of the walk
+abbrev pub walked : List Edge → (walk : List Edge) → List Edge
+walked path walk = fold followed path walk
+
 -- Each transaction of the path has its place: the first has this one, and so on.
 abbrev pub HavePlaces : (ℕ → Option ℕ) → ℕ → List Edge → Type 0
 HavePlaces place_of first [] = ⊤
 HavePlaces place_of first (e ∷ path) = (place_of e.from ≡ Some first) × HavePlaces place_of (first + 1) path
+
+-- The map has the place of each transaction of the path, and may have some of others.
+abbrev pub KnowsPlaces : {S : Type 0} → HashMap ℕ ℕ S → List Edge → Type 0
+KnowsPlaces places path = HavePlaces (get nat_eq places) 0 path
 
 -- ---- the whole walk
 
@@ -54,4 +63,8 @@ place_behind walk = option_map_or (λ place. place + 1) (needed_place walk) 0
 -- the walk from there on, and round to there
 abbrev pub short_round : List Edge → List Edge
 short_round walk =
-    fold followed (fold followed [] (drop (place_behind walk) walk)) (take (place_behind walk) walk)
+    walked (walked [] (drop (place_behind walk) walk)) (take (place_behind walk) walk)
+
+-- none of the numbers is less than the one at this place
+abbrev pub IsLeastAt : List ℕ → ℕ → Type 0
+IsLeastAt numbers place = EachIndex numbers (λ k. slice_index numbers place ≤ slice_index numbers k)

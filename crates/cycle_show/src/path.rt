@@ -1,9 +1,8 @@
 //! A walk, followed without what it does twice.
 
-ghost use Rattle.std.specs.Prelude.{◌≡◌, ℕ, ◌-◌, ◌<◌, ◌≤◌, [], length, fold, nat_eq, OnOk, IfOk, EachIndex, slice_index};
-ghost use Rattle.std.specs.HashMap.{get};
+ghost use Rattle.std.specs.Prelude.{◌≡◌, ◌-◌, ◌<◌, ◌≤◌, [], length, OnOk, IfOk};
 ghost use Rattle.hist_types.specs.Witness.{ends_in_order, stations};
-ghost use Rattle.cycle_show.specs.Paths.{path_to, last_joined, followed, HavePlaces, short_round};
+ghost use Rattle.cycle_show.specs.Paths.{path_to, last_joined, followed, walked, KnowsPlaces, short_round, IsLeastAt};
 
 use crate::kinds::{copy, is_order, joined, needed};
 use dep_edges::types::Edge;
@@ -40,9 +39,9 @@ impl<'a> Path<'a> {
 
     /// Goes back to the transaction, if the path has been there.
     fn go_back(&mut self, transaction: u64)
-        requires { HavePlaces (get nat_eq self.old.places) 0 self.old.edges.items }
-        ensures edges { self.new.edges.items ≡ path_to transaction self.old.edges.items }
-        ensures places { HavePlaces (get nat_eq self.new.places) 0 self.new.edges.items }
+        requires { KnowsPlaces self.old.places self.old.edges.items }
+        ensures path { self.new.edges.items ≡ path_to transaction self.old.edges.items }
+        ensures places { KnowsPlaces self.new.places self.new.edges.items }
     {
         let Some(place) = self.places.get(&transaction).copied() else {
             return;
@@ -55,8 +54,8 @@ impl<'a> Path<'a> {
     /// Joins an order edge to the last edge.
     fn join_last(&mut self, next: &Edge<'a>)
         requires { 0 < length self.old.edges.items }
-        ensures edges { self.new.edges.items ≡ last_joined self.old.edges.items next.now }
-        ensures places { (transaction : ℕ) → get nat_eq self.new.places transaction ≡ get nat_eq self.old.places transaction }
+        ensures path { self.new.edges.items ≡ last_joined self.old.edges.items next.now }
+        ensures places { self.new.places ≡ self.old.places }
     {
         let last = self.edges.len() - 1;
         self.edges[last] = joined(&self.edges[last], next);
@@ -64,9 +63,9 @@ impl<'a> Path<'a> {
 
     /// Follows the walk along one more edge.
     fn follow(&mut self, next: &Edge<'a>) -> Result<(), AllocError>
-        requires { HavePlaces (get nat_eq self.old.places) 0 self.old.edges.items }
-        ensures edges { OnOk result (self.new.edges.items ≡ followed self.old.edges.items next.now) }
-        ensures places { OnOk result (HavePlaces (get nat_eq self.new.places) 0 self.new.edges.items) }
+        requires { KnowsPlaces self.old.places self.old.edges.items }
+        ensures path { OnOk result (self.new.edges.items ≡ followed self.old.edges.items next.now) }
+        ensures places { OnOk result (KnowsPlaces self.new.places self.new.edges.items) }
     {
         self.go_back(next.from());
         if is_order(next) && ends_in_order(&self.edges) {
@@ -79,9 +78,9 @@ impl<'a> Path<'a> {
     }
 
     fn follow_all(&mut self, walk: &[Edge<'a>]) -> Result<(), AllocError>
-        requires { HavePlaces (get nat_eq self.old.places) 0 self.old.edges.items }
-        ensures edges { OnOk result (self.new.edges.items ≡ fold followed self.old.edges.items walk.now) }
-        ensures places { OnOk result (HavePlaces (get nat_eq self.new.places) 0 self.new.edges.items) }
+        requires { KnowsPlaces self.old.places self.old.edges.items }
+        ensures path { OnOk result (self.new.edges.items ≡ walked self.old.edges.items walk.now) }
+        ensures places { OnOk result (KnowsPlaces self.new.places self.new.edges.items) }
     {
         for next in walk {
             self.follow(next)?;
@@ -107,7 +106,7 @@ pub fn short_round<'a>(alloc: Global, walk: &[Edge<'a>]) -> Result<Vec<Edge<'a>>
 /// The place of an edge that begins no later than any.
 pub fn least_place(edges: &[Edge<'_>]) -> usize
     ensures within { result ≤ length edges.now - 1 }
-    ensures least { EachIndex (stations edges.now) (λ place. slice_index (stations edges.now) result ≤ slice_index (stations edges.now) place) }
+    ensures least { IsLeastAt (stations edges.now) result }
 {
     let mut least = 0;
     for (place, edge) in edges.iter().enumerate() {

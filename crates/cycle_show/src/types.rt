@@ -8,7 +8,7 @@ use dep_edges::types::Edge;
 use std::alloc::AllocError;
 use std::marker::Model;
 
-/// A closed walk with no transaction twice and no two order edges side by side, told from its least transaction.
+/// A closed walk with no transaction twice and no two order edges side by side, written from its least transaction on.
 #[derive(Drop)]
 pub struct Witness<'a> {
     edges: Vec<Edge<'a>>,

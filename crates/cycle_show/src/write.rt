@@ -4,8 +4,9 @@ ghost use Rattle.std.specs.Option.{option_copied};
 ghost use Rattle.std.specs.Prelude.{◌≡◌, ◌++◌, take, decimal, codes, OnOk, OnErr};
 ghost use Rattle.hist_types.specs.Texts.{atom_text, value_text, label_text, edge_text, bad_read_text, line, indented, number_line, head_lines, bad_read_lines};
 ghost use Rattle.edn_ops.specs.SourceTexts.{IsLonger};
+ghost use Rattle.dep_edges.specs.Added.{Gains};
 ghost use Rattle.dep_edges.specs.Labels.{label_of};
-ghost use Rattle.cycle_show.specs.Lines.{edge_lines, witness_lines};
+ghost use Rattle.cycle_show.specs.Lines.{edge_lines, witness_lines, version_after};
 
 use dep_edges::types::{BadRead, Edge, Label};
 use edn_ops::write::write_atom;
@@ -14,14 +15,14 @@ use op_view::atom::Atom;
 use std::alloc::AllocError;
 
 fn append_number(out: &mut Vec<u8>, number: u64) -> Result<(), AllocError>
-    ensures ok { OnOk result (out.new.items ≡ out.old.items ++ decimal number) }
+    ensures ok { OnOk result (Gains out.old out.new (decimal number)) }
     ensures err { OnErr result (out.new.items ≡ out.old.items) }
 {
     out.extend_from_slice(Buffer::new().format(number).as_bytes())
 }
 
 fn append_atom(out: &mut Vec<u8>, atom: &Atom<'_>) -> Result<(), AllocError>
-    ensures ok { OnOk result (out.new.items ≡ out.old.items ++ atom_text atom.now) }
+    ensures ok { OnOk result (Gains out.old out.new (atom_text atom.now)) }
     ensures err { OnErr result (out.new.items ≡ out.old.items) }
 {
     write_atom(out, atom.text())
@@ -29,7 +30,7 @@ fn append_atom(out: &mut Vec<u8>, atom: &Atom<'_>) -> Result<(), AllocError>
 
 /// Appends a number after a word.
 fn append_numbered(out: &mut Vec<u8>, word: &[u8], number: u64) -> Result<(), AllocError>
-    ensures ok { OnOk result (out.new.items ≡ out.old.items ++ (word.now ++ decimal number)) }
+    ensures ok { OnOk result (Gains out.old out.new (word.now ++ decimal number)) }
     ensures err { OnErr result (IsLonger out.new.items out.old.items) }
 {
     out.extend_from_slice(word)?;
@@ -37,7 +38,7 @@ fn append_numbered(out: &mut Vec<u8>, word: &[u8], number: u64) -> Result<(), Al
 }
 
 fn append_value(out: &mut Vec<u8>, value: Option<&Atom<'_>>) -> Result<(), AllocError>
-    ensures ok { OnOk result (out.new.items ≡ out.old.items ++ value_text (option_copied value.entry)) }
+    ensures ok { OnOk result (Gains out.old out.new (value_text (option_copied value.entry))) }
     ensures err { OnErr result (out.new.items ≡ out.old.items) }
 {
     match value {
@@ -53,7 +54,7 @@ fn append_version(
     key: &Atom<'_>,
     value: Option<&Atom<'_>>,
 ) -> Result<(), AllocError>
-    ensures ok { OnOk result (out.new.items ≡ out.old.items ++ (word.now ++ (atom_text key.now ++ codes " " ++ value_text (option_copied value.entry)))) }
+    ensures ok { OnOk result (Gains out.old out.new (version_after word.now key.now value.entry)) }
     ensures err { OnErr result (IsLonger out.new.items out.old.items) }
 {
     out.extend_from_slice(word)?;
@@ -62,24 +63,17 @@ fn append_version(
     append_value(out, value)
 }
 
-/// Appends a word, a key and two of its values.
-fn append_versions(
-    out: &mut Vec<u8>,
-    word: &[u8],
-    key: &Atom<'_>,
-    earlier: Option<&Atom<'_>>,
-    later: &Atom<'_>,
-) -> Result<(), AllocError>
-    ensures ok { OnOk result (out.new.items ≡ out.old.items ++ (word.now ++ (atom_text key.now ++ codes " " ++ value_text (option_copied earlier.entry)) ++ codes " " ++ atom_text later.now)) }
+/// Appends a blank and a later value.
+fn append_later(out: &mut Vec<u8>, later: &Atom<'_>) -> Result<(), AllocError>
+    ensures ok { OnOk result (Gains out.old out.new (codes " " ++ atom_text later.now)) }
     ensures err { OnErr result (IsLonger out.new.items out.old.items) }
 {
-    append_version(out, word, key, earlier)?;
     out.extend_from_slice(b" ")?;
     append_atom(out, later)
 }
 
 fn append_label(out: &mut Vec<u8>, label: &Label<'_>) -> Result<(), AllocError>
-    ensures ok { OnOk result (out.new.items ≡ out.old.items ++ label_text (label_of label.now)) }
+    ensures ok { OnOk result (Gains out.old out.new (label_text (label_of label.now))) }
     ensures err { OnErr result (IsLonger out.new.items out.old.items) }
 {
     match label {
@@ -87,13 +81,19 @@ fn append_label(out: &mut Vec<u8>, label: &Label<'_>) -> Result<(), AllocError>
             key,
             earlier,
             later,
-        } => append_versions(out, b"ww ", key, Some(earlier), later),
+        } => {
+            append_version(out, b"ww ", key, Some(earlier))?;
+            append_later(out, later)
+        }
         Label::Wr { key, value } => append_version(out, b"wr ", key, Some(value)),
         Label::Rw {
             key,
             earlier,
             later,
-        } => append_versions(out, b"rw ", key, earlier.as_ref(), later),
+        } => {
+            append_version(out, b"rw ", key, earlier.as_ref())?;
+            append_later(out, later)
+        }
         Label::Process { process } => append_numbered(out, b"process ", *process),
         Label::Realtime {
             completion,
@@ -106,11 +106,11 @@ fn append_label(out: &mut Vec<u8>, label: &Label<'_>) -> Result<(), AllocError>
 }
 
 /// Appends an edge, after an indentation if there is one, and a line end.
-fn append_edge(out: &mut Vec<u8>, indentation: &[u8], edge: &Edge<'_>) -> Result<(), AllocError>
-    ensures ok { OnOk result (out.new.items ≡ out.old.items ++ line (indentation.now ++ edge_text edge.now)) }
+fn append_edge(out: &mut Vec<u8>, indent: &[u8], edge: &Edge<'_>) -> Result<(), AllocError>
+    ensures ok { OnOk result (Gains out.old out.new (line (indent.now ++ edge_text edge.now))) }
     ensures err { OnErr result (IsLonger out.new.items out.old.items) }
 {
-    out.extend_from_slice(indentation)?;
+    out.extend_from_slice(indent)?;
     append_numbered(out, b"T", edge.from())?;
     out.extend_from_slice(b" -")?;
     append_label(out, edge.label())?;
@@ -120,7 +120,7 @@ fn append_edge(out: &mut Vec<u8>, indentation: &[u8], edge: &Edge<'_>) -> Result
 
 /// Appends a line for each edge.
 fn append_edges(out: &mut Vec<u8>, edges: &[Edge<'_>]) -> Result<(), AllocError>
-    ensures ok { OnOk result (out.new.items ≡ out.old.items ++ edge_lines edges.now) }
+    ensures ok { OnOk result (Gains out.old out.new (edge_lines edges.now)) }
     ensures err { OnErr result (IsLonger out.new.items out.old.items) }
 {
     for edge in edges {
@@ -131,7 +131,7 @@ fn append_edges(out: &mut Vec<u8>, edges: &[Edge<'_>]) -> Result<(), AllocError>
 
 /// Appends an indented line for each edge.
 fn append_witness(out: &mut Vec<u8>, edges: &[Edge<'_>]) -> Result<(), AllocError>
-    ensures ok { OnOk result (out.new.items ≡ out.old.items ++ witness_lines edges.now) }
+    ensures ok { OnOk result (Gains out.old out.new (witness_lines edges.now)) }
     ensures err { OnErr result (IsLonger out.new.items out.old.items) }
 {
     for edge in edges {
@@ -142,7 +142,7 @@ fn append_witness(out: &mut Vec<u8>, edges: &[Edge<'_>]) -> Result<(), AllocErro
 
 /// Appends a line of a word and a number.
 fn append_number_line(out: &mut Vec<u8>, word: &str, number: u64) -> Result<(), AllocError>
-    ensures ok { OnOk result (out.new.items ≡ out.old.items ++ number_line word.now number) }
+    ensures ok { OnOk result (Gains out.old out.new (number_line word.now number)) }
     ensures err { OnErr result (IsLonger out.new.items out.old.items) }
 {
     out.extend_from_slice(word.as_bytes())?;
@@ -151,7 +151,7 @@ fn append_number_line(out: &mut Vec<u8>, word: &str, number: u64) -> Result<(), 
 }
 
 fn append_head(out: &mut Vec<u8>, events: u64, txns: u64) -> Result<(), AllocError>
-    ensures ok { OnOk result (out.new.items ≡ out.old.items ++ head_lines events txns) }
+    ensures ok { OnOk result (Gains out.old out.new (head_lines events txns)) }
     ensures err { OnErr result (IsLonger out.new.items out.old.items) }
 {
     append_number_line(out, "prefix", events)?;
@@ -160,7 +160,7 @@ fn append_head(out: &mut Vec<u8>, events: u64, txns: u64) -> Result<(), AllocErr
 
 /// Appends the indented line of a bad read.
 fn append_bad_read(out: &mut Vec<u8>, read: &BadRead<'_>) -> Result<(), AllocError>
-    ensures ok { OnOk result (out.new.items ≡ out.old.items ++ indented (bad_read_text read.now)) }
+    ensures ok { OnOk result (Gains out.old out.new (indented (bad_read_text read.now))) }
     ensures err { OnErr result (IsLonger out.new.items out.old.items) }
 {
     let version = read.version();
@@ -176,7 +176,7 @@ fn append_found(
     name: &str,
     found: &Option<BadRead<'_>>,
 ) -> Result<(), AllocError>
-    ensures ok { OnOk result (out.new.items ≡ out.old.items ++ bad_read_lines name.now found.now) }
+    ensures ok { OnOk result (Gains out.old out.new (bad_read_lines name.now found.now)) }
     ensures err { OnErr result (IsLonger out.new.items out.old.items) }
 {
     out.extend_from_slice(name.as_bytes())?;

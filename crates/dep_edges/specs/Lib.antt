@@ -1,5 +1,6 @@
 pub mod Histories
 pub mod Labels
 pub mod OutEdges
+pub mod Added
 pub mod Tables
 pub mod Reads

@@ -1,13 +1,11 @@
 //! The edges that leave a transaction.
 
-ghost use Rattle.std.specs.Prelude.{◌≡◌, ◌==◌, ◌++◌, map, OnOk, OnErr, flat_map};
+ghost use Rattle.std.specs.Prelude.{◌≡◌, ◌==◌, map, OnOk, OnErr};
 ghost use Rattle.std.specs.List.{list_any};
-ghost use Rattle.hist_types.specs.Edges.{ww};
-ghost use Rattle.hist_types.specs.Transactions.{is_node, installed_by};
-ghost use Rattle.key_versions.specs.Histories.{read_by};
-ghost use Rattle.dep_edges.specs.Labels.{label_of};
-ghost use Rattle.dep_edges.specs.Tables.{IsPlace, IsNumber, IsWritten, txn_at, version_at};
-ghost use Rattle.dep_edges.specs.OutEdges.{node_edge, reader_edges, later_edges, written_edges, read_edges, each_once, leaving, Begins};
+ghost use Rattle.hist_types.specs.Transactions.{is_node};
+ghost use Rattle.dep_edges.specs.Added.{Gains, edge_at, wr_edges, ww_edges, rw_edges, edges_of_installs, edges_of_reads, edges_at};
+ghost use Rattle.dep_edges.specs.OutEdges.{Begins};
+ghost use Rattle.dep_edges.specs.Tables.{IsPlace, IsNumber, IsWritten, txn_at};
 
 use crate::history::History;
 use crate::types::{Edge, Label};
@@ -61,7 +59,7 @@ impl<'v, 'a> Marked<'v, 'a> {
         self.nodes[place]
     }
 
-    /// Adds an edge from the transaction `from` to the one at the place, if that is another node.
+    /// Gains an edge from the transaction `from` to the one at the place, if that is another node.
     fn add_edge(
         &self,
         from: u64,
@@ -70,7 +68,7 @@ impl<'v, 'a> Marked<'v, 'a> {
         out: &mut Vec<Edge<'a>>,
     ) -> Result<(), AllocError>
         requires { IsPlace self.now.txns place }
-        ensures ok { OnOk result (out.new.items ≡ out.old.items ++ node_edge self.now.txns from (txn_at self.now.txns place) (label_of label.entry)) }
+        ensures ok { OnOk result (Gains out.old out.new (edge_at self.now from place label.entry)) }
         ensures err { OnErr result (out.new.items ≡ out.old.items) }
     {
         let to = self.history.txn(place).invocation();
@@ -80,11 +78,11 @@ impl<'v, 'a> Marked<'v, 'a> {
         Ok(())
     }
 
-    /// Adds the wr edges out of a version that the transaction `from` installs.
+    /// Gains the wr edges out of a version that the transaction `from` installs.
     fn add_wr(&self, from: u64, number: usize, out: &mut Vec<Edge<'a>>) -> Result<(), AllocError>
         requires number { IsNumber self.now.table number }
         requires written { IsWritten self.now.table number }
-        ensures ok { OnOk result (out.new.items ≡ out.old.items ++ reader_edges self.now.txns from (version_at self.now.table number)) }
+        ensures ok { OnOk result (Gains out.old out.new (wr_edges self.now from number)) }
         ensures err { OnErr result (Begins out.old.items out.new.items) }
     {
         let version = self.history.written(number);
@@ -98,11 +96,11 @@ impl<'v, 'a> Marked<'v, 'a> {
         Ok(())
     }
 
-    /// Adds the ww edges out of a version that the transaction `from` installs.
+    /// Gains the ww edges out of a version that the transaction `from` installs.
     fn add_ww(&self, from: u64, number: usize, out: &mut Vec<Edge<'a>>) -> Result<(), AllocError>
         requires number { IsNumber self.now.table number }
         requires written { IsWritten self.now.table number }
-        ensures ok { OnOk result (out.new.items ≡ out.old.items ++ later_edges self.now.txns from (ww (version_at self.now.table number)) (version_at self.now.table number)) }
+        ensures ok { OnOk result (Gains out.old out.new (ww_edges self.now from number)) }
         ensures err { OnErr result (Begins out.old.items out.new.items) }
     {
         let earlier = self.history.written(number);
@@ -118,10 +116,10 @@ impl<'v, 'a> Marked<'v, 'a> {
         Ok(())
     }
 
-    /// Adds the rw edges out of a version that the transaction `from` reads.
+    /// Gains the rw edges out of a version that the transaction `from` reads.
     fn add_rw(&self, from: u64, number: usize, out: &mut Vec<Edge<'a>>) -> Result<(), AllocError>
         requires { IsNumber self.now.table number }
-        ensures ok { OnOk result (out.new.items ≡ out.old.items ++ read_edges self.now.txns from (version_at self.now.table number)) }
+        ensures ok { OnOk result (Gains out.old out.new (rw_edges self.now from number)) }
         ensures err { OnErr result (Begins out.old.items out.new.items) }
     {
         let earlier = self.history.version(number);
@@ -137,7 +135,7 @@ impl<'v, 'a> Marked<'v, 'a> {
         Ok(())
     }
 
-    /// Adds the wr and the ww edges that leave the transaction at the place.
+    /// Gains the wr and the ww edges that leave the transaction at the place.
     fn add_out_of_installs(
         &self,
         from: u64,
@@ -145,7 +143,7 @@ impl<'v, 'a> Marked<'v, 'a> {
         out: &mut Vec<Edge<'a>>,
     ) -> Result<(), AllocError>
         requires { IsPlace self.now.txns place }
-        ensures ok { OnOk result (out.new.items ≡ out.old.items ++ flat_map (written_edges self.now.txns from) (installed_by (txn_at self.now.txns place))) }
+        ensures ok { OnOk result (Gains out.old out.new (edges_of_installs self.now from place)) }
         ensures err { OnErr result (Begins out.old.items out.new.items) }
     {
         for number in self.history.installs(place) {
@@ -155,7 +153,7 @@ impl<'v, 'a> Marked<'v, 'a> {
         Ok(())
     }
 
-    /// Adds the rw edges that leave the transaction at the place. A version that it reads more than once counts once.
+    /// Gains the rw edges that leave the transaction at the place. A version that it reads more than once counts once.
     fn add_out_of_reads(
         &self,
         from: u64,
@@ -163,7 +161,7 @@ impl<'v, 'a> Marked<'v, 'a> {
         out: &mut Vec<Edge<'a>>,
     ) -> Result<(), AllocError>
         requires { IsPlace self.now.txns place }
-        ensures ok { OnOk result (out.new.items ≡ out.old.items ++ flat_map (read_edges self.now.txns from) (each_once (read_by (txn_at self.now.txns place)))) }
+        ensures ok { OnOk result (Gains out.old out.new (edges_of_reads self.now from place)) }
         ensures err { OnErr result (Begins out.old.items out.new.items) }
     {
         let mut rest = self.history.reads(place);
@@ -176,10 +174,10 @@ impl<'v, 'a> Marked<'v, 'a> {
         Ok(())
     }
 
-    /// Adds the edges that leave the transaction at the place; none where it is no node.
+    /// Gains the edges that leave the transaction at the place; none where it is no node.
     pub fn add_edges(&self, place: usize, out: &mut Vec<Edge<'a>>) -> Result<(), AllocError>
         requires { IsPlace self.now.txns place }
-        ensures ok { OnOk result (out.new.items ≡ out.old.items ++ leaving self.now.txns (txn_at self.now.txns place)) }
+        ensures ok { OnOk result (Gains out.old out.new (edges_at self.now place)) }
         ensures err { OnErr result (Begins out.old.items out.new.items) }
     {
         if !self.is_node(place) {

@@ -57,7 +57,7 @@ pub fn arcs_of_edges()
     ensures rw { (g : Parts) → RwByVersions g → (level : Level) → (e : Edge) → Contains (edges_in g level) e → IsTrue (is_rw e) → HasWayByVersion g Rw e }
 {}
 
-/// An arc between two transactions stands for an edge, and a way by a version from one to another for an rw edge.
+/// An arc between two transactions represents an edge, and a way by a version from one to another an rw edge.
 pub fn edges_of_arcs()
     ensures direct { (g : Parts) → (kinds : Kinds) → (from to : ℕ) → IsDirectArc g kinds from to → HasEdgeBetween g kinds from to }
     ensures rw { (g : Parts) → AreOfHistory g.txns → RwByVersions g → (kinds : Kinds) → (from version to : ℕ) → IsWayByVersion g kinds from version to → HasEdgeBetween g kinds from to }

@@ -80,7 +80,7 @@ impl Collection {
 
 type OpenCollections = ArrayVec<Collection, MAX_OPEN_COLLECTIONS>;
 
-/// Opens or closes a collection where the item is an opener or a closer, unless it may not stand here.
+/// Opens or closes a collection where the item is an opener or a closer, unless it is not allowed here.
 fn nest(within: &mut OpenCollections, kind: PieceKind, bytes: &[u8]) -> Option<Refusal>
     requires { 0 < length bytes.now }
     ensures refusal { result ≡ nesting_refusal (kind_of_piece kind) bytes.now (closers_of within.old.items) }

@@ -34,7 +34,7 @@ fn all_digits(bytes: &[u8]) -> bool
     bytes.iter().all(|b| b.is_ascii_digit())
 }
 
-/// No 0 stands in front of another digit.
+/// No digit follows a leading 0.
 pub(crate) fn has_no_leading_zero(digits: &[u8]) -> bool
     requires { 0 < length digits.now }
     ensures { result ≡ (not (first_byte digits.now == zero_digit) || (length digits.now == 1)) }

@@ -140,7 +140,7 @@ pub(crate) fn first_run(text: &[u8]) -> Run
     }
 }
 
-/// How many bytes of a comment stand before the byte 10 that ends it, or before the text's end.
+/// How many bytes of a comment come before the byte 10 that ends it, or before the text's end.
 #[inline(never)]
 pub(crate) fn comment_len(text: &[u8]) -> usize
     ensures len { result ≡ prefix_len (λ c. not (c == line_feed)) text.now }
@@ -152,7 +152,7 @@ pub(crate) fn comment_len(text: &[u8]) -> usize
     }
 }
 
-/// How many bytes stand before the quote that closes a string, if one does.
+/// How many bytes come before the quote that closes a string, if one does.
 #[inline(never)]
 pub(crate) fn content_len(text: &[u8]) -> Option<usize>
     ensures len { result ≡ len_of_content false text.now }

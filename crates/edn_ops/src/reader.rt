@@ -176,7 +176,7 @@ impl<'a> OpReader<'a> {
     }
 
     /// The next operation, or none at the text's end. A fault ends the reading, and each later call gives it again; but
-    /// where memory is refused (`Memory`) the reader is unchanged, and the call can be made again.
+    /// out of memory (`Memory`) the reader is unchanged, and the call can be made again.
     pub fn next_op(&mut self) -> Result<Option<OpShape>, Fault>
         ensures again { IfSome self.old.failed (λ fault. (result ≡ Err fault) × (self.new ≡ self.old)) }
         ensures next { self.old.failed ≡ None → NextOf self.old result self.new }

@@ -54,6 +54,6 @@ name_of refusal = (title_of refusal).name
 abbrev pub event_fault : Refusal × ℕ → Fault
 event_fault broken = record { refusal = broken.0; at = Event broken.1 }
 
--- memory was refused, which stands at no place
+-- out of memory, which has no place
 abbrev pub memory_fault : Fault
 memory_fault = record { refusal = Memory; at = Nowhere }

@@ -17,7 +17,7 @@ pub struct Failed;
 
 /// What bytes are read from.
 pub trait Source {
-    /// The bytes that it has left to give, where it tells them.
+    /// The bytes that it has left to give, where they are known.
     ghost remaining: { Self → Option (List ℕ) };
 
     /// How often it has failed.
@@ -33,7 +33,7 @@ pub trait Source {
 
 /// What bytes are written to.
 pub trait Sink {
-    /// The bytes that it took, where it tells them.
+    /// The bytes that it took, where they are known.
     ghost contents: { Self → Option (List ℕ) };
 
     /// How often it has failed.
@@ -135,7 +135,8 @@ impl Sink for MemorySink {
     }
 }
 
-/// A source over a stream: it tells what the stream tells, and fails where the stream returns an error of any kind.
+/// A source over a stream. As much is known of its bytes as of the stream's, and it fails where the stream returns an error
+/// of any kind.
 #[derive(Drop)]
 pub struct StreamSource<R> {
     stream: R,
@@ -173,8 +174,8 @@ impl<R: Read> Source for StreamSource<R> {
     }
 }
 
-/// A sink over a stream: it tells what the stream tells, and fails where the stream returns an error of any kind, or takes
-/// nothing of a piece that isn't empty. It flushes nothing, so the stream should keep no buffer of its own.
+/// A sink over a stream. As much is known of its bytes as of the stream's, and it fails where the stream returns an error of
+/// any kind, or takes nothing of a piece that isn't empty. It flushes nothing, so the stream should keep no buffer of its own.
 #[derive(Drop)]
 pub struct StreamSink<W> {
     stream: W,

@@ -73,7 +73,7 @@ pub fn blocks_one_after_another()
     ensures parts { (events front rest : List Operation) → (first_broken events (front ++ rest) ≡ None) ↔ ((first_broken events front ≡ None) × (first_broken (events ++ front) rest ≡ None)) }
 {}
 
-/// A completion is the next event of its process, where that is no invocation. Behind a process's last event stands none of its own.
+/// A completion is the next event of its process, where that is no invocation. A process has no event behind its last one.
 pub fn events_of_a_process()
     ensures completion { (process index : ℕ) → (events : List Operation) → (found : Indexed) → (completion_in process index events ≡ Some found) ↔ (IsNextOf process index events found × IsFalse (is_invoke found.event.kind)) }
     ensures last { (process : ℕ) → (events : List Operation) → (event : Operation) → (last_event process events ≡ Some event) ↔ IsLastOf process events event }
@@ -105,7 +105,7 @@ pub fn operations_read_alone()
     ensures { (text : List ℕ) → (entries : List Entry) → (fault : Option Fault) → (o : PlacedOperation) → Reads text entries fault → Contains entries (operation o) → IsIn text o }
 {}
 
-/// An operation's keys and values are spelled by tokens of its text, where it stands alone or anywhere else, and the operation
+/// An operation's keys and values are spelled by tokens of its text, by itself or anywhere else, and the operation
 /// keeps the limits.
 pub fn operations_spell_their_parts()
     ensures mops { (text : List ℕ) → (o : PlacedOperation) → IsTextOf text o → All (IsMopIn text) o.mops }

@@ -65,7 +65,7 @@ fn refused_memory_stands_nowhere(rt: HostRuntime) {
     }
 }
 
-/// What a value prints. Where memory was refused it is printed once more.
+/// What a value prints. Where memory ran out it is printed once more.
 fn printed<T: fmt::Display>(alloc: Global, value: &T) -> Result<String, AllocError> {
     match value.to_string(alloc) {
         Ok(text) => Ok(text),

@@ -65,7 +65,7 @@ pub enum Refusal {
     TooManyEvents,
     #[error("the range does not lie within the events")]
     BadRange,
-    #[error("memory was refused")]
+    #[error("out of memory")]
     Memory,
     #[error("a thread could not be started")]
     NoThread,
@@ -185,7 +185,7 @@ impl Refusal {
     }
 }
 
-/// Where a refusal's cause stands.
+/// Where a refusal's cause is.
 #[derive(Clone, Copy, Debug, PartialEq, Eq)]
 pub enum At {
     /// An offset in the text that was read, in bytes.
@@ -206,7 +206,7 @@ impl Fault {
     ghost use Rattle.std.specs.Prelude.{◌≡◌};
     ghost use Rattle.hist_types.specs.Refusals.{memory_fault};
 
-    /// Memory was refused, which stands at no place.
+    /// Out of memory, which has no place.
     pub const fn memory() -> Fault
         ensures { result ≡ memory_fault }
     {

@@ -1,6 +1,5 @@
 pub mod Lists
 pub mod Leaving
-pub mod FirstLines
 pub mod Moved
 pub mod Readings
 pub mod Judging
@@ -8,5 +7,4 @@ pub mod Deciding
 pub mod OneAnswer
 pub mod SomeAnswer
 pub mod Verdicts
-pub mod Words
 pub mod Outcomes

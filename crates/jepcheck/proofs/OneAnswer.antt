@@ -15,8 +15,8 @@ use Rattle.jepcheck.specs.Answers.{GivesOperations, GivesFault, GivesEvents, jou
 use Rattle.jepcheck.specs.Statuses.{status_by}
 use Rattle.jepcheck.specs.declared.answer.Status.{Status}
 use Rattle.jepcheck.specs.declared.answer.Status.TheVariants as statuses
-use Rattle.jepcheck.specs.declared.run.Command.{Command}
-use Rattle.jepcheck.specs.declared.run.Command.TheVariants.{Reads as the_reads, Edges as the_edges, Check as the_check}
+use Rattle.command_line.specs.declared.types.Command.{Command}
+use Rattle.command_line.specs.declared.types.Command.TheVariants.{Reads as the_reads, Edges as the_edges, Check as the_check}
 
 module _ (text : List ℕ) (one_reading : HasOne (Reads text)) where
   same_operations : (ops others : List Operation) → GivesOperations text ops → GivesOperations text others → ops ≡ others

@@ -11,7 +11,7 @@ use Rattle.jepcheck.specs.Answers.{IsAnswer}
 use Rattle.jepcheck.specs.Runs.{HasPrinted, HasAnswered}
 use Rattle.jepcheck.specs.declared.answer.Status.{Status}
 use Rattle.jepcheck.specs.declared.answer.Status.TheVariants as statuses
-use Rattle.jepcheck.specs.declared.run.Command.{Command}
+use Rattle.command_line.specs.declared.types.Command.{Command}
 
 -- the line of a program that is out of memory
 pub memory_line : codes "refused 10 Memory\n" ≡ refusal_line memory_fault

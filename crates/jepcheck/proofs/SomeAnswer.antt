@@ -16,8 +16,8 @@ use Rattle.jepcheck.proofs.Deciding.{has_finding}
 use Rattle.jepcheck.specs.Answers.{GivesOperations, GivesEvents, IsRefused, names_cycle, HasAnswer}
 use Rattle.jepcheck.specs.declared.answer.Status.{Status}
 use Rattle.jepcheck.specs.declared.answer.Status.TheVariants as statuses
-use Rattle.jepcheck.specs.declared.run.Command.{Command}
-use Rattle.jepcheck.specs.declared.run.Command.TheVariants.{Reads as the_reads, Edges as the_edges, Check as the_check}
+use Rattle.command_line.specs.declared.types.Command.{Command}
+use Rattle.command_line.specs.declared.types.Command.TheVariants.{Reads as the_reads, Edges as the_edges, Check as the_check}
 
 abbrev is_memory : Status → Bool
 is_memory statuses.Memory = true

@@ -10,8 +10,8 @@ use Rattle.hist_types.specs.declared.types.Fault.{Fault}
 use Rattle.jepcheck.specs.Statuses.{status_by}
 use Rattle.jepcheck.specs.declared.answer.Status.{Status}
 use Rattle.jepcheck.specs.declared.answer.Status.TheVariants as statuses
-use Rattle.jepcheck.specs.declared.run.Command.{Command}
-use Rattle.jepcheck.specs.declared.run.Command.TheVariants as commands
+use Rattle.command_line.specs.declared.types.Command.{Command}
+use Rattle.command_line.specs.declared.types.Command.TheVariants as commands
 
 -- the text reads as these operations, up to its end
 pub record GivesOperations (text : List ℕ) (operations : List Operation) : Type 0 where

@@ -4,5 +4,4 @@ pub mod Pieces
 pub mod Leaving
 pub mod Statuses
 pub mod Verdicts
-pub mod Lines
 pub mod Runs

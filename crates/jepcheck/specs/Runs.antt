@@ -11,11 +11,11 @@ use Rattle.jepcheck.specs.Answers.{IsAnswer}
 use Rattle.jepcheck.specs.Statuses.{code_of}
 use Rattle.jepcheck.specs.declared.answer.Status.{Status}
 use Rattle.jepcheck.specs.declared.answer.Status.TheVariants as statuses
-use Rattle.jepcheck.specs.declared.command_line.Asked.{Asked}
-use Rattle.jepcheck.specs.declared.command_line.Asked.TheVariants.{Run}
-use Rattle.jepcheck.specs.declared.command_line.LineFault.{LineFault}
-use Rattle.jepcheck.specs.declared.command_line.LineFault.TheVariants as line_faults
-use Rattle.jepcheck.specs.declared.run.Command.{Command}
+use Rattle.command_line.specs.declared.types.Asked.{Asked}
+use Rattle.command_line.specs.declared.types.Asked.TheVariants.{Run}
+use Rattle.command_line.specs.declared.types.LineFault.{LineFault}
+use Rattle.command_line.specs.declared.types.LineFault.TheVariants as line_faults
+use Rattle.command_line.specs.declared.types.Command.{Command}
 
 -- the sink took all that was to be printed and the status is the one that goes with it, or the sink failed
 abbrev pub HasPrinted : {T : Type 0} → Sink T → (wanted status : Status) → (sink sink' : T) → List ℕ → Type 0

@@ -5,7 +5,7 @@ ghost use Rattle.hist_types.specs.Entries.{PlacedOperation, operation_of};
 ghost use Rattle.hist_types.specs.Placed.{IsIn};
 ghost use Rattle.hist_types.specs.Refusals.{memory_fault};
 ghost use Rattle.edn_ops.specs.Shapes.{IsShapeOf, IsShapeIn};
-ghost use Rattle.jepcheck.specs.Blocks.{operations_in, operations_pushed};
+ghost use Rattle.jepcheck.specs.Blocks.{operations_in, HaveAlso};
 
 use edn_ops::types::OpShape;
 use hist_types::laws::operations_spell_their_parts;
@@ -37,7 +37,7 @@ impl Model for Blocks {
 
 /// Puts the last block behind the full ones, and begins another. Out of memory leaves both as they were.
 fn close(alloc: Global, full: &mut Vec<Block>, last: &mut BlockBuilder) -> Result<(), AllocError>
-    ensures full { OnOk result (operations_in full.new.items ≡ operations_in full.old.items ++ operations_pushed last.old) }
+    ensures full { OnOk result (HaveAlso full.old.items last.old full.new.items) }
     ensures last { OnOk result (last.new ≡ []) }
     ensures err { OnErr result ((full.new.items ≡ full.old.items) × (last.new ≡ last.old)) }
 {
@@ -62,10 +62,11 @@ impl Blocks {
         }
     }
 
-    /// Appends the operation that has this shape in the text. Only memory can be refused, and nothing changes then.
+    /// Appends the operation that has this shape in the text. The only error is out of memory, and nothing changes then.
     pub fn push(&mut self, text: &[u8], shape: &OpShape) -> Result<(), Fault>
         requires { IsShapeIn text.now shape.now }
-        ensures ok { (o : PlacedOperation) → IsIn text.now o → IsShapeOf shape.now o → OnOk result (self.new ≡ self.old ++ operation_of o ∷ []) }
+        ensures ok { (o : PlacedOperation) → IsIn text.now o → IsShapeOf shape.now o
+            → OnOk result (self.new ≡ self.old ++ operation_of o ∷ []) }
         ensures err { IfErr result (λ fault. fault ≡ memory_fault) }
         ensures unchanged { OnErr result (self.new ≡ self.old) }
     {
@@ -77,7 +78,7 @@ impl Blocks {
         self.last.push(text, shape)
     }
 
-    /// The blocks. Only memory can be refused.
+    /// The blocks. The only error is out of memory.
     pub fn finish(mut self) -> Result<Vec<Block>, Fault>
         ensures ok { IfOk result (λ blocks. operations_in blocks.items ≡ self) }
         ensures err { IfErr result (λ fault. fault ≡ memory_fault) }

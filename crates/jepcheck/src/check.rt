@@ -5,7 +5,7 @@ ghost use Rattle.hist_types.specs.Refusals.{memory_fault};
 ghost use Rattle.jepcheck.specs.Answers.{Reports};
 ghost use Rattle.jepcheck.specs.Statuses.{status_by};
 ghost use Rattle.jepcheck.specs.Verdicts.{names_phenomenon};
-ghost use Rattle.jepcheck.specs.declared.run.Command.TheVariants.{Check};
+ghost use Rattle.command_line.specs.declared.types.Command.TheVariants.{Check};
 
 use crate::answer::{Answer, Status};
 use hist_types::types::{Fault, Phenomenon};

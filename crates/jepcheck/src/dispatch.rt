@@ -5,8 +5,8 @@ ghost use Rattle.jepcheck.specs.Pieces.{HasTakenUnlessFailed};
 ghost use Rattle.jepcheck.specs.Runs.{HasDone, HasRefusedLine, complaint};
 
 use crate::answer::Status;
-use crate::command_line::{Asked, LineFault};
 use crate::run::{print_memory, run};
+use command_line::types::{Asked, LineFault};
 use hist_types::device::{Sink, Source};
 use std::alloc::Global;
 use verdict::devices::write_all;
@@ -36,7 +36,7 @@ pub fn dispatch<S: Source, T: Sink, E: Sink>(
     // A fault of the command line is refused, and the source is left alone.
     ensures refused { IfErr asked (λ fault. HasRefusedLine T.Sink fault result sink.old sink.new) }
     ensures unread { OnErr asked (source.new ≡ source.old) }
-    // The sink for errors is told the help, what is wrong with the command line, or that a device failed.
+    // The sink for errors gets the help, what is wrong with the command line, or that a device failed.
     ensures errors { HasTakenUnlessFailed E.Sink errors.old errors.new (complaint asked result) }
 {
     let status = match &asked {

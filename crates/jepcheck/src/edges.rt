@@ -1,15 +1,12 @@
 //! The command `edges`.
 
-ghost use Rattle.std.specs.Prelude.{◌≡◌, ◌++◌, length, IfOk, IfErr, OnOk};
-ghost use Rattle.hist_types.specs.Edges.{dependency_edges};
+ghost use Rattle.std.specs.Prelude.{◌≡◌, length, IfOk, IfErr, OnOk};
 ghost use Rattle.hist_types.specs.Refusals.{memory_fault};
-ghost use Rattle.hist_types.specs.Texts.{in_order};
 ghost use Rattle.dep_edges.specs.Histories.{AreOfHistory};
 ghost use Rattle.dep_edges.specs.Tables.{IsPlace, txn_at};
+ghost use Rattle.command_line.specs.declared.types.Command.TheVariants.{Edges};
 ghost use Rattle.jepcheck.specs.Answers.{Reports};
-ghost use Rattle.cycle_show.specs.Lines.{edge_lines};
-ghost use Rattle.jepcheck.specs.Leaving.{edges_leaving};
-ghost use Rattle.jepcheck.specs.declared.run.Command.TheVariants.{Edges};
+ghost use Rattle.jepcheck.specs.Leaving.{edges_leaving, IsContinuedByAll};
 
 use crate::answer::{Answer, Status};
 use crate::edge_order::sort_edges;
@@ -49,7 +46,7 @@ fn write_all_edges(
 ) -> Result<u64, AllocError>
     requires history { AreOfHistory deps.now }
     requires txns { txns ≡ length deps.now }
-    ensures { IfOk result (λ count. (out.new.items ≡ out.old.items ++ edge_lines (in_order (dependency_edges deps.now))) × (count ≡ length (in_order (dependency_edges deps.now)))) }
+    ensures { IfOk result (IsContinuedByAll deps.now out.old.items out.new.items) }
 {
     let mut leaving = Vec::new(alloc);
     let mut count = 0;

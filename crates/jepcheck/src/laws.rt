@@ -1,13 +1,11 @@
 //! Laws of the commands.
 
-ghost use Rattle.std.specs.Prelude.{◌≡◌, ◌≢◌, ℕ, List, [], ◌∷◌, codes};
+ghost use Rattle.std.specs.Prelude.{◌≡◌, ◌≢◌, ℕ, List};
 ghost use Rattle.jepcheck.specs.Answers.{IsAnswer, HasAnswer};
-ghost use Rattle.jepcheck.specs.Lines.{AskFor, AskForHelp, word_of};
 ghost use Rattle.jepcheck.specs.declared.answer.Status.{Status};
 ghost use Rattle.jepcheck.specs.declared.answer.Status.TheVariants.{Memory};
-ghost use Rattle.jepcheck.specs.declared.command_line.Asked.TheVariants.{Run};
-ghost use Rattle.jepcheck.specs.declared.run.Command.{Command};
-ghost use Rattle.jepcheck.specs.declared.run.Command.TheVariants.{Check};
+ghost use Rattle.command_line.specs.declared.types.Command.{Command};
+ghost use Rattle.command_line.specs.declared.types.Command.TheVariants.{Check};
 
 use hist_types::laws::texts_have_one_reading;
 
@@ -28,14 +26,3 @@ pub fn an_answer_to_each_text()
 {
     texts_have_one_reading();
 }
-
-/// The program's name, whatever it is, and the word of a command ask for the command.
-pub fn commands_are_asked_for()
-    ensures { (command : Command) (name : List ℕ) → AskFor (Run command) (name ∷ word_of command ∷ []) }
-{}
-
-/// The program's name and `--help` ask for help, and so they do with the word of a command between them.
-pub fn help_is_asked_for()
-    ensures alone { (name : List ℕ) → AskForHelp (name ∷ codes "--help" ∷ []) }
-    ensures command { (command : Command) (name : List ℕ) → AskForHelp (name ∷ word_of command ∷ codes "--help" ∷ []) }
-{}

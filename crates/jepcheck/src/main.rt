@@ -4,7 +4,6 @@
 mod answer;
 mod blocks;
 mod check;
-mod command_line;
 mod devices;
 mod dispatch;
 mod edge_order;
@@ -18,7 +17,8 @@ mod runs;
 #[cfg(test)]
 mod tests;
 
-use command_line::{Asked, LineFault};
+use command_line::types::{Asked, LineFault};
+use command_line::words::{asked_for, unread_line};
 use hist_types::device::{StreamSink, StreamSource};
 use std::env;
 use std::process::ExitCode;
@@ -27,9 +27,9 @@ use std::process::ExitCode;
 fn asked(rt: &HostRuntime) -> Result<Asked, LineFault> {
     let words = match env::args(rt) {
         Ok(words) => words.collect::<Vec<String>>(rt.alloc())?,
-        Err(error) => return Err(command_line::unread_line(rt.alloc(), &error)),
+        Err(error) => return Err(unread_line(rt.alloc(), &error)),
     };
-    command_line::command_line(rt.alloc(), words.as_slice())
+    asked_for(rt.alloc(), words.as_slice())
 }
 
 fn main(rt: HostRuntime) -> ExitCode {

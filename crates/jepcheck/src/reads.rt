@@ -4,7 +4,7 @@ ghost use Rattle.std.specs.Prelude.{◌≡◌, IfOk, IfErr, is_some, ◌||◌};
 ghost use Rattle.hist_types.specs.Refusals.{memory_fault};
 ghost use Rattle.jepcheck.specs.Answers.{Reports};
 ghost use Rattle.jepcheck.specs.Statuses.{status_by};
-ghost use Rattle.jepcheck.specs.declared.run.Command.TheVariants.{Reads};
+ghost use Rattle.command_line.specs.declared.types.Command.TheVariants.{Reads};
 
 use crate::answer::{Answer, Status};
 use cycle_show::write::{write_bad_read, write_head, write_number};

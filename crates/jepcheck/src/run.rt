@@ -12,21 +12,11 @@ use crate::answer::{Answer, Status, refuse};
 use crate::devices::{ReadFault, read_all};
 use crate::inputs::{journal_of, read_blocks};
 use crate::{check, edges, reads};
+use command_line::types::Command;
 use hist_types::device::{Failed, Sink, Source};
 use hist_types::types::{Fault, Refusal};
 use std::alloc::{AllocError, Global};
 use verdict::devices::write_all;
-
-/// What is done with a history.
-#[derive(Clone, Copy, Debug, PartialEq, Eq)]
-pub enum Command {
-    /// Print the aborted and the intermediate reads, and how many reads return what nobody wrote.
-    Reads,
-    /// Print the dependency edges between transactions.
-    Edges,
-    /// Print which phenomena the history has, with what shows each.
-    Check,
-}
 
 /// The report of a command on a text, unless that is refused.
 fn judge(alloc: Global, command: Command, text: Vec<u8>) -> Result<Answer, Fault>
@@ -79,7 +69,7 @@ pub fn run<S: Source, T: Sink>(
     source: &mut S,
     sink: &mut T,
 ) -> Status
-    // What is printed is the answer to a text, which is the source's bytes where it tells them.
+    // What is printed is the answer to a text, which is the source's bytes where they are known.
     ensures answered { (text : List ℕ) × IfSome (S.remaining source.old) (λ rest. text ≡ rest)
         × HasAnswered command text result (T.contents sink.old) (T.contents sink.new) }
     // With the statuses 0 to 2 the source was read to its end.

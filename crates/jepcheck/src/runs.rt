@@ -3,10 +3,10 @@
 ghost use Rattle.std.specs.Prelude.{None};
 
 use crate::answer::Status;
-use crate::command_line::{Asked, LineFault};
 use crate::dispatch::dispatch;
-use crate::run::{Command, run};
+use crate::run::run;
 use arrayvec::ArrayVec;
+use command_line::types::{Asked, Command, LineFault};
 use hist_types::device::{Failed, MemorySource, Sink, Source};
 use std::alloc::{AllocError, Global};
 use std::process::Abort;
@@ -14,7 +14,7 @@ use std::test::Fail;
 
 const MEMORY_LINE: &[u8] = b"refused 10 Memory\n";
 
-// A history of each kind that a report tells apart, with its output.
+// A history of each kind that a report distinguishes, with its output.
 
 const ABORTED_READ: &[u8] = b"{:type :invoke, :process 0, :value [[:w :x 1]]}
 {:type :fail, :process 0}
@@ -127,7 +127,7 @@ const REWRITTEN_WITH_A_SIGN: &[u8] = b"{:type :invoke, :process 0, :value [[:w :
 {:type :invoke, :process 0, :value [[:w :x +1]]}
 ";
 
-/// A fault of reading stands behind a rule of the journal that is broken.
+/// A fault of reading comes behind a rule of the journal that is broken.
 const READING_FIRST: &[u8] = b"{:type :ok, :process 0, :value []}
 5
 ";

@@ -14,7 +14,7 @@ use Rattle.atom_index.specs.Numbers.{number_in, with_item, AreNumbered}
 use Rattle.atom_index.proofs.Pushed.{inserted_numbered}
 use Rattle.edn_ops.specs.Shapes.{is_write}
 use Rattle.op_view.specs.Mops.{key_of, value_of}
-use Rattle.key_versions.specs.declared.rows.Access.{Access}
+use Rattle.key_versions.specs.declared.pending.Access.{Access}
 use Rattle.key_versions.specs.Histories.{version_in, named_in}
 use Rattle.key_versions.specs.Numbering.{version_with, with_versions, IsAccess, AreAccesses}
 use Rattle.key_versions.specs.Rows.{has_nil}

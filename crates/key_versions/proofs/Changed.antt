@@ -1,16 +1,8 @@
 -- Steps of the loops that add a transaction to the rows.
-use Rattle.std.proofs.Common.{◌≡◌, ◌<◌, ◌≤◌, ◌-◌, replicate, ℕ, zero, suc, List, [], ◌∷◌, ◌++◌, length, map, set, get_or, Bool, true, false, cond, All, refl, sym, ◌∙◌, ap, arith}
-use Rattle.std.specs.Prelude.{filter}
+use Rattle.std.proofs.Common.{◌≡◌, ◌<◌, ◌≤◌, ◌-◌, replicate, ℕ, zero, suc, List, [], ◌∷◌, ◌++◌, length, Bool, true, false, cond, All, refl, sym, ◌∙◌, ap, arith}
 use Rattle.std.proofs.lemmas.List.{append_assoc, append-nil, length_push}
-use Rattle.key_versions.specs.declared.rows.Access.{Access}
-use Rattle.key_versions.specs.declared.types.Follower.{Follower}
-use Rattle.key_versions.specs.Rows.{Known, change, follower, is_behind, has_nil, lasts, has_number, with_writer, with_reader, written_rows, read_rows, unknown, grown, IsWithin}
-
--- a list with one of its items changed, as code writes it
-pub change_set : {A : Type 0} (f : A → A) (xs : List A) (n : ℕ) (d y : A) → n < length xs → y ≡ f (get_or xs n d) → set xs n y ≡ change f n xs
-change_set f [] n d y within new = absurd (omega arith)
-change_set f (z ∷ xs) zero d y within new = ap (λ v. v ∷ xs) new
-change_set f (z ∷ xs) (suc n) d y within new = let behind : n < length xs = omega arith in ap (λ r. z ∷ r) (change_set f xs n d y behind new)
+use Rattle.key_versions.specs.declared.pending.Access.{Access}
+use Rattle.key_versions.specs.Rows.{Known, change, follower, has_nil, lasts, has_number, with_writer, with_follower, with_reader, written_rows, installed_rows, read_rows, unknown, grown, IsWithin}
 
 -- ---- new rows
 
@@ -23,19 +15,6 @@ pub all_grown : (n : ℕ) (rows : List Known) → n ≤ length rows → grown n 
 all_grown n rows enough =
     let none : n - length rows ≡ 0 = omega arith in
     ap (λ m. rows ++ replicate m unknown) none ∙ append-nil rows
-
--- ---- followers
-
-pub one_followed :
-    (place : ℕ) (r w : Access) (fs : List Follower) (rest : List Access) → is_behind r w ≡ true
-    → (fs ++ follower place w ∷ []) ++ map (follower place) (filter (is_behind r) rest)
-    ≡ fs ++ map (follower place) (filter (is_behind r) (w ∷ rest))
-one_followed place r w fs rest is = append_assoc fs (follower place w ∷ []) _ ∙ ap (λ b. fs ++ map (follower place) (cond b (w ∷ filter (is_behind r) rest) (filter (is_behind r) rest))) (sym is)
-
-pub none_followed :
-    (place : ℕ) (r w : Access) (fs : List Follower) (rest : List Access) → is_behind r w ≡ false
-    → fs ++ map (follower place) (filter (is_behind r) rest) ≡ fs ++ map (follower place) (filter (is_behind r) (w ∷ rest))
-none_followed place r w fs rest is = ap (λ b. fs ++ map (follower place) (cond b (w ∷ filter (is_behind r) rest) (filter (is_behind r) rest))) (sym is)
 
 -- ---- installs
 
@@ -73,6 +52,10 @@ length-written place rows [] = refl
 length-written place rows (w ∷ ws) =
     let f = with_writer (record { txn = place; over = has_nil w.nil ws }) in
     length-written place (change f w.version rows) ws ∙ length-change f w.version rows
+
+pub length-installed : (place : ℕ) (rows : List Known) (ws : List Access) → length (installed_rows place rows ws) ≡ length rows
+length-installed place rows [] = refl
+length-installed place rows (w ∷ ws) = length-installed place (change (with_follower (follower place w)) w.nil rows) ws ∙ length-change (with_follower (follower place w)) w.nil rows
 
 pub all_behind : {A : Type 0} (P : A → Type 0) (x : A) (xs : List A) → All P (x ∷ xs) → All P xs
 all_behind P x xs h = λ k d below. h (suc k) d (omega arith)

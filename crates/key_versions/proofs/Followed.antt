@@ -8,7 +8,7 @@ use Rattle.hist_types.specs.Transactions.{Version, version_eq, version_of}
 use Rattle.hist_types.specs.Versions.{nil_of, pair, is_change}
 use Rattle.hist_types.proofs.Equality.{version_eq-itself}
 use Rattle.atom_index.specs.Numbers.{AreNumbered}
-use Rattle.key_versions.specs.declared.rows.Access.{Access}
+use Rattle.key_versions.specs.declared.pending.Access.{Access}
 use Rattle.key_versions.specs.Numbering.{version_with, IsAccess, AreAccesses}
 use Rattle.key_versions.specs.Rows.{follower, is_behind}
 use Rattle.key_versions.specs.Tables.{followers_at}

@@ -9,7 +9,7 @@ use Rattle.hist_types.specs.Journal.{Write}
 use Rattle.hist_types.specs.Transactions.{Version, version_eq, version_of, has_version, has_key, last_writes, overwritten}
 use Rattle.hist_types.proofs.Equality.{atom_eq-same, version_eq-same, version_eq-itself}
 use Rattle.atom_index.specs.Numbers.{number_in, AreNumbered}
-use Rattle.key_versions.specs.declared.rows.Access.{Access}
+use Rattle.key_versions.specs.declared.pending.Access.{Access}
 use Rattle.key_versions.specs.declared.types.Writer.{Writer}
 use Rattle.key_versions.specs.Numbering.{IsAccess, AreAccesses}
 use Rattle.key_versions.specs.Rows.{Known, with_writer, has_nil, lasts, has_number}

@@ -4,7 +4,7 @@ use Rattle.std.specs.Prelude.{slice_get, filter, not, ◌&&◌, ◌||◌, ◌==�
 use Rattle.std.specs.List.{list_any}
 use Rattle.std.proofs.lemmas.Bool.{cases_Bool, cases_lt, eqb-true, eqb-false}
 use Rattle.std.proofs.lemmas.List.{append_assoc, append-nil, length-append, length-replicate}
-use Rattle.key_versions.specs.declared.rows.Access.{Access}
+use Rattle.key_versions.specs.declared.pending.Access.{Access}
 use Rattle.key_versions.specs.declared.types.Writer.{Writer}
 use Rattle.key_versions.specs.declared.types.Follower.{Follower}
 use Rattle.key_versions.specs.Rows.{Known, unknown, change, with_writer, has_nil, lasts, written_rows, follower, with_follower, installed_rows, is_behind, with_reader, has_number, read_rows, rows_after, grown}

@@ -1,5 +1,8 @@
 mod Changed
 mod Spans
+mod Grouped
+mod Gathered
+mod Finished
 mod Places
 mod Numbered
 mod Growing

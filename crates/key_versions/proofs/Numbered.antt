@@ -12,7 +12,7 @@ use Rattle.hist_types.proofs.Equality.{atom_eq-same, atom_eq-itself}
 use Rattle.atom_index.specs.Numbers.{number_in, with_item, AreNumbered, pair_eq}
 use Rattle.atom_index.proofs.Pushed.{number_last, number_first, numbered_push, inserted_numbered, pair_eq-itself, item_pushed}
 use Rattle.key_versions.specs.Numbering.{Numbers, IsNumbering, IsBelow, IsInRange, AreInRange, key_at, version_with, version_by, versions_in, versions_of, with_versions, IsAccess}
-use Rattle.key_versions.specs.declared.rows.Access.{Access}
+use Rattle.key_versions.specs.declared.pending.Access.{Access}
 use Rattle.key_versions.proofs.Places.{same_item, no_item, number_within, number_at, same_places, map_same, number_in-map, with_item-map, with_item-there, with_item-new, cases_number, slice_get-with_item, slice_get_front, slice_get_last}
 
 abbrev none : Atom

@@ -14,7 +14,7 @@ use Rattle.hist_types.specs.Versions.{nil_of, pair, is_change}
 use Rattle.hist_types.proofs.Equality.{version_eq-same, version_eq-itself}
 use Rattle.atom_index.specs.Numbers.{number_in, with_item, AreNumbered}
 use Rattle.atom_index.proofs.Pushed.{has_number as number_there}
-use Rattle.key_versions.specs.declared.rows.Access.{Access}
+use Rattle.key_versions.specs.declared.pending.Access.{Access}
 use Rattle.key_versions.specs.declared.types.Writer.{Writer}
 use Rattle.key_versions.specs.declared.types.Follower.{Follower}
 use Rattle.key_versions.specs.Histories.{version_in, named_in, is_named, read_by, installs_behind, writer_of, readers_of, followers_of}

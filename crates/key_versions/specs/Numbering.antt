@@ -4,7 +4,7 @@ use Rattle.hist_types.specs.Atoms.{Atom, integer, atom_eq}
 use Rattle.hist_types.specs.Transactions.{Version, version_eq}
 use Rattle.hist_types.specs.Versions.{nil_of}
 use Rattle.atom_index.specs.Numbers.{AreNumbered, number_in, with_item, pair_eq}
-use Rattle.key_versions.specs.declared.rows.Access.{Access}
+use Rattle.key_versions.specs.declared.pending.Access.{Access}
 
 abbrev pub version_with : Atom → Option Atom → Version
 version_with key value = record { key = key; value = value }

@@ -4,7 +4,7 @@ use Rattle.std.specs.List.{list_any}
 use Rattle.std.specs.Option.{option_or}
 use Rattle.key_versions.specs.declared.types.Writer.{Writer}
 use Rattle.key_versions.specs.declared.types.Follower.{Follower}
-use Rattle.key_versions.specs.declared.rows.Access.{Access}
+use Rattle.key_versions.specs.declared.pending.Access.{Access}
 
 -- the versions of an access are among so many
 abbrev pub IsWithin : ℕ → Access → Type 0
@@ -71,6 +71,10 @@ installed_rows place rows (w ∷ ws) = installed_rows place (change (with_follow
 abbrev pub is_behind : Access → Access → Bool
 is_behind r w = (not (r.version == r.nil) && (w.nil == r.nil)) && not (w.version == r.version)
 
+-- the transaction at the place is one reader more
+abbrev pub with_place : ℕ → Known → Known
+with_place place known = record { writer = known.writer; readers = known.readers ++ place ∷ []; followers = known.followers }
+
 abbrev pub with_reader : ℕ → Access → List Access → Known → Known
 with_reader place r installs known =
     record {
@@ -92,6 +96,11 @@ read_rows place installs rows before (r ∷ rs) =
 
 abbrev pub numbers_of : List Access → List ℕ
 numbers_of accesses = map (λ (a : Access). a.version) accesses
+
+-- what transactions read and install, with one transaction more
+abbrev pub with_accessed : List Accessed → List Access → List Access → List Accessed
+with_accessed transactions reads installs =
+    transactions ++ record { reads = numbers_of reads; installs = numbers_of installs } ∷ []
 
 abbrev pub accessed : List Access → List Access → Accessed
 accessed reads writes = record { reads = numbers_of reads; installs = numbers_of (lasts writes) }

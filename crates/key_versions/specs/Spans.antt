@@ -7,9 +7,9 @@ use Rattle.key_versions.specs.Rows.{Accessed}
 abbrev pub IsSpan : ℕ → Span → Type 0
 IsSpan n s = (s.reads ≤ s.installs) × (s.installs ≤ s.end) × (s.end ≤ n)
 
--- the numbers from one place up to another one
-abbrev pub between : ℕ → ℕ → List ℕ → List ℕ
-between from to numbers = take (to - from) (drop from numbers)
+-- the items from one place up to another one
+abbrev pub between : {A : Type 0} → ℕ → ℕ → List A → List A
+between from to items = take (to - from) (drop from items)
 
 -- what the transaction with this span reads and installs
 abbrev pub accessed_at : List ℕ → Span → Accessed

@@ -5,6 +5,9 @@ use Rattle.hist_types.specs.Transactions.{Version}
 use Rattle.key_versions.specs.Numbering.{AreInRange}
 use Rattle.key_versions.specs.Rows.{Known, Accessed}
 use Rattle.key_versions.specs.Tables.{Table}
+use Rattle.key_versions.specs.Pending.{writer_in}
+use Rattle.key_versions.specs.declared.pending.Written.{Written}
+use Rattle.key_versions.specs.declared.types.Follower.{Follower}
 
 abbrev pub table_by : List Version → List Known → List Accessed → Table
 table_by versions rows accesses =
@@ -17,7 +20,21 @@ table_by versions rows accesses =
       installs = map (λ (a : Accessed). a.installs) accesses;
     }
 
--- versions of numbered keys and values, and a row for each version
-pub record AreVersions (keys values : List Atom) (pairs : List (ℕ × Option ℕ)) (rows : List Known) : Type 0 where
+-- the table that is put together
+abbrev pub table_of : List Version → List Written → List (List ℕ) → List (List Follower) → List Accessed → Table
+table_of versions writers readers followers accesses =
+    record {
+      versions = versions;
+      writers = map writer_in writers;
+      readers = readers;
+      followers = followers;
+      reads = map (λ (a : Accessed). a.reads) accesses;
+      installs = map (λ (a : Accessed). a.installs) accesses;
+    }
+
+-- versions of numbered keys and values, and what is known of each version
+pub record AreVersions (keys values : List Atom) (pairs : List (ℕ × Option ℕ)) (writers : List Written) (readers : List (List ℕ)) (followers : List (List Follower)) : Type 0 where
   pub in_range : AreInRange keys values pairs
-  pub row_of_each : length rows ≡ length pairs
+  pub writer_of_each : length writers ≡ length pairs
+  pub readers_of_each : length readers ≡ length pairs
+  pub followers_of_each : length followers ≡ length pairs

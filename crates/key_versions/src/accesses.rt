@@ -1,9 +1,10 @@
 //! What transactions read and install, by the numbers of versions.
 
-ghost use Rattle.std.specs.Prelude.{◌≡◌, ◌<◌, ◌≤◌, ◌++◌, ◌∷◌, [], map, length, IfOk, OnOk, Some, slice_get};
-ghost use Rattle.key_versions.specs.Rows.{Accessed, numbers_of};
+ghost use Rattle.std.specs.Prelude.{◌≡◌, ◌<◌, ◌≤◌, ◌++◌, [], map, length, IfOk, OnOk, Some, slice_get};
+ghost use Rattle.key_versions.specs.Rows.{Accessed, numbers_of, with_accessed};
 
-use crate::rows::{Access, number_of};
+use crate::pending::Access;
+use crate::rows::number_of;
 use std::alloc::{AllocError, Global};
 use std::marker::Model;
 
@@ -67,7 +68,7 @@ impl Accesses {
 
     /// Adds the next transaction.
     pub fn push(&mut self, reads: &[Access], installs: &[Access]) -> Result<(), AllocError>
-        ensures { OnOk result (self.new ≡ self.old ++ record { reads = numbers_of reads.now; installs = numbers_of installs.now } ∷ []) }
+        ensures { OnOk result (self.new ≡ with_accessed self.old reads.now installs.now) }
     {
         let start = number_of(self.numbers.len())?;
         append(&mut self.numbers, reads)?;

@@ -1,4 +1,4 @@
-//! A table that is told one transaction after another.
+//! A table that takes one transaction after another.
 
 ghost use Rattle.std.specs.Prelude.{◌≡◌, ◌++◌, ◌∷◌, [], List, length, OnOk, IfOk};
 ghost use Rattle.hist_types.specs.Transactions.{Transaction};
@@ -26,7 +26,7 @@ impl<'a, S: BuildHasher> Model for Building<'a, S> {
 
     ghost Value = { Table };
 
-    ghost view = { λ b. table_by (versions_of b.numbering) b.rows.rows.items b.rows.accesses };
+    ghost view = { λ b. table_by (versions_of b.numbering) b.rows.rows b.rows.accesses };
 }
 
 impl<'a, S: BuildHasher + Copy> Building<'a, S> {
@@ -51,17 +51,14 @@ impl<'a, S: BuildHasher + Copy> Building<'a, S> {
         Ok(())
     }
 
-    pub fn finish(self) -> Versions<'a>
+    /// Puts the table together. The only error is out of memory.
+    pub fn finish(self, alloc: Global) -> Result<Versions<'a>, AllocError>
         requires { length self.writers ≡ length self.versions }
-        ensures { result ≡ self.entry }
+        ensures { IfOk result (λ versions. versions ≡ self.entry) }
     {
         let numbered = self.numbering.finish();
-        Versions::new(
-            numbered.keys,
-            numbered.values,
-            numbered.pairs,
-            self.rows.rows,
-            self.rows.accesses,
-        )
+        let rows = self.rows;
+        let known = rows.rows.finish(alloc)?;
+        Ok(Versions::new(numbered, known, rows.accesses))
     }
 }

@@ -7,7 +7,9 @@ ghost use Rattle.key_versions.specs.Tables.{IsTableOf};
 
 mod accesses;
 mod building;
+mod groups;
 mod numbering;
+mod pending;
 mod rows;
 pub mod table;
 #[cfg(test)]
@@ -24,7 +26,7 @@ use txn_pairs::types::Txns;
 /// The versions that the transactions name, in time for their micro-operations but for the square of the length of one
 /// transaction. They borrow the journal's blocks. No answer depends on the hasher.
 ///
-/// Only memory can be refused.
+/// The only error is out of memory.
 pub fn versions<'a, S: BuildHasher + Copy>(
     alloc: Global,
     txns: &Txns<'a>,
@@ -37,5 +39,5 @@ pub fn versions<'a, S: BuildHasher + Copy>(
     for txn in txns.as_slice() {
         building.take(txn)?;
     }
-    Ok(building.finish())
+    Ok(building.finish(alloc)?)
 }

@@ -9,7 +9,8 @@ ghost use Rattle.hist_types.specs.Versions.{nil_of};
 ghost use Rattle.key_versions.specs.Histories.{named_in, read_by};
 ghost use Rattle.key_versions.specs.Numbering.{Numbers, key_at, version_with, versions_in, versions_of, AreInRange, with_versions, IsAccess, AreAccesses};
 
-use crate::rows::{Access, has_key, number_of};
+use crate::pending::Access;
+use crate::rows::{has_key, number_of};
 use atom_index::atoms::AtomIndex;
 use atom_index::pairs::PairIndex;
 use op_view::atom::Atom;

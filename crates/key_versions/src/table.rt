@@ -2,10 +2,12 @@
 
 ghost use Rattle.std.specs.Prelude.{◌≡◌, ◌<◌, length, Some, slice_get};
 ghost use Rattle.key_versions.specs.Numbering.{versions_in};
-ghost use Rattle.key_versions.specs.Views.{AreVersions, table_by};
+ghost use Rattle.key_versions.specs.Views.{AreVersions, table_of};
 
 use crate::accesses::Accesses;
-use crate::rows::Row;
+use crate::groups::Groups;
+use crate::numbering::Numbered;
+use crate::pending::{Grouped, Written};
 use crate::types::{Follower, VersionRef, Writer};
 use op_view::atom::Atom;
 use std::marker::Model;
@@ -18,39 +20,37 @@ pub struct Versions<'a> {
     values: Vec<Atom<'a>>,
     /// The key and the value of each version, by their numbers. None stands for nil.
     pairs: Vec<(usize, Option<usize>)>,
-    rows: Vec<Row>,
+    writers: Vec<Written>,
+    readers: Groups<u32>,
+    followers: Groups<Follower>,
     accesses: Accesses,
 }
 
 impl<'a> Model for Versions<'a> {
     ghost use Rattle.key_versions.specs.Tables.{Table};
     ghost use Rattle.key_versions.specs.Numbering.{versions_in};
-    ghost use Rattle.key_versions.specs.Views.{AreVersions, table_by};
+    ghost use Rattle.key_versions.specs.Views.{AreVersions, table_of};
 
     ghost Value = { Table };
 
-    ghost view = { λ v. table_by (versions_in v.keys.items v.values.items v.pairs.items) v.rows.items v.accesses };
+    ghost view = { λ v. table_of (versions_in v.keys.items v.values.items v.pairs.items) v.writers.items v.readers v.followers v.accesses };
 
-    ghost invariant = { λ v. AreVersions v.keys.items v.values.items v.pairs.items v.rows.items };
+    ghost invariant = { λ v. AreVersions v.keys.items v.values.items v.pairs.items v.writers.items v.readers v.followers };
 }
 
 impl<'a> Versions<'a> {
-    /// The versions with these keys and values, a row for each.
-    pub(crate) fn new(
-        keys: Vec<Atom<'a>>,
-        values: Vec<Atom<'a>>,
-        pairs: Vec<(usize, Option<usize>)>,
-        rows: Vec<Row>,
-        accesses: Accesses,
-    ) -> Self
-        requires { AreVersions keys.items values.items pairs.items rows.items }
-        ensures { result ≡ table_by (versions_in keys.entry.items values.entry.items pairs.items) rows.items accesses }
+    /// The versions with these keys and values, and what is known of each.
+    pub(crate) fn new(numbered: Numbered<'a>, known: Grouped, accesses: Accesses) -> Self
+        requires { AreVersions numbered.keys.items numbered.values.items numbered.pairs.items known.writers.items known.readers known.followers }
+        ensures { result ≡ table_of (versions_in numbered.entry.keys.items numbered.entry.values.items numbered.entry.pairs.items) known.writers.items known.readers known.followers accesses }
     {
         Versions {
-            keys,
-            values,
-            pairs,
-            rows,
+            keys: numbered.keys,
+            values: numbered.values,
+            pairs: numbered.pairs,
+            writers: known.writers,
+            readers: known.readers,
+            followers: known.followers,
             accesses,
         }
     }
@@ -90,7 +90,7 @@ impl<'a> Versions<'a> {
         requires { number < length self.now.versions }
         ensures { slice_get self.now.writers number ≡ Some result }
     {
-        self.rows[number].writer()
+        self.writers[number].writer()
     }
 
     /// The places of the ok transactions that read the version externally, in order, each once.
@@ -98,7 +98,7 @@ impl<'a> Versions<'a> {
         requires { number < length self.now.versions }
         ensures { slice_get self.now.readers number ≡ Some result.now }
     {
-        self.rows[number].readers()
+        self.readers.get(number)
     }
 
     /// The transactions that install a version behind this one, in the order of their places.
@@ -106,7 +106,7 @@ impl<'a> Versions<'a> {
         requires { number < length self.now.versions }
         ensures { slice_get self.now.followers number ≡ Some result.now }
     {
-        self.rows[number].followers()
+        self.followers.get(number)
     }
 
     /// The numbers of what the transaction at this place reads externally, in order; none where it is not ok.

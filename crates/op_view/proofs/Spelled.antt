@@ -1,6 +1,6 @@
 -- The spelling of a text that is an atom.
 use Rattle.std.proofs.Common.{◌≡◌, ℕ, ℤ, List, Bool, true, cond, Option, Some, None, refl, sym, ◌∙◌, ap, subst}
-use Rattle.std.specs.Option.{MatchOption, IsSome}
+use Rattle.std.specs.Option.{IsSome}
 use Rattle.hist_types.specs.Atoms.{Atom, integer}
 use Rattle.hist_types.specs.AtomTokens.{atom_of_token, int_value, is_64_bit}
 use Rattle.hist_types.specs.Tokens.{ItemKind, Int}
@@ -9,7 +9,7 @@ use Rattle.op_view.specs.declared.spelling.Spelling.TheVariants as spellings
 use Rattle.hist_types.specs.Placed.{IsTokenAlone}
 use Rattle.edn_ops.specs.SourceTexts.{IsAtomText}
 use Rattle.op_view.specs.AtomTexts.{IsTokenOf, IsNumberOf}
-use Rattle.op_view.specs.Spellings.{IsSpelled, kind_spelled, atom_spelled}
+use Rattle.op_view.specs.Spellings.{IsSpelled, IsSpellingOf, kind_spelled, atom_spelled}
 use Rattle.op_view.proofs.KindsByFront.{digits_told}
 use Rattle.op_view.proofs.Tokens.{one_kind}
 
@@ -22,7 +22,7 @@ same_atom a b e = cc
 -- a token that is an atom is spelled in some way
 pub has_spelling :
     (kind : ItemKind) (text : List ℕ) (atom : Atom) (found : Option Spelling)
-    → atom_of_token kind text ≡ Some atom → MatchOption found (atom_of_token kind text ≡ None) (IsSpelled kind text) → IsSome found
+    → atom_of_token kind text ≡ Some atom → IsSpellingOf kind text found → IsSome found
 has_spelling kind text atom None is none = absurd (no_atom atom (sym none ∙ is))
 has_spelling kind text atom (Some spelling) is spelled = refl
 

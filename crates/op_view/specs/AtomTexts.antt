@@ -6,10 +6,20 @@ use Rattle.hist_types.specs.Atoms.{Atom, integer}
 use Rattle.hist_types.specs.AtomTokens.{atom_of_token, int_value, is_64_bit}
 use Rattle.hist_types.specs.Tokens.{Item, ItemKind}
 use Rattle.hist_types.specs.Placed.{IsTokenAlone}
+use Rattle.edn_lex.specs.Kinds.{kind_of}
+use Rattle.edn_lex.specs.declared.types.TokenKind.{TokenKind}
 
 -- the token that takes up a whole text
 abbrev pub whole_token : ItemKind → List ℕ → Item
 whole_token kind text = record { kind = kind; start = 0; bytes = text }
+
+-- The text is one token, of this kind.
+abbrev pub HasTokenAlone : List ℕ → TokenKind → Type 0
+HasTokenAlone text kind = IsTokenAlone (kind_of kind) text
+
+-- The text is no single token.
+abbrev pub HasNoTokenAlone : List ℕ → Type 0
+HasNoTokenAlone text = (kind : ItemKind) → ¬ (IsTokenAlone kind text)
 
 -- The text is one token of this kind, and that token is the atom.
 abbrev pub IsTokenOf : ItemKind → List ℕ → Atom → Type 0

@@ -1,9 +1,10 @@
 -- How atoms are spelled.
-use Rattle.std.specs.Prelude.{◌≡◌, ℕ, List, Some}
+use Rattle.std.specs.Prelude.{◌≡◌, ℕ, List, false, Option, Some, None, MatchOption}
 use Rattle.hist_types.specs.Atoms.{Atom, integer, keyword, string, symbol}
 use Rattle.hist_types.specs.AtomTokens.{atom_of_token, between_quotes}
 use Rattle.hist_types.specs.Tokens.{ItemKind, Int, Keyword, Symbol, Str}
-use Rattle.op_view.specs.Decoding.{content_of}
+use Rattle.op_view.specs.AtomTexts.{IsTokenOf}
+use Rattle.op_view.specs.Decoding.{has_content, content_of}
 use Rattle.op_view.specs.declared.spelling.Spelling.{Spelling}
 use Rattle.op_view.specs.declared.spelling.Spelling.TheVariants as spellings
 
@@ -26,3 +27,16 @@ atom_spelled spellings.Symbol text = symbol text
 pub record IsSpelled (kind : ItemKind) (text : List ℕ) (spelling : Spelling) : Type 0 where
   pub of_kind : kind_spelled spelling ≡ kind
   pub atom : atom_of_token kind text ≡ Some (atom_spelled spelling text)
+
+-- A string's text has an escape that is not known.
+abbrev pub HasNoContent : List ℕ → Type 0
+HasNoContent text = has_content (between_quotes text) ≡ false
+
+-- how a token of this kind with these bytes is spelled, if it is an atom
+abbrev pub IsSpellingOf : ItemKind → List ℕ → Option Spelling → Type 0
+IsSpellingOf kind text found = MatchOption found (atom_of_token kind text ≡ None) (IsSpelled kind text)
+
+-- Whichever kind of token and whichever atom the text is, it is spelled so.
+abbrev pub IsKnownSpelling : List ℕ → Spelling → Type 0
+IsKnownSpelling text spelling =
+    (kind : ItemKind) (atom : Atom) → IsTokenOf kind text atom → IsSpelled kind text spelling

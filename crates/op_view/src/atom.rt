@@ -2,11 +2,8 @@
 
 ghost use Rattle.std.specs.Prelude.{◌≡◌, MatchOption, Some, refl};
 ghost use Rattle.hist_types.specs.Atoms.{Atom as AnAtom, atom_eq, atom_cmp};
-ghost use Rattle.hist_types.specs.Placed.{IsTokenAlone};
 ghost use Rattle.edn_ops.specs.SourceTexts.{IsAtomText};
-ghost use Rattle.op_view.specs.AtomTexts.{number_of};
-ghost use Rattle.hist_types.specs.Tokens.{ItemKind};
-ghost use Rattle.edn_lex.specs.Kinds.{kind_of};
+ghost use Rattle.op_view.specs.AtomTexts.{number_of, HasTokenAlone, HasNoTokenAlone};
 ghost use Rattle.std.specs.Cmp.{partial_equiv_from_equiv, po};
 ghost use Rattle.hist_types.proofs.EdgeOrder.{atom_cmp_total};
 ghost use Rattle.op_view.specs.Hashing.{atom_writes};
@@ -48,7 +45,7 @@ impl<'a> Model for Atom<'a> {
 
 /// The kind of the token that takes up the whole text, if one does.
 fn only_token(text: &[u8]) -> Option<TokenKind>
-    ensures { MatchOption result ((kind : ItemKind) → ¬ (IsTokenAlone kind text.now)) (λ kind. IsTokenAlone (kind_of kind) text.now) }
+    ensures { MatchOption result (HasNoTokenAlone text.now) (HasTokenAlone text.now) }
 {
     let first = Lexer::new(text).next()?;
     let token = first.ok()?;

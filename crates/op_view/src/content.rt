@@ -10,7 +10,7 @@ ghost use Rattle.op_view.specs.Hashing.{content_writes};
 use std::cmp::Ordering;
 use std::hash::Hasher;
 
-/// What stands between the quotes of a string.
+/// What is between the quotes of a string.
 pub(crate) fn between_quotes(text: &[u8]) -> &[u8]
     ensures { result.now ≡ bytes_between_quotes text.now }
 {
@@ -36,11 +36,11 @@ fn escape_value(escape: u8) -> Option<u8>
     }
 }
 
-/// The first byte of the content, and what stands behind its spelling. None at the end, and where the escape is unknown.
-fn split_first(between: &[u8]) -> Option<(u8, &[u8])>
-    ensures { MatchOption result (HasNoByte between.now) (λ x. BeginsWithByte between.now x.0 x.1.now) }
+/// The first byte of the content, and what follows its spelling. None at the end, and where the escape is unknown.
+fn split_first(left: &[u8]) -> Option<(u8, &[u8])>
+    ensures { MatchOption result (HasNoByte left.now) (λ x. BeginsWithByte left.now x.0 x.1.now) }
 {
-    match between {
+    match left {
         [b'\\', escape, behind @ ..] => {
             let byte = escape_value(*escape)?;
             Some((byte, behind))

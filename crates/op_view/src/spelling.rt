@@ -1,16 +1,15 @@
 //! How an atom's text spells it.
 
-ghost use Rattle.std.specs.Prelude.{◌≡◌, true, None, cond, Some, Option, MatchOption, IfSome, false, ℕ, List};
+ghost use Rattle.std.specs.Prelude.{◌≡◌, true, None, cond, Some, Option, MatchOption, IfSome, ℕ, List};
 ghost use Rattle.hist_types.specs.Atoms.{Atom as AnAtom, rank as rank_of_atom};
-ghost use Rattle.hist_types.specs.AtomTokens.{int_value, is_64_bit, atom_of_token, between_quotes as bytes_between_quotes};
-ghost use Rattle.hist_types.specs.Tokens.{ItemKind, without_n as before_n, is_int, Str, begins_with_number};
+ghost use Rattle.hist_types.specs.AtomTokens.{int_value, is_64_bit};
+ghost use Rattle.hist_types.specs.Tokens.{without_n as before_n, is_int, Str, begins_with_number};
 ghost use Rattle.edn_lex.specs.Kinds.{kind_of};
 ghost use Rattle.hist_types.specs.Placed.{IsTokenAlone};
-ghost use Rattle.op_view.specs.Decoding.{has_content};
 ghost use Rattle.edn_ops.specs.SourceTexts.{IsAtomText};
-ghost use Rattle.op_view.specs.AtomTexts.{IsNumberOf, IsTokenOf};
+ghost use Rattle.op_view.specs.AtomTexts.{IsNumberOf};
 ghost use Rattle.op_view.specs.Fronts.{kind_by_front};
-ghost use Rattle.op_view.specs.Spellings.{IsSpelled, atom_spelled};
+ghost use Rattle.op_view.specs.Spellings.{atom_spelled, HasNoContent, IsSpelled, IsSpellingOf, IsKnownSpelling};
 
 use crate::content::{between_quotes, is_content};
 use edn_lex::types::TokenKind;
@@ -23,7 +22,7 @@ pub(crate) enum Spelling {
     /// The number is parsed once, when the atom is made.
     Integer(i64),
     Keyword,
-    /// What stands between the quotes is the content.
+    /// What is between the quotes is the content.
     PlainString,
     /// Some bytes of the content are escaped.
     EscapedString,
@@ -88,7 +87,7 @@ fn number_of(text: &[u8]) -> Option<i64>
 
 /// A string whose escapes are all known.
 fn string_spelling(text: &[u8]) -> Option<Spelling>
-    ensures { MatchOption result (has_content (bytes_between_quotes text.now) ≡ false) (IsSpelled Str text.now) }
+    ensures { MatchOption result (HasNoContent text.now) (IsSpelled Str text.now) }
 {
     let between = between_quotes(text);
     match memchr(b'\\', between) {
@@ -101,7 +100,7 @@ fn string_spelling(text: &[u8]) -> Option<Spelling>
 /// How a text that is one token of this kind spells an atom, if it does.
 pub(crate) fn spelling_of(kind: TokenKind, text: &[u8]) -> Option<Spelling>
     requires { IsTokenAlone (kind_of kind) text.now }
-    ensures { MatchOption result (atom_of_token (kind_of kind) text.now ≡ None) (IsSpelled (kind_of kind) text.now) }
+    ensures { IsSpellingOf (kind_of kind) text.now result }
 {
     match kind {
         TokenKind::Int => Some(Spelling::Integer(number_of(text)?)),
@@ -138,9 +137,9 @@ fn token_kind(text: &[u8]) -> TokenKind
 /// How a text that is known to be an atom spells it.
 pub(crate) fn known_spelling(text: &[u8]) -> Spelling
     requires { (atom : AnAtom) × IsAtomText text.now atom }
-    ensures { (kind : ItemKind) → (atom : AnAtom) → IsTokenOf kind text.now atom → IsSpelled kind text.now result }
+    ensures { IsKnownSpelling text.now result }
 {
-    // Most integers are digits alone, which one pass over them tells.
+    // Most integers are digits alone, as one pass over them shows.
     match number_of_digits(text) {
         Some(number) => Spelling::Integer(number),
         None => spelling_of(token_kind(text), text).unwrap(),

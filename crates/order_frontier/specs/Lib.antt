@@ -4,3 +4,4 @@ pub mod Completions
 pub mod Events
 pub mod Summaries
 pub mod Pairs
+pub mod Latest

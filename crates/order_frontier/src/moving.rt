@@ -2,8 +2,8 @@
 
 ghost use Rattle.std.specs.Prelude.{◌≡◌, ℕ, [], ◌∷◌, ◌++◌, Some, None, OnOk, OnErr, IfOk, not, ◌==◌, nat_lt, nat_eq, filter, if◌then◌else◌};
 ghost use Rattle.std.specs.HashMap.{get};
-ghost use Rattle.std.specs.Option.{option_to_list};
 ghost use Rattle.order_frontier.specs.Completions.{predecessor_of, frontier_after};
+ghost use Rattle.order_frontier.specs.Latest.{last_of, before_next};
 
 use crate::types::{Completed, Predecessor, Predecessors};
 use smallvec::SmallVec;
@@ -37,7 +37,7 @@ impl Moving {
 
     /// The last ok transaction of a process, if there is one.
     pub fn last(&self, alloc: Global, process: u64) -> Result<SmallVec<Predecessor, 1>, AllocError>
-        ensures { IfOk result (λ found. found.items ≡ option_to_list (get nat_eq self.now.last process)) }
+        ensures { IfOk result (λ found. found.items ≡ last_of self.now process) }
     {
         let mut found = SmallVec::new(alloc);
         if let Some(last) = self.last.get(&process) {
@@ -53,7 +53,7 @@ impl Moving {
         process: u64,
         invocation: u64,
     ) -> Result<Predecessors, AllocError>
-        ensures { IfOk result (λ u. u ≡ record { process = process; invocation = invocation; in_process = option_to_list (get nat_eq self.now.last process); in_realtime = self.now.recent.items }) }
+        ensures { IfOk result (λ u. u ≡ before_next self.now process invocation) }
     {
         let in_process = self.last(alloc, process)?;
         let in_realtime = SmallVec::from_slice(alloc, self.recent.as_slice())?;

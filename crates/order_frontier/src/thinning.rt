@@ -5,6 +5,7 @@ ghost use Rattle.std.specs.HashMap.{get};
 ghost use Rattle.std.specs.Option.{option_to_list};
 ghost use Rattle.order_frontier.specs.Completions.{AreKept, AreRising, AreTimely, predecessor_of};
 ghost use Rattle.order_frontier.specs.Predecessors.{AreOfEvents, HasThinned, NoneTwice, name_of, names};
+ghost use Rattle.order_frontier.specs.Latest.{row_next};
 
 use crate::completions::completions;
 use crate::moving::Moving;
@@ -43,7 +44,7 @@ fn predecessors(alloc: Global, done: &[Completed]) -> Result<Vec<Predecessor>, A
 /// last ones.
 fn row_of(alloc: Global, moving: &Moving, txn: &Txn<'_>, taken: usize) -> Result<Row, AllocError>
     requires { length moving.now.recent.items ≤ taken }
-    ensures { IfOk result (λ row. row ≡ record { process = txn.now.process; invocation = txn.now.invocation; in_process = option_to_list (get nat_eq moving.now.last txn.now.process); start = taken - length moving.now.recent.items; end = taken }) }
+    ensures { IfOk result (λ row. row ≡ row_next moving.now txn.now taken) }
 {
     let in_process = moving.last(alloc, txn.process())?;
     let start = taken - moving.frontier().len();

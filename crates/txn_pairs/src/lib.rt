@@ -16,7 +16,7 @@ use std::alloc::Global;
 
 /// The transactions of the events, by one pass over them. They borrow the journal's blocks, and not the prefix.
 ///
-/// Only memory can be refused.
+/// The only error is out of memory.
 pub fn pair<'a>(alloc: Global, prefix: &Prefix<'a>) -> Result<Txns<'a>, Fault>
     ensures ok { IfOk result (λ txns. txns ≡ transactions_of prefix.now) }
     ensures err { IfErr result (λ fault. fault ≡ memory_fault) }

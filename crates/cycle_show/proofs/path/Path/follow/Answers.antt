@@ -12,8 +12,8 @@ pub returns-then-ends_in_order-clause-places : goal.returns-then-ends_in_order-c
 returns-then-ends_in_order-clause-places c =
     let before = get nat_eq c.go_back.new.self.places in
     let after = get nat_eq c.join_last.new.self.places in
-    subst (λ path. HavePlaces after 0 path) (sym c.join_last.ensures.edges)
-    (places_joined after 0 c.go_back.new.self.edges.items c.args.next.now (places_alike before after 0 c.go_back.new.self.edges.items c.go_back.ensures.places c.join_last.ensures.places))
+    subst (λ path. HavePlaces after 0 path) (sym c.join_last.ensures.path)
+    (places_joined after 0 c.go_back.new.self.edges.items c.args.next.now (places_alike before after 0 c.go_back.new.self.edges.items c.go_back.ensures.places (λ transaction. ap (λ places. get nat_eq places transaction) c.join_last.ensures.places)))
 
 pub returns-clause-places : goal.returns-clause-places
 returns-clause-places c =
@@ -24,7 +24,7 @@ returns-clause-places c =
     let before = get nat_eq c.go_back.new.self.places in
     let after = get nat_eq c.insert.new.self in
     let off : IsOff c.from.result (stations path) =
-    subst (λ es. IsOff c.from.result (stations es)) (sym c.go_back.ensures.edges) (path_to_off c.from.result c.args.self.now.edges.items) in
+    subst (λ es. IsOff c.from.result (stations es)) (sym c.go_back.ensures.path) (path_to_off c.from.result c.args.self.now.edges.items) in
     let found : after c.from-2.result ≡ Some (0 + length path) = c.in_ok-insert.ensures.updates.1 ∙ ap Some place in
     let pushed = places_pushed before after 0 path next c.go_back.ensures.places
     (subst (λ n. IsOff n (stations path)) c.from.ensures off)

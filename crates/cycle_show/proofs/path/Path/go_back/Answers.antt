@@ -6,13 +6,13 @@ use Rattle.cycle_show.proofs.Places.{path_to_place, places_before, not_looked_up
 use Rattle.cycle_show.proofs.path.Path.go_back.Goals as goal
 use Rattle.cycle_show.proofs.path.Path.go_back.Goals.{else-place-len-via-then-place-len+else-from-transaction, else-place-len-via-else-place-len}
 
-pub returns-in_default-clause-edges : goal.returns-in_default-clause-edges
-returns-in_default-clause-edges c =
+pub returns-in_default-clause-path : goal.returns-in_default-clause-path
+returns-in_default-clause-path c =
     not_looked_up (get nat_eq c.args.self.now.places) c.args.self.now.edges.items c.args.transaction c.requires
     (sym c.get.ensures.value ∙ sym c.copied.ensures ∙ c.in_default.is)
 
-pub returns-then-from-transaction-clause-edges : goal.returns-then-from-transaction-clause-edges
-returns-then-from-transaction-clause-edges c =
+pub returns-then-from-transaction-clause-path : goal.returns-then-from-transaction-clause-path
+returns-then-from-transaction-clause-path c =
     let path = c.args.self.now.edges.items in
     let below : c.in-Some.place < length path = omega (arith, c.if-place-len.true, c.len.ensures, c.args.self.now.edges.ok.0) in
     c.truncate.ensures.items
@@ -23,11 +23,11 @@ pub returns-then-from-transaction-clause-places : goal.returns-then-from-transac
 returns-then-from-transaction-clause-places c =
     let place_of = get nat_eq c.args.self.now.places in
     let cut : List Edge = c.truncate.new.self.items in
-    let is : cut ≡ path_to c.args.transaction c.args.self.now.edges.items = returns-then-from-transaction-clause-edges c in
+    let is : cut ≡ path_to c.args.transaction c.args.self.now.edges.items = returns-then-from-transaction-clause-path c in
     subst (λ path. HavePlaces place_of 0 path) (sym is) (places_before place_of 0 c.args.transaction c.args.self.now.edges.items c.requires)
 
-pub returns-else-place-len-clause-edges : goal.returns-else-place-len-clause-edges
-returns-else-place-len-clause-edges c =
+pub returns-else-place-len-clause-path : goal.returns-else-place-len-clause-path
+returns-else-place-len-clause-path c =
     let path = c.args.self.now.edges.items in
     let size = c.args.self.now.edges.ok.0 in
     let not_at = not_at_place (get nat_eq c.args.self.now.places) path c.args.transaction c.in-Some.place in

@@ -4,8 +4,8 @@ use Rattle.cycle_show.specs.Paths.{joined}
 use Rattle.cycle_show.proofs.Places.{last_joined_as_set}
 use Rattle.cycle_show.proofs.path.Path.join_last.Goals as goal
 
-pub returns-clause-edges : goal.returns-clause-edges
-returns-clause-edges c =
+pub returns-clause-path : goal.returns-clause-path
+returns-clause-path c =
     let path = c.args.self.now.edges.items in
     let next = c.args.next.now in
     let size : c.len-last.result ≡ length path = c.len-last.ensures ∙ c.args.self.now.edges.ok.0 in

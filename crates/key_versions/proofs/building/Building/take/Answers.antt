@@ -1,5 +1,5 @@
 use Rattle.std.proofs.Common.{◌≡◌, ◌≤◌, ◌∙◌, ◌++◌, ◌∷◌, [], List, All, length, sym, ap, subst}
-use Rattle.key_versions.specs.declared.rows.Access.{Access}
+use Rattle.key_versions.specs.declared.pending.Access.{Access}
 use Rattle.hist_types.specs.Journal.{writes_of}
 use Rattle.hist_types.specs.Transactions.{version_of}
 use Rattle.std.specs.Prelude.{map}
@@ -14,37 +14,37 @@ use Rattle.key_versions.proofs.building.Building.take.Goals as goal
 pub add-requires-clause-reads : goal.add-requires-clause-reads
 add-requires-clause-reads g c =
     let us = versions_of c.take.new.self in
-    let rows : c.grow.new.self.rows.items ≡ grown (length us) c.self.inside.rows.rows.items =
-    c.in_ok-grow.ensures.rows ∙ ap (λ n. grown n c.self.inside.rows.rows.items) c.len.ensures in
-    let enough : length us ≤ length c.grow.new.self.rows.items =
-    subst (λ (xs : List Known). length us ≤ length xs) (sym rows) (grown_enough (length us) c.self.inside.rows.rows.items) in
-    subst (λ (xs : List Access). All (IsWithin (length c.grow.new.self.rows.items)) xs) (sym c.as_slice.ensures)
-    (accesses_within us (read_by c.args.txn.now) c.in_ok-accessed.accessed.reads.items (length c.grow.new.self.rows.items) enough c.in_ok-accessed.ensures.reads)
+    let rows : c.grow.new.self.rows ≡ grown (length us) c.self.inside.rows.rows =
+    c.in_ok-grow.ensures.rows ∙ ap (λ n. grown n c.self.inside.rows.rows) c.len.ensures in
+    let enough : length us ≤ length c.grow.new.self.rows =
+    subst (λ (xs : List Known). length us ≤ length xs) (sym rows) (grown_enough (length us) c.self.inside.rows.rows) in
+    subst (λ (xs : List Access). All (IsWithin (length c.grow.new.self.rows)) xs) (sym c.as_slice.ensures)
+    (accesses_within us (read_by c.args.txn.now) c.in_ok-accessed.accessed.reads.items (length c.grow.new.self.rows) enough c.in_ok-accessed.ensures.reads)
 
 pub add-requires-clause-writes : goal.add-requires-clause-writes
 add-requires-clause-writes g c =
     let us = versions_of c.take.new.self in
-    let rows : c.grow.new.self.rows.items ≡ grown (length us) c.self.inside.rows.rows.items =
-    c.in_ok-grow.ensures.rows ∙ ap (λ n. grown n c.self.inside.rows.rows.items) c.len.ensures in
-    let enough : length us ≤ length c.grow.new.self.rows.items =
-    subst (λ (xs : List Known). length us ≤ length xs) (sym rows) (grown_enough (length us) c.self.inside.rows.rows.items) in
-    subst (λ (xs : List Access). All (IsWithin (length c.grow.new.self.rows.items)) xs) (sym c.as_slice-2.ensures)
-    (accesses_within us (map version_of (writes_of c.args.txn.now.mops)) c.in_ok-accessed.accessed.writes.items (length c.grow.new.self.rows.items) enough c.in_ok-accessed.ensures.writes)
+    let rows : c.grow.new.self.rows ≡ grown (length us) c.self.inside.rows.rows =
+    c.in_ok-grow.ensures.rows ∙ ap (λ n. grown n c.self.inside.rows.rows) c.len.ensures in
+    let enough : length us ≤ length c.grow.new.self.rows =
+    subst (λ (xs : List Known). length us ≤ length xs) (sym rows) (grown_enough (length us) c.self.inside.rows.rows) in
+    subst (λ (xs : List Access). All (IsWithin (length c.grow.new.self.rows)) xs) (sym c.as_slice-2.ensures)
+    (accesses_within us (map version_of (writes_of c.args.txn.now.mops)) c.in_ok-accessed.accessed.writes.items (length c.grow.new.self.rows) enough c.in_ok-accessed.ensures.writes)
 
 pub returns : goal.returns
 returns g c = λ ts is.
     let us = versions_of c.take.new.self in
     let vs = versions_of c.self.inside.numbering in
-    let rows = c.self.inside.rows.rows.items in
+    let rows = c.self.inside.rows.rows in
     let accesses = c.self.inside.rows.accesses in
     let rs = c.in_ok-accessed.accessed.reads.items in
     let ws = c.in_ok-accessed.accessed.writes.items in
-    let grew : c.grow.new.self.rows.items ≡ grown (length us) rows = c.in_ok-grow.ensures.rows ∙ ap (λ n. grown n rows) c.len.ensures in
-    let rows_now : c.add.new.self.rows.items ≡ rows_after (length accesses) rs ws (grown (length us) rows) =
+    let grew : c.grow.new.self.rows ≡ grown (length us) rows = c.in_ok-grow.ensures.rows ∙ ap (λ n. grown n rows) c.len.ensures in
+    let rows_now : c.add.new.self.rows ≡ rows_after (length accesses) rs ws (grown (length us) rows) =
     c.in_ok-add.ensures.rows
-    ∙ ap (λ (as1 : List Accessed). rows_after (length as1) c.as_slice.result.now c.as_slice-2.result.now c.grow.new.self.rows.items) c.in_ok-grow.ensures.accesses
-    ∙ ap (λ (xs : List Access). rows_after (length accesses) xs c.as_slice-2.result.now c.grow.new.self.rows.items) c.as_slice.ensures
-    ∙ ap (λ (xs : List Access). rows_after (length accesses) rs xs c.grow.new.self.rows.items) c.as_slice-2.ensures
+    ∙ ap (λ (as1 : List Accessed). rows_after (length as1) c.as_slice.result.now c.as_slice-2.result.now c.grow.new.self.rows) c.in_ok-grow.ensures.accesses
+    ∙ ap (λ (xs : List Access). rows_after (length accesses) xs c.as_slice-2.result.now c.grow.new.self.rows) c.as_slice.ensures
+    ∙ ap (λ (xs : List Access). rows_after (length accesses) rs xs c.grow.new.self.rows) c.as_slice-2.ensures
     ∙ ap (rows_after (length accesses) rs ws) grew in
     let accesses_now : c.add.new.self.accesses ≡ accesses ++ accessed rs ws ∷ [] =
     c.in_ok-add.ensures.accesses

@@ -1,0 +1,43 @@
+-- The table that is put together from what is known.
+use Rattle.std.proofs.Common.{◌≡◌, ℕ, List, length, map, Option, sym, ◌∙◌, ap}
+use Rattle.std.proofs.lemmas.List.{length-map}
+use Rattle.hist_types.specs.Atoms.{Atom}
+use Rattle.hist_types.specs.Transactions.{Version}
+use Rattle.key_versions.specs.declared.pending.Written.{Written}
+use Rattle.key_versions.specs.declared.types.Writer.{Writer}
+use Rattle.key_versions.specs.declared.types.Follower.{Follower}
+use Rattle.key_versions.specs.Numbering.{AreInRange, version_by, versions_in}
+use Rattle.key_versions.specs.Pending.{writer_in}
+use Rattle.key_versions.specs.Rows.{Known, Accessed}
+use Rattle.key_versions.specs.Tables.{Table}
+use Rattle.key_versions.specs.Views.{table_by, table_of, AreVersions}
+
+abbrev table_with : List Version → List (Option Writer) → List (List ℕ) → List (List Follower) → List Accessed → Table
+table_with versions writers readers followers accesses =
+    record {
+      versions = versions;
+      writers = writers;
+      readers = readers;
+      followers = followers;
+      reads = map (λ (a : Accessed). a.reads) accesses;
+      installs = map (λ (a : Accessed). a.installs) accesses;
+    }
+
+module _ (keys values : List Atom) (pairs : List (ℕ × Option ℕ)) (versions : List Version) (rows : List Known) (writers : List Written) (readers : List (List ℕ)) (followers : List (List Follower)) (numbered : versions_in keys values pairs ≡ versions) (by_writer : map writer_in writers ≡ map (λ (k : Known). k.writer) rows) (by_reader : readers ≡ map (λ (k : Known). k.readers) rows) (by_follower : followers ≡ map (λ (k : Known). k.followers) rows) where
+  pub are_versions : AreInRange keys values pairs → length (map (λ (k : Known). k.writer) rows) ≡ length versions → AreVersions keys values pairs writers readers followers
+  are_versions within count =
+      let count_rows : length rows ≡ length pairs =
+      sym (length-map rows (λ (k : Known). k.writer)) ∙ count ∙ sym (ap length numbered) ∙ length-map pairs (version_by keys values) in
+      record {
+        in_range = within;
+        writer_of_each = sym (length-map writers writer_in) ∙ ap length by_writer ∙ length-map rows (λ (k : Known). k.writer) ∙ count_rows;
+        readers_of_each = ap length by_reader ∙ length-map rows (λ (k : Known). k.readers) ∙ count_rows;
+        followers_of_each = ap length by_follower ∙ length-map rows (λ (k : Known). k.followers) ∙ count_rows;
+      }
+
+  pub table_same : (accesses : List Accessed) → table_of (versions_in keys values pairs) writers readers followers accesses ≡ table_by versions rows accesses
+  table_same accesses =
+      ap (λ vs. table_with vs (map writer_in writers) readers followers accesses) numbered
+      ∙ ap (λ ws. table_with versions ws readers followers accesses) by_writer
+      ∙ ap (λ rs. table_with versions (map (λ (k : Known). k.writer) rows) rs followers accesses) by_reader
+      ∙ ap (λ fs. table_with versions (map (λ (k : Known). k.writer) rows) (map (λ (k : Known). k.readers) rows) fs accesses) by_follower

@@ -1,0 +1,24 @@
+-- What is known of each version while the table is built: writers by number, and readers and followers with the numbers of their versions.
+use Rattle.std.specs.Prelude.{ℕ, ◌+◌, List, [], ◌∷◌, Option, Some, None, true, false, All, length}
+use Rattle.key_versions.specs.declared.pending.Written.{Written}
+use Rattle.key_versions.specs.declared.pending.Written.TheVariants.{Never, Last, Over}
+use Rattle.key_versions.specs.declared.types.Writer.{Writer}
+use Rattle.key_versions.specs.declared.types.Follower.{Follower}
+use Rattle.key_versions.specs.Groups.{group, IsNumbered}
+use Rattle.key_versions.specs.Rows.{Known}
+
+abbrev pub writer_in : Written → Option Writer
+writer_in Never = None
+writer_in (Last txn) = Some (record { txn = txn; over = false })
+writer_in (Over txn) = Some (record { txn = txn; over = true })
+
+-- readers and followers are of versions that have a place among the writers
+abbrev pub AreOfVersions : List Written → List (ℕ × ℕ) → List (ℕ × Follower) → Type 0
+AreOfVersions ws readers followers =
+    All (IsNumbered (length ws)) readers × All (IsNumbered (length ws)) followers
+
+-- what is known of the versions from a number on
+abbrev pub known_from : ℕ → List Written → List (ℕ × ℕ) → List (ℕ × Follower) → List Known
+known_from first [] readers followers = []
+known_from first (w ∷ ws) readers followers =
+    record { writer = writer_in w; readers = group first readers; followers = group first followers } ∷ known_from (first + 1) ws readers followers

@@ -1,0 +1,175 @@
+//! What is known of each version while transactions are taken, and how it is put together.
+
+ghost use Rattle.std.specs.Prelude.{◌≡◌, ◌<◌, ◌++◌, ◌∷◌, [], Some, length, map, IfOk, OnOk};
+ghost use Rattle.std.specs.Option.{option_or};
+ghost use Rattle.key_versions.specs.Pending.{writer_in};
+ghost use Rattle.key_versions.specs.Rows.{Known, change, is_behind, unknown, with_follower, with_place, with_reader, with_writer};
+
+use crate::groups::Groups;
+use crate::types::{Follower, Writer};
+use std::alloc::{AllocError, Global};
+use std::marker::Model;
+
+/// A version that a transaction reads or writes, by number, and the nil version of its key.
+#[derive(Clone, Copy, Debug, Default, PartialEq, Eq)]
+pub(crate) struct Access {
+    pub nil: u32,
+    pub version: u32,
+}
+
+impl Access {
+    /// Whether a version that the transaction installs follows this one, which it reads. What follows nil is known without reads.
+    fn is_followed_by(self, install: Access) -> bool
+        ensures { result ≡ is_behind self install }
+    {
+        self.version != self.nil && install.nil == self.nil && install.version != self.version
+    }
+}
+
+/// Who wrote a version. It takes 8 bytes, where an optional `Writer` takes 12.
+#[derive(Clone, Copy, Debug, PartialEq, Eq)]
+pub(crate) enum Written {
+    Never,
+    /// The transaction didn't write the key again.
+    Last(u32),
+    /// It did.
+    Over(u32),
+}
+
+impl Written {
+    pub fn writer(self) -> Option<Writer>
+        ensures { result ≡ writer_in self }
+    {
+        match self {
+            Written::Never => None,
+            Written::Last(txn) => Some(Writer { txn, over: false }),
+            Written::Over(txn) => Some(Writer { txn, over: true }),
+        }
+    }
+
+    /// Only the first writer is kept.
+    fn or(self, writer: Writer) -> Self
+        ensures { writer_in result ≡ option_or (writer_in self) (Some writer) }
+    {
+        match self {
+            Written::Never if writer.over => Written::Over(writer.txn),
+            Written::Never => Written::Last(writer.txn),
+            written => written,
+        }
+    }
+}
+
+/// What is known of each version so far. Readers and followers come in the order of their places.
+#[derive(Drop)]
+pub(crate) struct Pending {
+    writers: Vec<Written>,
+    /// A version, and the place of a transaction that reads it.
+    readers: Vec<(u32, u32)>,
+    /// A version, and what follows it.
+    followers: Vec<(u32, Follower)>,
+}
+
+impl Model for Pending {
+    ghost use Rattle.std.specs.Prelude.{List};
+    ghost use Rattle.key_versions.specs.Pending.{known_from, AreOfVersions};
+    ghost use Rattle.key_versions.specs.Rows.{Known};
+
+    ghost Value = { List Known };
+
+    ghost view = { λ p. known_from 0 p.writers.items p.readers.items p.followers.items };
+
+    ghost invariant = { λ p. AreOfVersions p.writers.items p.readers.items p.followers.items };
+}
+
+/// What is known of each version, by its number.
+#[derive(Drop)]
+pub(crate) struct Grouped {
+    pub writers: Vec<Written>,
+    pub readers: Groups<u32>,
+    pub followers: Groups<Follower>,
+}
+
+impl Pending {
+    /// No version yet.
+    pub fn new(alloc: Global) -> Self
+        ensures { result ≡ [] }
+    {
+        Pending {
+            writers: Vec::new(alloc),
+            readers: Vec::new(alloc),
+            followers: Vec::new(alloc),
+        }
+    }
+
+    /// How many versions there are.
+    pub fn len(&self) -> usize
+        ensures { result ≡ length self.now }
+    {
+        self.writers.len()
+    }
+
+    /// Adds a version of which nothing is known.
+    pub fn add(&mut self) -> Result<(), AllocError>
+        ensures { OnOk result (self.new ≡ self.old ++ unknown ∷ []) }
+    {
+        self.writers.push(Written::Never)?;
+        Ok(())
+    }
+
+    pub fn write(&mut self, version: u32, writer: Writer)
+        requires { version < length self.old }
+        ensures { self.new ≡ change (with_writer writer) version self.old }
+    {
+        self.writers[version as usize] = self.writers[version as usize].or(writer);
+    }
+
+    pub fn follow(&mut self, version: u32, follower: Follower) -> Result<(), AllocError>
+        requires { version < length self.old }
+        ensures { OnOk result (self.new ≡ change (with_follower follower) version self.old) }
+    {
+        self.followers.push((version, follower))?;
+        Ok(())
+    }
+
+    fn add_reader(&mut self, version: u32, place: u32) -> Result<(), AllocError>
+        requires { version < length self.old }
+        ensures { OnOk result (self.new ≡ change (with_place place) version self.old) }
+    {
+        self.readers.push((version, place))?;
+        Ok(())
+    }
+
+    /// The transaction at the place reads the version. What it installs follows; behind nil that is known already.
+    pub fn read(&mut self, place: u32, read: Access, installs: &[Access]) -> Result<(), AllocError>
+        requires { read.version < length self.old }
+        ensures { OnOk result (self.new ≡ change (with_reader place read installs.now) read.version self.old) }
+    {
+        self.add_reader(read.version, place)?;
+        for install in installs {
+            if read.is_followed_by(*install) {
+                self.follow(
+                    read.version,
+                    Follower {
+                        txn: place,
+                        version: install.version,
+                    },
+                )?;
+            }
+        }
+        Ok(())
+    }
+
+    /// Puts together what is known of each version.
+    pub fn finish(self, alloc: Global) -> Result<Grouped, AllocError>
+        ensures writers { IfOk result (λ g. map writer_in g.writers.items ≡ map (λ (k : Known). k.writer) self) }
+        ensures readers { IfOk result (λ g. g.readers ≡ map (λ (k : Known). k.readers) self) }
+        ensures followers { IfOk result (λ g. g.followers ≡ map (λ (k : Known). k.followers) self) }
+    {
+        let versions = self.writers.len();
+        Ok(Grouped {
+            readers: Groups::of(alloc, versions, self.readers.as_slice())?,
+            followers: Groups::of(alloc, versions, self.followers.as_slice())?,
+            writers: self.writers,
+        })
+    }
+}
