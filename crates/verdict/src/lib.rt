@@ -3,6 +3,9 @@
 
 ghost use Rattle.std.specs.Prelude.{◌≡◌, IfOk, IfErr, OnOk, OnErr};
 ghost use Rattle.hist_types.specs.Refusals.{memory_fault};
+ghost use Rattle.key_versions.specs.Tables.{IsTableOf};
+ghost use Rattle.order_frontier.specs.Predecessors.{AreOfEvents};
+ghost use Rattle.verdict.specs.Lowest.{IsThinnedOrder};
 ghost use Rattle.verdict.specs.Pieces.{HasTaken, HasFailedBehind};
 ghost use Rattle.verdict.specs.Verdicts.{IsVerdictOf, report_lines};
 
@@ -23,15 +26,20 @@ use dep_edges::edges;
 use hist_types::device::{Failed, Sink};
 use hist_types::types::Fault;
 use journal_core::prefix::Prefix;
+use key_versions::table::Versions;
 use key_versions::versions;
+use order_frontier::thin;
+use order_frontier::types::Order;
 use std::alloc::Global;
 use std::hash::BuildHasher;
+use std::thread::{Threads, join};
 use txn_pairs::pair;
 
 /// The verdict of the events. It borrows the journal's blocks, and not the prefix. It doesn't depend on the hasher.
 ///
 /// Only memory can run out.
-pub fn verdict<'a, S: BuildHasher + Copy>(
+pub fn verdict<'a, R: Threads + Sync, S: BuildHasher + Copy>(
+    rt: &R,
     alloc: Global,
     prefix: &Prefix<'a>,
     hasher: S,
@@ -41,12 +49,25 @@ pub fn verdict<'a, S: BuildHasher + Copy>(
 {
     let events = prefix.events();
     let txns = pair(alloc, prefix)?;
-    let versions = versions(alloc, &txns, hasher)?;
+    let (order, versions) = join(
+        rt,
+        || -> Result<Order, Fault>
+            requires { AreOfEvents txns.now }
+            ensures ok { IfOk result (IsThinnedOrder txns.entry.now) }
+            ensures err { IfErr result (λ fault. fault ≡ memory_fault) }
+        { thin(alloc, &txns) },
+        || -> Result<Versions<'_>, Fault>
+            ensures ok { IfOk result (IsTableOf txns.entry.now) }
+            ensures err { IfErr result (λ fault. fault ≡ memory_fault) }
+        { versions(alloc, &txns, hasher) },
+    );
+    let order = order?;
+    let versions = versions?;
     let deps = edges(alloc, &txns, &versions)?;
     let report = Report {
         prefix: events,
         txns: txns.as_slice().len() as u64,
-        findings: findings_of(alloc, &txns, &deps)?,
+        findings: findings_of(rt, alloc, &txns, &deps, &order)?,
         g1a: deps.g1a(),
         g1b: deps.g1b(),
         stray: deps.stray(),
