@@ -1,11 +1,9 @@
 //! Searches for the lowest level of each phenomenon that cycles show.
 
 ghost use Rattle.std.specs.Prelude.{◌≡◌, IfOk, IfErr};
-ghost use Rattle.std.specs.Thread.{IsSync};
 ghost use Rattle.dep_edges.specs.Histories.{AreOfHistory};
 ghost use Rattle.hist_types.specs.Refusals.{memory_fault};
 ghost use Rattle.hist_types.specs.Witness.{IsFinding};
-ghost use Rattle.hist_types.specs.declared.types.Phenomenon.TheVariants.{G0, G1c, GSingle, G2Item};
 ghost use Rattle.verdict.specs.Lowest.{IsThinnedOrder, IsThinned, IsLowest, AreFindingsOfTwo};
 ghost use Rattle.verdict.specs.Verdicts.{AreFindings};
 
@@ -102,16 +100,8 @@ fn find_two<'a, R: Threads + Sync>(
 {
     let (found, also) = join(
         rt,
-        || -> Result<Option<Finding<'_>>, Fault>
-            requires { IsThinned graph.now }
-            ensures ok { IfOk result (IsFinding first graph.entry.now.txns) }
-            ensures err { IfErr result (λ fault. fault ≡ memory_fault) }
-        { find_phenomenon(alloc, graph, first) },
-        || -> Result<Option<Finding<'_>>, Fault>
-            requires { IsThinned graph.now }
-            ensures ok { IfOk result (IsFinding second graph.entry.now.txns) }
-            ensures err { IfErr result (λ fault. fault ≡ memory_fault) }
-        { find_phenomenon(alloc, graph, second) },
+        || find_phenomenon(alloc, graph, first),
+        || find_phenomenon(alloc, graph, second),
     );
     Ok((found?, also?))
 }
@@ -132,16 +122,8 @@ fn find_each<'a, R: Threads + Sync>(
     }
     let (dependencies, anti_dependencies) = join(
         rt,
-        || -> Result<(Option<Finding<'_>>, Option<Finding<'_>>), Fault>
-            requires { IsSync R.row × IsThinned graph.now }
-            ensures ok { IfOk result (AreFindingsOfTwo G0 G1c graph.entry.now.txns) }
-            ensures err { IfErr result (λ fault. fault ≡ memory_fault) }
-        { find_two(rt, alloc, &graph, Phenomenon::G0, Phenomenon::G1c) },
-        || -> Result<(Option<Finding<'_>>, Option<Finding<'_>>), Fault>
-            requires { IsSync R.row × IsThinned graph.now }
-            ensures ok { IfOk result (AreFindingsOfTwo GSingle G2Item graph.entry.now.txns) }
-            ensures err { IfErr result (λ fault. fault ≡ memory_fault) }
-        { find_two(rt, alloc, &graph, Phenomenon::GSingle, Phenomenon::G2Item) },
+        || find_two(rt, alloc, &graph, Phenomenon::G0, Phenomenon::G1c),
+        || find_two(rt, alloc, &graph, Phenomenon::GSingle, Phenomenon::G2Item),
     );
     let (g0, g1c) = dependencies?;
     let (single, item) = anti_dependencies?;

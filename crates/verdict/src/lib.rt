@@ -3,9 +3,6 @@
 
 ghost use Rattle.std.specs.Prelude.{◌≡◌, IfOk, IfErr, OnOk, OnErr};
 ghost use Rattle.hist_types.specs.Refusals.{memory_fault};
-ghost use Rattle.key_versions.specs.Tables.{IsTableOf};
-ghost use Rattle.order_frontier.specs.Predecessors.{AreOfEvents};
-ghost use Rattle.verdict.specs.Lowest.{IsThinnedOrder};
 ghost use Rattle.verdict.specs.Pieces.{HasTaken, HasFailedBehind};
 ghost use Rattle.verdict.specs.Verdicts.{IsVerdictOf, report_lines};
 
@@ -26,10 +23,8 @@ use dep_edges::edges;
 use hist_types::device::{Failed, Sink};
 use hist_types::types::Fault;
 use journal_core::prefix::Prefix;
-use key_versions::table::Versions;
 use key_versions::versions;
 use order_frontier::thin;
-use order_frontier::types::Order;
 use std::alloc::Global;
 use std::hash::BuildHasher;
 use std::thread::{Threads, join};
@@ -49,18 +44,7 @@ pub fn verdict<'a, R: Threads + Sync, S: BuildHasher + Copy>(
 {
     let events = prefix.events();
     let txns = pair(alloc, prefix)?;
-    let (order, versions) = join(
-        rt,
-        || -> Result<Order, Fault>
-            requires { AreOfEvents txns.now }
-            ensures ok { IfOk result (IsThinnedOrder txns.entry.now) }
-            ensures err { IfErr result (λ fault. fault ≡ memory_fault) }
-        { thin(alloc, &txns) },
-        || -> Result<Versions<'_>, Fault>
-            ensures ok { IfOk result (IsTableOf txns.entry.now) }
-            ensures err { IfErr result (λ fault. fault ≡ memory_fault) }
-        { versions(alloc, &txns, hasher) },
-    );
+    let (order, versions) = join(rt, || thin(alloc, &txns), || versions(alloc, &txns, hasher));
     let order = order?;
     let versions = versions?;
     let deps = edges(alloc, &txns, &versions)?;
