@@ -46,23 +46,23 @@ fn read_in_two(
     read_behind(alloc, text, parts)
 }
 
-/// How many operations the blocks have.
-fn counted(blocks: &[Block]) -> usize {
+/// How many operations were read, unless there was a fault.
+fn count(read: &Result<Vec<Block>, Fault>) -> Option<usize> {
+    let Ok(blocks) = read else {
+        return None;
+    };
     let mut count: usize = 0;
     for block in blocks {
         count = count.saturating_add(block.len());
     }
-    count
+    Some(count)
 }
 
 #[test]
 fn lines_in_two_parts(rt: HostRuntime) {
     for start in 0..LINES.len() {
         let read = read_in_two(&rt, rt.alloc(), LINES, start);
-        assert!(&rt;
-            matches!(read, Ok(blocks) if counted(&blocks) == 3),
-            "from {start}"
-        );
+        assert_eq!(&rt; count(&read), Some(3), "from {start}");
     }
 }
 
@@ -70,10 +70,7 @@ fn lines_in_two_parts(rt: HostRuntime) {
 fn a_list_in_two_parts(rt: HostRuntime) {
     for start in 0..LIST.len() {
         let read = read_in_two(&rt, rt.alloc(), LIST, start);
-        assert!(&rt;
-            matches!(read, Ok(blocks) if counted(&blocks) == 2),
-            "from {start}"
-        );
+        assert_eq!(&rt; count(&read), Some(2), "from {start}");
     }
 }
 
@@ -91,7 +88,7 @@ fn a_fault_in_two_parts(rt: HostRuntime) {
 #[test]
 fn texts_of_one_part(rt: HostRuntime) {
     let read = read_blocks(&rt, rt.alloc(), LINES);
-    assert!(&rt; matches!(read, Ok(blocks) if counted(&blocks) == 3));
+    assert_eq!(&rt; count(&read), Some(3));
     let read = read_blocks(&rt, rt.alloc(), FAULTY);
     assert!(&rt; matches!(read, Err(fault) if fault == FAULT));
 }
