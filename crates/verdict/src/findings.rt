@@ -4,7 +4,7 @@ ghost use Rattle.std.specs.Prelude.{◌≡◌, IfOk, IfErr};
 ghost use Rattle.dep_edges.specs.Histories.{AreOfHistory};
 ghost use Rattle.hist_types.specs.Refusals.{memory_fault};
 ghost use Rattle.hist_types.specs.Witness.{IsFinding};
-ghost use Rattle.verdict.specs.Lowest.{IsThinnedOrder, IsThinned, IsLowest, AreFindingsOfTwo};
+ghost use Rattle.verdict.specs.Lowest.{IsThinned, IsLowest};
 ghost use Rattle.verdict.specs.Verdicts.{AreFindings};
 
 use crate::report::{Finding, Findings};
@@ -14,10 +14,9 @@ use cycle_show::tighten;
 use dep_edges::deps::Deps;
 use edge_graph::graph::Graph;
 use hist_types::types::{Fault, Level, Phenomenon};
-use order_frontier::types::Order;
+use order_frontier::thin;
 use std::alloc::Global;
 use std::marker::Model;
-use std::thread::{Threads, join};
 use txn_pairs::types::Txns;
 
 /// The lowest level of a phenomenon, with a closed walk that shows it there.
@@ -86,32 +85,8 @@ fn find_phenomenon<'a>(
     }))
 }
 
-/// What is found of two phenomena, each searched for by a thread of its own where one can be made.
-fn find_two<'a, R: Threads + Sync>(
-    rt: &R,
-    alloc: Global,
-    graph: &RankedGraph<'_, '_, '_, 'a>,
-    first: Phenomenon,
-    second: Phenomenon,
-) -> Result<(Option<Finding<'a>>, Option<Finding<'a>>), Fault>
-    requires { IsThinned graph.now }
-    ensures ok { IfOk result (AreFindingsOfTwo first second graph.now.txns) }
-    ensures err { IfErr result (λ fault. fault ≡ memory_fault) }
-{
-    let (found, also) = join(
-        rt,
-        || find_phenomenon(alloc, graph, first),
-        || find_phenomenon(alloc, graph, second),
-    );
-    Ok((found?, also?))
-}
-
-/// What is found of each phenomenon, searched for by as many threads.
-fn find_each<'a, R: Threads + Sync>(
-    rt: &R,
-    alloc: Global,
-    graph: &Graph<'_, '_, 'a>,
-) -> Result<Findings<'a>, Fault>
+/// What is found of each phenomenon.
+fn find_each<'a>(alloc: Global, graph: &Graph<'_, '_, 'a>) -> Result<Findings<'a>, Fault>
     requires { IsThinned graph.now }
     ensures ok { IfOk result (AreFindings graph.now.txns) }
     ensures err { IfErr result (λ fault. fault ≡ memory_fault) }
@@ -120,35 +95,26 @@ fn find_each<'a, R: Threads + Sync>(
     if graph.rules_out_cycles() {
         return Ok(Findings::none());
     }
-    let (dependencies, anti_dependencies) = join(
-        rt,
-        || find_two(rt, alloc, &graph, Phenomenon::G0, Phenomenon::G1c),
-        || find_two(rt, alloc, &graph, Phenomenon::GSingle, Phenomenon::G2Item),
-    );
-    let (g0, g1c) = dependencies?;
-    let (single, item) = anti_dependencies?;
     Ok(Findings {
-        g0,
-        g1c,
-        single,
-        item,
+        g0: find_phenomenon(alloc, &graph, Phenomenon::G0)?,
+        g1c: find_phenomenon(alloc, &graph, Phenomenon::G1c)?,
+        single: find_phenomenon(alloc, &graph, Phenomenon::GSingle)?,
+        item: find_phenomenon(alloc, &graph, Phenomenon::G2Item)?,
     })
 }
 
 /// The graph of a history over its thinned order, and what is found in it.
-pub fn findings_of<'a, R: Threads + Sync>(
-    rt: &R,
+pub fn findings_of<'a>(
     alloc: Global,
     txns: &Txns<'a>,
     deps: &Deps<'_, 'a>,
-    order: &Order,
 ) -> Result<Findings<'a>, Fault>
     requires history { AreOfHistory txns.now }
     requires deps { deps.now ≡ txns.now }
-    requires order { IsThinnedOrder txns.now order.now }
     ensures ok { IfOk result (AreFindings txns.now) }
     ensures err { IfErr result (λ fault. fault ≡ memory_fault) }
 {
-    let graph = Graph::new(alloc, deps, order)?;
-    find_each(rt, alloc, &graph)
+    let order = thin(alloc, txns)?;
+    let graph = Graph::new(alloc, deps, &order)?;
+    find_each(alloc, &graph)
 }

@@ -24,17 +24,14 @@ use hist_types::device::{Failed, Sink};
 use hist_types::types::Fault;
 use journal_core::prefix::Prefix;
 use key_versions::versions;
-use order_frontier::thin;
 use std::alloc::Global;
 use std::hash::BuildHasher;
-use std::thread::{Threads, join};
 use txn_pairs::pair;
 
 /// The verdict of the events. It borrows the journal's blocks, and not the prefix. It doesn't depend on the hasher.
 ///
 /// Only memory can run out.
-pub fn verdict<'a, R: Threads + Sync, S: BuildHasher + Copy>(
-    rt: &R,
+pub fn verdict<'a, S: BuildHasher + Copy>(
     alloc: Global,
     prefix: &Prefix<'a>,
     hasher: S,
@@ -44,14 +41,12 @@ pub fn verdict<'a, R: Threads + Sync, S: BuildHasher + Copy>(
 {
     let events = prefix.events();
     let txns = pair(alloc, prefix)?;
-    let (order, versions) = join(rt, || thin(alloc, &txns), || versions(alloc, &txns, hasher));
-    let order = order?;
-    let versions = versions?;
+    let versions = versions(alloc, &txns, hasher)?;
     let deps = edges(alloc, &txns, &versions)?;
     let report = Report {
         prefix: events,
         txns: txns.as_slice().len() as u64,
-        findings: findings_of(rt, alloc, &txns, &deps, &order)?,
+        findings: findings_of(alloc, &txns, &deps)?,
         g1a: deps.g1a(),
         g1b: deps.g1b(),
         stray: deps.stray(),
