@@ -7,6 +7,4 @@ pub mod ranked_graph;
 mod ranking;
 mod settle;
 mod sharing;
-#[cfg(test)]
-mod tests;
 pub mod types;

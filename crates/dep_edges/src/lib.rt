@@ -11,8 +11,6 @@ pub mod deps;
 pub mod history;
 mod leaving;
 mod nodes;
-#[cfg(test)]
-mod tests;
 pub mod types;
 
 use crate::deps::Deps;

@@ -7,6 +7,4 @@ pub mod laws;
 mod layout;
 mod orders;
 mod rows;
-#[cfg(test)]
-mod tests;
 pub mod types;

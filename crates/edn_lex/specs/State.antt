@@ -23,9 +23,13 @@ state_code =
     (λ p. record { text = p.0; offset = p.1.0; closers = p.1.1.0; ended = p.1.1.1 })
     (λ _. refl)
 
+-- a lexer at this offset, where nothing is open
+abbrev pub state_at : List ℕ → ℕ → State
+state_at text offset = record { text = text; offset = offset; closers = []; ended = false }
+
 -- a lexer that has given nothing yet
 abbrev pub state_at_start : List ℕ → State
-state_at_start text = record { text = text; offset = 0; closers = []; ended = false }
+state_at_start text = state_at text 0
 
 -- the text that has not been passed
 abbrev pub left : State → List ℕ

@@ -2,11 +2,11 @@
 
 ghost use Rattle.std.specs.Prelude.{◌≡◌, ◌<◌, length, drop, get_or, false, List, Option, IsNone, IfSome, MatchOption, ◌≤◌};
 ghost use Rattle.hist_types.specs.Bytes.{is_blank as is_blank_byte};
-ghost use Rattle.hist_types.specs.Tokens.{nesting_refusal, open_after, closer_of, byte_fault, Item, HasTokens};
+ghost use Rattle.hist_types.specs.Tokens.{nesting_refusal, open_after, closer_of, byte_fault, Item, HasTokens, HasTokensFrom};
 ghost use Rattle.hist_types.specs.declared.types.Fault.{Fault};
 ghost use Rattle.edn_lex.specs.Pieces.{kind_of_piece};
 ghost use Rattle.edn_lex.specs.Collections.{closer_byte, closers_of};
-ghost use Rattle.edn_lex.specs.State.{state_at_start, Rest, Passes};
+ghost use Rattle.edn_lex.specs.State.{state_at_start, state_at, Rest, Passes};
 ghost use Rattle.edn_lex.specs.Ahead.{HasGivenLone, HasGivenTriple, LooksAhead, LooksAheadInMap};
 
 use crate::ahead::{Triple, lone_token, three_tokens};
@@ -124,9 +124,19 @@ impl<'a> Lexer<'a> {
         ensures rest { (tokens : List Item) (ending : Option Fault) → Rest result tokens ending → HasTokens text.now tokens ending }
         ensures all { (tokens : List Item) (ending : Option Fault) → HasTokens text.now tokens ending → Rest result tokens ending }
     {
+        Lexer::at(text, 0)
+    }
+
+    /// A lexer that begins at this offset, as if nothing stood before it. Offsets count from the front of the text all the same.
+    pub fn at(text: &'a [u8], offset: usize) -> Self
+        requires { offset ≤ length text.now }
+        ensures start { result ≡ state_at text.now offset }
+        ensures rest { (tokens : List Item) (ending : Option Fault) → Rest result tokens ending → HasTokensFrom offset text.now tokens ending }
+        ensures all { (tokens : List Item) (ending : Option Fault) → HasTokensFrom offset text.now tokens ending → Rest result tokens ending }
+    {
         Lexer {
             text,
-            offset: 0,
+            offset,
             collections: ArrayVec::new(),
             ended: false,
         }
@@ -137,6 +147,18 @@ impl<'a> Lexer<'a> {
         ensures { result.now ≡ self.now.text }
     {
         self.text
+    }
+
+    /// The offset up to which the text has been passed: none after a fault, or where a collection is open.
+    pub fn top_offset(&self) -> Option<usize>
+        ensures at { IfSome result (λ offset. self.now ≡ state_at self.now.text offset) }
+        ensures fits { IfSome result (λ offset. offset ≤ length self.now.text) }
+    {
+        if self.ended || !self.collections.is_empty() {
+            None
+        } else {
+            Some(self.offset)
+        }
     }
 
     /// A lexer at the same place of the same text.

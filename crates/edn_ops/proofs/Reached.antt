@@ -1,15 +1,15 @@
 -- A reader on its way through its text: an operation that it reads is in the text.
-use Rattle.std.proofs.Common.{◌≡◌, ℕ, List, [], ◌∷◌, ◌++◌, Bool, true, false, not, Option, Some, None, Ok, IfSome, refl, sym, ◌∙◌, ap, subst, arith, inl}
+use Rattle.std.proofs.Common.{◌≡◌, ℕ, ◌≤◌, length, List, [], ◌∷◌, ◌++◌, Bool, true, false, not, Option, Some, None, Ok, IfSome, refl, sym, ◌∙◌, ap, subst, arith, inl}
 use Rattle.std.specs.Option.{is_some}
 use Rattle.std.proofs.lemmas.List.Elements.{Contains-append_left, Contains-append_right}
 use Rattle.hist_types.specs.Entries.{Entry, operation, PlacedOperation}
 use Rattle.hist_types.specs.Forms.{Open}
-use Rattle.hist_types.specs.Reading.{Reads, reading_from, nothing_open}
+use Rattle.hist_types.specs.Reading.{ReadsFrom, reading_from, nothing_open}
 use Rattle.hist_types.specs.Tokens.{Item}
 use Rattle.hist_types.specs.declared.types.Fault.{Fault}
-use Rattle.hist_types.proofs.MapAlone.{read_alone}
+use Rattle.hist_types.proofs.MapAlone.{read_alone_from}
 use Rattle.hist_types.proofs.Members.{Contains_from_in}
-use Rattle.edn_lex.specs.State.{State, Rest, state_at_start}
+use Rattle.edn_lex.specs.State.{State, Rest, state_at}
 use Rattle.edn_lex.specs.declared.types.Token.{Token}
 use Rattle.edn_lex.proofs.Exists.{Rest-exists, Rest-unique}
 use Rattle.edn_ops.specs.declared.reader.Place.{Place}
@@ -22,43 +22,56 @@ use Rattle.edn_ops.proofs.Steps.{Leads-refl}
 
 -- ---- from place to place
 
-reached-start : (text : List ℕ) (s : State) → s ≡ state_at_start text → IsReached s None
-reached-start text s start =
-    subst (λ (t : State). IsReached t None) (sym start) ([], λ o is. (o, is, Leads-refl (state_at_start text) o))
+reached-at : (text : List ℕ) (offset : ℕ) (s : State) → offset ≤ length text → s ≡ state_at text offset → IsReached s None
+reached-at text offset s low start =
+    let here : IsReached (state_at text offset) None = record {
+      from = offset;
+      low = low;
+      given = [];
+      goes = λ o is. (o, is, Leads-refl (state_at text offset) o);
+    } in
+    subst (λ (t : State). IsReached t None) (sym start) here
 
 reached-text : (s t : State) (list list' : Option Token) (es : List Entry) → IsReached s list → Goes s list es t list' → t.text ≡ s.text
 reached-text s t list list' es r goes =
-    let x = r.1 nothing_open (refl, refl) in
+    let x = r.goes nothing_open (refl, refl) in
     let y = goes x.0 x.1 in
     y.2.text
 
 reached-on : (s t : State) (list list' : Option Token) (es : List Entry) → IsReached s list → Goes s list es t list' → IsReached t list'
 reached-on s t list list' es r goes =
-    let P : List ℕ → Type 0 = λ text. Goes (state_at_start text) None (r.0 ++ es) t list' in
-    (r.0 ++ es, subst P (sym (reached-text s t list list' es r goes)) (Goes-append (state_at_start s.text) s t None list list' r.0 es r.1 goes))
+    let same = sym (reached-text s t list list' es r goes) in
+    let P : List ℕ → Type 0 = λ text. Goes (state_at text r.from) None (r.given ++ es) t list' in
+    record {
+      from = r.from;
+      low = subst (λ (text : List ℕ). r.from ≤ length text) same r.low;
+      given = r.given ++ es;
+      goes = subst P same (Goes-append (state_at s.text r.from) s t None list list' r.given es r.goes goes);
+    }
 
 reached-shape :
     (s t : State) (list list' : Option Token) (before : List Entry) (read : PlacedOperation) (shape : OpShape) →
     IsReached s list → Goes s list (before ++ operation read ∷ []) t list' → IsShapeOf shape read → IsShapeIn s.text shape
 reached-shape s t list list' before read shape r goes says =
     let es = before ++ operation read ∷ [] in
-    let all = Goes-append (state_at_start s.text) s t None list list' r.0 es r.1 goes in
+    let all = Goes-append (state_at s.text r.from) s t None list list' r.given es r.goes goes in
     let x = all nothing_open (refl, refl) in
-    let start = Rest-exists (state_at_start s.text) in
+    let start = Rest-exists (state_at s.text r.from) in
     let y = x.2.reads start.0 start.1 start.2 in
     let later = reading_from x.0 y.0 start.1 in
-    let reads : Reads s.text ((r.0 ++ es) ++ later.entries) later.fault = (start.0, start.1, start.2, y.2) in
+    let reads : ReadsFrom r.from s.text ((r.given ++ es) ++ later.entries) later.fault = (start.0, start.1, start.2, y.2) in
     let last = Contains_from_in (operation read) (operation read ∷ []) (inl refl) in
-    let among = Contains-append_left (r.0 ++ es) later.entries (operation read)
-    (Contains-append_right r.0 es (operation read) (Contains-append_right before (operation read ∷ []) (operation read) last)) in
-    (read, read_alone s.text ((r.0 ++ es) ++ later.entries) later.fault read reads among, says)
+    let among = Contains-append_left (r.given ++ es) later.entries (operation read)
+    (Contains-append_right r.given es (operation read) (Contains-append_right before (operation read ∷ []) (operation read) last)) in
+    (read, read_alone_from s.text r.from ((r.given ++ es) ++ later.entries) later.fault read r.low reads among, says)
 
 -- ---- readers
 
-pub up_to-start : (text : List ℕ) (p : Place) → p.lexer ≡ state_at_start text → p.list ≡ None → IsReadUpTo p false
-up_to-start text p start none =
+pub up_to-at :
+    (text : List ℕ) (offset : ℕ) (p : Place) → offset ≤ length text → p.lexer ≡ state_at text offset → p.list ≡ None → IsReadUpTo p false
+up_to-at text offset p low start none =
     record {
-      reached = λ _. subst (λ (list : Option Token). IsReached p.lexer list) (sym none) (reached-start text p.lexer start);
+      reached = λ _. subst (λ (list : Option Token). IsReached p.lexer list) (sym none) (reached-at text offset p.lexer low start);
       closed = λ e. none;
       nothing_left = λ e. absurd (let clash : false ≡ true = e in cc);
     }

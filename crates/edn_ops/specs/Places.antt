@@ -1,9 +1,9 @@
 -- What a call that reads the next operation gives.
-use Rattle.std.specs.Prelude.{◌≡◌, ◌≤◌, ◌+◌, ℕ, List, [], ◌∷◌, ◌++◌, Bool, true, false, Option, Some, None, Result, Ok, Err}
+use Rattle.std.specs.Prelude.{◌≡◌, ◌≤◌, ◌+◌, ℕ, List, [], ◌∷◌, ◌++◌, length, Bool, true, false, Option, Some, None, Result, Ok, Err}
 use Rattle.hist_types.specs.Entries.{Entry, operation, PlacedOperation}
 use Rattle.hist_types.specs.Refusals.{memory_fault}
 use Rattle.hist_types.specs.declared.types.Fault.{Fault}
-use Rattle.edn_lex.specs.State.{State, state_at_start, Rest}
+use Rattle.edn_lex.specs.State.{State, state_at, Rest}
 use Rattle.edn_ops.specs.declared.reader.Place.{Place}
 use Rattle.edn_ops.specs.declared.types.OpShape.{OpShape}
 use Rattle.edn_lex.specs.declared.types.Token.{Token}
@@ -46,9 +46,12 @@ FlatOp old (Err fault) new = (fault ≡ memory_fault) × (new ≡ old)
 
 -- ---- where a reader is in its text
 
--- the state, where the list is open, is reached from the text's start
-abbrev pub IsReached : State → Option Token → Type 0
-IsReached s list = (given : List Entry) × Goes (state_at_start s.text) None given s list
+-- the state, where the list is open, is reached from where the reading began
+pub record IsReached (s : State) (list : Option Token) : Type 0 where
+  pub from : ℕ
+  pub low : from ≤ length s.text
+  pub given : List Entry
+  pub goes : Goes (state_at s.text from) None given s list
 
 -- the text has been read up to the place, and where it has ended nothing is left
 pub record IsReadUpTo (place : Place) (ended : Bool) : Type 0 where

@@ -1,5 +1,5 @@
 -- Readers of operations, and what their calls read.
-use Rattle.std.specs.Prelude.{◌≡◌, ◌≢◌, ◌⊎◌, ◌+◌, ℕ, zero, suc, List, [], ◌∷◌, ◌++◌, true, false, Option, Some, None, Result, Ok, Err}
+use Rattle.std.specs.Prelude.{◌≡◌, ◌≢◌, ◌⊎◌, ◌≤◌, ◌+◌, ℕ, zero, suc, List, [], ◌∷◌, ◌++◌, length, true, false, Option, Some, None, Result, Ok, Err}
 use Rattle.hist_types.specs.Entries.{Entry, operation, skipped, PlacedOperation}
 use Rattle.hist_types.specs.Forms.{Form, Open, leave_out, is_vector_or_list}
 use Rattle.hist_types.specs.Reading.{nothing_open}
@@ -8,7 +8,7 @@ use Rattle.hist_types.specs.Tokens.{Item}
 use Rattle.hist_types.specs.declared.types.Fault.{Fault}
 use Rattle.edn_lex.specs.declared.types.Token.{Token}
 use Rattle.edn_lex.specs.Kinds.{item_of}
-use Rattle.edn_lex.specs.State.{State, Rest, state_at_start}
+use Rattle.edn_lex.specs.State.{State, Rest, state_at}
 use Rattle.edn_ops.specs.declared.types.OpShape.{OpShape}
 use Rattle.edn_ops.specs.Leads.{SameDepth, Leads, ReadsAs, inside}
 use Rattle.edn_ops.specs.Shapes.{IsShapeOf, IsShapeIn}
@@ -52,8 +52,19 @@ pub record Reader : Type 0 where
   pub failed : Option Fault
   pub skipped : ℕ
 
+-- a reader that begins at this offset
+abbrev pub reader_at : List ℕ → ℕ → Reader
+reader_at text offset = record { state = state_at text offset; list = None; failed = None; skipped = 0 }
+
 abbrev pub reader_at_start : List ℕ → Reader
-reader_at_start text = record { state = state_at_start text; list = None; failed = None; skipped = 0 }
+reader_at_start text = reader_at text 0
+
+-- a reader that has read up to this offset, where nothing is open
+pub record IsAtTop (r : Reader) (offset : ℕ) : Type 0 where
+  pub going : r.failed ≡ None
+  pub none_open : r.list ≡ None
+  pub fits : offset ≤ length r.state.text
+  pub state : r.state ≡ state_at r.state.text offset
 
 -- what is left of the text reads so
 abbrev pub Left : Reader → List Entry → Option Fault → Type 0

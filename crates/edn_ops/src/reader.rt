@@ -2,11 +2,11 @@
 
 ghost use Rattle.std.specs.Prelude.{◌≡◌, ◌≢◌, ◌+◌, ◌≤◌, ◌<◌, length, true, false, List, Option, IfOk, IfSome};
 ghost use Rattle.hist_types.specs.Entries.{Entry};
-ghost use Rattle.hist_types.specs.Reading.{Reads};
+ghost use Rattle.hist_types.specs.Reading.{Reads, ReadsFrom};
 ghost use Rattle.hist_types.specs.Forms.{is_map, is_vector_or_list};
 ghost use Rattle.edn_lex.specs.declared.types.TokenKind.TheVariants.{Open};
 ghost use Rattle.edn_lex.specs.Kinds.{item_of};
-ghost use Rattle.edn_ops.specs.Reader.{reader_at_start, Left, NextOf, FlatNext};
+ghost use Rattle.edn_ops.specs.Reader.{reader_at_start, reader_at, IsAtTop, Left, NextOf, FlatNext};
 ghost use Rattle.edn_ops.specs.Places.{NextOp, FlatOp};
 ghost use Rattle.edn_ops.specs.Shapes.{IsShapeIn};
 
@@ -163,10 +163,20 @@ impl<'a> OpReader<'a> {
         ensures left { (entries : List Entry) (fault : Option Fault) → Reads text.now entries fault → Left result entries fault }
         ensures reads { (entries : List Entry) (fault : Option Fault) → Left result entries fault → Reads text.now entries fault }
     {
+        OpReader::at(alloc, text, 0)
+    }
+
+    /// A reader that begins at this offset, as if nothing stood before it. Offsets count from the front of the text all the same.
+    pub fn at(alloc: Global, text: &'a [u8], offset: usize) -> OpReader<'a>
+        requires { offset ≤ length text.now }
+        ensures start { result ≡ reader_at text.now offset }
+        ensures left { (entries : List Entry) (fault : Option Fault) → ReadsFrom offset text.now entries fault → Left result entries fault }
+        ensures reads { (entries : List Entry) (fault : Option Fault) → Left result entries fault → ReadsFrom offset text.now entries fault }
+    {
         OpReader {
             alloc,
             place: Place {
-                lexer: Lexer::new(text),
+                lexer: Lexer::at(text, offset),
                 list: None,
                 skipped: 0,
             },
@@ -228,6 +238,16 @@ impl<'a> OpReader<'a> {
                 Err(fault)
             }
         }
+    }
+
+    /// The offset up to which the text has been read: none after a fault, or where a vector or list is open.
+    pub fn top_offset(&self) -> Option<usize>
+        ensures { IfSome result (IsAtTop self.now) }
+    {
+        if self.failed.is_some() || self.place.list.is_some() {
+            return None;
+        }
+        self.place.lexer.top_offset()
     }
 
     /// How many operations were skipped so far.

@@ -1,5 +1,5 @@
 -- The map of an operation, read alone, gives the operation.
-use Rattle.std.proofs.Common.{◌≡◌, inl, inr, ℕ, suc, ◌+◌, ◌-◌, ◌≤◌, ◌<◌, ◌%◌, List, [], ◌∷◌, ◌++◌, length, take, drop, map, Bool, true, false, ◌&&◌, ◌==◌, if◌then◌else◌, Option, Some, None, Result, Ok, Err, refl, sym, ◌∙◌, ap, subst, arith, append_assoc, length-append, length-drop, length-take-le, codes}
+use Rattle.std.proofs.Common.{◌≡◌, inl, inr, ℕ, suc, ◌+◌, ◌-◌, ◌≤◌, ◌<◌, ◌%◌, List, [], ◌∷◌, ◌++◌, length, take, drop, map, Bool, true, false, ◌&&◌, ◌==◌, if◌then◌else◌, Option, Some, None, Result, Ok, Err, refl, sym, ◌∙◌, ap, subst, arith, append_assoc, length-append, length-drop, length-take-le, drop-drop, codes}
 use Rattle.std.specs.Prelude.{ℤ, nat_le, nat_lt}
 use Rattle.std.specs.List.{Contains}
 use Rattle.std.proofs.lemmas.Bool.{and_parts, leb-false, lt-leb}
@@ -9,7 +9,7 @@ use Rattle.hist_types.specs.AtomTokens.{process_of}
 use Rattle.hist_types.specs.Entries.{PlacedMop, PlacedOperation, Entry, operation, skipped, ◌>>=◌, refuse_if, or_refuse, field, kind_of, mops_of, pairs_of, int_of, entry_by, end_of, entry_of}
 use Rattle.hist_types.specs.Forms.{Form, place_of, OpenCollection, Open, is_map, with_form, with_mark}
 use Rattle.hist_types.specs.Placed.{item_from, mop_from, from_its_start, between, IsIn}
-use Rattle.hist_types.specs.Reading.{Reading, is_place_in, in_operation_place, may_open, Step, goes_on, refuse_waiting, given_by, close, step_by, step, then_read, reading_from, reading_of, nothing_open, Reads}
+use Rattle.hist_types.specs.Reading.{Reading, is_place_in, in_operation_place, may_open, Step, goes_on, refuse_waiting, given_by, close, step_by, step, then_read, reading_from, reading_of, nothing_open, Reads, ReadsFrom}
 use Rattle.hist_types.specs.Tokens.{Item, ItemKind, Blank, Comment, Opener, Closer, Drop, Tag, open_after, nesting_refusal, is_token, tokens_of, IsCut}
 use Rattle.hist_types.specs.declared.limits.TheConstants.{MAX_OPEN_COLLECTIONS, MAX_OPERATION_BYTES}
 use Rattle.hist_types.specs.declared.types.Fault.{Fault}
@@ -446,36 +446,43 @@ reads_alone items o f order =
     ∙ (Runs-reading (map (item_from k) front) (item_from k f.closer ∷ []) nothing_open (inside k [] f.c) None f.runs
     ∙ ap (λ (r : Result Step Fault). then_read r (λ after. reading_from after [] None)) last)
 
+-- what is left behind the items in front
+left_over : (w offset : ℕ) (text : List ℕ) → offset ≤ length text → w ≤ length (drop offset text) → offset + w ≤ length text
+left_over w offset text low fits = let left : length (drop offset text) ≡ length text - offset = length-drop offset text in omega arith
+
 found_alone :
-    (text : List ℕ) (items : List Item) (ending : Option Fault) (o : PlacedOperation)
-    → IsCut text 0 [] items ending
+    (text : List ℕ) (offset : ℕ) (items : List Item) (ending : Option Fault) (o : PlacedOperation)
+    → offset ≤ length text
+    → IsCut (drop offset text) offset [] items ending
     → Found items o
     → IsIn text o
-found_alone text items ending o cut f =
+found_alone text offset items ending o low cut f =
     let k = f.c.opener.start in
     let front = f.c.opener ∷ f.within in
     let mid = f.c.opener ∷ (f.within ++ (f.closer ∷ [])) in
     let w = width f.before in
-    let text_on = drop w text in
+    let text_on = drop w (drop offset text) in
     let split : items ≡ f.before ++ (front ++ (f.closer ∷ f.after)) =
     f.parts ∙ append_assoc f.before front (f.closer ∷ f.after) in
-    let cut_split : IsCut text 0 [] (f.before ++ (front ++ (f.closer ∷ f.after))) ending =
-    subst (λ xs. IsCut text 0 [] xs ending) split cut in
+    let cut_split : IsCut (drop offset text) offset [] (f.before ++ (front ++ (f.closer ∷ f.after))) ending =
+    subst (λ xs. IsCut (drop offset text) offset [] xs ending) split cut in
     let closers = closers_after f.before [] in
-    let cut_on = IsCut-back f.before (front ++ (f.closer ∷ f.after)) text 0 [] ending cut_split in
-    let begins : k ≡ 0 + w = cut_on.1 in
-    let cut_closer = IsCut-back front (f.closer ∷ f.after) text_on (0 + w) closers ending cut_on in
-    let closer_start : f.closer.start ≡ (0 + w) + width front = cut_closer.1 in
-    let cut_mid : IsCut text_on (0 + w) closers (mid ++ f.after) ending =
-    subst (λ xs. IsCut text_on (0 + w) closers xs ending) (sym (append_assoc front (f.closer ∷ []) f.after)) cut_on in
-    let before_fits : w ≤ length text = IsCut-within f.before _ text 0 [] ending cut_split in
-    let mid_fits : width mid ≤ length text_on = IsCut-within mid f.after text_on (0 + w) closers ending cut_mid in
-    let left : length text_on ≡ length text - w = length-drop w text in
+    let cut_on = IsCut-back f.before (front ++ (f.closer ∷ f.after)) (drop offset text) offset [] ending cut_split in
+    let begins : k ≡ offset + w = cut_on.1 in
+    let cut_closer = IsCut-back front (f.closer ∷ f.after) text_on (offset + w) closers ending cut_on in
+    let closer_start : f.closer.start ≡ (offset + w) + width front = cut_closer.1 in
+    let cut_mid : IsCut text_on (offset + w) closers (mid ++ f.after) ending =
+    subst (λ xs. IsCut text_on (offset + w) closers xs ending) (sym (append_assoc front (f.closer ∷ []) f.after)) cut_on in
+    let before_fits : w ≤ length (drop offset text) = IsCut-within f.before _ (drop offset text) offset [] ending cut_split in
+    let starts_in : offset + w ≤ length text = left_over w offset text low before_fits in
+    let mid_fits : width mid ≤ length text_on = IsCut-within mid f.after text_on (offset + w) closers ending cut_mid in
+    let on : text_on ≡ drop (offset + w) text = drop-drop w offset text in
+    let left : length text_on ≡ length text - (offset + w) = ap length on ∙ length-drop (offset + w) text in
     let wide : width mid ≡ width front + (length f.closer.bytes + 0) = width-append front (f.closer ∷ []) in
-    let alone = IsCut-front mid f.after text_on (0 + w) closers ending cut_mid in
+    let alone = IsCut-front mid f.after text_on (offset + w) closers ending cut_mid in
     let there = take (width mid) text_on in
     let moved = IsCut-moved k mid there 0 closers
-    (subst (λ n. IsCut there n closers mid None) (let same : 0 + w ≡ k + 0 = omega arith in same) alone) in
+    (subst (λ n. IsCut there n closers mid None) (let same : offset + w ≡ k + 0 = omega arith in same) alone) in
     let order : k ≤ f.closer.start = omega arith in
     let reads = reads_alone items o f order in
     let inner : IsCut there 0 [] (map (item_from k) mid) None =
@@ -486,10 +493,11 @@ found_alone text items ending o cut f =
     let starts : o.start ≡ k = at.0 in
     let ends : o.end ≡ f.closer.start + length f.closer.bytes = at.1 in
     let len : length there ≡ width mid = length-take-le (width mid) text_on mid_fits in
-    let from : o.start ≡ w = omega arith in
+    let from : o.start ≡ offset + w = omega arith in
     let long : o.end - o.start ≡ width mid = omega arith in
     let same : there ≡ between text o.start o.end =
-    ap (λ n. take n text_on) (sym long) ∙ ap (λ n. take (o.end - o.start) (drop n text)) (sym from) in
+    ap (λ n. take n text_on) (sym long)
+    ∙ (ap (λ t. take (o.end - o.start) t) on ∙ ap (λ n. take (o.end - o.start) (drop n text)) (sym from)) in
     let end_fits : o.end ≤ length text = omega arith in
     let in_order : o.start ≤ o.end = omega arith in
     let long_there : o.end - o.start ≡ length there = omega arith in
@@ -504,6 +512,19 @@ found_alone text items ending o cut f =
       ),
     )
 
+-- each operation that tokens read as has its map among the items that they come from
+found_in_items :
+    (items tokens : List Item) (entries : List Entry) (ending fault : Option Fault) (o : PlacedOperation)
+    → tokens ≡ tokens_of items
+    → reading_of tokens ending ≡ record { entries = entries; fault = fault }
+    → In (operation o) entries
+    → Found items o
+found_in_items items tokens entries ending fault o from reads i =
+    let same : (reading_of tokens ending).entries ≡ entries = ap (λ (r : Reading). r.entries) reads in
+    let among = subst (In (operation o)) (sym same) i in
+    let of_items = subst (λ ts. In (operation o) (reading_of ts ending).entries) from among in
+    found_in items [] nothing_open ending o nothing_yet of_items
+
 -- each operation of a text's reading has its map among the text's items
 pub found_in_text :
     (text : List ℕ) (entries : List Entry) (fault : Option Fault) (o : PlacedOperation)
@@ -511,16 +532,22 @@ pub found_in_text :
     → In (operation o) entries
     → Found reads.2.0 o
 found_in_text text entries fault o reads i =
-    let same : (reading_of reads.0 reads.1).entries ≡ entries = ap (λ (r : Reading). r.entries) reads.3 in
-    let among = subst (In (operation o)) (sym same) i in
-    let of_items = subst (λ ts. In (operation o) (reading_of ts reads.1).entries) reads.2.2 among in
-    found_in reads.2.0 [] nothing_open reads.1 o nothing_yet of_items
+    found_in_items reads.2.0 reads.0 entries reads.1 fault o reads.2.2 reads.3 i
+
+pub read_alone_from :
+    (text : List ℕ) (offset : ℕ) (entries : List Entry) (fault : Option Fault) (o : PlacedOperation)
+    → offset ≤ length text
+    → ReadsFrom offset text entries fault
+    → Contains entries (operation o)
+    → IsIn text o
+read_alone_from text offset entries fault o low reads contains =
+    found_alone text offset reads.2.0 reads.1 o low reads.2.1
+    (found_in_items reads.2.0 reads.0 entries reads.1 fault o reads.2.2 reads.3
+    (in_from_Contains (operation o) entries contains))
 
 pub read_alone :
     (text : List ℕ) (entries : List Entry) (fault : Option Fault) (o : PlacedOperation)
     → Reads text entries fault
     → Contains entries (operation o)
     → IsIn text o
-read_alone text entries fault o reads contains =
-    found_alone text reads.2.0 reads.1 o reads.2.1
-    (found_in_text text entries fault o reads (in_from_Contains (operation o) entries contains))
+read_alone text entries fault o reads = read_alone_from text 0 entries fault o (omega arith) reads

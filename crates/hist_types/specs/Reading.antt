@@ -14,7 +14,7 @@
 use Rattle.std.specs.Prelude.{◌≡◌, ℕ, List, [], ◌∷◌, ◌++◌, Bool, true, false, not, ◌&&◌, ◌||◌, if◌then◌else◌, Option, Some, None, Result, Ok, Err}
 use Rattle.hist_types.specs.Forms.{plain, OpenCollection, Open, is_map, is_vector_or_list, leave_out, with_form, with_mark, with_opener, form_of, waiting}
 use Rattle.hist_types.specs.Entries.{Entry, entry_of, ◌>>=◌, refuse_if}
-use Rattle.hist_types.specs.Tokens.{Item, ItemKind, Opener, Closer, Drop, Tag, HasTokens, byte_fault}
+use Rattle.hist_types.specs.Tokens.{Item, ItemKind, Opener, Closer, Drop, Tag, HasTokens, HasTokensFrom, byte_fault}
 use Rattle.hist_types.specs.declared.types.Fault.{Fault}
 use Rattle.hist_types.specs.declared.types.Refusal.TheVariants.{Unclosed, StrayCloser, DanglingTag, NotAMap}
 
@@ -127,3 +127,9 @@ reading_of tokens ending = reading_from nothing_open tokens ending
 abbrev pub Reads : List ℕ → List Entry → Option Fault → Type 0
 Reads text entries fault =
     (tokens : List Item) × (ending : Option Fault) × HasTokens text tokens ending × (reading_of tokens ending ≡ record { entries = entries; fault = fault })
+
+-- From the offset on, as if nothing stood before it, the text reads as these entries, and then it ends or a fault stands.
+abbrev pub ReadsFrom : ℕ → List ℕ → List Entry → Option Fault → Type 0
+ReadsFrom offset text entries fault =
+    (tokens : List Item) × (ending : Option Fault) × HasTokensFrom offset text tokens ending
+    × (reading_of tokens ending ≡ record { entries = entries; fault = fault })

@@ -201,3 +201,8 @@ tokens_of items = filter (λ item. is_token item.kind) items
 -- The text has these tokens, and then it ends or a fault stands.
 abbrev pub HasTokens : List ℕ → List Item → Option Fault → Type 0
 HasTokens text tokens ending = (items : List Item) × IsCut text 0 [] items ending × (tokens ≡ tokens_of items)
+
+-- From the offset on, where nothing is open, the text has these tokens, and then it ends or a fault stands.
+abbrev pub HasTokensFrom : ℕ → List ℕ → List Item → Option Fault → Type 0
+HasTokensFrom offset text tokens ending =
+    (items : List Item) × IsCut (drop offset text) offset [] items ending × (tokens ≡ tokens_of items)

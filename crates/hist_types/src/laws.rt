@@ -13,7 +13,7 @@ ghost use Rattle.hist_types.specs.Operations.{Operation};
 ghost use Rattle.hist_types.specs.Entries.{PlacedOperation, Entry, operation};
 ghost use Rattle.hist_types.specs.Phenomena.{height, makes, Has, BadRead, aborted_writers, aborted_reads, intermediate_writers, intermediate_reads, is_stray, stray_reads};
 ghost use Rattle.hist_types.specs.Placed.{IsMopIn, KeepsLimits, IsTextOf, IsIn, SpellsValue, IsTokenAlone, IsMopOfTokens};
-ghost use Rattle.hist_types.specs.Reading.{Reads};
+ghost use Rattle.hist_types.specs.Reading.{Reads, ReadsFrom};
 ghost use Rattle.hist_types.specs.Refusals.{number_of, name_of};
 ghost use Rattle.hist_types.specs.Texts.{in_order};
 ghost use Rattle.hist_types.specs.Tokens.{IsCut, HasTokens, run_of, run_len, Item, ItemKind, is_token, item_fault, BeginsWith};
@@ -100,9 +100,11 @@ pub fn texts_have_one_reading()
     ensures reading { (text : List ℕ) → HasOne (Reads text) }
 {}
 
-/// The bytes of an operation's map, read alone, give the same operation, with its places counted from the map's start.
+/// The bytes of an operation's map, read alone, give the same operation, with its places counted from the map's start, wherever
+/// in the text the reading began that gave it.
 pub fn operations_read_alone()
-    ensures { (text : List ℕ) → (entries : List Entry) → (fault : Option Fault) → (o : PlacedOperation) → Reads text entries fault → Contains entries (operation o) → IsIn text o }
+    ensures { (text : List ℕ) → (offset : ℕ) → (entries : List Entry) → (fault : Option Fault) → (o : PlacedOperation) →
+        offset ≤ length text → ReadsFrom offset text entries fault → Contains entries (operation o) → IsIn text o }
 {}
 
 /// An operation's keys and values are spelled by tokens of its text, by itself or anywhere else, and the operation

@@ -1,7 +1,5 @@
 pub mod Lists
 pub mod Leaving
-pub mod Moved
-pub mod Readings
 pub mod Judging
 pub mod Deciding
 pub mod OneAnswer

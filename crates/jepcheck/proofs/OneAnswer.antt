@@ -11,7 +11,8 @@ use Rattle.hist_types.specs.Transactions.{Transaction}
 use Rattle.hist_types.specs.Witness.{Finding, IsFinding}
 use Rattle.hist_types.specs.declared.types.Fault.{Fault}
 use Rattle.hist_types.specs.declared.types.Phenomenon.{Phenomenon}
-use Rattle.jepcheck.specs.Answers.{GivesOperations, GivesFault, GivesEvents, journal_fault, IsRefused, names_cycle, IsVerdict, Reports, IsReport, IsAnswer}
+use Rattle.block_reader.specs.Texts.{GivesOperations, GivesFault}
+use Rattle.jepcheck.specs.Answers.{GivesEvents, journal_fault, IsRefused, names_cycle, IsVerdict, Reports, IsReport, IsAnswer}
 use Rattle.jepcheck.specs.Statuses.{status_by}
 use Rattle.jepcheck.specs.declared.answer.Status.{Status}
 use Rattle.jepcheck.specs.declared.answer.Status.TheVariants as statuses

@@ -13,7 +13,8 @@ use Rattle.hist_types.specs.declared.types.Fault.{Fault}
 use Rattle.hist_types.specs.declared.types.Refusal.{Refusal}
 use Rattle.hist_types.specs.declared.types.Phenomenon.TheVariants.{G0, G1c, GSingle, G2Item}
 use Rattle.jepcheck.proofs.Deciding.{has_finding}
-use Rattle.jepcheck.specs.Answers.{GivesOperations, GivesEvents, IsRefused, names_cycle, HasAnswer}
+use Rattle.block_reader.specs.Texts.{GivesOperations}
+use Rattle.jepcheck.specs.Answers.{GivesEvents, IsRefused, names_cycle, HasAnswer}
 use Rattle.jepcheck.specs.declared.answer.Status.{Status}
 use Rattle.jepcheck.specs.declared.answer.Status.TheVariants as statuses
 use Rattle.command_line.specs.declared.types.Command.{Command}

@@ -1,32 +1,26 @@
 -- What the program answers to a text.
 use Rattle.std.specs.Prelude.{◌≡◌, ◌≢◌, ◌⊎◌, ℕ, List, [], Bool, ◌||◌, Option, Some, None, option_map, is_some}
 use Rattle.hist_types.specs.Operations.{Operation}
-use Rattle.hist_types.specs.Entries.{Entry, operations_of}
-use Rattle.hist_types.specs.Reading.{Reads}
 use Rattle.hist_types.specs.Journal.{first_broken}
 use Rattle.hist_types.specs.Refusals.{event_fault, memory_fault}
 use Rattle.hist_types.specs.Texts.{reads_text, edges_text, has_bad_read, IsVerdictText, refusal_line}
 use Rattle.hist_types.specs.declared.types.Fault.{Fault}
+use Rattle.op_block.specs.Contents.{Contents}
+use Rattle.block_reader.specs.Blocks.{operations_in}
+use Rattle.block_reader.specs.Texts.{GivesOperations, GivesFault}
 use Rattle.jepcheck.specs.Statuses.{status_by}
 use Rattle.jepcheck.specs.declared.answer.Status.{Status}
 use Rattle.jepcheck.specs.declared.answer.Status.TheVariants as statuses
 use Rattle.command_line.specs.declared.types.Command.{Command}
 use Rattle.command_line.specs.declared.types.Command.TheVariants as commands
 
--- the text reads as these operations, up to its end
-pub record GivesOperations (text : List ℕ) (operations : List Operation) : Type 0 where
-  pub entries : List Entry
-  pub read : Reads text entries None
-  pub given : operations_of entries ≡ operations
-
--- the text's reading ends with this fault
-pub record GivesFault (text : List ℕ) (fault : Fault) : Type 0 where
-  pub entries : List Entry
-  pub read : Reads text entries (Some fault)
-
 -- the first rule that the operations break, one after the other
 abbrev pub journal_fault : List Operation → Option Fault
 journal_fault operations = option_map event_fault (first_broken [] operations)
+
+-- the fault of the first rule that an operation of the blocks breaks
+abbrev pub IsFirstBrokenBy : List Contents → Fault → Type 0
+IsFirstBrokenBy blocks fault = journal_fault (operations_in blocks) ≡ Some fault
 
 -- the text's operations are the events of a journal
 pub record GivesEvents (text : List ℕ) (events : List Operation) : Type 0 where

@@ -1,5 +1,4 @@
 pub mod Answers
-pub mod Blocks
 pub mod Pieces
 pub mod Leaving
 pub mod Statuses

@@ -9,6 +9,7 @@ use crate::run::{print_memory, run};
 use command_line::types::{Asked, LineFault};
 use hist_types::device::{Sink, Source};
 use std::alloc::Global;
+use std::thread::Threads;
 use verdict::devices::write_all;
 
 /// What is said on standard error: the help, what is wrong with the command line, or that a device failed.
@@ -23,7 +24,8 @@ fn complaint(asked: &Result<Asked, LineFault>, status: Status) -> &[u8]
 }
 
 /// Does what the command line asks for, and returns how that ended. A sink for errors that fails changes nothing.
-pub fn dispatch<S: Source, T: Sink, E: Sink>(
+pub fn dispatch<R: Threads + Sync, S: Source, T: Sink, E: Sink>(
+    rt: &R,
     alloc: Global,
     asked: Result<Asked, LineFault>,
     source: &mut S,
@@ -40,7 +42,7 @@ pub fn dispatch<S: Source, T: Sink, E: Sink>(
     ensures errors { HasTakenUnlessFailed E.Sink errors.old errors.new (complaint asked result) }
 {
     let status = match &asked {
-        Ok(Asked::Run(command)) => run(alloc, *command, source, sink),
+        Ok(Asked::Run(command)) => run(rt, alloc, *command, source, sink),
         Err(LineFault::Usage(_)) => Status::Refused,
         Err(LineFault::Memory) => print_memory(sink),
     };

@@ -2,7 +2,6 @@
 #![tactic(auto)]
 
 mod answer;
-mod blocks;
 mod check;
 mod devices;
 mod dispatch;
@@ -36,6 +35,13 @@ fn main(rt: HostRuntime) -> ExitCode {
     let mut source = StreamSource::new(rt.stdin());
     let mut sink = StreamSink::new(rt.stdout());
     let mut errors = StreamSink::new(rt.stderr());
-    let status = dispatch::dispatch(rt.alloc(), asked(&rt), &mut source, &mut sink, &mut errors);
+    let status = dispatch::dispatch(
+        &rt,
+        rt.alloc(),
+        asked(&rt),
+        &mut source,
+        &mut sink,
+        &mut errors,
+    );
     ExitCode::from(status.code())
 }

@@ -10,20 +10,27 @@ ghost use Rattle.jepcheck.specs.Statuses.{code_of};
 
 use crate::answer::{Answer, Status, refuse};
 use crate::devices::{ReadFault, read_all};
-use crate::inputs::{journal_of, read_blocks};
+use crate::inputs::journal_of;
 use crate::{check, edges, reads};
+use block_reader::reading::read_blocks;
 use command_line::types::Command;
 use hist_types::device::{Failed, Sink, Source};
 use hist_types::types::{Fault, Refusal};
 use std::alloc::{AllocError, Global};
+use std::thread::Threads;
 use verdict::devices::write_all;
 
 /// The report of a command on a text, unless that is refused.
-fn judge(alloc: Global, command: Command, text: Vec<u8>) -> Result<Answer, Fault>
+fn judge<R: Threads + Sync>(
+    rt: &R,
+    alloc: Global,
+    command: Command,
+    text: Vec<u8>,
+) -> Result<Answer, Fault>
     ensures ok { IfOk result (λ answer. IsAnswer command text.items answer.status answer.printed.items) }
     ensures err { IfErr result (λ fault. (fault ≡ memory_fault) ⊎ IsRefused text.items fault) }
 {
-    let blocks = read_blocks(alloc, &text)?;
+    let blocks = read_blocks(rt, alloc, &text)?;
     // The blocks have copies of what they need.
     drop(text);
     let events = journal_of(alloc, &blocks)?;
@@ -35,10 +42,15 @@ fn judge(alloc: Global, command: Command, text: Vec<u8>) -> Result<Answer, Fault
 }
 
 /// The answer of a command to a text.
-fn answer_to(alloc: Global, command: Command, text: Vec<u8>) -> Result<Answer, AllocError>
+fn answer_to<R: Threads + Sync>(
+    rt: &R,
+    alloc: Global,
+    command: Command,
+    text: Vec<u8>,
+) -> Result<Answer, AllocError>
     ensures { IfOk result (λ answer. IsAnswer command text.items answer.status answer.printed.items) }
 {
-    match judge(alloc, command, text) {
+    match judge(rt, alloc, command, text) {
         Ok(answer) => Ok(answer),
         Err(fault) if matches!(fault.refusal, Refusal::Memory) => Err(AllocError),
         Err(fault) => refuse(alloc, fault),
@@ -63,7 +75,8 @@ pub fn print_memory<T: Sink>(sink: &mut T) -> Status
 }
 
 /// Reads the whole source and prints the command's answer to it.
-pub fn run<S: Source, T: Sink>(
+pub fn run<R: Threads + Sync, S: Source, T: Sink>(
+    rt: &R,
     alloc: Global,
     command: Command,
     source: &mut S,
@@ -82,7 +95,7 @@ pub fn run<S: Source, T: Sink>(
         Err(ReadFault::Device) => return Status::DeviceFault,
         Err(ReadFault::Memory) => return print_memory(sink),
     };
-    match answer_to(alloc, command, text) {
+    match answer_to(rt, alloc, command, text) {
         Ok(answer) => print(sink, answer.status, &answer.printed),
         Err(AllocError) => print_memory(sink),
     }

@@ -11,6 +11,7 @@ use hist_types::device::{Failed, MemorySource, Sink, Source};
 use std::alloc::{AllocError, Global};
 use std::process::Abort;
 use std::test::Fail;
+use std::thread::Threads;
 
 const MEMORY_LINE: &[u8] = b"refused 10 Memory\n";
 
@@ -258,7 +259,7 @@ impl Sink for Sipping {
 }
 
 /// Runs over memory. A run that is out of memory says so, and a second one has the answer.
-fn answers_by<R: Abort + AllocGlobal>(
+fn answers_by<R: Abort + AllocGlobal + Threads + Sync>(
     rt: &R,
     command: Command,
     history: &[u8],
@@ -267,18 +268,23 @@ fn answers_by<R: Abort + AllocGlobal>(
 ) {
     let mut sink = Sipping::new(512, 512);
     let mut source = MemorySource::new(history);
-    let mut ended = run(rt.alloc(), command, &mut source, &mut sink).code();
+    let mut ended = run(rt, rt.alloc(), command, &mut source, &mut sink).code();
     if ended == 4 {
         assert_eq!(rt; sink.taken.as_slice(), MEMORY_LINE);
         let mut again = MemorySource::new(history);
         sink = Sipping::new(512, 512);
-        ended = run(rt.alloc(), command, &mut again, &mut sink).code();
+        ended = run(rt, rt.alloc(), command, &mut again, &mut sink).code();
     }
     assert_eq!(rt; ended, status);
     assert_eq!(rt; sink.taken.as_slice(), text);
 }
 
-fn answers<R: Abort + AllocGlobal>(rt: &R, history: &[u8], status: u8, text: &[u8]) {
+fn answers<R: Abort + AllocGlobal + Threads + Sync>(
+    rt: &R,
+    history: &[u8],
+    status: u8,
+    text: &[u8],
+) {
     answers_by(rt, Command::Reads, history, status, text);
 }
 
@@ -566,7 +572,7 @@ fn a_source_of_one_byte_a_call(rt: HostRuntime) -> Result<(), Fail> {
     for calls in 0..180u64 {
         let mut source = Dripping::new(ABORTED_READ, calls);
         let mut sink = Sipping::new(512, 512);
-        let status = run(rt.alloc(), Command::Reads, &mut source, &mut sink);
+        let status = run(&rt, rt.alloc(), Command::Reads, &mut source, &mut sink);
         if matches!(status, Status::Memory) {
             assert_eq!(rt; sink.taken.as_slice(), MEMORY_LINE);
         } else if calls as usize <= ABORTED_READ.len() {
@@ -585,7 +591,7 @@ fn a_sink_of_one_byte_a_call(rt: HostRuntime) -> Result<(), Fail> {
     for calls in 0..70u64 {
         let mut source = MemorySource::new(ABORTED_READ);
         let mut sink = Sipping::new(1, calls);
-        let status = run(rt.alloc(), Command::Reads, &mut source, &mut sink);
+        let status = run(&rt, rt.alloc(), Command::Reads, &mut source, &mut sink);
         let taken = sink.taken.as_slice();
         if matches!(status, Status::Memory) {
             assert_eq!(rt; taken, MEMORY_LINE);
@@ -603,7 +609,7 @@ fn a_sink_of_one_byte_a_call(rt: HostRuntime) -> Result<(), Fail> {
 
 /// What was asked is done over a clean history: the status, what was printed and what was said on the sink for errors. Where
 /// a run is out of memory it says so, and a second one has the answer.
-fn does<R: Abort + AllocGlobal>(
+fn does<R: Abort + AllocGlobal + Threads + Sync>(
     rt: &R,
     asked: Result<Asked, LineFault>,
     reads_before_failure: u64,
@@ -612,13 +618,13 @@ fn does<R: Abort + AllocGlobal>(
     let mut source = Dripping::new(CLEAN, reads_before_failure);
     let mut sink = Sipping::new(512, 512);
     let mut errors = Sipping::new(1, 512);
-    let mut ended = dispatch(rt.alloc(), asked, &mut source, &mut sink, &mut errors).code();
+    let mut ended = dispatch(rt, rt.alloc(), asked, &mut source, &mut sink, &mut errors).code();
     if ended == 4 && status != 4 {
         assert_eq!(rt; sink.taken.as_slice(), MEMORY_LINE);
         let again = Ok(Asked::Run(Command::Reads));
         source = Dripping::new(CLEAN, reads_before_failure);
         sink = Sipping::new(512, 512);
-        ended = dispatch(rt.alloc(), again, &mut source, &mut sink, &mut errors).code();
+        ended = dispatch(rt, rt.alloc(), again, &mut source, &mut sink, &mut errors).code();
     }
     assert_eq!(rt; ended, status);
     assert_eq!(rt; sink.taken.as_slice(), printed);

@@ -12,8 +12,6 @@ mod numbering;
 mod pending;
 mod rows;
 pub mod table;
-#[cfg(test)]
-mod tests;
 pub mod types;
 
 use crate::building::Building;

@@ -9,8 +9,6 @@ mod completions;
 pub mod frontier;
 mod moving;
 mod pairs;
-#[cfg(test)]
-mod tests;
 mod thinning;
 pub mod types;
 
@@ -21,7 +19,7 @@ use txn_pairs::types::Txns;
 
 /// All predecessors of each transaction in its process and in real time, as if every transaction were a node.
 ///
-/// This is the definition of the order, and it grows with the square of the history: it is for tests.
+/// This is the definition of the order, and it grows with the square of the history: it is for comparison.
 /// Only memory can run out.
 pub fn all_pairs(alloc: Global, txns: &Txns<'_>) -> Result<Order, Fault>
     ensures edges { IfOk result (HasOrderEdges txns.now) }

@@ -1,5 +1,5 @@
-use Rattle.hist_types.proofs.MapAlone.{read_alone}
+use Rattle.hist_types.proofs.MapAlone.{read_alone_from}
 use Rattle.hist_types.proofs.laws.operations_read_alone.Goals as goal
 
 pub returns : goal.returns
-returns c = read_alone
+returns c = read_alone_from

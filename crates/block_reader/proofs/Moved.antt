@@ -1,0 +1,41 @@
+-- Operations that are taken out of their text.
+use Rattle.std.proofs.Common.{◌≡◌, ℕ, ◌≤◌, ◌-◌, List, [], ◌∷◌, ◌++◌, length, append_assoc, refl, sym, ◌∙◌, ap, map, drop, arith}
+use Rattle.std.proofs.lemmas.List.{length-drop, length-take, map-append}
+use Rattle.hist_types.specs.Entries.{PlacedMop, PlacedOperation, operation_of}
+use Rattle.hist_types.specs.Operations.{Mop, Operation}
+use Rattle.hist_types.specs.Placed.{IsIn, IsTextOf, KeepsLimits, between, from_its_start, mop_from}
+use Rattle.edn_ops.specs.Shapes.{IsShapeOf}
+use Rattle.edn_ops.specs.declared.types.OpShape.{OpShape}
+use Rattle.block_reader.specs.Blocks.{operations_pushed}
+use Rattle.op_block.specs.Contents.{BlockOperation, HasRoomFor, length_of, taken_out}
+
+mops_moved : (offset : ℕ) (ms : List PlacedMop) → map (λ (m : PlacedMop). m.mop) (map (mop_from offset) ms) ≡ map (λ (m : PlacedMop). m.mop) ms
+mops_moved offset [] = refl
+mops_moved offset (m ∷ ms) = ap (λ (rest : List Mop). m.mop ∷ rest) (mops_moved offset ms)
+
+-- an operation is the same wherever it stands
+pub operation_moved : (o : PlacedOperation) → operation_of (from_its_start o) ≡ operation_of o
+operation_moved o = ap (λ (ms : List Mop). record { kind = o.kind; process = o.process; mops = ms }) (mops_moved o.start o.mops)
+
+length_between : (text : List ℕ) (start end : ℕ) → end ≤ length text → length (between text start end) ≡ end - start
+length_between text start end fits = omega (arith, length-take (end - start) (drop start text), length-drop start text)
+
+-- one operation more behind those of a block that is being built
+pub pushed_behind : (full : List Operation) (last more : List BlockOperation) (all : List Operation) (text : List ℕ) (o : PlacedOperation)
+    → full ++ operations_pushed last ≡ all → more ≡ last ++ taken_out text o ∷ [] → full ++ operations_pushed more ≡ all ++ operation_of o ∷ []
+pushed_behind full last more all text o same added =
+    let pushed : operations_pushed more ≡ operations_pushed last ++ operation_of o ∷ [] =
+    ap operations_pushed added
+    ∙ (map-append (λ (b : BlockOperation). operation_of b.placed) last (taken_out text o ∷ [])
+    ∙ ap (λ (moved : Operation). operations_pushed last ++ moved ∷ []) (operation_moved o)) in
+    ap (λ (os : List Operation). full ++ os) pushed
+    ∙ (sym (append_assoc full (operations_pushed last) (operation_of o ∷ [])) ∙ ap (λ (os : List Operation). os ++ operation_of o ∷ []) same)
+
+-- an operation fits into an empty block
+pub room_in_empty : (text : List ℕ) (o : PlacedOperation) (shape : OpShape) → ((t : List ℕ) → (p : PlacedOperation) → IsTextOf t p → KeepsLimits t p) →
+    IsIn text o → IsShapeOf shape o → HasRoomFor (length_of shape) []
+room_in_empty text o shape limits is_in is_shape =
+    let few = (limits (between text o.start o.end) (from_its_start o) is_in.2).0 in
+    let long = length_between text o.start o.end is_in.1 in
+    let span : length_of shape ≡ o.end - o.start = rw is_shape.span refl in
+    record { operations = omega arith; bytes = omega arith }

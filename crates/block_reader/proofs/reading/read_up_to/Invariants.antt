@@ -1,0 +1,5 @@
+use Rattle.block_reader.specs.Parts.{HasReadTo}
+use Rattle.block_reader.proofs.reading.read_up_to.Given as goal
+
+abbrev pub invariant-loop : goal.invariant-loop
+invariant-loop l = HasReadTo l.text l.reader l.blocks

@@ -1,0 +1,93 @@
+//! Parts of a text, read by threads of their own.
+
+ghost use Rattle.std.specs.Prelude.{◌≡◌, ◌<◌, ℕ, length, false, All, IfOk, IfSome, OnErr};
+ghost use Rattle.block_reader.specs.Parts.{IsIn, IsPartOf, HasReadFrom, HasReadOn};
+
+use crate::blocks::Blocks;
+use edn_ops::reader::OpReader;
+use hist_types::laws::{operations_read_alone, texts_have_one_reading};
+use hist_types::types::Fault;
+use op_block::block::Block;
+use std::alloc::{AllocError, Global};
+use std::thread::{Threads, map_indices};
+
+/// The operations between two offsets of a text.
+#[derive(Drop)]
+pub struct Part {
+    pub start: usize,
+    pub end: usize,
+    pub blocks: Vec<Block>,
+}
+
+/// Reads the next operation into the blocks: false at the text's end.
+pub fn read_op(text: &[u8], reader: &mut OpReader<'_>, blocks: &mut Blocks) -> Result<bool, Fault>
+    requires { reader.old.state.text ≡ text.now }
+    ensures on { (offset : ℕ) → IsIn text.now offset → HasReadFrom text.now offset reader.old blocks.old
+        → HasReadOn text.now offset result reader.new blocks.new }
+    ensures text { reader.new.state.text ≡ text.now }
+    ensures end { IfOk result (λ more. more ≡ false → blocks.new ≡ blocks.old) }
+    ensures err { OnErr result (blocks.new ≡ blocks.old) }
+{
+    texts_have_one_reading();
+    operations_read_alone();
+    let Some(shape) = reader.next_op()? else {
+        return Ok(false);
+    };
+    blocks.push(text, &shape)?;
+    Ok(true)
+}
+
+/// Reads from `start`, as if nothing stood before it, up to the first operation that ends at `stop` or behind it, or the
+/// last one before a fault or the text's end. None where memory runs out, or where an operation stands in a vector or list.
+fn read_from(alloc: Global, seat: u32, text: &[u8], start: usize, stop: usize) -> Option<Part>
+    requires { IsIn text.now start }
+    ensures { IfSome result (IsPartOf text.now) }
+{
+    let mut reader = OpReader::at(alloc, text, start);
+    let mut blocks = Blocks::new(alloc, seat);
+    let mut end = start;
+    for _ in start..stop {
+        if end >= stop {
+            break;
+        }
+        match read_op(text, &mut reader, &mut blocks) {
+            Ok(true) => end = reader.top_offset()?,
+            Ok(false) | Err(_) => break,
+        }
+    }
+    let blocks = blocks.finish().ok()?;
+    Some(Part { start, end, blocks })
+}
+
+/// The part that begins at the start with this index and ends at the next one.
+fn read_part(alloc: Global, text: &[u8], starts: &[usize], index: usize) -> Option<Part>
+    requires low { index < length starts.now }
+    requires starts { All (IsIn text.now) starts.now }
+    ensures { IfSome result (IsPartOf text.now) }
+{
+    let stop = match starts.get(index + 1) {
+        Some(next) => *next,
+        None => text.len(),
+    };
+    // The seat 0 is that of the blocks behind the parts.
+    let seat = u32::try_from(index + 1).ok()?;
+    read_from(alloc, seat, text, starts[index], stop)
+}
+
+/// The parts of the text that begin at these starts, each read by a thread of its own where one can be made.
+pub fn read_parts<R: Threads + Sync>(
+    rt: &R,
+    alloc: Global,
+    text: &[u8],
+    starts: &[usize],
+) -> Result<Vec<Option<Part>>, AllocError>
+    requires { All (IsIn text.now) starts.now }
+    ensures { IfOk result (λ parts. All (λ part. IfSome part (IsPartOf text.now)) parts.items) }
+{
+    map_indices(
+        rt,
+        alloc,
+        starts.len(),
+        &|index| read_part(alloc, text, starts, index),
+    )
+}

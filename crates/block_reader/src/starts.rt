@@ -1,0 +1,45 @@
+//! Where the parts of a text are taken to begin.
+
+ghost use Rattle.std.specs.Prelude.{◌≤◌, length, All, IfOk, IfSome};
+ghost use Rattle.block_reader.specs.Parts.{IsIn};
+
+use memchr::{memchr, memrchr};
+use std::alloc::{AllocError, Global};
+use std::thread::{Threads, available_parallelism};
+
+/// A part has so many bytes at least.
+const PART_BYTES: usize = 1 << 20;
+
+/// How many parts a text of this length has: no more than there are processors.
+fn parts_of<R: Threads>(rt: &R, len: usize) -> usize {
+    match available_parallelism(rt) {
+        Ok(processors) => processors.get().min(len / PART_BYTES),
+        Err(_) => 1,
+    }
+}
+
+/// The end of the first line at or behind the offset, after its last `}`.
+fn line_behind(text: &[u8], offset: usize) -> Option<usize>
+    requires { offset ≤ length text.now }
+    ensures { IfSome result (IsIn text.now) }
+{
+    let left = &text[offset..];
+    let line = &left[..memchr(b'\n', left)?];
+    Some(offset + memrchr(b'}', line)? + 1)
+}
+
+/// The start of the text, and ends of lines that part it evenly, as many as there are processors. Where each operation has
+/// lines of its own, as Jepsen prints them, one ends there.
+pub fn starts_of<R: Threads>(rt: &R, alloc: Global, text: &[u8]) -> Result<Vec<usize>, AllocError>
+    ensures { IfOk result (λ starts. All (IsIn text.now) starts.items) }
+{
+    let parts = parts_of(rt, text.len());
+    let mut starts = Vec::new(alloc);
+    starts.push(0)?;
+    for part in 1..parts {
+        if let Some(start) = line_behind(text, text.len() / parts * part) {
+            starts.push(start)?;
+        }
+    }
+    Ok(starts)
+}
