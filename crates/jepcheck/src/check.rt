@@ -12,6 +12,7 @@ use hist_types::types::{Fault, Phenomenon};
 use journal_core::prefix::Prefix;
 use std::alloc::Global;
 use std::hash::{BuildHasherDefault, FoldHasher};
+use std::thread::Threads;
 use verdict::types::Verdict;
 use verdict::verdict;
 
@@ -31,11 +32,11 @@ fn status_of(verdict: &Verdict<'_>) -> Status
 }
 
 /// What `check` prints of a journal. It fails only where it is out of memory.
-pub fn report(alloc: Global, events: &Prefix<'_>) -> Result<Answer, Fault>
+pub fn report<R: Threads>(rt: &R, alloc: Global, events: &Prefix<'_>) -> Result<Answer, Fault>
     ensures ok { IfOk result (λ answer. Reports Check events.now answer.status answer.printed.items) }
     ensures err { IfErr result (λ fault. fault ≡ memory_fault) }
 {
-    let verdict = verdict(alloc, events, BuildHasherDefault::<FoldHasher>::new())?;
+    let verdict = verdict(rt, alloc, events, BuildHasherDefault::<FoldHasher>::new())?;
     let mut printed = Vec::new(alloc);
     printed.extend_from_slice(verdict.text())?;
     Ok(Answer {

@@ -37,7 +37,7 @@ fn judge<R: Threads + Sync>(
     match command {
         Command::Reads => reads::report(alloc, &events),
         Command::Edges => edges::report(alloc, &events),
-        Command::Check => check::report(alloc, &events),
+        Command::Check => check::report(rt, alloc, &events),
     }
 }
 

@@ -1,14 +1,18 @@
 -- The lowest level of a phenomenon, searched for in the graph of a history over its thinned order.
-use Rattle.std.specs.Prelude.{◌↔◌, ◌<◌, List, ◌++◌, Contains, Option, Some, None}
+use Rattle.std.specs.Prelude.{◌≡◌, ◌↔◌, ◌<◌, List, ◌++◌, map, All, Contains, Option, Some, None}
 use Rattle.hist_types.specs.Edges.{Edge, dependency_edges}
 use Rattle.hist_types.specs.Frontier.{thinned_edges}
 use Rattle.hist_types.specs.Phenomena.{height, Shows, Has}
 use Rattle.hist_types.specs.Transactions.{Transaction}
-use Rattle.hist_types.specs.Witness.{Finding}
+use Rattle.hist_types.specs.Witness.{Finding, IsFinding}
 use Rattle.hist_types.specs.declared.types.Level.{Level}
 use Rattle.hist_types.specs.declared.types.Phenomenon.{Phenomenon}
-use Rattle.order_frontier.specs.Predecessors.{AreOfEvents}
+use Rattle.order_frontier.specs.Predecessors.{Before, AreOfEvents, HasThinnedEdges, NoneTwice, name_of, names}
 use Rattle.edge_graph.specs.Parts.{Parts, edges_in}
+
+-- the thinned order of the transactions, with each predecessor once
+abbrev pub IsThinnedOrder : List Transaction → List Before → Type 0
+IsThinnedOrder ts order = HasThinnedEdges ts order × All NoneTwice order × (names order ≡ map name_of ts)
 
 -- the graph of some events' transactions, with their dependency edges and at each level the thinned order edges
 pub record IsThinned (g : Parts) : Type 0 where
@@ -22,3 +26,7 @@ IsLowest phenomenon ts None = (level : Level) → ¬ Has phenomenon level ts
 IsLowest phenomenon ts (Some lowest) =
     Shows phenomenon lowest.level ts lowest.walk
     × ((lower : Level) → height lower < height lowest.level → ¬ Has phenomenon lower ts)
+
+-- what is found of two phenomena
+abbrev pub AreFindingsOfTwo : (first second : Phenomenon) → List Transaction → Option Finding × Option Finding → Type 0
+AreFindingsOfTwo first second ts found = IsFinding first ts found.0 × IsFinding second ts found.1

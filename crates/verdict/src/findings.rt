@@ -4,7 +4,7 @@ ghost use Rattle.std.specs.Prelude.{◌≡◌, IfOk, IfErr};
 ghost use Rattle.dep_edges.specs.Histories.{AreOfHistory};
 ghost use Rattle.hist_types.specs.Refusals.{memory_fault};
 ghost use Rattle.hist_types.specs.Witness.{IsFinding};
-ghost use Rattle.verdict.specs.Lowest.{IsThinned, IsLowest};
+ghost use Rattle.verdict.specs.Lowest.{IsThinnedOrder, IsThinned, IsLowest, AreFindingsOfTwo};
 ghost use Rattle.verdict.specs.Verdicts.{AreFindings};
 
 use crate::report::{Finding, Findings};
@@ -14,9 +14,10 @@ use cycle_show::tighten;
 use dep_edges::deps::Deps;
 use edge_graph::graph::Graph;
 use hist_types::types::{Fault, Level, Phenomenon};
-use order_frontier::thin;
+use order_frontier::types::Order;
 use std::alloc::Global;
 use std::marker::Model;
+use std::thread::{Threads, join_mut};
 use txn_pairs::types::Txns;
 
 /// The lowest level of a phenomenon, with a closed walk that shows it there.
@@ -85,8 +86,32 @@ fn find_phenomenon<'a>(
     }))
 }
 
+/// What is found of two phenomena, each searched for by a thread of its own where one can be made.
+fn find_two<'a, R: Threads>(
+    rt: &R,
+    alloc: Global,
+    graph: &RankedGraph<'_, '_, '_, 'a>,
+    first: Phenomenon,
+    second: Phenomenon,
+) -> Result<(Option<Finding<'a>>, Option<Finding<'a>>), Fault>
+    requires { IsThinned graph.now }
+    ensures ok { IfOk result (AreFindingsOfTwo first second graph.now.txns) }
+    ensures err { IfErr result (λ fault. fault ≡ memory_fault) }
+{
+    let (found, also) = join_mut(
+        rt,
+        &mut || find_phenomenon(alloc, graph, first),
+        &mut || find_phenomenon(alloc, graph, second),
+    );
+    Ok((found?, also?))
+}
+
 /// What is found of each phenomenon.
-fn find_each<'a>(alloc: Global, graph: &Graph<'_, '_, 'a>) -> Result<Findings<'a>, Fault>
+fn find_each<'a, R: Threads>(
+    rt: &R,
+    alloc: Global,
+    graph: &Graph<'_, '_, 'a>,
+) -> Result<Findings<'a>, Fault>
     requires { IsThinned graph.now }
     ensures ok { IfOk result (AreFindings graph.now.txns) }
     ensures err { IfErr result (λ fault. fault ≡ memory_fault) }
@@ -95,26 +120,30 @@ fn find_each<'a>(alloc: Global, graph: &Graph<'_, '_, 'a>) -> Result<Findings<'a
     if graph.rules_out_cycles() {
         return Ok(Findings::none());
     }
+    let (g0, g1c) = find_two(rt, alloc, &graph, Phenomenon::G0, Phenomenon::G1c)?;
+    let (single, item) = find_two(rt, alloc, &graph, Phenomenon::GSingle, Phenomenon::G2Item)?;
     Ok(Findings {
-        g0: find_phenomenon(alloc, &graph, Phenomenon::G0)?,
-        g1c: find_phenomenon(alloc, &graph, Phenomenon::G1c)?,
-        single: find_phenomenon(alloc, &graph, Phenomenon::GSingle)?,
-        item: find_phenomenon(alloc, &graph, Phenomenon::G2Item)?,
+        g0,
+        g1c,
+        single,
+        item,
     })
 }
 
 /// The graph of a history over its thinned order, and what is found in it.
-pub fn findings_of<'a>(
+pub fn findings_of<'a, R: Threads>(
+    rt: &R,
     alloc: Global,
     txns: &Txns<'a>,
     deps: &Deps<'_, 'a>,
+    order: &Order,
 ) -> Result<Findings<'a>, Fault>
     requires history { AreOfHistory txns.now }
     requires deps { deps.now ≡ txns.now }
+    requires order { IsThinnedOrder txns.now order.now }
     ensures ok { IfOk result (AreFindings txns.now) }
     ensures err { IfErr result (λ fault. fault ≡ memory_fault) }
 {
-    let order = thin(alloc, txns)?;
-    let graph = Graph::new(alloc, deps, &order)?;
-    find_each(alloc, &graph)
+    let graph = Graph::new(alloc, deps, order)?;
+    find_each(rt, alloc, &graph)
 }

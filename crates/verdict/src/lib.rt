@@ -3,6 +3,9 @@
 
 ghost use Rattle.std.specs.Prelude.{◌≡◌, IfOk, IfErr, OnOk, OnErr};
 ghost use Rattle.hist_types.specs.Refusals.{memory_fault};
+ghost use Rattle.key_versions.specs.Tables.{IsTableOf};
+ghost use Rattle.order_frontier.specs.Predecessors.{AreOfEvents};
+ghost use Rattle.verdict.specs.Lowest.{IsThinnedOrder};
 ghost use Rattle.verdict.specs.Pieces.{HasTaken, HasFailedBehind};
 ghost use Rattle.verdict.specs.Verdicts.{IsVerdictOf, report_lines};
 
@@ -23,15 +26,41 @@ use dep_edges::edges;
 use hist_types::device::{Failed, Sink};
 use hist_types::types::Fault;
 use journal_core::prefix::Prefix;
+use key_versions::table::Versions;
 use key_versions::versions;
+use order_frontier::thin;
+use order_frontier::types::Order;
 use std::alloc::Global;
 use std::hash::BuildHasher;
+use std::thread::{Threads, join_mut};
 use txn_pairs::pair;
+use txn_pairs::types::Txns;
+
+/// The thinned order of the transactions, and the table of their versions: two threads make them, where another can be made.
+fn order_and_versions<'a, R: Threads, S: BuildHasher + Copy>(
+    rt: &R,
+    alloc: Global,
+    txns: &Txns<'a>,
+    hasher: S,
+) -> Result<(Order, Versions<'a>), Fault>
+    requires { AreOfEvents txns.now }
+    ensures order { IfOk result (λ found. IsThinnedOrder txns.now found.0) }
+    ensures versions { IfOk result (λ found. IsTableOf txns.now found.1) }
+    ensures err { IfErr result (λ fault. fault ≡ memory_fault) }
+{
+    let (order, versions) = join_mut(
+        rt,
+        &mut || thin(alloc, txns),
+        &mut || versions(alloc, txns, hasher),
+    );
+    Ok((order?, versions?))
+}
 
 /// The verdict of the events. It borrows the journal's blocks, and not the prefix. It doesn't depend on the hasher.
 ///
 /// Only memory can run out.
-pub fn verdict<'a, S: BuildHasher + Copy>(
+pub fn verdict<'a, R: Threads, S: BuildHasher + Copy>(
+    rt: &R,
     alloc: Global,
     prefix: &Prefix<'a>,
     hasher: S,
@@ -41,12 +70,12 @@ pub fn verdict<'a, S: BuildHasher + Copy>(
 {
     let events = prefix.events();
     let txns = pair(alloc, prefix)?;
-    let versions = versions(alloc, &txns, hasher)?;
+    let (order, versions) = order_and_versions(rt, alloc, &txns, hasher)?;
     let deps = edges(alloc, &txns, &versions)?;
     let report = Report {
         prefix: events,
         txns: txns.as_slice().len() as u64,
-        findings: findings_of(alloc, &txns, &deps)?,
+        findings: findings_of(rt, alloc, &txns, &deps, &order)?,
         g1a: deps.g1a(),
         g1b: deps.g1b(),
         stray: deps.stray(),

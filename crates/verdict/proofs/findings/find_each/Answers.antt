@@ -8,9 +8,9 @@ use Rattle.verdict.proofs.Searching.{nothing_found}
 use Rattle.verdict.proofs.findings.find_each.Goals as goal
 
 pub returns-then-rules_out_cycles-clause-ok : goal.returns-then-rules_out_cycles-clause-ok
-returns-then-rules_out_cycles-clause-ok c =
-    let g = c.args.graph.now in
+returns-then-rules_out_cycles-clause-ok g c =
+    let parts = c.args.graph.now in
     let nothing : ShowNothing (edges_in c.in_ok-graph.graph Realtime) =
     subst (λ settled. OnTrue settled (ShowNothing (edges_in c.in_ok-graph.graph Realtime))) c.if-rules_out_cycles.true c.rules_out_cycles.ensures in
-    subst (AreFindings g.txns) (sym c.none.ensures)
-    (nothing_found g c.requires (subst (λ (g : Parts). ShowNothing (edges_in g Realtime)) c.in_ok-graph.ensures.ok nothing))
+    subst (AreFindings parts.txns) (sym c.none.ensures)
+    (nothing_found parts c.requires (subst (λ (p : Parts). ShowNothing (edges_in p Realtime)) c.in_ok-graph.ensures.ok nothing))

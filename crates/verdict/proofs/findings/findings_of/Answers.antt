@@ -6,16 +6,16 @@ use Rattle.verdict.proofs.Searching.{thinned_graph}
 use Rattle.verdict.proofs.findings.findings_of.Goals as goal
 
 pub new-requires : goal.new-requires
-new-requires c =
-    let order = c.in_ok-order.order in
-    subst (λ ts. IsOrderOf ts order) (sym c.requires.deps) (thinned_order c.args.txns.now order c.in_ok-order.ensures.edges c.in_ok-order.ensures.once c.in_ok-order.ensures.transactions)
+new-requires g c =
+    let order = c.args.order.now in
+    subst (λ ts. IsOrderOf ts order) (sym c.requires.deps) (thinned_order c.args.txns.now order c.requires.order.0 c.requires.order.1 c.requires.order.2)
 
 pub find_each-requires : goal.find_each-requires
-find_each-requires c =
+find_each-requires g c =
     let ts = c.args.txns.now in
-    let order = c.in_ok-order.order in
-    let g = c.in_ok-graph.graph in
+    let order = c.args.order.now in
+    let graph = c.in_ok-graph.graph in
     let history = c.requires.history in
-    let made : IsMadeOf ts order g = subst (λ us. IsMadeOf us order g) c.requires.deps c.in_ok-graph.ensures.ok in
-    thinned_graph g ts made.txns (history.0, history.2)
-    (λ level e. of_thinned ts history level e order g made c.in_ok-order.ensures.edges)
+    let made : IsMadeOf ts order graph = subst (λ us. IsMadeOf us order graph) c.requires.deps c.in_ok-graph.ensures.ok in
+    thinned_graph graph ts made.txns (history.0, history.2)
+    (λ level e. of_thinned ts history level e order graph made c.requires.order.0)
