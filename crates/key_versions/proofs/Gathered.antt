@@ -9,10 +9,10 @@ use Rattle.key_versions.specs.declared.pending.Written.{Written}
 use Rattle.key_versions.specs.declared.pending.Written.TheVariants.{Never}
 use Rattle.key_versions.specs.declared.types.Writer.{Writer}
 use Rattle.key_versions.specs.declared.types.Follower.{Follower}
-use Rattle.key_versions.specs.Groups.{group, groups_from, IsNumbered}
+use Rattle.flat_groups.specs.Groups.{group, groups_from, IsNumbered}
 use Rattle.key_versions.specs.Pending.{writer_in, known_from}
 use Rattle.key_versions.specs.Rows.{Known, unknown, change, follower, is_behind, with_writer, with_follower, with_place, with_reader}
-use Rattle.key_versions.proofs.Grouped.{group_here, group_elsewhere, none_beyond}
+use Rattle.flat_groups.proofs.Grouped.{group_here, group_elsewhere, none_beyond}
 
 abbrev known_by : Option Writer → List ℕ → List Follower → Known
 known_by writer readers followers = record { writer = writer; readers = readers; followers = followers }

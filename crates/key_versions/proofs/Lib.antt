@@ -1,6 +1,5 @@
 mod Changed
 mod Spans
-mod Grouped
 mod Gathered
 mod Finished
 mod Places

@@ -6,7 +6,8 @@ use Rattle.std.proofs.lemmas.List.{append_assoc, map-append, length-append, leng
 use Rattle.std.proofs.lemmas.Option.{slice_get-get_or, slice_get-map}
 use Rattle.key_versions.specs.declared.accesses.Span.{Span}
 use Rattle.key_versions.specs.Rows.{Accessed}
-use Rattle.key_versions.specs.Spans.{IsSpan, between, accessed_at}
+use Rattle.flat_groups.specs.Groups.{between}
+use Rattle.key_versions.specs.Spans.{IsSpan, accessed_at}
 use Rattle.key_versions.proofs.Changed.{all_behind}
 
 abbrev accessed_by : List ℕ → List ℕ → Accessed

@@ -4,5 +4,4 @@ pub mod Rows
 pub mod Spans
 pub mod Numbering
 pub mod Views
-pub mod Groups
 pub mod Pending

@@ -4,7 +4,7 @@ use Rattle.key_versions.specs.declared.pending.Written.{Written}
 use Rattle.key_versions.specs.declared.pending.Written.TheVariants.{Never, Last, Over}
 use Rattle.key_versions.specs.declared.types.Writer.{Writer}
 use Rattle.key_versions.specs.declared.types.Follower.{Follower}
-use Rattle.key_versions.specs.Groups.{group, IsNumbered}
+use Rattle.flat_groups.specs.Groups.{group, IsNumbered}
 use Rattle.key_versions.specs.Rows.{Known}
 
 abbrev pub writer_in : Written → Option Writer

@@ -1,15 +1,12 @@
 -- What transactions read and install, side by side in one list of numbers.
-use Rattle.std.specs.Prelude.{◌≤◌, ℕ, ◌-◌, List, take, drop}
+use Rattle.std.specs.Prelude.{◌≤◌, ℕ, List}
+use Rattle.flat_groups.specs.Groups.{between}
 use Rattle.key_versions.specs.declared.accesses.Span.{Span}
 use Rattle.key_versions.specs.Rows.{Accessed}
 
 -- a span among so many numbers
 abbrev pub IsSpan : ℕ → Span → Type 0
 IsSpan n s = (s.reads ≤ s.installs) × (s.installs ≤ s.end) × (s.end ≤ n)
-
--- the items from one place up to another one
-abbrev pub between : {A : Type 0} → ℕ → ℕ → List A → List A
-between from to items = take (to - from) (drop from items)
 
 -- what the transaction with this span reads and installs
 abbrev pub accessed_at : List ℕ → Span → Accessed

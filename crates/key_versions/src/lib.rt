@@ -7,7 +7,6 @@ ghost use Rattle.key_versions.specs.Tables.{IsTableOf};
 
 mod accesses;
 mod building;
-mod groups;
 mod numbering;
 mod pending;
 mod rows;

@@ -5,7 +5,7 @@ ghost use Rattle.key_versions.specs.Numbering.{versions_in};
 ghost use Rattle.key_versions.specs.Views.{AreVersions, table_of};
 
 use crate::accesses::Accesses;
-use crate::groups::Groups;
+use flat_groups::groups::Groups;
 use crate::numbering::Numbered;
 use crate::pending::{Grouped, Written};
 use crate::types::{Follower, VersionRef, Writer};

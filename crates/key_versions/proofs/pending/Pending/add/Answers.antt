@@ -1,5 +1,5 @@
 use Rattle.std.proofs.Common.{◌∙◌, ◌++◌, ◌∷◌, [], List, All, length, ap, subst}
-use Rattle.key_versions.specs.Groups.{IsNumbered}
+use Rattle.flat_groups.specs.Groups.{IsNumbered}
 use Rattle.key_versions.specs.Pending.{known_from}
 use Rattle.key_versions.specs.Rows.{Known, unknown}
 use Rattle.key_versions.proofs.Gathered.{known_added, from_zero}

@@ -1,5 +1,5 @@
 use Rattle.std.proofs.Common.{◌∙◌, length, map, ap}
-use Rattle.key_versions.specs.Groups.{groups_from}
+use Rattle.flat_groups.specs.Groups.{groups_from}
 use Rattle.key_versions.specs.Rows.{Known}
 use Rattle.key_versions.proofs.Gathered.{writers_known, readers_known, followers_known}
 use Rattle.key_versions.proofs.pending.Pending.finish.Goals as goal

@@ -1,5 +1,5 @@
 use Rattle.std.proofs.Common.{◌<◌, ◌∙◌, All, length, sym, ap, subst}
-use Rattle.key_versions.specs.Groups.{IsNumbered}
+use Rattle.flat_groups.specs.Groups.{IsNumbered}
 use Rattle.key_versions.specs.Pending.{known_from}
 use Rattle.key_versions.specs.Rows.{change, with_follower}
 use Rattle.key_versions.proofs.Gathered.{length-known, known_followed, all_one_more, from_zero}

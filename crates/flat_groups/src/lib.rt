@@ -1,0 +1,4 @@
+//! Items grouped by number, side by side in one vector.
+#![tactic(auto)]
+
+pub mod groups;
