@@ -7,3 +7,4 @@ pub mod Found
 pub mod Marks
 pub mod Adding
 pub mod Shown
+pub mod Ruled

@@ -40,7 +40,7 @@ mapped_at f [] k x e = elim (none-some x e) [ ]
 mapped_at f (y ∷ xs) zero x e = ap f (same_Some y x e)
 mapped_at f (y ∷ xs) (suc k) x e = mapped_at f xs k x e
 
-place_in : {X : Type 0} (xs : List X) (x : X) → In x xs → (k : ℕ) × (slice_get xs k ≡ Some x)
+pub place_in : {X : Type 0} (xs : List X) (x : X) → In x xs → (k : ℕ) × (slice_get xs k ≡ Some x)
 place_in [] x i = elim i [ ]
 place_in (y ∷ xs) x (inl e) = (0, ap Some e)
 place_in (y ∷ xs) x (inr i) = let found = place_in xs x i in (suc found.0, found.1)
@@ -52,7 +52,7 @@ one_place (u ∷ ts) a zero (suc j) t e d = elim (a.0 (subst (λ x. In x ts) (sy
 one_place (u ∷ ts) a (suc i) zero t e d = elim (a.0 (subst (λ x. In x ts) (sym (same_Some u t d)) (in_at ts i t e))) [ ]
 one_place (u ∷ ts) a (suc i) (suc j) t e d = ap suc (one_place ts a.1 i j t e d)
 
-to_some_place :
+pub to_some_place :
     {A : Type 0} (f : ℕ → Transaction → List A) (k : ℕ) (ts : List Transaction) (j : ℕ) (t : Transaction) (y : A)
     → slice_get ts j ≡ Some t
     → In y (f (k + j) t)
@@ -77,7 +77,7 @@ same_tests true b to back = sym (to refl)
 same_tests false true to back = back refl
 same_tests false false to back = refl
 
-has_one : (xs : List ℕ) (x : ℕ) → In x xs → not (length xs == 0) ≡ true
+pub has_one : (xs : List ℕ) (x : ℕ) → In x xs → not (length xs == 0) ≡ true
 has_one [] x i = elim i [ ]
 has_one (y ∷ xs) x i = ap not (told_apart (length (y ∷ xs)) 0 (λ e. omega (arith, e)))
 
@@ -159,7 +159,7 @@ one_if : (test : Bool) (n m : ℕ) → In m (if test then n ∷ [] else []) → 
 one_if true n m i = refl
 one_if false n m i = elim i [ ]
 
-in_if : (test : Bool) (n : ℕ) → test ≡ true → In n (if test then n ∷ [] else [])
+pub in_if : (test : Bool) (n : ℕ) → test ≡ true → In n (if test then n ∷ [] else [])
 in_if test n e = subst (λ b. In n (if b then n ∷ [] else [])) (sym e) (inl refl)
 
 marked_was_read :

@@ -4,3 +4,4 @@ pub mod OutEdges
 pub mod Added
 pub mod Tables
 pub mod Reads
+pub mod Possible

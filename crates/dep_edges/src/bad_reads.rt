@@ -3,10 +3,12 @@
 ghost use Rattle.std.specs.Prelude.{◌≡◌, OnOk, IfOk, vec_len};
 ghost use Rattle.hist_types.specs.Phenomena.{first_of, g1a, g1b, stray};
 ghost use Rattle.dep_edges.specs.Tables.{IsPlace, txn_at};
+ghost use Rattle.dep_edges.specs.Possible.{RulesOutReads};
 ghost use Rattle.dep_edges.specs.Reads.{aborted_in, intermediate_in, AddsStraysAt};
 
 use crate::history::History;
 use crate::nodes::is_failed;
+use crate::possible::Possible;
 use crate::types::BadRead;
 use std::alloc::{AllocError, Global};
 
@@ -47,9 +49,13 @@ fn intermediate_read<'a>(history: &History<'_, 'a>, place: usize) -> Option<BadR
 }
 
 /// The first aborted read of the history.
-pub fn first_aborted<'a>(history: &History<'_, 'a>) -> Option<BadRead<'a>>
+pub fn first_aborted<'a>(history: &History<'_, 'a>, possible: Possible) -> Option<BadRead<'a>>
+    requires { RulesOutReads history.now.txns possible }
     ensures { result ≡ g1a history.now.txns }
 {
+    if !possible.aborted {
+        return None;
+    }
     for place in 0..history.txns().len() {
         if let Some(read) = aborted_read(history, place) {
             return Some(read);
@@ -59,9 +65,13 @@ pub fn first_aborted<'a>(history: &History<'_, 'a>) -> Option<BadRead<'a>>
 }
 
 /// The first intermediate read of the history.
-pub fn first_intermediate<'a>(history: &History<'_, 'a>) -> Option<BadRead<'a>>
+pub fn first_intermediate<'a>(history: &History<'_, 'a>, possible: Possible) -> Option<BadRead<'a>>
+    requires { RulesOutReads history.now.txns possible }
     ensures { result ≡ g1b history.now.txns }
 {
+    if !possible.intermediate {
+        return None;
+    }
     for place in 0..history.txns().len() {
         if let Some(read) = intermediate_read(history, place) {
             return Some(read);
@@ -88,10 +98,18 @@ fn add_strays(
 }
 
 /// The versions of the stray reads, read by read.
-pub fn strays(alloc: Global, history: &History<'_, '_>) -> Result<Vec<u32>, AllocError>
+pub fn strays(
+    alloc: Global,
+    history: &History<'_, '_>,
+    possible: Possible,
+) -> Result<Vec<u32>, AllocError>
+    requires { RulesOutReads history.now.txns possible }
     ensures { IfOk result (λ strays. vec_len strays ≡ stray history.now.txns) }
 {
     let mut strays = Vec::new(alloc);
+    if !possible.stray {
+        return Ok(strays);
+    }
     for place in 0..history.txns().len() {
         add_strays(history, place, &mut strays)?;
     }

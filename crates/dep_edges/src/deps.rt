@@ -6,11 +6,13 @@ ghost use Rattle.hist_types.specs.Transactions.{is_node};
 ghost use Rattle.key_versions.specs.Tables.{IsTableOf};
 ghost use Rattle.dep_edges.specs.Histories.{AreOfHistory};
 ghost use Rattle.dep_edges.specs.OutEdges.{AddsEdgesFrom};
+ghost use Rattle.dep_edges.specs.Possible.{RulesOutReads};
 ghost use Rattle.dep_edges.specs.Tables.{IsPlace, txn_at};
 
 use crate::bad_reads::{first_aborted, first_intermediate};
 use crate::history::History;
 use crate::leaving::Marked;
+use crate::possible::Possible;
 use crate::types::{BadRead, Edge};
 use std::alloc::AllocError;
 use std::marker::Model;
@@ -20,6 +22,7 @@ use std::marker::Model;
 #[derive(Drop)]
 pub struct Deps<'v, 'a> {
     marked: Marked<'v, 'a>,
+    possible: Possible,
     /// The versions of the stray reads.
     strays: Vec<u32>,
 }
@@ -29,24 +32,32 @@ impl<'v, 'a> Model for Deps<'v, 'a> {
     ghost use Rattle.hist_types.specs.Phenomena.{stray};
     ghost use Rattle.hist_types.specs.Transactions.{Transaction};
     ghost use Rattle.dep_edges.specs.Histories.{IsHistory};
+    ghost use Rattle.dep_edges.specs.Possible.{RulesOutReads};
 
     ghost Value = { List Transaction };
 
     ghost view = { λ d. d.marked.txns };
 
-    ghost invariant = { λ d. IsHistory d.marked.txns d.marked.table × (vec_len d.strays ≡ stray d.marked.txns) };
+    ghost invariant = { λ d. IsHistory d.marked.txns d.marked.table × RulesOutReads d.marked.txns d.possible × (vec_len d.strays ≡ stray d.marked.txns) };
 }
 
 impl<'v, 'a> Deps<'v, 'a> {
-    pub(crate) fn new(history: History<'v, 'a>, nodes: Vec<bool>, strays: Vec<u32>) -> Self
+    pub(crate) fn new(
+        history: History<'v, 'a>,
+        nodes: Vec<bool>,
+        possible: Possible,
+        strays: Vec<u32>,
+    ) -> Self
         requires kept { AreOfHistory history.txns }
         requires table { IsTableOf history.txns history.table }
         requires nodes { nodes.items ≡ map (is_node history.txns) history.txns }
+        requires possible { RulesOutReads history.txns possible }
         requires strays { vec_len strays ≡ stray history.txns }
         ensures { result ≡ history.entry.txns }
     {
         Deps {
             marked: Marked::new(history, nodes),
+            possible,
             strays,
         }
     }
@@ -86,14 +97,14 @@ impl<'v, 'a> Deps<'v, 'a> {
     pub fn g1a(&self) -> Option<BadRead<'a>>
         ensures { result ≡ g1a self.now }
     {
-        first_aborted(self.marked.history())
+        first_aborted(self.marked.history(), self.possible)
     }
 
     /// The first intermediate read: what an ok transaction reads and another one wrote over in itself.
     pub fn g1b(&self) -> Option<BadRead<'a>>
         ensures { result ≡ g1b self.now }
     {
-        first_intermediate(self.marked.history())
+        first_intermediate(self.marked.history(), self.possible)
     }
 
     /// How many external reads of ok transactions return a value that nobody wrote.

@@ -11,10 +11,12 @@ pub mod deps;
 pub mod history;
 mod leaving;
 mod nodes;
+mod possible;
 pub mod types;
 
 use crate::deps::Deps;
 use crate::history::History;
+use crate::possible::possible_in;
 use hist_types::types::Fault;
 use key_versions::table::Versions;
 use std::alloc::Global;
@@ -35,7 +37,8 @@ pub fn edges<'v, 'a>(
     ensures err { IfErr result (λ fault. fault ≡ memory_fault) }
 {
     let history = History::new(txns, versions);
-    let strays = bad_reads::strays(alloc, &history)?;
+    let possible = possible_in(&history);
+    let strays = bad_reads::strays(alloc, &history, possible)?;
     let nodes = nodes::nodes(alloc, &history)?;
-    Ok(Deps::new(history, nodes, strays))
+    Ok(Deps::new(history, nodes, possible, strays))
 }

@@ -5,6 +5,7 @@ use Rattle.dep_edges.specs.Reads.{intermediate_in}
 use Rattle.dep_edges.specs.Tables.{IsPlace}
 use Rattle.dep_edges.proofs.Shown.{found_at_place, none_at_place, none_at_all}
 use Rattle.dep_edges.proofs.Writers.{reads_by_transaction}
+use Rattle.dep_edges.proofs.Ruled.{none_intermediate}
 use Rattle.dep_edges.proofs.bad_reads.first_intermediate.Goals as goal
 
 by_transaction : (ts : List Transaction) → intermediate_reads ts ≡ flat_map (intermediate_in ts) ts
@@ -26,3 +27,6 @@ pub returns : goal.returns
 returns c =
     let ts = c.args.history.now.txns in
     none_at_all (intermediate_in ts) ts c.loop-place.place (intermediate_reads ts) (by_transaction ts) (omega (arith, c.loop-place-test.false, ap (λ (us : List Transaction). length us) c.txns-place-end.ensures.value)) c.loop-place.invariant
+
+pub returns-then-not-possible : goal.returns-then-not-possible
+returns-then-not-possible c = none_intermediate c.args.history.now.txns c.args.possible c.requires c.if-not-possible.true

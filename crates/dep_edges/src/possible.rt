@@ -1,0 +1,65 @@
+//! Which kinds of bad reads there may be, by one look at each version.
+
+ghost use Rattle.std.specs.Prelude.{◌≡◌, ◌||◌};
+ghost use Rattle.dep_edges.specs.Possible.{RulesOut, RulesOutReads, either};
+ghost use Rattle.dep_edges.specs.Tables.{IsNumber, version_at};
+
+use crate::history::History;
+use crate::nodes::is_failed;
+
+/// Which kinds of bad reads there may be. Where one is ruled out, no read has to be looked at for it.
+#[derive(Clone, Copy)]
+pub struct Possible {
+    pub aborted: bool,
+    pub intermediate: bool,
+    pub stray: bool,
+}
+
+impl Possible {
+    const NONE: Possible = Possible {
+        aborted: false,
+        intermediate: false,
+        stray: false,
+    };
+
+    /// What reads of the version may be.
+    fn by_reads_of(history: &History<'_, '_>, number: usize) -> Possible
+        requires { IsNumber history.now.table number }
+        ensures { RulesOut history.now.txns (version_at history.now.table number) result }
+    {
+        match history.writer(number) {
+            Some(writer) => Possible {
+                aborted: is_failed(history.txn(writer.txn as usize)),
+                intermediate: writer.over,
+                stray: false,
+            },
+            None => Possible {
+                stray: history.is_stray(number),
+                ..Possible::NONE
+            },
+        }
+    }
+
+    fn or(self, other: Possible) -> Possible
+        ensures { result ≡ either self other }
+    {
+        Possible {
+            aborted: self.aborted || other.aborted,
+            intermediate: self.intermediate || other.intermediate,
+            stray: self.stray || other.stray,
+        }
+    }
+}
+
+/// What the reads of the history may be.
+pub fn possible_in(history: &History<'_, '_>) -> Possible
+    ensures { RulesOutReads history.now.txns result }
+{
+    let mut found = Possible::NONE;
+    for number in 0..history.versions() {
+        if !history.readers(number).is_empty() {
+            found = found.or(Possible::by_reads_of(history, number));
+        }
+    }
+    found
+}
