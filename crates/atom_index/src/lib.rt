@@ -6,5 +6,3 @@ mod pair_slots;
 pub mod pairs;
 mod slots;
 mod table;
-#[cfg(test)]
-mod tests;

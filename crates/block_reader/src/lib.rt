@@ -5,5 +5,3 @@ mod blocks;
 mod parts;
 pub mod reading;
 mod starts;
-#[cfg(test)]
-mod tests;

@@ -7,8 +7,6 @@ ghost use Rattle.cycle_show.specs.Reductions.{IsWitnessOf, dependencies};
 
 mod kinds;
 mod path;
-#[cfg(test)]
-mod tests;
 pub mod types;
 pub mod write;
 

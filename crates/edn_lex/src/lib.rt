@@ -7,6 +7,4 @@ pub mod lexer;
 mod pieces;
 mod runs;
 mod scan;
-#[cfg(test)]
-mod tests;
 pub mod types;

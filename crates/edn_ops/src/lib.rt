@@ -13,7 +13,5 @@ mod members;
 mod micro_ops;
 mod outline;
 pub mod reader;
-#[cfg(test)]
-mod tests;
 pub mod types;
 pub mod write;

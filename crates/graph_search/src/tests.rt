@@ -60,66 +60,6 @@ fn graph(rt: &impl Abort, alloc: Global, vertices: usize, arcs: &[(usize, usize)
     graph
 }
 
-/// Ranks of a graph's vertices.
-fn ranks_of(rt: &impl Abort, alloc: Global, graph: &Lists) -> Vec<usize> {
-    let ranks = Ranks::of(alloc, graph).expect(rt, "memory");
-    let mut list = Vec::new(alloc);
-    for vertex in 0..graph.vertices() {
-        list.push(ranks.rank(vertex)).expect(rt, "memory");
-    }
-    list
-}
-
-/// Checks that vertices have one rank exactly where they have one label.
-fn assert_components(rt: &impl Abort, ranks: &[usize], labels: &[usize]) {
-    assert_eq!(rt; ranks.len(), labels.len());
-    for v in 0..ranks.len() {
-        for w in 0..ranks.len() {
-            assert_eq!(rt; ranks[v] == ranks[w], labels[v] == labels[w]);
-        }
-    }
-}
-
-#[test]
-fn ranks_rise_along_a_chain(rt: HostRuntime) {
-    let chain = graph(&rt, rt.alloc(), 4, &[(2, 0), (3, 2), (0, 1)]);
-    let ranks = ranks_of(&rt, rt.alloc(), &chain);
-    assert_eq!(rt; ranks.as_slice(), [2, 3, 1, 0].as_slice());
-}
-
-#[test]
-fn a_graph_without_arcs(rt: HostRuntime) {
-    let empty = graph(&rt, rt.alloc(), 0, &[]);
-    let ranks = Ranks::of(rt.alloc(), &empty).expect(&rt, "memory");
-    assert_eq!(rt; ranks.len(), 0);
-    let apart = graph(&rt, rt.alloc(), 3, &[]);
-    assert_components(&rt, &ranks_of(&rt, rt.alloc(), &apart), &[0, 1, 2]);
-}
-
-#[test]
-fn vertices_of_one_component_have_one_rank(rt: HostRuntime) {
-    // Two cycles that share a vertex, a cycle that leads to them, an arc to itself, and a vertex
-    // between.
-    let arcs = [
-        (0, 1),
-        (1, 2),
-        (2, 0),
-        (2, 3),
-        (3, 4),
-        (4, 2),
-        (5, 6),
-        (6, 5),
-        (6, 7),
-        (7, 1),
-        (8, 8),
-        (5, 8),
-        (8, 3),
-    ];
-    let cycles = graph(&rt, rt.alloc(), 9, &arcs);
-    let ranks = ranks_of(&rt, rt.alloc(), &cycles);
-    assert_components(&rt, &ranks, &[0, 0, 0, 0, 0, 1, 1, 2, 3]);
-}
-
 /// An adversary of searches that recurse, or that follow arcs again and again.
 fn chain(rt: &impl Abort, alloc: Global, vertices: usize) -> Lists {
     let mut chain = Lists::new(alloc, vertices).expect(rt, "memory");
@@ -127,15 +67,6 @@ fn chain(rt: &impl Abort, alloc: Global, vertices: usize) -> Lists {
         chain.add(to - 1, to).expect(rt, "memory");
     }
     chain
-}
-
-#[test]
-fn a_long_chain(rt: HostRuntime) {
-    let chain = chain(&rt, rt.alloc(), 100_000);
-    let ranks = ranks_of(&rt, rt.alloc(), &chain);
-    for vertex in 0..ranks.len() {
-        assert_eq!(rt; ranks[vertex], vertex);
-    }
 }
 
 #[test]

@@ -5,6 +5,4 @@
 pub mod device;
 pub mod laws;
 pub mod limits;
-#[cfg(test)]
-mod tests;
 pub mod types;

@@ -6,5 +6,3 @@ mod content;
 pub mod mops;
 pub mod op;
 mod spelling;
-#[cfg(test)]
-mod tests;

@@ -13,8 +13,6 @@ pub mod devices;
 mod findings;
 pub mod laws;
 mod report;
-#[cfg(test)]
-mod tests;
 mod text;
 pub mod types;
 
