@@ -4,3 +4,4 @@ pub mod Leaving
 pub mod Statuses
 pub mod Verdicts
 pub mod Runs
+pub mod Tables

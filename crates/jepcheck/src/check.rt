@@ -1,7 +1,9 @@
 //! The command `check`.
 
-ghost use Rattle.std.specs.Prelude.{◌≡◌, IfOk, IfErr};
+ghost use Rattle.std.specs.Prelude.{◌≡◌, [], None, IfOk, IfErr};
+ghost use Rattle.hist_types.specs.Journal.{first_broken};
 ghost use Rattle.hist_types.specs.Refusals.{memory_fault};
+ghost use Rattle.verdict.specs.Lowest.{AreTablesOf};
 ghost use Rattle.jepcheck.specs.Answers.{Reports};
 ghost use Rattle.jepcheck.specs.Statuses.{status_by};
 ghost use Rattle.jepcheck.specs.Verdicts.{names_phenomenon};
@@ -9,12 +11,12 @@ ghost use Rattle.command_line.specs.declared.types.Command.TheVariants.{Check};
 
 use crate::answer::{Answer, Status};
 use hist_types::types::{Fault, Phenomenon};
-use journal_core::prefix::Prefix;
+use journal_core::events::Events;
 use std::alloc::Global;
-use std::hash::{BuildHasherDefault, FoldHasher};
 use std::thread::Threads;
+use verdict::tables::Tables;
 use verdict::types::Verdict;
-use verdict::verdict;
+use verdict::verdict_from;
 
 fn status_of(verdict: &Verdict<'_>) -> Status
     ensures { result ≡ status_by (names_phenomenon verdict.now) }
@@ -31,12 +33,19 @@ fn status_of(verdict: &Verdict<'_>) -> Status
     }
 }
 
-/// What `check` prints of a journal. It fails only where it is out of memory.
-pub fn report<R: Threads>(rt: &R, alloc: Global, events: &Prefix<'_>) -> Result<Answer, Fault>
+/// What `check` prints of events that keep the rules. It fails only where it is out of memory.
+pub fn report<R: Threads + Sync>(
+    rt: &R,
+    alloc: Global,
+    events: &Events<'_>,
+    tables: &Tables<'_>,
+) -> Result<Answer, Fault>
+    requires kept { first_broken [] events.now ≡ None }
+    requires tables { AreTablesOf events.now tables.now }
     ensures ok { IfOk result (λ answer. Reports Check events.now answer.status answer.printed.items) }
     ensures err { IfErr result (λ fault. fault ≡ memory_fault) }
 {
-    let verdict = verdict(rt, alloc, events, BuildHasherDefault::<FoldHasher>::new())?;
+    let verdict = verdict_from(rt, alloc, events, tables)?;
     let mut printed = Vec::new(alloc);
     printed.extend_from_slice(verdict.text())?;
     Ok(Answer {

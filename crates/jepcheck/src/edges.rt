@@ -1,25 +1,25 @@
 //! The command `edges`.
 
-ghost use Rattle.std.specs.Prelude.{◌≡◌, length, IfOk, IfErr, OnOk};
+ghost use Rattle.std.specs.Prelude.{◌≡◌, [], None, length, IfOk, IfErr, OnOk};
+ghost use Rattle.hist_types.specs.Journal.{first_broken};
 ghost use Rattle.hist_types.specs.Refusals.{memory_fault};
 ghost use Rattle.dep_edges.specs.Histories.{AreOfHistory};
 ghost use Rattle.dep_edges.specs.Tables.{IsPlace, txn_at};
 ghost use Rattle.command_line.specs.declared.types.Command.TheVariants.{Edges};
 ghost use Rattle.jepcheck.specs.Answers.{Reports};
+ghost use Rattle.jepcheck.specs.Tables.{AreTablesOf};
 ghost use Rattle.jepcheck.specs.Leaving.{edges_leaving, IsContinuedByAll};
 
 use crate::answer::{Answer, Status};
 use crate::edge_order::sort_edges;
+use crate::tables::Tables;
 use cycle_show::write::{write_edges, write_head, write_number};
 use dep_edges::deps::Deps;
 use dep_edges::edges;
 use dep_edges::types::Edge;
 use hist_types::types::Fault;
-use journal_core::prefix::Prefix;
-use key_versions::versions;
+use journal_core::events::Events;
 use std::alloc::{AllocError, Global};
-use std::hash::{BuildHasherDefault, FoldHasher};
-use txn_pairs::pair;
 
 /// Makes the list that of the edges that leave the transaction at the place, in order.
 fn find_leaving<'a>(
@@ -58,18 +58,18 @@ fn write_all_edges(
     Ok(count)
 }
 
-/// What `edges` prints of a journal. It fails only where it is out of memory.
-pub fn report(alloc: Global, events: &Prefix<'_>) -> Result<Answer, Fault>
+/// What `edges` prints of events that keep the rules. It fails only where it is out of memory.
+pub fn report(alloc: Global, events: &Events<'_>, tables: &Tables<'_>) -> Result<Answer, Fault>
+    requires kept { first_broken [] events.now ≡ None }
+    requires tables { AreTablesOf events.now tables.now }
     ensures ok { IfOk result (λ answer. Reports Edges events.now answer.status answer.printed.items) }
     ensures err { IfErr result (λ fault. fault ≡ memory_fault) }
 {
-    let prefix = events.events();
-    let txns = pair(alloc, events)?;
-    let versions = versions(alloc, &txns, BuildHasherDefault::<FoldHasher>::new())?;
-    let deps = edges(alloc, &txns, &versions)?;
+    let txns = &tables.txns;
+    let deps = edges(alloc, txns, &tables.versions)?;
     let count = txns.as_slice().len();
     let mut printed = Vec::new(alloc);
-    write_head(&mut printed, prefix, count as u64)?;
+    write_head(&mut printed, events.len(), count as u64)?;
     let number = write_all_edges(alloc, &deps, count, &mut printed)?;
     write_number(&mut printed, "edges", number)?;
     Ok(Answer {

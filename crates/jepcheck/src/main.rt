@@ -11,6 +11,7 @@ mod inputs;
 mod laws;
 mod reads;
 mod run;
+mod tables;
 #[cfg(test)]
 mod runs;
 #[cfg(test)]

@@ -10,7 +10,8 @@ ghost use Rattle.jepcheck.specs.Statuses.{code_of};
 
 use crate::answer::{Answer, Status, refuse};
 use crate::devices::{ReadFault, read_all};
-use crate::inputs::journal_of;
+use crate::inputs::events_of;
+use crate::tables::{judged_for_verdict, judged_tables};
 use crate::{check, edges, reads};
 use block_reader::reading::read_blocks;
 use command_line::types::Command;
@@ -33,11 +34,20 @@ fn judge<R: Threads + Sync>(
     let blocks = read_blocks(rt, alloc, &text)?;
     // The blocks have copies of what they need.
     drop(text);
-    let events = journal_of(alloc, &blocks)?;
+    let events = events_of(alloc, &blocks)?;
     match command {
-        Command::Reads => reads::report(alloc, &events),
-        Command::Edges => edges::report(alloc, &events),
-        Command::Check => check::report(rt, alloc, &events),
+        Command::Reads => {
+            let tables = judged_tables(rt, alloc, &blocks, &events)?;
+            reads::report(alloc, &events, &tables)
+        }
+        Command::Edges => {
+            let tables = judged_tables(rt, alloc, &blocks, &events)?;
+            edges::report(alloc, &events, &tables)
+        }
+        Command::Check => {
+            let tables = judged_for_verdict(rt, alloc, &blocks, &events)?;
+            check::report(rt, alloc, &events, &tables)
+        }
     }
 }
 

@@ -131,7 +131,7 @@ fn find_each<'a, R: Threads>(
 }
 
 /// The graph of a history over its thinned order, and what is found in it.
-pub fn findings_of<'a, R: Threads>(
+pub fn findings_of<'a, R: Threads + Sync>(
     rt: &R,
     alloc: Global,
     txns: &Txns<'a>,
@@ -144,6 +144,6 @@ pub fn findings_of<'a, R: Threads>(
     ensures ok { IfOk result (AreFindings txns.now) }
     ensures err { IfErr result (λ fault. fault ≡ memory_fault) }
 {
-    let graph = Graph::new(alloc, deps, order)?;
+    let graph = Graph::new(rt, alloc, deps, order)?;
     find_each(rt, alloc, &graph)
 }

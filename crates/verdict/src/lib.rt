@@ -3,9 +3,8 @@
 
 ghost use Rattle.std.specs.Prelude.{◌≡◌, IfOk, IfErr, OnOk, OnErr};
 ghost use Rattle.hist_types.specs.Refusals.{memory_fault};
-ghost use Rattle.key_versions.specs.Tables.{IsTableOf};
-ghost use Rattle.order_frontier.specs.Predecessors.{AreOfEvents};
-ghost use Rattle.verdict.specs.Lowest.{IsThinnedOrder};
+ghost use Rattle.journal_core.specs.Blocks.{KeepsRules};
+ghost use Rattle.verdict.specs.Lowest.{AreTablesOf};
 ghost use Rattle.verdict.specs.Pieces.{HasTaken, HasFailedBehind};
 ghost use Rattle.verdict.specs.Verdicts.{IsVerdictOf, report_lines};
 
@@ -13,51 +12,55 @@ pub mod devices;
 mod findings;
 pub mod laws;
 mod report;
+pub mod tables;
 mod text;
 pub mod types;
 
 use crate::devices::write_all;
 use crate::findings::findings_of;
 use crate::report::Report;
+use crate::tables::{Tables, tables_of};
 use crate::types::Verdict;
 use dep_edges::edges;
 use hist_types::device::{Failed, Sink};
 use hist_types::types::Fault;
+use journal_core::events::Events;
 use journal_core::prefix::Prefix;
-use key_versions::table::Versions;
-use key_versions::versions;
-use order_frontier::thin;
-use order_frontier::types::Order;
 use std::alloc::Global;
 use std::hash::BuildHasher;
-use std::thread::{Threads, join_mut};
-use txn_pairs::pair;
-use txn_pairs::types::Txns;
+use std::thread::Threads;
 
-/// The thinned order of the transactions, and the table of their versions: two threads make them, where another can be made.
-fn order_and_versions<'a, R: Threads, S: BuildHasher + Copy>(
+/// The verdict of events that keep the rules, from what was made of them. It borrows the journal's blocks.
+///
+/// Only memory can run out.
+pub fn verdict_from<'a, R: Threads + Sync>(
     rt: &R,
     alloc: Global,
-    txns: &Txns<'a>,
-    hasher: S,
-) -> Result<(Order, Versions<'a>), Fault>
-    requires { AreOfEvents txns.now }
-    ensures order { IfOk result (λ found. IsThinnedOrder txns.now found.0) }
-    ensures versions { IfOk result (λ found. IsTableOf txns.now found.1) }
+    events: &Events<'a>,
+    tables: &Tables<'a>,
+) -> Result<Verdict<'a>, Fault>
+    requires rules { KeepsRules events.now }
+    requires tables { AreTablesOf events.now tables.now }
+    ensures ok { IfOk result (IsVerdictOf events.now) }
     ensures err { IfErr result (λ fault. fault ≡ memory_fault) }
 {
-    let (order, versions) = join_mut(
-        rt,
-        &mut || thin(alloc, txns),
-        &mut || versions(alloc, txns, hasher),
-    );
-    Ok((order?, versions?))
+    let txns = &tables.txns;
+    let deps = edges(alloc, txns, &tables.versions)?;
+    let report = Report {
+        prefix: events.len(),
+        txns: txns.as_slice().len() as u64,
+        findings: findings_of(rt, alloc, txns, &deps, &tables.order)?,
+        g1a: deps.g1a(),
+        g1b: deps.g1b(),
+        stray: deps.stray(),
+    };
+    Ok(Verdict::new(alloc, report)?)
 }
 
 /// The verdict of the events. It borrows the journal's blocks, and not the prefix. It doesn't depend on the hasher.
 ///
 /// Only memory can run out.
-pub fn verdict<'a, R: Threads, S: BuildHasher + Copy>(
+pub fn verdict<'a, R: Threads + Sync, S: BuildHasher + Copy>(
     rt: &R,
     alloc: Global,
     prefix: &Prefix<'a>,
@@ -66,19 +69,10 @@ pub fn verdict<'a, R: Threads, S: BuildHasher + Copy>(
     ensures ok { IfOk result (IsVerdictOf prefix.now) }
     ensures err { IfErr result (λ fault. fault ≡ memory_fault) }
 {
-    let events = prefix.events();
-    let txns = pair(alloc, prefix)?;
-    let (order, versions) = order_and_versions(rt, alloc, &txns, hasher)?;
-    let deps = edges(alloc, &txns, &versions)?;
-    let report = Report {
-        prefix: events,
-        txns: txns.as_slice().len() as u64,
-        findings: findings_of(rt, alloc, &txns, &deps, &order)?,
-        g1a: deps.g1a(),
-        g1b: deps.g1b(),
-        stray: deps.stray(),
-    };
-    Ok(Verdict::new(alloc, report)?)
+    let events = prefix.as_events();
+    let _rules = prefix.events();
+    let tables = tables_of(rt, alloc, events, hasher)?;
+    verdict_from(rt, alloc, events, &tables)
 }
 
 /// Hands the verdict's text to a sink, or a beginning of it where the sink fails. It takes no memory.

@@ -1,0 +1,68 @@
+//! What verdicts are made from.
+
+ghost use Rattle.std.specs.Prelude.{◌≡◌, IfOk, IfErr};
+ghost use Rattle.hist_types.specs.Refusals.{memory_fault};
+ghost use Rattle.key_versions.specs.Tables.{IsTableOf};
+ghost use Rattle.order_frontier.specs.Predecessors.{AreOfEvents};
+ghost use Rattle.verdict.specs.Lowest.{IsThinnedOrder, AreTablesOf};
+
+use hist_types::types::Fault;
+use journal_core::events::Events;
+use key_versions::table::Versions;
+use key_versions::versions;
+use order_frontier::thin;
+use order_frontier::types::Order;
+use std::alloc::Global;
+use std::hash::BuildHasher;
+use std::thread::{Threads, join_mut};
+use txn_pairs::pair;
+use txn_pairs::types::Txns;
+
+/// The transactions of some events, their thinned order, and the versions that they name.
+#[derive(Drop)]
+pub struct Tables<'a> {
+    pub txns: Txns<'a>,
+    pub order: Order,
+    pub versions: Versions<'a>,
+}
+
+/// The thinned order of the transactions, and the table of their versions: two threads make them, where another can be made.
+fn order_and_versions<'a, R: Threads, S: BuildHasher + Copy>(
+    rt: &R,
+    alloc: Global,
+    txns: &Txns<'a>,
+    hasher: S,
+) -> Result<(Order, Versions<'a>), Fault>
+    requires { AreOfEvents txns.now }
+    ensures order { IfOk result (λ found. IsThinnedOrder txns.now found.0) }
+    ensures versions { IfOk result (λ found. IsTableOf txns.now found.1) }
+    ensures err { IfErr result (λ fault. fault ≡ memory_fault) }
+{
+    let (order, versions) = join_mut(
+        rt,
+        &mut || thin(alloc, txns),
+        &mut || versions(alloc, txns, hasher),
+    );
+    Ok((order?, versions?))
+}
+
+/// What a verdict of the events is made from, whether or not they keep the rules. It doesn't depend on the hasher.
+///
+/// Only memory can run out.
+pub fn tables_of<'a, R: Threads + Sync, S: BuildHasher + Copy>(
+    rt: &R,
+    alloc: Global,
+    events: &Events<'a>,
+    hasher: S,
+) -> Result<Tables<'a>, Fault>
+    ensures ok { IfOk result (AreTablesOf events.now) }
+    ensures err { IfErr result (λ fault. fault ≡ memory_fault) }
+{
+    let txns = pair(alloc, events)?;
+    let (order, versions) = order_and_versions(rt, alloc, &txns, hasher)?;
+    Ok(Tables {
+        txns,
+        order,
+        versions,
+    })
+}
