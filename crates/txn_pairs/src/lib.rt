@@ -1,4 +1,4 @@
-//! The transactions of a journal, whose micro-operations stay in its blocks.
+//! The transactions of events, whose micro-operations stay in the blocks.
 #![tactic(auto)]
 
 ghost use Rattle.std.specs.Prelude.{◌≡◌, IfOk, IfErr};
@@ -11,21 +11,22 @@ pub mod types;
 use crate::pairing::Pairing;
 use crate::types::Txns;
 use hist_types::types::Fault;
-use journal_core::prefix::Prefix;
+use journal_core::events::Events;
 use std::alloc::Global;
 
-/// The transactions of the events, by one pass over them. They borrow the journal's blocks, and not the prefix.
+/// The transactions of the events, by one pass over them, whatever rules the events keep. They borrow the blocks, and not
+/// the events.
 ///
 /// The only error is out of memory.
-pub fn pair<'a>(alloc: Global, prefix: &Prefix<'a>) -> Result<Txns<'a>, Fault>
-    ensures ok { IfOk result (λ txns. txns ≡ transactions_of prefix.now) }
+pub fn pair<'a>(alloc: Global, events: &Events<'a>) -> Result<Txns<'a>, Fault>
+    ensures ok { IfOk result (λ txns. txns ≡ transactions_of events.now) }
     ensures err { IfErr result (λ fault. fault ≡ memory_fault) }
 {
     let mut pairing = Pairing::new(alloc);
-    // Each completion has an invocation of its own, so at least half of the events are invocations.
-    pairing.reserve(prefix.events() as usize / 2)?;
-    for index in 0..prefix.events() {
-        pairing.take(index, prefix.op(index))?;
+    // Where the rules are kept, each completion has an invocation of its own, so half of the events or more are invocations.
+    pairing.reserve(events.len() as usize / 2)?;
+    for index in 0..events.len() {
+        pairing.take(index, events.op(index))?;
     }
     Ok(pairing.transactions())
 }

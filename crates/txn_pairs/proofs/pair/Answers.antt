@@ -6,9 +6,9 @@ use Rattle.txn_pairs.proofs.pair.Goals as goal
 
 pub loop-index-preserved : goal.loop-index-preserved
 loop-index-preserved c =
-    let events = c.args.prefix.now in
+    let events = c.args.events.now in
     let i = c.loop-index.index in
-    let within : i < length events = omega (arith, c.loop-index-test.true, c.events-index-end.ensures.count) in
+    let within : i < length events = omega (arith, c.loop-index-test.true, c.len-index-end.ensures.count) in
     let at : length (take i events) ≡ i = omega (arith, within, length-take i events) in
     let more : take (i + 1) events ≡ take i events ++ c.op.result ∷ [] =
     take_more events i c.op.result within
