@@ -5,6 +5,7 @@ ghost use Rattle.process_map.specs.Values.{value_of};
 
 use std::alloc::{AllocError, Global};
 use std::collections::HashMap;
+use std::marker::Model;
 
 /// How many process numbers are small.
 const SMALL: u64 = 1_024;
@@ -17,6 +18,15 @@ const SMALL: u64 = 1_024;
 pub struct ProcessMap<V> {
     small: Vec<Option<V>>,
     large: HashMap<u64, V>,
+}
+
+impl<V> Model for ProcessMap<V> {
+    ghost use Rattle.std.specs.Prelude.{ℕ, List};
+    ghost use Rattle.process_map.specs.Values.{entries_of};
+
+    ghost Value = { List (ℕ × V) };
+
+    ghost view = { λ map. entries_of map.small.items map.large };
 }
 
 impl<V> ProcessMap<V> {
