@@ -1,6 +1,6 @@
 -- What is kept of the ok transactions so far, and what it says comes before a transaction that is invoked now.
-use Rattle.std.specs.Prelude.{ℕ, ◌-◌, List, length, nat_eq}
-use Rattle.std.specs.HashMap.{get}
+use Rattle.std.specs.Prelude.{ℕ, ◌-◌, List, length}
+use Rattle.process_map.specs.Values.{value_of}
 use Rattle.std.specs.Option.{option_to_list}
 use Rattle.hist_types.specs.Transactions.{Transaction}
 use Rattle.order_frontier.specs.declared.types.Predecessor.{Predecessor}
@@ -10,7 +10,7 @@ use Rattle.order_frontier.specs.Ranges.{Ranged}
 
 -- the last ok transaction of a process, if there is one
 abbrev pub last_of : Moving → ℕ → List Predecessor
-last_of moving process = option_to_list (get nat_eq moving.last process)
+last_of moving process = option_to_list (value_of moving.last process)
 
 -- what comes before a transaction: the last one of its process, and in real time all that no later one has overtaken
 abbrev pub before_next : Moving → (process invocation : ℕ) → Before

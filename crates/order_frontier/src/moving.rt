@@ -1,30 +1,30 @@
 //! What is kept of the ok transactions so far.
 
 ghost use Rattle.std.specs.Prelude.{◌≡◌, ℕ, [], ◌∷◌, ◌++◌, Some, None, OnOk, OnErr, IfOk, not, ◌==◌, nat_lt, nat_eq, filter, if◌then◌else◌};
-ghost use Rattle.std.specs.HashMap.{get};
+ghost use Rattle.process_map.specs.Values.{value_of};
 ghost use Rattle.order_frontier.specs.Completions.{predecessor_of, frontier_after};
 ghost use Rattle.order_frontier.specs.Latest.{last_of, before_next};
 
 use crate::types::{Completed, Predecessor, Predecessors};
+use process_map::map::ProcessMap;
 use smallvec::SmallVec;
 use std::alloc::{AllocError, Global};
-use std::collections::HashMap;
 
 /// The ok transactions so far after whose completion no ok one was invoked, and the last one of each process.
 #[derive(Drop)]
 pub struct Moving {
     recent: SmallVec<Predecessor, 8>,
-    last: HashMap<u64, Predecessor>,
+    last: ProcessMap<Predecessor>,
 }
 
 impl Moving {
     pub fn new(alloc: Global) -> Self
         ensures recent { result.recent.items ≡ [] }
-        ensures last { (p : ℕ) → get nat_eq result.last p ≡ None }
+        ensures last { (p : ℕ) → value_of result.last p ≡ None }
     {
         Moving {
             recent: SmallVec::new(alloc),
-            last: HashMap::new(alloc),
+            last: ProcessMap::new(alloc),
         }
     }
 
@@ -40,8 +40,8 @@ impl Moving {
         ensures { IfOk result (λ found. found.items ≡ last_of self.now process) }
     {
         let mut found = SmallVec::new(alloc);
-        if let Some(last) = self.last.get(&process) {
-            found.push(*last)?;
+        if let Some(last) = self.last.get(process) {
+            found.push(last)?;
         }
         Ok(found)
     }
@@ -63,9 +63,9 @@ impl Moving {
     /// Takes an ok transaction, which removes those that completed before its invocation.
     pub fn complete(&mut self, done: Completed) -> Result<(), AllocError>
         ensures recent { OnOk result (self.new.recent.items ≡ frontier_after self.old.recent.items done) }
-        ensures last { OnOk result ((p : ℕ) → get nat_eq self.new.last p ≡ (if done.process == p then Some (predecessor_of done) else get nat_eq self.old.last p)) }
+        ensures last { OnOk result ((p : ℕ) → value_of self.new.last p ≡ (if done.process == p then Some (predecessor_of done) else value_of self.old.last p)) }
         ensures recent_kept { OnErr result (self.new.recent.items ≡ self.old.recent.items) }
-        ensures last_kept { OnErr result ((p : ℕ) → get nat_eq self.new.last p ≡ get nat_eq self.old.last p) }
+        ensures last_kept { OnErr result ((p : ℕ) → value_of self.new.last p ≡ value_of self.old.last p) }
     {
         self.recent.reserve(1)?;
         self.last.insert(done.process, done.predecessor())?;

@@ -1,7 +1,7 @@
 //! The pass that thins the order.
 
 ghost use Rattle.std.specs.Prelude.{◌≡◌, ◌<◌, ◌≤◌, ℕ, List, map, take, ◌++◌, ◌-◌, length, nat_eq, All, IfOk, slice_index_or};
-ghost use Rattle.std.specs.HashMap.{get};
+ghost use Rattle.process_map.specs.Values.{value_of};
 ghost use Rattle.std.specs.Option.{option_to_list};
 ghost use Rattle.order_frontier.specs.Completions.{AreKept, AreRising, AreTimely, predecessor_of};
 ghost use Rattle.order_frontier.specs.Predecessors.{AreOfEvents, HasThinned, NoneTwice, name_of, names};
@@ -15,7 +15,7 @@ use txn_pairs::types::Txn;
 
 /// Takes the first of the ok transactions, those that completed before the index, and answers how many these are.
 fn advance(moving: &mut Moving, done: &[Completed], index: u64) -> Result<usize, AllocError>
-    ensures kept { IfOk result (λ count. (earlier : List _) → AreTimely (earlier ++ done.now) → AreKept earlier moving.old.recent.items (get nat_eq moving.old.last) → AreKept (earlier ++ take count done.now) moving.new.recent.items (get nat_eq moving.new.last)) }
+    ensures kept { IfOk result (λ count. (earlier : List _) → AreTimely (earlier ++ done.now) → AreKept earlier moving.old.recent.items (value_of moving.old.last) → AreKept (earlier ++ take count done.now) moving.new.recent.items (value_of moving.new.last)) }
     ensures count { IfOk result (λ count. count ≤ length done.now) }
     ensures before { IfOk result (λ count. All (λ d. d.completion < index) (take count done.now)) }
     ensures next { IfOk result (λ count. (d : _) → count < length done.now → index ≤ (slice_index_or done.now count d).completion) }
