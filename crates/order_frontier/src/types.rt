@@ -16,7 +16,7 @@ pub struct Predecessor {
 }
 
 /// An ok transaction.
-#[derive(Clone, Copy, PartialEq, Eq, PartialOrd, Ord, Drop)]
+#[derive(Clone, Copy, Default, PartialEq, Eq, PartialOrd, Ord, Drop)]
 pub(crate) struct Completed {
     pub completion: u64,
     pub invocation: u64,
