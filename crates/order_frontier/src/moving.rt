@@ -36,14 +36,10 @@ impl Moving {
     }
 
     /// The last ok transaction of a process, if there is one.
-    pub fn last(&self, alloc: Global, process: u64) -> Result<SmallVec<Predecessor, 1>, AllocError>
-        ensures { IfOk result (λ found. found.items ≡ last_of self.now process) }
+    pub fn last(&self, process: u64) -> Option<Predecessor>
+        ensures { result ≡ value_of self.now.last process }
     {
-        let mut found = SmallVec::new(alloc);
-        if let Some(last) = self.last.get(process) {
-            found.push(last)?;
-        }
-        Ok(found)
+        self.last.get(process)
     }
 
     /// The thinned predecessors of a transaction that is invoked now.
@@ -55,7 +51,10 @@ impl Moving {
     ) -> Result<Predecessors, AllocError>
         ensures { IfOk result (λ u. u ≡ before_next self.now process invocation) }
     {
-        let in_process = self.last(alloc, process)?;
+        let mut in_process = SmallVec::new(alloc);
+        if let Some(last) = self.last(process) {
+            in_process.push(last)?;
+        }
         let in_realtime = SmallVec::from_slice(alloc, self.recent.as_slice())?;
         Ok(Predecessors::new(process, invocation, in_process, in_realtime))
     }
