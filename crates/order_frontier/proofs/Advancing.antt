@@ -1,7 +1,6 @@
 -- One more of the ok transactions in order.
-use Rattle.std.proofs.Common.{◌≡◌, inl, inr, ℕ, suc, ◌+◌, ◌<◌, ◌≤◌, ◌==◌, if◌then◌else◌, Option, Some, None, List, [], ◌∷◌, ◌++◌, filter, length, take, drop, get_or, option_to_list, refl, ap, sym, subst, ◌∙◌, arith, append_assoc, append-nil, take-append-drop}
+use Rattle.std.proofs.Common.{◌≡◌, inl, inr, ℕ, ◌+◌, ◌<◌, ◌≤◌, ◌==◌, if◌then◌else◌, Option, Some, None, List, [], ◌∷◌, ◌++◌, filter, length, take, drop, get_or, option_to_list, refl, ap, sym, subst, ◌∙◌, arith, append_assoc, append-nil, take-append-drop}
 use Rattle.std.specs.List.{AllByRecursion}
-use Rattle.std.specs.List.Sorted.{IsNonDecreasingBy}
 use Rattle.std.proofs.lemmas.List.{take_more, drop_more}
 use Rattle.hist_types.proofs.Members.{In, in_front, in_back, in_append, Contains_from_in, in_each, in_some}
 use Rattle.hist_types.specs.Transactions.{Transaction}
@@ -77,14 +76,3 @@ below_more done k d index below is here before v i =
 pub all_from : {X : Type 0} (P : X → Type 0) (xs : List X) → ((x : X) → In x xs → P x) → AllByRecursion P xs
 all_from P [] h = tt
 all_from P (x ∷ xs) h = (h x (inl refl), all_from P xs (λ y i. h y (inr i)))
-
--- a sorted list rises
-pub rising_from : (xs : List Completed) → IsNonDecreasingBy (λ (d : Completed). d.completion) xs → AreRising xs
-rising_from [] up = tt
-rising_from (x ∷ xs) up = (
-  all_from (λ (v : Completed). x.completion ≤ v.completion) xs (λ v i.
-      let at = Contains_from_in v xs i in
-      let le : x.completion ≤ (get_or xs at.0 v).completion = up 0 (suc at.0) v (omega arith) (omega (arith, at.1)) in
-      subst (λ (w : Completed). x.completion ≤ w.completion) at.2 le),
-  rising_from xs (λ i j d before within. up (suc i) (suc j) d (omega (arith, before)) (omega (arith, within))),
-)

@@ -10,3 +10,4 @@ pub mod Apart
 pub mod Passes
 pub mod AllPairs
 pub mod Ranges
+pub mod Grouped

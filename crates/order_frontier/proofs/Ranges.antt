@@ -3,14 +3,16 @@ use Rattle.std.proofs.Common.{◌≡◌, ◌∙◌, ◌≤◌, ◌+◌, ◌-◌,
 use Rattle.std.specs.Prelude.{slice_range}
 use Rattle.std.specs.List.{AllByRecursion}
 use Rattle.std.proofs.lemmas.Bool.{ltb-true, lt-ltb, false≢true}
-use Rattle.std.proofs.lemmas.List.{length-append, length-take-le, take-append-le, drop-append-le, length-drop, map-append, length-map, drop-take, take-map, drop-map}
+use Rattle.std.proofs.lemmas.List.{append-nil, length-append, length-take-le, take-append-le, drop-append-le, length-drop, map-append, length-map, drop-take, take-map, drop-map}
 use Rattle.std.proofs.lemmas.List.Elements.{recursion_from_All, All-from_recursion, All-append}
 use Rattle.std.proofs.Math.Seq.{drop-append_seam, take-length}
 use Rattle.order_frontier.specs.declared.types.Predecessor.{Predecessor}
 use Rattle.order_frontier.specs.declared.types.Completed.{Completed}
 use Rattle.order_frontier.specs.Completions.{predecessor_of, is_overtaken, frontier_of, AreRising}
 use Rattle.order_frontier.specs.Predecessors.{Before}
-use Rattle.order_frontier.specs.Ranges.{Ranged, before_in, IsRangeIn}
+use Rattle.order_frontier.specs.declared.types.Span.{Span}
+use Rattle.order_frontier.specs.declared.types.Row.{Row}
+use Rattle.order_frontier.specs.Ranges.{before_in, between, IsSpanOf, IsRowIn}
 use Rattle.order_frontier.proofs.Lists.{any_from, any_to}
 use Rattle.order_frontier.proofs.Passes.{rising_take}
 
@@ -28,51 +30,78 @@ last_range items more =
     let n : length (items ++ more) - length items ≡ length more = omega (arith, length-append items more) in
     ap (take (length (items ++ more) - length items)) (drop-append_seam items more) ∙ ap (λ k. take k more) n ∙ take-length more
 
-row-append : (items more : List Predecessor) (r : Ranged) → IsRangeIn items r → before_in (items ++ more) r ≡ before_in items r
-row-append items more r is =
-    ap (λ ps. record { process = r.process; invocation = r.invocation; in_process = r.in_process; in_realtime = ps }) (range-append items more r.start r.end is.rising is.within)
+span-append : (items more : List Predecessor) (s : Span) → IsSpanOf items s → between (items ++ more) s ≡ between items s
+span-append items more s is = range-append items more s.start s.end is.rising is.within
 
-rows-append : (items more : List Predecessor) (rs : List Ranged) → AllByRecursion (IsRangeIn items) rs → map (before_in (items ++ more)) rs ≡ map (before_in items) rs
-rows-append items more [] are = refl
-rows-append items more (r ∷ rs) are =
-    ap (λ b. b ∷ map (before_in (items ++ more)) rs) (row-append items more r are.0)
-    ∙ ap (λ bs. before_in items r ∷ bs) (rows-append items more rs are.1)
+still_span : (items more : List Predecessor) (s : Span) → IsSpanOf items s → IsSpanOf (items ++ more) s
+still_span items more s is = record { rising = is.rising; within = (let w = is.within in omega (arith, w, length-append items more)) }
 
-ranges-append : (items more : List Predecessor) (rs : List Ranged) → AllByRecursion (IsRangeIn items) rs → AllByRecursion (IsRangeIn (items ++ more)) rs
-ranges-append items more [] are = tt
-ranges-append items more (r ∷ rs) are = (
-  record { rising = are.0.rising; within = (let w = are.0.within in omega (arith, w, length-append items more)) },
-  ranges-append items more rs are.1,
+row-append : (own own+ others others+ : List Predecessor) (r : Row) → IsRowIn own others r → before_in (own ++ own+) (others ++ others+) r ≡ before_in own others r
+row-append own own+ others others+ r is =
+    ap (λ ps. record { process = r.process; invocation = r.invocation; in_process = ps; in_realtime = between (others ++ others+) r.in_realtime }) (span-append own own+ r.in_process is.0)
+    ∙ ap (λ ps. record { process = r.process; invocation = r.invocation; in_process = between own r.in_process; in_realtime = ps }) (span-append others others+ r.in_realtime is.1)
+
+rows-append : (own own+ others others+ : List Predecessor) (rs : List Row) → AllByRecursion (IsRowIn own others) rs
+    → map (before_in (own ++ own+) (others ++ others+)) rs ≡ map (before_in own others) rs
+rows-append own own+ others others+ [] are = refl
+rows-append own own+ others others+ (r ∷ rs) are =
+    ap (λ b. b ∷ map (before_in (own ++ own+) (others ++ others+)) rs) (row-append own own+ others others+ r are.0)
+    ∙ ap (λ bs. before_in own others r ∷ bs) (rows-append own own+ others others+ rs are.1)
+
+rows_stay : (own own+ others others+ : List Predecessor) (rs : List Row) → AllByRecursion (IsRowIn own others) rs → AllByRecursion (IsRowIn (own ++ own+) (others ++ others+)) rs
+rows_stay own own+ others others+ [] are = tt
+rows_stay own own+ others others+ (r ∷ rs) are = (
+  (still_span own own+ r.in_process are.0.0, still_span others others+ r.in_realtime are.0.1),
+  rows_stay own own+ others others+ rs are.1,
 )
 
--- all ranges stay as the list grows, with what they have
-pub still_ranges : (items more : List Predecessor) (rs : List Ranged) → All (IsRangeIn items) rs → All (IsRangeIn (items ++ more)) rs
-still_ranges items more rs are =
-    All-from_recursion (IsRangeIn (items ++ more)) rs (ranges-append items more rs (recursion_from_All (IsRangeIn items) rs are))
+-- all rows stay as the lists grow, with what they have
+still_rows : (own own' own+ others others' others+ : List Predecessor) (rs : List Row) → own' ≡ own ++ own+ → others' ≡ others ++ others+
+    → All (IsRowIn own others) rs → All (IsRowIn own' others') rs
+still_rows own own' own+ others others' others+ rs grown grown' are =
+    subst (λ xs. All (IsRowIn xs others') rs) (sym grown)
+    (subst (λ ys. All (IsRowIn (own ++ own+) ys) rs) (sym grown')
+    (All-from_recursion (IsRowIn (own ++ own+) (others ++ others+)) rs
+    (rows_stay own own+ others others+ rs (recursion_from_All (IsRowIn own others) rs are))))
 
-pub same_ranges : (items more : List Predecessor) (rs : List Ranged) → All (IsRangeIn items) rs → map (before_in (items ++ more)) rs ≡ map (before_in items) rs
-same_ranges items more rs are = rows-append items more rs (recursion_from_All (IsRangeIn items) rs are)
+same_rows : (own own' own+ others others' others+ : List Predecessor) (rs : List Row) → own' ≡ own ++ own+ → others' ≡ others ++ others+
+    → All (IsRowIn own others) rs → map (before_in own' others') rs ≡ map (before_in own others) rs
+same_rows own own' own+ others others' others+ rs grown grown' are =
+    ap (λ xs. map (before_in xs others') rs) grown ∙ ap (λ ys. map (before_in (own ++ own+) ys) rs) grown'
+    ∙ rows-append own own+ others others+ rs (recursion_from_All (IsRowIn own others) rs are)
 
--- one more range
-pub one_more : (items : List Predecessor) (rs : List Ranged) (r : Ranged) → All (IsRangeIn items) rs → IsRangeIn items r → All (IsRangeIn items) (rs ++ r ∷ [])
-one_more items rs r are is = All-append (IsRangeIn items) rs (r ∷ []) are (All-from_recursion (IsRangeIn items) (r ∷ []) (is, tt))
+-- one more row
+one_more : (own others : List Predecessor) (rs : List Row) (r : Row) → All (IsRowIn own others) rs → IsRowIn own others r → All (IsRowIn own others) (rs ++ r ∷ [])
+one_more own others rs r are is = All-append (IsRowIn own others) rs (r ∷ []) are (All-from_recursion (IsRowIn own others) (r ∷ []) (is, tt))
+
+-- what was added last is a range
+last_span : (items items' more : List Predecessor) → items' ≡ items ++ more → IsSpanOf items' (record { start = length items; end = length items' })
+last_span items items' more grown = (let long = ap length grown ∙ length-append items more in record { rising = omega (arith, long); within = omega arith })
+
+last_between : (items items' more : List Predecessor) → items' ≡ items ++ more → between items' (record { start = length items; end = length items' }) ≡ more
+last_between items items' more grown = ap (λ xs. slice_range xs (length items) (length xs)) grown ∙ last_range items more
+
+abbrev pub row_of : (process invocation first last start end : ℕ) → Row
+row_of process invocation first last start end =
+    record { process = process; invocation = invocation; in_process = record { start = first; end = last }; in_realtime = record { start = start; end = end } }
 
 pub pushed :
-    (items items' : List Predecessor) (rs rs' : List Ranged) (r : Ranged) (old : List Before) (b : Before)
-    → All (IsRangeIn items) rs
-    → map (before_in items) rs ≡ old
-    → items' ≡ items ++ b.in_realtime
-    → r ≡ record { process = b.process; invocation = b.invocation; in_process = b.in_process; start = length items; end = length items' }
+    (own own' others others' : List Predecessor) (rs rs' : List Row) (r : Row) (old : List Before) (b : Before)
+    → All (IsRowIn own others) rs
+    → map (before_in own others) rs ≡ old
+    → own' ≡ own ++ b.in_process
+    → others' ≡ others ++ b.in_realtime
+    → r ≡ row_of b.process b.invocation (length own) (length own') (length others) (length others')
     → rs' ≡ rs ++ r ∷ []
-    → map (before_in items') rs' ≡ old ++ b ∷ []
-pushed items items' rs rs' r old b are is grown row added =
-    let new : Ranged = record { process = b.process; invocation = b.invocation; in_process = b.in_process; start = length items; end = length items' } in
-    let seen : before_in items' new ≡ b =
-    ap (λ xs. record { process = b.process; invocation = b.invocation; in_process = b.in_process; in_realtime = slice_range xs (length items) (length xs) }) grown
-    ∙ ap (λ ps. record { process = b.process; invocation = b.invocation; in_process = b.in_process; in_realtime = ps }) (last_range items b.in_realtime) in
-    ap (map (before_in items')) (added ∙ ap (λ x. rs ++ x ∷ []) row)
-    ∙ map-append (before_in items') rs (new ∷ [])
-    ∙ ap (λ bs. bs ++ before_in items' new ∷ []) (ap (λ xs. map (before_in xs) rs) grown ∙ same_ranges items b.in_realtime rs are ∙ is)
+    → map (before_in own' others') rs' ≡ old ++ b ∷ []
+pushed own own' others others' rs rs' r old b are is grown grown' row added =
+    let new = row_of b.process b.invocation (length own) (length own') (length others) (length others') in
+    let seen : before_in own' others' new ≡ b =
+    ap (λ ps. record { process = b.process; invocation = b.invocation; in_process = ps; in_realtime = between others' new.in_realtime }) (last_between own own' b.in_process grown)
+    ∙ ap (λ ps. record { process = b.process; invocation = b.invocation; in_process = b.in_process; in_realtime = ps }) (last_between others others' b.in_realtime grown') in
+    ap (map (before_in own' others')) (added ∙ ap (λ x. rs ++ x ∷ []) row)
+    ∙ map-append (before_in own' others') rs (new ∷ [])
+    ∙ ap (λ bs. bs ++ before_in own' others' new ∷ []) (same_rows own own' b.in_process others others' b.in_realtime rs grown grown' are ∙ is)
     ∙ ap (λ x. old ++ x ∷ []) seen
 
 -- ---- what a frontier keeps of those in order
@@ -148,24 +177,31 @@ module _ (done : List Completed) (n : ℕ) (recent : List Predecessor) (rising :
 -- ---- one more transaction of the pass
 
 pub next_range :
-    (done : List Completed) (items : List Predecessor) (rs rs' : List Ranged) (r : Ranged) (process invocation n : ℕ) (in_process recent : List Predecessor)
+    (done : List Completed) (own own' items : List Predecessor) (rs rs' : List Row) (r : Row) (process invocation n : ℕ) (in_process recent : List Predecessor)
     → AreRising done
     → n ≤ length done
     → recent ≡ frontier_of (take n done)
     → items ≡ map predecessor_of done
-    → r ≡ record { process = process; invocation = invocation; in_process = in_process; start = n - length recent; end = n }
+    → own' ≡ own ++ in_process
+    → r ≡ row_of process invocation (length own) (length own + length in_process) (n - length recent) n
     → rs' ≡ rs ++ r ∷ []
-    → All (IsRangeIn items) rs
-    → (map (before_in items) rs' ≡ map (before_in items) rs ++ before_in items r ∷ [])
-    × (before_in items r ≡ record { process = process; invocation = invocation; in_process = in_process; in_realtime = recent })
-    × All (IsRangeIn items) rs'
-next_range done items rs rs' r process invocation n in_process recent rising within is listed row added are =
-    let new : Ranged = record { process = process; invocation = invocation; in_process = in_process; start = n - length recent; end = n } in
+    → All (IsRowIn own items) rs
+    → (map (before_in own' items) rs' ≡ map (before_in own items) rs ++ before_in own' items r ∷ [])
+    × (before_in own' items r ≡ record { process = process; invocation = invocation; in_process = in_process; in_realtime = recent })
+    × All (IsRowIn own' items) rs'
+next_range done own own' items rs rs' r process invocation n in_process recent rising within is listed grown row added are =
+    let longer : length own + length in_process ≡ length own' = sym (ap length grown ∙ length-append own in_process) in
+    let new = row_of process invocation (length own) (length own') (n - length recent) n in
+    let row' : r ≡ new = row ∙ ap (λ k. row_of process invocation (length own) k (n - length recent) n) longer in
     let long : length items ≡ length done = ap length listed ∙ length-map done predecessor_of in
-    let fits : IsRangeIn items new = record { rising = omega arith; within = omega (arith, long, within) } in (
-      ap (map (before_in items)) added ∙ map-append (before_in items) rs (r ∷ []),
-      ap (before_in items) row
+    let fits : IsSpanOf items new.in_realtime = record { rising = omega arith; within = omega (arith, long, within) } in
+    let same = sym (append-nil items) in (
+      ap (map (before_in own' items)) added ∙ map-append (before_in own' items) rs (r ∷ [])
+          ∙ ap (λ bs. bs ++ before_in own' items r ∷ []) (same_rows own own' in_process items items [] rs grown same are),
+      ap (before_in own' items) row'
+          ∙ ap (λ ps. record { process = process; invocation = invocation; in_process = ps; in_realtime = between items new.in_realtime }) (last_between own own' in_process grown)
           ∙ ap (λ ps. record { process = process; invocation = invocation; in_process = in_process; in_realtime = ps })
           (ap (λ xs. slice_range xs (n - length recent) n) listed ∙ recent_range done n recent rising within is),
-      subst (All (IsRangeIn items)) (sym added) (one_more items rs r are (subst (IsRangeIn items) (sym row) fits)),
+      subst (All (IsRowIn own' items)) (sym (added ∙ ap (λ x. rs ++ x ∷ []) row'))
+          (one_more own' items rs new (still_rows own own' in_process items items [] rs grown same are) (last_span own own' in_process grown, fits)),
     )

@@ -1,20 +1,22 @@
--- Predecessors in real time, as ranges of one list.
-use Rattle.std.specs.Prelude.{◌≤◌, ℕ, List, length, slice_range}
+-- Predecessors, as ranges of lists.
+use Rattle.std.specs.Prelude.{◌≤◌, List, length, slice_range}
 use Rattle.order_frontier.specs.declared.types.Predecessor.{Predecessor}
+use Rattle.order_frontier.specs.declared.types.Span.{Span}
+use Rattle.order_frontier.specs.declared.types.Row.{Row}
 use Rattle.order_frontier.specs.Predecessors.{Before}
 
--- a transaction, what comes before it in its process, and where in the list is what comes before it in real time
-pub record Ranged : Type 0 where
-  pub process : ℕ
-  pub invocation : ℕ
-  pub in_process : List Predecessor
-  pub start : ℕ
-  pub end : ℕ
+-- those of a range
+abbrev pub between : List Predecessor → Span → List Predecessor
+between items s = slice_range items s.start s.end
 
-abbrev pub before_in : List Predecessor → Ranged → Before
-before_in items r =
-    record { process = r.process; invocation = r.invocation; in_process = r.in_process; in_realtime = slice_range items r.start r.end }
+-- a transaction, with what comes before it in two lists: one for its process and one for real time
+abbrev pub before_in : List Predecessor → List Predecessor → Row → Before
+before_in own others r =
+    record { process = r.process; invocation = r.invocation; in_process = between own r.in_process; in_realtime = between others r.in_realtime }
 
-pub record IsRangeIn (items : List Predecessor) (r : Ranged) : Type 0 where
-  pub rising : r.start ≤ r.end
-  pub within : r.end ≤ length items
+pub record IsSpanOf (items : List Predecessor) (s : Span) : Type 0 where
+  pub rising : s.start ≤ s.end
+  pub within : s.end ≤ length items
+
+abbrev pub IsRowIn : List Predecessor → List Predecessor → Row → Type 0
+IsRowIn own others r = IsSpanOf own r.in_process × IsSpanOf others r.in_realtime

@@ -1,30 +1,30 @@
 //! What is kept of the ok transactions so far.
 
 ghost use Rattle.std.specs.Prelude.{◌≡◌, ℕ, [], ◌∷◌, ◌++◌, Some, None, OnOk, OnErr, IfOk, not, ◌==◌, nat_lt, nat_eq, filter, if◌then◌else◌};
-ghost use Rattle.std.specs.HashMap.{get};
+ghost use Rattle.process_map.specs.Values.{value_of};
 ghost use Rattle.order_frontier.specs.Completions.{predecessor_of, frontier_after};
 ghost use Rattle.order_frontier.specs.Latest.{last_of, before_next};
 
 use crate::types::{Completed, Predecessor, Predecessors};
+use process_map::map::ProcessMap;
 use smallvec::SmallVec;
 use std::alloc::{AllocError, Global};
-use std::collections::HashMap;
 
 /// The ok transactions so far after whose completion no ok one was invoked, and the last one of each process.
 #[derive(Drop)]
 pub struct Moving {
     recent: SmallVec<Predecessor, 8>,
-    last: HashMap<u64, Predecessor>,
+    last: ProcessMap<Predecessor>,
 }
 
 impl Moving {
     pub fn new(alloc: Global) -> Self
         ensures recent { result.recent.items ≡ [] }
-        ensures last { (p : ℕ) → get nat_eq result.last p ≡ None }
+        ensures last { (p : ℕ) → value_of result.last p ≡ None }
     {
         Moving {
             recent: SmallVec::new(alloc),
-            last: HashMap::new(alloc),
+            last: ProcessMap::new(alloc),
         }
     }
 
@@ -36,14 +36,10 @@ impl Moving {
     }
 
     /// The last ok transaction of a process, if there is one.
-    pub fn last(&self, alloc: Global, process: u64) -> Result<SmallVec<Predecessor, 1>, AllocError>
-        ensures { IfOk result (λ found. found.items ≡ last_of self.now process) }
+    pub fn last(&self, process: u64) -> Option<Predecessor>
+        ensures { result ≡ value_of self.now.last process }
     {
-        let mut found = SmallVec::new(alloc);
-        if let Some(last) = self.last.get(&process) {
-            found.push(*last)?;
-        }
-        Ok(found)
+        self.last.get(process)
     }
 
     /// The thinned predecessors of a transaction that is invoked now.
@@ -55,7 +51,10 @@ impl Moving {
     ) -> Result<Predecessors, AllocError>
         ensures { IfOk result (λ u. u ≡ before_next self.now process invocation) }
     {
-        let in_process = self.last(alloc, process)?;
+        let mut in_process = SmallVec::new(alloc);
+        if let Some(last) = self.last(process) {
+            in_process.push(last)?;
+        }
         let in_realtime = SmallVec::from_slice(alloc, self.recent.as_slice())?;
         Ok(Predecessors::new(process, invocation, in_process, in_realtime))
     }
@@ -63,9 +62,9 @@ impl Moving {
     /// Takes an ok transaction, which removes those that completed before its invocation.
     pub fn complete(&mut self, done: Completed) -> Result<(), AllocError>
         ensures recent { OnOk result (self.new.recent.items ≡ frontier_after self.old.recent.items done) }
-        ensures last { OnOk result ((p : ℕ) → get nat_eq self.new.last p ≡ (if done.process == p then Some (predecessor_of done) else get nat_eq self.old.last p)) }
+        ensures last { OnOk result ((p : ℕ) → value_of self.new.last p ≡ (if done.process == p then Some (predecessor_of done) else value_of self.old.last p)) }
         ensures recent_kept { OnErr result (self.new.recent.items ≡ self.old.recent.items) }
-        ensures last_kept { OnErr result ((p : ℕ) → get nat_eq self.new.last p ≡ get nat_eq self.old.last p) }
+        ensures last_kept { OnErr result ((p : ℕ) → value_of self.new.last p ≡ value_of self.old.last p) }
     {
         self.recent.reserve(1)?;
         self.last.insert(done.process, done.predecessor())?;

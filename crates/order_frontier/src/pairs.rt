@@ -36,7 +36,7 @@ pub fn all(alloc: Global, txns: &[Txn<'_>]) -> Result<Order, AllocError>
     let done = completions(alloc, txns)?;
     let mut order = Order::new(alloc);
     for txn in txns {
-        order.push(alloc, &all_before(alloc, &done, txn)?)?;
+        order.push(&all_before(alloc, &done, txn)?)?;
     }
     Ok(order)
 }

@@ -1,21 +1,21 @@
 //! The pass that thins the order.
 
-ghost use Rattle.std.specs.Prelude.{◌≡◌, ◌<◌, ◌≤◌, ℕ, List, map, take, ◌++◌, ◌-◌, length, nat_eq, All, IfOk, slice_index_or};
-ghost use Rattle.std.specs.HashMap.{get};
+ghost use Rattle.std.specs.Prelude.{◌≡◌, ◌<◌, ◌≤◌, ℕ, List, map, take, ◌++◌, ◌-◌, length, nat_eq, All, IfOk, OnOk, slice_index_or};
+ghost use Rattle.process_map.specs.Values.{value_of};
 ghost use Rattle.std.specs.Option.{option_to_list};
 ghost use Rattle.order_frontier.specs.Completions.{AreKept, AreRising, AreTimely, predecessor_of};
 ghost use Rattle.order_frontier.specs.Predecessors.{AreOfEvents, HasThinned, NoneTwice, name_of, names};
-ghost use Rattle.order_frontier.specs.Latest.{row_next};
+ghost use Rattle.order_frontier.specs.Latest.{last_of, row_next};
 
 use crate::completions::completions;
 use crate::moving::Moving;
-use crate::types::{Completed, Order, Predecessor, Row};
+use crate::types::{Completed, Order, Predecessor, Row, Span};
 use std::alloc::{AllocError, Global};
 use txn_pairs::types::Txn;
 
 /// Takes the first of the ok transactions, those that completed before the index, and answers how many these are.
 fn advance(moving: &mut Moving, done: &[Completed], index: u64) -> Result<usize, AllocError>
-    ensures kept { IfOk result (λ count. (earlier : List _) → AreTimely (earlier ++ done.now) → AreKept earlier moving.old.recent.items (get nat_eq moving.old.last) → AreKept (earlier ++ take count done.now) moving.new.recent.items (get nat_eq moving.new.last)) }
+    ensures kept { IfOk result (λ count. (earlier : List _) → AreTimely (earlier ++ done.now) → AreKept earlier moving.old.recent.items (value_of moving.old.last) → AreKept (earlier ++ take count done.now) moving.new.recent.items (value_of moving.new.last)) }
     ensures count { IfOk result (λ count. count ≤ length done.now) }
     ensures before { IfOk result (λ count. All (λ d. d.completion < index) (take count done.now)) }
     ensures next { IfOk result (λ count. (d : _) → count < length done.now → index ≤ (slice_index_or done.now count d).completion) }
@@ -40,15 +40,29 @@ fn predecessors(alloc: Global, done: &[Completed]) -> Result<Vec<Predecessor>, A
     Ok(list)
 }
 
-/// What comes before a transaction that is invoked now. What the frontier keeps of the ok transactions that it took are the
-/// last ones.
-fn row_of(alloc: Global, moving: &Moving, txn: &Txn<'_>, taken: usize) -> Result<Row, AllocError>
+/// What comes before a transaction that is invoked now. The last one of its process goes into the list of those; what the
+/// frontier keeps of the ok transactions that it took are the last ones.
+fn row_of(
+    moving: &Moving,
+    txn: &Txn<'_>,
+    taken: usize,
+    in_process: &mut Vec<Predecessor>,
+) -> Result<Row, AllocError>
     requires { length moving.now.recent.items ≤ taken }
-    ensures { IfOk result (λ row. row ≡ row_next moving.now txn.now taken) }
+    ensures row { IfOk result (λ row. row ≡ row_next moving.now txn.now (length in_process.old.items) taken) }
+    ensures last { OnOk result (in_process.new.items ≡ in_process.old.items ++ last_of moving.now txn.now.process) }
 {
-    let in_process = moving.last(alloc, txn.process())?;
+    let first = in_process.len();
+    if let Some(last) = moving.last(txn.process()) {
+        in_process.push(last)?;
+    }
     let start = taken - moving.frontier().len();
-    Row::new(txn.process(), txn.invocation(), in_process, start, taken)
+    Ok(Row {
+        process: txn.process(),
+        invocation: txn.invocation(),
+        in_process: Span::new(first, in_process.len())?,
+        in_realtime: Span::new(start, taken)?,
+    })
 }
 
 /// The thinned predecessors of each transaction.
@@ -62,10 +76,11 @@ pub fn thinned(alloc: Global, txns: &[Txn<'_>]) -> Result<Order, AllocError>
     let in_realtime = predecessors(alloc, &done)?;
     let mut moving = Moving::new(alloc);
     let mut rows = Vec::with_capacity(alloc, txns.len())?;
+    let mut in_process = Vec::with_capacity(alloc, txns.len())?;
     let mut taken = 0;
     for txn in txns {
         taken += advance(&mut moving, &done[taken..], txn.invocation())?;
-        rows.push(row_of(alloc, &moving, txn, taken)?)?;
+        rows.push(row_of(&moving, txn, taken, &mut in_process)?)?;
     }
-    Ok(Order::of_ranges(rows, in_realtime))
+    Ok(Order::of_ranges(rows, in_process, in_realtime))
 }

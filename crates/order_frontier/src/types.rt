@@ -2,7 +2,7 @@
 
 ghost use Rattle.std.specs.Prelude.{◌≡◌, ◌==◌, ◌<◌, ◌++◌, ◌∷◌, [], length, map, All, IfOk, OnOk};
 ghost use Rattle.order_frontier.specs.Predecessors.{before_at};
-ghost use Rattle.order_frontier.specs.Ranges.{before_in, IsRangeIn};
+ghost use Rattle.order_frontier.specs.Ranges.{before_in, between, IsSpanOf, IsRowIn};
 
 use smallvec::SmallVec;
 use std::alloc::{AllocError, Global};
@@ -16,7 +16,7 @@ pub struct Predecessor {
 }
 
 /// An ok transaction.
-#[derive(Clone, Copy, PartialEq, Eq, PartialOrd, Ord, Drop)]
+#[derive(Clone, Copy, Default, PartialEq, Eq, PartialOrd, Ord, Drop)]
 pub(crate) struct Completed {
     pub completion: u64,
     pub invocation: u64,
@@ -99,23 +99,11 @@ impl Predecessors {
     }
 }
 
-/// A transaction, what comes before it in its process, and the range of its order's list that comes before it in real
-/// time.
-#[derive(Drop)]
-pub(crate) struct Row {
-    process: u64,
-    invocation: u64,
-    in_process: SmallVec<Predecessor, 1>,
-    start: u32,
-    end: u32,
-}
-
-impl Model for Row {
-    ghost use Rattle.order_frontier.specs.Ranges.{Ranged};
-
-    ghost Value = { Ranged };
-
-    ghost view = { λ r. record { process = r.process; invocation = r.invocation; in_process = r.in_process.items; start = r.start; end = r.end } };
+/// A range of a list of predecessors.
+#[derive(Clone, Copy, Drop)]
+pub(crate) struct Span {
+    pub start: u32,
+    pub end: u32,
 }
 
 /// No memory holds more predecessors than there are such numbers.
@@ -125,24 +113,32 @@ fn number(place: usize) -> Result<u32, AllocError>
     u32::try_from(place).map_err(|_| AllocError)
 }
 
-impl Row {
-    pub fn new(
-        process: u64,
-        invocation: u64,
-        in_process: SmallVec<Predecessor, 1>,
-        start: usize,
-        end: usize,
-    ) -> Result<Self, AllocError>
-        ensures { IfOk result (λ row. row ≡ record { process = process; invocation = invocation; in_process = in_process.items; start = start; end = end }) }
+impl Span {
+    pub fn new(start: usize, end: usize) -> Result<Self, AllocError>
+        ensures { IfOk result (λ span. span ≡ record { start = start; end = end }) }
     {
-        Ok(Row {
-            process,
-            invocation,
-            in_process,
+        Ok(Span {
             start: number(start)?,
             end: number(end)?,
         })
     }
+
+    /// The predecessors of the range.
+    fn of(self, list: &[Predecessor]) -> &[Predecessor]
+        requires { IsSpanOf list.now self }
+        ensures { result.now ≡ between list.now self }
+    {
+        &list[self.start as usize..self.end as usize]
+    }
+}
+
+/// A transaction, and the ranges of its order's lists that come before it in its process and in real time.
+#[derive(Clone, Copy, Drop)]
+pub(crate) struct Row {
+    pub process: u64,
+    pub invocation: u64,
+    pub in_process: Span,
+    pub in_realtime: Span,
 }
 
 /// The predecessors of each transaction, in the order of the transactions. Transactions share one list of predecessors in
@@ -150,19 +146,20 @@ impl Row {
 #[derive(Drop)]
 pub struct Order {
     rows: Vec<Row>,
+    in_process: Vec<Predecessor>,
     in_realtime: Vec<Predecessor>,
 }
 
 impl Model for Order {
     ghost use Rattle.std.specs.Prelude.{List, map, All};
     ghost use Rattle.order_frontier.specs.Predecessors.{Before};
-    ghost use Rattle.order_frontier.specs.Ranges.{before_in, IsRangeIn};
+    ghost use Rattle.order_frontier.specs.Ranges.{before_in, IsRowIn};
 
     ghost Value = { List Before };
 
-    ghost view = { λ order. map (before_in order.in_realtime.items) order.rows.items };
+    ghost view = { λ order. map (before_in order.in_process.items order.in_realtime.items) order.rows.items };
 
-    ghost invariant = { λ order. All (IsRangeIn order.in_realtime.items) order.rows.items };
+    ghost invariant = { λ order. All (IsRowIn order.in_process.items order.in_realtime.items) order.rows.items };
 }
 
 impl Order {
@@ -172,33 +169,41 @@ impl Order {
     {
         Order {
             rows: Vec::new(alloc),
+            in_process: Vec::new(alloc),
             in_realtime: Vec::new(alloc),
         }
     }
 
-    /// Transactions with ranges of a list.
-    pub(crate) fn of_ranges(rows: Vec<Row>, in_realtime: Vec<Predecessor>) -> Self
-        requires { All (IsRangeIn in_realtime.items) rows.items }
-        ensures { result ≡ map (before_in in_realtime.items) rows.items }
+    /// Transactions with ranges of lists.
+    pub(crate) fn of_ranges(
+        rows: Vec<Row>,
+        in_process: Vec<Predecessor>,
+        in_realtime: Vec<Predecessor>,
+    ) -> Self
+        requires { All (IsRowIn in_process.items in_realtime.items) rows.items }
+        ensures { result ≡ map (before_in in_process.items in_realtime.items) rows.items }
     {
-        Order { rows, in_realtime }
+        Order {
+            rows,
+            in_process,
+            in_realtime,
+        }
     }
 
-    /// Adds the next transaction, with a range of its own.
-    pub(crate) fn push(&mut self, alloc: Global, before: &Predecessors) -> Result<(), AllocError>
+    /// Adds the next transaction, with ranges of its own.
+    pub(crate) fn push(&mut self, before: &Predecessors) -> Result<(), AllocError>
         ensures { OnOk result (self.new ≡ self.old ++ before.now ∷ []) }
     {
-        let in_process = SmallVec::from_slice(alloc, before.in_process())?;
+        let first = self.in_process.len();
+        self.in_process.extend_from_slice(before.in_process())?;
         let start = self.in_realtime.len();
         self.in_realtime.extend_from_slice(before.in_realtime())?;
-        let end = self.in_realtime.len();
-        let row = Row::new(
-            before.process(),
-            before.invocation(),
-            in_process,
-            start,
-            end,
-        )?;
+        let row = Row {
+            process: before.process(),
+            invocation: before.invocation(),
+            in_process: Span::new(first, self.in_process.len())?,
+            in_realtime: Span::new(start, self.in_realtime.len())?,
+        };
         self.rows.push(row)?;
         Ok(())
     }
@@ -222,7 +227,7 @@ impl Order {
         requires { place < length self.now }
         ensures { result.now ≡ (before_at self.now place).in_process }
     {
-        self.rows[place].in_process.as_slice()
+        self.rows[place].in_process.of(&self.in_process)
     }
 
     /// What comes before a transaction in real time.
@@ -230,7 +235,6 @@ impl Order {
         requires { place < length self.now }
         ensures { result.now ≡ (before_at self.now place).in_realtime }
     {
-        let row = &self.rows[place];
-        &self.in_realtime[row.start as usize..row.end as usize]
+        self.rows[place].in_realtime.of(&self.in_realtime)
     }
 }

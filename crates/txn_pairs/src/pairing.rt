@@ -9,8 +9,8 @@ ghost use Rattle.txn_pairs.specs.Growth.{TakesEvent};
 use crate::types::{Txn, Txns};
 use hist_types::types::{OpKind, Outcome};
 use op_view::op::OpView;
+use process_map::map::ProcessMap;
 use std::alloc::{AllocError, Global};
-use std::collections::HashMap;
 use std::marker::Model;
 
 /// The transactions of the events so far. It takes one event after the other, each by one look-up of its process.
@@ -18,13 +18,13 @@ use std::marker::Model;
 pub struct Pairing<'a> {
     list: Vec<Txn<'a>>,
     /// The place in the list of each process's open transaction.
-    places: HashMap<u64, usize>,
+    places: ProcessMap<usize>,
 }
 
 impl<'a> Model for Pairing<'a> {
-    ghost use Rattle.std.specs.Prelude.{◌≡◌, ℕ, List, nat_eq};
+    ghost use Rattle.std.specs.Prelude.{◌≡◌, ℕ, List};
     ghost use Rattle.std.specs.Coded.{coded_list};
-    ghost use Rattle.std.specs.HashMap.{get};
+    ghost use Rattle.process_map.specs.Values.{value_of};
     ghost use Rattle.hist_types.specs.Transactions.{Transaction};
     ghost use Rattle.hist_types.specs.Stored.{coded_transaction};
     ghost use Rattle.txn_pairs.specs.Places.{open_place};
@@ -35,7 +35,7 @@ impl<'a> Model for Pairing<'a> {
 
     ghost view = { λ pairing. pairing.list.items };
 
-    ghost invariant = { λ pairing. (p : ℕ) → get nat_eq pairing.places p ≡ open_place p pairing.list.items };
+    ghost invariant = { λ pairing. (p : ℕ) → value_of pairing.places p ≡ open_place p pairing.list.items };
 }
 
 /// How an event of this kind completes a transaction; none where it begins one.
@@ -57,7 +57,7 @@ impl<'a> Pairing<'a> {
     {
         Pairing {
             list: Vec::new(alloc),
-            places: HashMap::new(alloc),
+            places: ProcessMap::new(alloc),
         }
     }
 
@@ -103,7 +103,7 @@ impl<'a> Pairing<'a> {
         requires outcome { outcome_by op.kind ≡ Some outcome }
         ensures { TakesEvent index op.entry self.old self.new }
     {
-        if let Some(place) = self.places.remove(&op.process().number()) {
+        if let Some(place) = self.places.remove(op.process().number()) {
             self.list[place].complete(index, outcome, op);
         }
     }

@@ -1,5 +1,5 @@
-use Rattle.std.proofs.Common.{◌≡◌, ◌<◌, subst, take, length, arith, get_or, nat_eq}
-use Rattle.std.specs.HashMap.{get}
+use Rattle.std.proofs.Common.{◌≡◌, ◌<◌, subst, take, length, arith, get_or}
+use Rattle.process_map.specs.Values.{value_of}
 use Rattle.std.proofs.lemmas.List.{get_or_default}
 use Rattle.std.proofs.lemmas.List.Elements.{All-from_recursion}
 use Rattle.hist_types.proofs.Members.{In}
@@ -26,7 +26,7 @@ loop-count-preserved c =
     let is : get_or c.args.done.now k d ≡ d = get_or_default c.args.done.now k d (record { completion = 0; invocation = 0; process = 0 }) c.loop-count-test.true in
     record {
       kept = λ earlier timely kept.
-          advance-kept earlier c.args.done.now k d c.loop-count.moving.recent.items c.complete.new.self.recent.items (get nat_eq c.loop-count.moving.last) (get nat_eq c.complete.new.self.last)
+          advance-kept earlier c.args.done.now k d c.loop-count.moving.recent.items c.complete.new.self.recent.items (value_of c.loop-count.moving.last) (value_of c.complete.new.self.last)
           c.loop-count-test.true is timely (c.loop-count.invariant.kept earlier timely kept) c.in_ok-complete.ensures.recent c.in_ok-complete.ensures.last;
       before = below_more c.args.done.now k d c.args.index c.loop-count-test.true is c.if-ok-index.false c.loop-count.invariant.before;
     }

@@ -1,12 +1,12 @@
 -- The predecessors so far are those of the transactions so far, in ranges of the list.
-use Rattle.std.proofs.Common.{nat_eq, map, All}
-use Rattle.std.specs.HashMap.{get}
-use Rattle.order_frontier.specs.Ranges.{before_in, IsRangeIn}
+use Rattle.std.proofs.Common.{map, All}
+use Rattle.process_map.specs.Values.{value_of}
+use Rattle.order_frontier.specs.Ranges.{before_in, IsRowIn}
 use Rattle.order_frontier.proofs.Passes.{IsPart}
 use Rattle.order_frontier.proofs.thinning.thinned.Given as goal
 
 abbrev pub invariant-loop-txn : goal.invariant-loop-txn
 invariant-loop-txn l = record {
-  part : IsPart l.txns l.done.items l.txn-index l.taken l.moving.recent.items (get nat_eq l.moving.last) (map (before_in l.in_realtime.items) l.rows.items);
-  ranges : All (IsRangeIn l.in_realtime.items) l.rows.items;
+  part : IsPart l.txns l.done.items l.txn-index l.taken l.moving.recent.items (value_of l.moving.last) (map (before_in l.in_process.items l.in_realtime.items) l.rows.items);
+  ranges : All (IsRowIn l.in_process.items l.in_realtime.items) l.rows.items;
 }

@@ -1,5 +1,5 @@
-use Rattle.std.proofs.Common.{◌≡◌, ◌++◌, ◌∷◌, [], ◌∙◌, ap, None, length, nat_eq, arith}
-use Rattle.std.specs.HashMap.{get}
+use Rattle.std.proofs.Common.{◌≡◌, ◌++◌, ◌∷◌, [], ◌∙◌, ap, None, length, arith}
+use Rattle.process_map.specs.Values.{value_of}
 use Rattle.hist_types.specs.Transactions.{transaction_by}
 use Rattle.txn_pairs.proofs.Growth.{takes_invocation, begun_places}
 use Rattle.txn_pairs.proofs.pairing.Pairing.begin.Goals as goal
@@ -10,7 +10,7 @@ invariant_of-self-2 c =
     let at : c.len-place.result ≡ length ts = omega (arith, c.len-place.ensures, c.self.inside.list.ok.0) in
     let listed : c.push_reserved.new.self.items ≡ ts ++ transaction_by c.args.index c.args.op None ∷ [] =
     c.push_reserved.ensures.items ∙ ap (λ us. us ++ c.open.result ∷ []) c.in_ok-try_reserve.ensures.items ∙ ap (λ t. ts ++ t ∷ []) c.open.ensures in
-    begun_places ts _ (get nat_eq c.self.inside.places) (get nat_eq c.insert.new.self) c.args.op c.args.index c.number.result c.len-place.result c.self.invariant (c.number.ensures.number ∙ c.process.ensures) at listed c.in_ok-insert.ensures.updates.0
+    begun_places ts _ (value_of c.self.inside.places) (value_of c.insert.new.self) c.args.op c.args.index c.number.result c.len-place.result c.self.invariant (c.number.ensures.number ∙ c.process.ensures) at listed c.in_ok-insert.ensures.ok
 
 pub returns-clause-ok : goal.returns-clause-ok
 returns-clause-ok c events at is =

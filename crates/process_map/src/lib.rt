@@ -1,0 +1,6 @@
+//! A map from the numbers of processes, which are mostly small.
+#![tactic(auto)]
+
+pub mod map;
+#[cfg(test)]
+mod tests;

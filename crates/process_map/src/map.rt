@@ -1,0 +1,86 @@
+//! A map from the numbers of processes to values.
+
+ghost use Rattle.std.specs.Prelude.{◌≡◌, ◌==◌, ℕ, Some, None, OnOk, OnErr, if◌then◌else◌};
+ghost use Rattle.process_map.specs.Values.{value_of};
+
+use std::alloc::{AllocError, Global};
+use std::collections::HashMap;
+use std::marker::Model;
+
+/// How many process numbers are small.
+const SMALL: u64 = 1_024;
+
+/// A value for each of some processes.
+///
+/// Small numbers, which most processes have, are looked up in a table that grows to the largest of them; the others are
+/// looked up by their hash.
+#[derive(Drop)]
+pub struct ProcessMap<V> {
+    small: Vec<Option<V>>,
+    large: HashMap<u64, V>,
+}
+
+impl<V> Model for ProcessMap<V> {
+    ghost use Rattle.std.specs.Prelude.{ℕ, List};
+    ghost use Rattle.process_map.specs.Values.{entries_of};
+
+    ghost Value = { List (ℕ × V) };
+
+    ghost view = { λ map. entries_of map.small.items map.large };
+}
+
+impl<V> ProcessMap<V> {
+    /// No process has a value.
+    pub fn new(alloc: Global) -> Self
+        ensures { (p : ℕ) → value_of result p ≡ None }
+    {
+        ProcessMap {
+            small: Vec::new(alloc),
+            large: HashMap::new(alloc),
+        }
+    }
+}
+
+impl<V: Copy> ProcessMap<V> {
+    /// The value of a process, if it has one.
+    pub fn get(&self, process: u64) -> Option<V>
+        ensures { result ≡ value_of self.now process }
+    {
+        if process < SMALL {
+            self.small.get(process as usize).copied().flatten()
+        } else {
+            self.large.get(&process).copied()
+        }
+    }
+
+    /// Gives a process a value, in place of the one that it had. Out of memory leaves the values as they are.
+    pub fn insert(&mut self, process: u64, value: V) -> Result<(), AllocError>
+        ensures ok { OnOk result ((p : ℕ) → value_of self.new p ≡ (if process == p then Some value else value_of self.old p)) }
+        ensures err { OnErr result ((p : ℕ) → value_of self.new p ≡ value_of self.old p) }
+    {
+        if process < SMALL {
+            let place = process as usize;
+            if place >= self.small.len() {
+                self.small.resize(place + 1, None)?;
+            }
+            self.small[place] = Some(value);
+        } else {
+            self.large.insert(process, value)?;
+        }
+        Ok(())
+    }
+
+    /// Takes the value of a process, if it has one.
+    pub fn remove(&mut self, process: u64) -> Option<V>
+        ensures value { result ≡ value_of self.old process }
+        ensures others { (p : ℕ) → value_of self.new p ≡ (if process == p then None else value_of self.old p) }
+    {
+        let value = self.get(process)?;
+        if process < SMALL {
+            self.small[process as usize] = None;
+        } else {
+            self.large.remove(&process);
+        }
+        Some(value)
+    }
+}
