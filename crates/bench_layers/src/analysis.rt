@@ -172,7 +172,13 @@ fn in_graph(alloc: Global, graph: &Graph<'_, '_, '_>, stage: Stage) -> Result<Fo
     }
 }
 
-fn in_transactions(alloc: Global, txns: &Txns<'_>, stage: Stage, form: Form) -> Result<Found, Fault>
+fn in_transactions(
+    rt: &HostRuntime,
+    alloc: Global,
+    txns: &Txns<'_>,
+    stage: Stage,
+    form: Form,
+) -> Result<Found, Fault>
     requires { AreOfHistory txns.now }
 {
     if stage == Stage::Txns {
@@ -190,16 +196,22 @@ fn in_transactions(alloc: Global, txns: &Txns<'_>, stage: Stage, form: Form) -> 
     if stage == Stage::Order {
         return Ok(Found::Number(predecessor_count(&order)));
     }
-    let graph = Graph::new(alloc, &deps, &order)?;
+    let graph = Graph::new(rt, alloc, &deps, &order)?;
     in_graph(alloc, &graph, stage)
 }
 
 /// How far a run has come that goes to the stage.
-pub fn found_in(alloc: Global, blocks: &[Block], stage: Stage, form: Form) -> Result<Found, Fault> {
+pub fn found_in(
+    rt: &HostRuntime,
+    alloc: Global,
+    blocks: &[Block],
+    stage: Stage,
+    form: Form,
+) -> Result<Found, Fault> {
     let prefix = journal_of(alloc, blocks)?;
     if stage == Stage::Events {
         return Ok(Found::Number(prefix.events()));
     }
     let txns = txns_of(alloc, &prefix)?;
-    in_transactions(alloc, &txns, stage, form)
+    in_transactions(rt, alloc, &txns, stage, form)
 }

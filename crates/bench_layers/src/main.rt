@@ -18,7 +18,6 @@ use atoms::{Work, byte_count, tally_of};
 use blocks::blocks_of;
 use hist_types::types::{Fault, Level};
 use reading::{operation_count, print_operations};
-use std::alloc::Global;
 use std::io::Read;
 use std::{env, io};
 
@@ -55,7 +54,8 @@ fn request_of(word: &str) -> Request {
 }
 
 /// What a word finds in a text.
-fn find_in(alloc: Global, text: &[u8], word: &str) -> Result<Found, Fault> {
+fn find_in(rt: &HostRuntime, text: &[u8], word: &str) -> Result<Found, Fault> {
+    let alloc = rt.alloc();
     if word == "read" {
         return Ok(Found::Number(operation_count(alloc, text)? as u64));
     }
@@ -64,7 +64,7 @@ fn find_in(alloc: Global, text: &[u8], word: &str) -> Result<Found, Fault> {
         Request::Blocks => Ok(Found::Number(blocks.len() as u64)),
         Request::Bytes => Ok(Found::Number(byte_count(&blocks) as u64)),
         Request::Atoms(work) => Ok(Found::Number(tally_of(alloc, &blocks, work)?)),
-        Request::Analysis(stage, form) => found_in(alloc, &blocks, stage, form),
+        Request::Analysis(stage, form) => found_in(rt, alloc, &blocks, stage, form),
     }
 }
 
@@ -101,7 +101,7 @@ fn main(rt: HostRuntime) -> io::Result<()> {
             print_operations(&rt, &text)?;
             continue;
         }
-        match find_in(rt.alloc(), &text, word.as_str()) {
+        match find_in(&rt, &text, word.as_str()) {
             Ok(found) => print(&rt, word.as_str(), found)?,
             Err(fault) => println!(rt; "{fault}")?,
         }
