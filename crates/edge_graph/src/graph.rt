@@ -1,15 +1,19 @@
 //! The graph of a history's transactions.
 
 ghost use Rattle.std.specs.Prelude.{◌≡◌, ◌++◌, ◌==◌, List, filter, length, All, IfOk, IfErr, OnOk, OnErr};
+ghost use Rattle.std.specs.Thread.{IsSync};
 ghost use Rattle.dep_edges.specs.Histories.{AreOfHistory};
 ghost use Rattle.dep_edges.specs.OutEdges as out_edges;
 ghost use Rattle.dep_edges.specs.OutEdges.{Begins};
 ghost use Rattle.dep_edges.specs.Tables.{IsPlace, txn_at};
 ghost use Rattle.hist_types.specs.Edges.{Edge as AnEdge};
 ghost use Rattle.hist_types.specs.Refusals.{memory_fault};
+ghost use Rattle.hist_types.specs.declared.types.Level.TheVariants.{Process, Realtime};
 ghost use Rattle.edge_graph.specs.Kinds.{includes, kinds_of};
+ghost use Rattle.edge_graph.specs.LaidOut.{AreRows};
 ghost use Rattle.edge_graph.specs.Made.{order_edges_over, order_edges_to};
 ghost use Rattle.edge_graph.specs.Parts.{IsOrderOf, IsMadeOf, AddsEdgesFrom};
+ghost use Rattle.edge_graph.specs.Successors.{AreSuccessors};
 ghost use Rattle.edge_graph.specs.Vertices.{AreArcs, RwByVersions};
 ghost use Rattle.edge_graph.specs.Walks.{IsEdgeIfAny, IsTxnWalk, AreEdgesAlong};
 
@@ -25,6 +29,7 @@ use hist_types::types::{Fault, Level};
 use order_frontier::types::Order;
 use std::alloc::{AllocError, Global};
 use std::marker::Model;
+use std::thread::{Threads, join_mut};
 use txn_pairs::types::Txn;
 
 /// A history's transactions with their dependency edges and, of an order, the edges to nodes. A transaction goes by its place.
@@ -119,16 +124,44 @@ fn add_order_edges<'a>(
     Ok(())
 }
 
+/// The rows of the arcs of dependencies, and the order turned round: threads of their own make them, where others can be made.
+fn rows_and_orders<'v, 'a, R: Threads + Sync>(
+    rt: &R,
+    alloc: Global,
+    deps: &Deps<'v, 'a>,
+    history: &History<'v, 'a>,
+    order: &Order,
+) -> Result<(Rows, Orders), AllocError>
+    requires history { history.now.txns ≡ deps.now }
+    requires order { IsOrderOf deps.now order.now }
+    ensures rows { IfOk result (λ made. AreRows history.now.txns history.now.table made.0) }
+    ensures process { IfOk result (λ made. AreSuccessors deps.now order.now Process made.1.in_process.items) }
+    ensures realtime { IfOk result (λ made. AreSuccessors deps.now order.now Realtime made.1.in_realtime.items) }
+{
+    let (rows, orders) = join_mut(
+        rt,
+        &mut || layout::rows(alloc, deps, history),
+        &mut || -> Result<Orders, AllocError>
+            requires { IsSync R.row × IsOrderOf deps.now order.now }
+        { Orders::new(rt, alloc, deps, order) },
+    );
+    Ok((rows?, orders?))
+}
+
 impl<'g, 'v, 'a> Graph<'g, 'v, 'a> {
     /// The graph over the history's dependency edges and an order of its transactions, with all of their pairs or thinned.
-    pub fn new(alloc: Global, deps: &'g Deps<'v, 'a>, order: &'g Order) -> Result<Self, Fault>
+    pub fn new<R: Threads + Sync>(
+        rt: &R,
+        alloc: Global,
+        deps: &'g Deps<'v, 'a>,
+        order: &'g Order,
+    ) -> Result<Self, Fault>
         requires { IsOrderOf deps.now order.now }
         ensures ok { IfOk result (IsMadeOf deps.now order.now) }
         ensures err { IfErr result (λ fault. fault ≡ memory_fault) }
     {
         let history = deps.history();
-        let rows = layout::rows(alloc, deps, history)?;
-        let orders = Orders::new(alloc, deps, order)?;
+        let (rows, orders) = rows_and_orders(rt, alloc, deps, history, order)?;
         Ok(Graph {
             alloc,
             deps,

@@ -15,6 +15,7 @@ use order_frontier::types::{Order, Predecessor};
 use smallvec::SmallVec;
 use std::alloc::{AllocError, Global};
 use std::marker::Model;
+use std::thread::{Threads, join_mut};
 use txn_pairs::types::Txn;
 
 /// The places of the nodes that a transaction comes before.
@@ -143,15 +144,42 @@ pub(crate) struct Orders {
 }
 
 impl Orders {
-    pub fn new(alloc: Global, deps: &Deps<'_, '_>, order: &Order) -> Result<Self, AllocError>
+    pub fn new<R: Threads + Sync>(
+        rt: &R,
+        alloc: Global,
+        deps: &Deps<'_, '_>,
+        order: &Order,
+    ) -> Result<Self, AllocError>
         requires { IsOrderOf deps.now order.now }
         ensures process { IfOk result (λ orders. AreSuccessors deps.now order.now Process orders.in_process.items) }
         ensures realtime { IfOk result (λ orders. AreSuccessors deps.now order.now Realtime orders.in_realtime.items) }
     {
         let places = places(alloc, deps.history().txns())?;
+        Orders::by_places(rt, alloc, deps, order, &places)
+    }
+
+    /// The order turned round at the two levels: two threads do it, where another can be made.
+    fn by_places<R: Threads + Sync>(
+        rt: &R,
+        alloc: Global,
+        deps: &Deps<'_, '_>,
+        order: &Order,
+        places: &[usize],
+    ) -> Result<Self, AllocError>
+        requires kept { AreOfHistory deps.now }
+        requires order { IsOrderOf deps.now order.now }
+        requires places { ArePlaces deps.now places.now }
+        ensures process { IfOk result (λ orders. AreSuccessors deps.now order.now Process orders.in_process.items) }
+        ensures realtime { IfOk result (λ orders. AreSuccessors deps.now order.now Realtime orders.in_realtime.items) }
+    {
+        let (in_process, in_realtime) = join_mut(
+            rt,
+            &mut || turned(alloc, deps, order, places, Level::Process),
+            &mut || turned(alloc, deps, order, places, Level::Realtime),
+        );
         Ok(Orders {
-            in_process: turned(alloc, deps, order, &places, Level::Process)?,
-            in_realtime: turned(alloc, deps, order, &places, Level::Realtime)?,
+            in_process: in_process?,
+            in_realtime: in_realtime?,
         })
     }
 
