@@ -54,7 +54,7 @@ impl Accesses {
         ensures { IfOk result (λ accesses. accesses ≡ []) }
     {
         Ok(Accesses {
-            numbers: Vec::new(alloc),
+            numbers: Vec::with_capacity(alloc, transactions.saturating_mul(4))?,
             spans: Vec::with_capacity(alloc, transactions)?,
         })
     }

@@ -90,15 +90,17 @@ pub(crate) struct Grouped {
 }
 
 impl Pending {
-    /// No version yet.
-    pub fn new(alloc: Global) -> Self
-        ensures { result ≡ [] }
+    /// No version yet, with room for what so many transactions mostly do: each writes a version, reads two and installs
+    /// two.
+    pub fn with_capacity(alloc: Global, transactions: usize) -> Result<Self, AllocError>
+        ensures { IfOk result (λ pending. pending ≡ []) }
     {
-        Pending {
-            writers: Vec::new(alloc),
-            readers: Vec::new(alloc),
-            followers: Vec::new(alloc),
-        }
+        let two_each = transactions.saturating_mul(2);
+        Ok(Pending {
+            writers: Vec::with_capacity(alloc, transactions)?,
+            readers: Vec::with_capacity(alloc, two_each)?,
+            followers: Vec::with_capacity(alloc, two_each)?,
+        })
     }
 
     /// How many versions there are.

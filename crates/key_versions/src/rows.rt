@@ -102,7 +102,7 @@ impl Rows {
     {
         Ok(Rows {
             alloc,
-            rows: Pending::new(alloc),
+            rows: Pending::with_capacity(alloc, transactions)?,
             accesses: Accesses::with_capacity(alloc, transactions)?,
         })
     }
