@@ -2,8 +2,8 @@
 #![tactic(auto)]
 
 ghost use Rattle.std.specs.Prelude.{◌≡◌, IfOk, IfErr, OnOk, OnErr};
+ghost use Rattle.hist_types.specs.Journal.{KeepsRules};
 ghost use Rattle.hist_types.specs.Refusals.{memory_fault};
-ghost use Rattle.journal_core.specs.Blocks.{KeepsRules};
 ghost use Rattle.verdict.specs.Lowest.{AreTablesOf};
 ghost use Rattle.verdict.specs.Pieces.{HasTaken, HasFailedBehind};
 ghost use Rattle.verdict.specs.Verdicts.{IsVerdictOf, report_lines};
