@@ -8,7 +8,10 @@ use Rattle.verdict.proofs.findings.findings_of.Goals as goal
 pub new-requires : goal.new-requires
 new-requires g c =
     let order = c.args.order.now in
-    subst (λ ts. IsOrderOf ts order) (sym c.requires.deps) (thinned_order c.args.txns.now order c.requires.order.0 c.requires.order.1 c.requires.order.2)
+    (
+      c.type_bounds.sync-R,
+      subst (λ ts. IsOrderOf ts order) (sym c.requires.deps) (thinned_order c.args.txns.now order c.requires.order.0 c.requires.order.1 c.requires.order.2),
+    )
 
 pub find_each-requires : goal.find_each-requires
 find_each-requires g c =
