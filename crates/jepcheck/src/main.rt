@@ -11,9 +11,9 @@ mod inputs;
 mod laws;
 mod reads;
 mod run;
-mod tables;
 #[cfg(test)]
 mod runs;
+mod tables;
 #[cfg(test)]
 mod tests;
 

@@ -5,8 +5,8 @@ ghost use Rattle.std.specs.Option.{option_or};
 ghost use Rattle.key_versions.specs.Pending.{writer_in};
 ghost use Rattle.key_versions.specs.Rows.{Known, change, is_behind, unknown, with_follower, with_place, with_reader, with_writer};
 
-use flat_groups::groups::Groups;
 use crate::types::{Follower, Writer};
+use flat_groups::groups::Groups;
 use std::alloc::{AllocError, Global};
 use std::marker::Model;
 

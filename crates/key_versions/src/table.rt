@@ -5,10 +5,10 @@ ghost use Rattle.key_versions.specs.Numbering.{versions_in};
 ghost use Rattle.key_versions.specs.Views.{AreVersions, table_of};
 
 use crate::accesses::Accesses;
-use flat_groups::groups::Groups;
 use crate::numbering::Numbered;
 use crate::pending::{Grouped, Written};
 use crate::types::{Follower, VersionRef, Writer};
+use flat_groups::groups::Groups;
 use op_view::atom::Atom;
 use std::marker::Model;
 

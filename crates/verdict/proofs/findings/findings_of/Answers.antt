@@ -7,8 +7,7 @@ use Rattle.verdict.proofs.findings.findings_of.Goals as goal
 
 pub new-requires : goal.new-requires
 new-requires g c =
-    let order = c.args.order.now in
-    (
+    let order = c.args.order.now in (
       c.type_bounds.sync-R,
       subst (λ ts. IsOrderOf ts order) (sym c.requires.deps) (thinned_order c.args.txns.now order c.requires.order.0 c.requires.order.1 c.requires.order.2),
     )
