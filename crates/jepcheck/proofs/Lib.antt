@@ -6,3 +6,4 @@ pub mod OneAnswer
 pub mod SomeAnswer
 pub mod Verdicts
 pub mod Outcomes
+pub mod Reporting
