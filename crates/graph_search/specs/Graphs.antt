@@ -10,6 +10,11 @@ pub record Graph : Type 0 where
   pub count : ℕ
   pub successors : ℕ → List ℕ
 
+-- what one vertex leads to, in a graph with so many vertices
+pub record Leaving : Type 0 where
+  pub count : ℕ
+  pub to : List ℕ
+
 -- an arc from one vertex to another
 abbrev pub HasArc : Graph → ℕ → ℕ → Type 0
 HasArc g v w = (v < g.count) × Contains (g.successors v) w

@@ -67,8 +67,9 @@ impl Reached {
         ensures unfound { IfOk result (λ found. OnFalse found (¬ IsMarked self.new.marks to)) }
     {
         let vertex = self.queue[at].vertex;
-        for index in 0..graph.out_degree(vertex) {
-            let next = graph.successor(vertex, index);
+        let successors = graph.successors(vertex);
+        for index in 0..successors.len() {
+            let next = successors.at(index);
             if allowed.contains(next) && self.marks.mark(next) {
                 self.queue.push(Visit {
                     vertex: next,

@@ -130,11 +130,12 @@ impl Components {
             return Ok(false);
         };
         let vertex = frame.vertex as usize;
-        for index in frame.followed..graph.out_degree(vertex) {
-            let next = graph.successor(vertex, index);
+        let successors = graph.successors(vertex);
+        for index in frame.followed..successors.len() {
+            let next = successors.at(index);
             if self.numbers[next] != UNSEEN {
                 self.lower(vertex, next);
-            } else if graph.out_degree(next) == 0 {
+            } else if graph.successors(next).is_empty() {
                 self.complete_alone(next);
             } else {
                 self.path.push(Frame {
@@ -176,7 +177,7 @@ pub(crate) fn component_ranks<G: Arcs>(alloc: Global, graph: &G) -> Result<Vec<u
         if components.numbers[root] != UNSEEN {
             continue;
         }
-        if graph.out_degree(root) == 0 {
+        if graph.successors(root).is_empty() {
             components.complete_alone(root);
         } else {
             components.search(graph, root)?;

@@ -68,8 +68,9 @@ fn never_fall_from<G: Arcs>(graph: &G, ranks: &[u32], vertex: usize) -> bool
     ensures { IsTrue result ↔ ((w : ℕ) → HasArc (G.graph graph.now) vertex w → slice_index ranks.now vertex ≤ slice_index ranks.now w) }
 {
     let rank = ranks[vertex];
-    for index in 0..graph.out_degree(vertex) {
-        if ranks[graph.successor(vertex, index)] < rank {
+    let successors = graph.successors(vertex);
+    for index in 0..successors.len() {
+        if ranks[successors.at(index)] < rank {
             return false;
         }
     }

@@ -1,6 +1,6 @@
 ghost use Rattle.std.specs.Prelude.{◌≡◌, ◌<◌, ◌∷◌, [], All, map, length, false, slice_index_or, IfOk};
 
-use crate::arcs::{Arcs, Vertices};
+use crate::arcs::{Arcs, Successors, Vertices};
 use crate::breadth_first::Search;
 use crate::ranks::{OfRank, Ranks};
 use std::alloc::{AllocError, Global};
@@ -9,7 +9,7 @@ use std::process::Abort;
 /// A graph as a list of successors for each vertex.
 #[derive(Drop)]
 struct Lists {
-    lists: Vec<Vec<usize>>,
+    lists: Vec<Vec<u32>>,
     ghost within: { All (λ (list : _). All (λ w. w < length lists.items) list.items) lists.items },
 }
 
@@ -29,6 +29,7 @@ impl Lists {
         requires to { to < length self.old.lists.items }
         ensures { length self.new.lists.items ≡ length self.old.lists.items }
     {
+        let to = u32::try_from(to).map_err(|_| AllocError)?;
         self.lists[from].push(to)?;
         Ok(())
     }
@@ -41,12 +42,8 @@ impl Arcs for Lists {
         self.lists.len()
     }
 
-    fn out_degree(&self, vertex: usize) -> usize {
-        self.lists[vertex].len()
-    }
-
-    fn successor(&self, vertex: usize, index: usize) -> usize {
-        self.lists[vertex][index]
+    fn successors(&self, vertex: usize) -> Successors<'_> {
+        Successors::new(self.lists.len(), &self.lists[vertex], &[])
     }
 }
 
