@@ -102,8 +102,9 @@ impl<'r, 'g, 'v, 'a> Finder<'r, 'g, 'v, 'a> {
         ensures search { search.new ≡ search.old }
         ensures found { IfOk result (IsShownOr self.now (NoneFrom self.now from)) }
     {
-        for index in 0..self.needed.out_degree(from) {
-            let by = self.needed.successor(from, index);
+        let successors = self.needed.successors(from);
+        for index in 0..successors.len() {
+            let by = successors.at(index);
             let found = self.find_by(search, from, by)?;
             if found.is_some() {
                 return Ok(found);
@@ -150,8 +151,9 @@ impl<'r, 'g, 'v, 'a> Finder<'r, 'g, 'v, 'a> {
         ensures search { search.new ≡ search.old }
         ensures found { IfOk result (IsShownOr self.now (NoneBy self.now from version)) }
     {
-        for index in 0..self.needed.out_degree(version) {
-            let to = self.needed.successor(version, index);
+        let successors = self.needed.successors(version);
+        for index in 0..successors.len() {
+            let to = successors.at(index);
             // What a transaction installs behind its own read makes no edge.
             if to != from {
                 let found = self.close(search, from, to)?;

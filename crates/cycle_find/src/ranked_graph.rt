@@ -25,6 +25,7 @@ use graph_search::ranks::Ranks;
 use hist_types::types::{Fault, Level, Phenomenon};
 use std::alloc::{AllocError, Global};
 use std::marker::Model;
+use std::thread::{Threads, join_mut};
 
 /// A graph with what the searches for its cycles share: ranks of its vertices at real time.
 #[derive(Drop)]
@@ -34,13 +35,16 @@ pub struct RankedGraph<'r, 'g, 'v, 'a> {
     ranks: Ranks,
     /// Which vertices share their rank with another one. All cycles are among them.
     shared: Vec<bool>,
+    rules_out_cycles: bool,
 }
 
 impl<'r, 'g, 'v, 'a> Model for RankedGraph<'r, 'g, 'v, 'a> {
+    ghost use Rattle.std.specs.Bool.{OnTrue};
     ghost use Rattle.hist_types.specs.declared.types.Level.TheVariants.{Realtime};
     ghost use Rattle.edge_graph.specs.Kinds.{kinds_of};
-    ghost use Rattle.edge_graph.specs.Parts.{Parts};
+    ghost use Rattle.edge_graph.specs.Parts.{Parts, edges_in};
     ghost use Rattle.edge_graph.specs.declared.types.Dependencies.TheVariants.{All};
+    ghost use Rattle.cycle_find.specs.Found.{ShowNothing};
     ghost use Rattle.cycle_find.specs.Ranked.{AreRanksOver};
     ghost use Rattle.cycle_find.specs.Sharing.{AreSharing};
 
@@ -48,30 +52,62 @@ impl<'r, 'g, 'v, 'a> Model for RankedGraph<'r, 'g, 'v, 'a> {
 
     ghost view = { λ r. r.graph.now };
 
-    ghost invariant = { λ r. AreRanksOver r.graph.now (kinds_of All Realtime) r.ranks × AreSharing r.ranks r.shared.items };
+    ghost invariant = { λ r. AreRanksOver r.graph.now (kinds_of All Realtime) r.ranks × AreSharing r.ranks r.shared.items × OnTrue r.rules_out_cycles (ShowNothing (edges_in r.graph.now Realtime)) };
+}
+
+/// Whether a single look at each edge settles that no phenomenon is shown at real time. Where it doesn't, that says nothing.
+fn rules_out_cycles(graph: &Graph<'_, '_, '_>, ranks: &Ranks) -> bool
+    requires { AreRanksOver graph.now (kinds_of All Realtime) ranks.now }
+    ensures { OnTrue result (ShowNothing (edges_in graph.now Realtime)) }
+{
+    RankedEdges::new(graph, ranks).rise()
+}
+
+/// Which vertices share their rank, and whether the ranks rule out cycles: two threads tell, where another can be made.
+fn sharing_and_rise<R: Threads>(
+    rt: &R,
+    alloc: Global,
+    graph: &Graph<'_, '_, '_>,
+    ranks: &Ranks,
+) -> Result<(Vec<bool>, bool), AllocError>
+    requires { AreRanksOver graph.now (kinds_of All Realtime) ranks.now }
+    ensures shared { IfOk result (λ told. AreSharing ranks.now told.0.items) }
+    ensures rise { IfOk result (λ told. OnTrue told.1 (ShowNothing (edges_in graph.now Realtime))) }
+{
+    let (shared, rules_out) = join_mut(
+        rt,
+        &mut || sharing(alloc, ranks),
+        &mut || rules_out_cycles(graph, ranks),
+    );
+    Ok((shared?, rules_out))
 }
 
 impl<'r, 'g, 'v, 'a> RankedGraph<'r, 'g, 'v, 'a> {
     /// Takes a few numbers for each vertex. Only memory can run out.
-    pub fn new(alloc: Global, graph: &'r Graph<'g, 'v, 'a>) -> Result<Self, Fault>
+    pub fn new<R: Threads>(
+        rt: &R,
+        alloc: Global,
+        graph: &'r Graph<'g, 'v, 'a>,
+    ) -> Result<Self, Fault>
         ensures ok { IfOk result (λ ranked. ranked ≡ graph.now) }
         ensures err { IfErr result (λ fault. fault ≡ memory_fault) }
     {
         let ranks = ranks_over(alloc, graph, Dependencies::All, Level::Realtime)?;
-        let shared = sharing(alloc, &ranks)?;
+        let (shared, rules_out_cycles) = sharing_and_rise(rt, alloc, graph, &ranks)?;
         Ok(RankedGraph {
             alloc,
             graph,
             ranks,
             shared,
+            rules_out_cycles,
         })
     }
 
-    /// Whether a single look at each edge settles that no phenomenon is shown at real time. Where it doesn't, that says nothing.
+    /// Whether a single look at each edge settled that no phenomenon is shown at real time. Where it didn't, that says nothing.
     pub fn rules_out_cycles(&self) -> bool
         ensures { OnTrue result (ShowNothing (edges_in self.now Realtime)) }
     {
-        RankedEdges::new(self.graph, &self.ranks).rise()
+        self.rules_out_cycles
     }
 
     /// A closed walk that shows the phenomenon at the level, or none where the graph's edges have none.

@@ -9,7 +9,7 @@ ghost use Rattle.cycle_find.specs.Sharing.{AreSharing, leaving};
 use edge_graph::arcs::GraphArcs;
 use edge_graph::graph::Graph;
 use edge_graph::types::Dependencies;
-use graph_search::arcs::{Arcs, Vertices};
+use graph_search::arcs::{Arcs, Successors, Vertices};
 use graph_search::ranks::Ranks;
 use hist_types::types::Level;
 use std::alloc::{AllocError, Global};
@@ -62,16 +62,12 @@ impl Arcs for ArcsLeaving<'_> {
         self.arcs.vertices()
     }
 
-    fn out_degree(&self, vertex: usize) -> usize {
+    fn successors(&self, vertex: usize) -> Successors<'_> {
         if self.some[vertex] {
-            self.arcs.out_degree(vertex)
+            self.arcs.successors(vertex)
         } else {
-            0
+            Successors::new(self.arcs.vertices(), &[], &[])
         }
-    }
-
-    fn successor(&self, vertex: usize, index: usize) -> usize {
-        self.arcs.successor(vertex, index)
     }
 }
 

@@ -69,8 +69,9 @@ impl<'r, 'g, 'v, 'a> RankedEdges<'r, 'g, 'v, 'a> {
         requires { IsPlace self.now.graph.txns from }
         ensures { OnTrue result (RisesFrom self.now.graph (kinds_of All Plain) self.now.ranks from) }
     {
-        for index in 0..self.arcs.out_degree(from) {
-            if !self.rise_by(from, self.arcs.successor(from, index)) {
+        let successors = self.arcs.successors(from);
+        for index in 0..successors.len() {
+            if !self.rise_by(from, successors.at(index)) {
                 return false;
             }
         }
@@ -99,8 +100,9 @@ impl<'r, 'g, 'v, 'a> RankedEdges<'r, 'g, 'v, 'a> {
         requires by { IsArc self.now.graph (kinds_of All Plain) from version }
         ensures { OnTrue result (RisesBy self.now.graph (kinds_of All Plain) self.now.ranks from version) }
     {
-        for index in 0..self.arcs.out_degree(version) {
-            let to = self.arcs.successor(version, index);
+        let successors = self.arcs.successors(version);
+        for index in 0..successors.len() {
+            let to = successors.at(index);
             // What a transaction installs behind its own read makes no edge.
             if to != from && self.ranks.rank(to) <= self.ranks.rank(from) {
                 return false;

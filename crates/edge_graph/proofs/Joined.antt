@@ -1,6 +1,7 @@
 -- Arcs of dependencies and of the order, side by side.
-use Rattle.std.proofs.Common.{◌≡◌, ◌∙◌, ◌<◌, ◌≤◌, ◌+◌, ◌-◌, ℕ, zero, suc, List, [], ◌∷◌, ◌++◌, length, get_or, refl, ap, sym, subst, arith}
-use Rattle.std.proofs.lemmas.List.{append-nil, length-append, get_or_append_left, get_or-append_right}
+use Rattle.std.proofs.Common.{◌≡◌, ◌∙◌, ◌<◌, ◌+◌, ◌-◌, ℕ, All, zero, suc, List, [], ◌∷◌, ◌++◌, length, get_or, refl, ap, sym, subst, arith}
+use Rattle.std.proofs.lemmas.List.{append-nil, length-append, get_or_append_left, get_or-append_right, get_or_default}
+use Rattle.graph_search.specs.Graphs.{Leaving}
 use Rattle.edge_graph.specs.FlatRows.{Row, row_at, led_to}
 use Rattle.edge_graph.specs.Made.{joined, AreWithin}
 use Rattle.edge_graph.specs.Successors.{list_at}
@@ -21,6 +22,9 @@ joined_at d (row ∷ rows) [] (suc v) h = joined_at d rows [] v (omega arith)
 joined_at d (row ∷ rows) (list ∷ lists) zero h = refl
 joined_at d (row ∷ rows) (list ∷ lists) (suc v) h = joined_at d rows lists v (omega arith)
 
+abbrev pub leaving : ℕ → List ℕ → Leaving
+leaving count to = record { count = count; to = to }
+
 pub in_rows :
     (d : Dependencies) (rows : List Row) (lists all : List (List ℕ)) (v : ℕ)
     → joined d rows lists ≡ all
@@ -30,22 +34,29 @@ in_rows d rows lists all v is h = omega (arith, ap length is, length-joined d ro
 
 -- the row and the list of one vertex
 module _ (d : Dependencies) (rows : List Row) (lists all : List (List ℕ)) (is : joined d rows lists ≡ all) (v : ℕ) (within : v < length all) (row list : List ℕ) (row_is : row ≡ led_to d (row_at rows v)) (list_is : list ≡ list_at lists v) where
-  pub whole : list_at all v ≡ row ++ list
+  whole : list_at all v ≡ row ++ list
   whole =
       sym (ap (λ xs. list_at xs v) is) ∙ joined_at d rows lists v (in_rows d rows lists all v is within)
       ∙ ap (λ xs. xs ++ list_at lists v) (sym row_is) ∙ ap (λ xs. row ++ xs) (sym list_is)
 
-  pub degree : length row + length list ≡ length (list_at all v)
-  degree = sym (ap length whole ∙ length-append row list)
+  counts : length all ≡ length rows
+  counts = sym (ap length is) ∙ length-joined d rows lists
 
-  pub in_list : (i : ℕ) → i < length (list_at all v) → length row ≤ i → i - length row < length list
-  in_list i h past = omega (arith, degree)
+  below : AreWithin (joined d rows lists) → (i : ℕ) → i < length row + length list → get_or (row ++ list) i 0 < length rows
+  below inside i h =
+      let there : i < length (list_at all v) = omega (arith, h, ap length whole, length-append row list) in
+      subst (λ xs. get_or xs i 0 < length rows) whole (omega (arith, subst AreWithin is inside v [] within i 0 there, counts))
 
-  pub in_front : (i : ℕ) → i < length row → get_or row i 0 ≡ get_or (list_at all v) i 0
-  in_front i h = sym (ap (λ xs. get_or xs i 0) whole ∙ get_or_append_left row list 0 i h)
+  pub first_within : AreWithin (joined d rows lists) → All (λ w. w < length rows) row
+  first_within inside i e h =
+      subst (λ w. w < length rows) (get_or_append_left row list 0 i h ∙ get_or_default row i 0 e h) (below inside i (omega (arith, h)))
 
-  pub behind : (i : ℕ) → length row ≤ i → get_or list (i - length row) 0 ≡ get_or (list_at all v) i 0
-  behind i past = sym (ap (λ xs. get_or xs i 0) whole ∙ get_or-append_right row list (length row) i 0 refl past)
+  pub second_within : AreWithin (joined d rows lists) → All (λ w. w < length rows) list
+  second_within inside i e h =
+      let back : length row + i - length row ≡ i = omega arith in
+      subst (λ w. w < length rows)
+      (get_or-append_right row list (length row) (length row + i) 0 refl (omega arith) ∙ ap (λ k. get_or list k 0) back ∙ get_or_default list i 0 e h)
+      (below inside (length row + i) (omega (arith, h)))
 
-  pub below : AreWithin (joined d rows lists) → (i : ℕ) → i < length (list_at all v) → get_or (list_at all v) i 0 < length all
-  below inside i h = subst AreWithin is inside v [] within i 0 h
+  pub both : leaving (length rows) (row ++ list) ≡ leaving (length all) (list_at all v)
+  both = ap (λ n. leaving n (row ++ list)) (sym counts) ∙ ap (leaving (length all)) (sym whole)

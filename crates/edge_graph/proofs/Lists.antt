@@ -1,5 +1,5 @@
 -- Lists of places.
-use Rattle.std.proofs.Common.{◌≡◌, ◌∙◌, ◌<◌, ℕ, zero, suc, List, [], ◌∷◌, ◌++◌, length, get_or, map, refl, ap, sym}
+use Rattle.std.proofs.Common.{◌≡◌, ◌∙◌, ◌<◌, ℕ, List, [], ◌∷◌, length, get_or, map, refl, ap, sym}
 use Rattle.std.proofs.lemmas.List.{get_or_default}
 use Rattle.std.proofs.lemmas.Option.{unwrap_or-slice_get}
 use Rattle.hist_types.specs.Transactions.{Transaction, Version, Open}
@@ -7,7 +7,6 @@ use Rattle.std.specs.Prelude.{None}
 use Rattle.key_versions.specs.Tables.{Table}
 use Rattle.key_versions.specs.declared.types.Follower.{Follower}
 use Rattle.dep_edges.specs.Tables.{txn_at, later_in}
-use Rattle.edge_graph.specs.Successors.{list_at}
 
 abbrev pub place_in : ℕ × Version → ℕ
 place_in p = p.0
@@ -16,12 +15,6 @@ place_in p = p.0
 pub places_later : (table : Table) (fs : List Follower) → map (λ (f : Follower). f.txn) fs ≡ map place_in (map (later_in table) fs)
 places_later table [] = refl
 places_later table (f ∷ fs) = ap (λ ps. f.txn ∷ ps) (places_later table fs)
-
-pub empty_more : (lists : List (List ℕ)) → ((place : ℕ) → list_at lists place ≡ []) → (place : ℕ) → list_at (lists ++ [] ∷ []) place ≡ []
-empty_more [] empty zero = refl
-empty_more [] empty (suc place) = refl
-empty_more (list ∷ lists) empty zero = empty 0
-empty_more (list ∷ lists) empty (suc place) = empty_more lists (λ n. empty (suc n)) place
 
 -- a transaction that is read at a place
 pub txn_read : (ts : List Transaction) (place : ℕ) (t : Transaction) → place < length ts → t ≡ get_or ts place t → t ≡ txn_at ts place

@@ -1,12 +1,14 @@
--- A place that is added to the list of each predecessor.
-use Rattle.std.proofs.Common.{◌≡◌, ◌∙◌, ◌<◌, ◌+◌, inl, inr, ℕ, List, [], ◌∷◌, ◌++◌, ◌||◌, ◌==◌, Bool, true, false, length, get_or, take, set, map, nat_eq, if◌then◌else◌, ap, sym, arith, get_or-set_same, get_or-set_other}
+-- A pair that is added for each predecessor.
+use Rattle.std.proofs.Common.{◌≡◌, ◌∙◌, ◌<◌, ◌+◌, inl, inr, ℕ, List, [], ◌∷◌, ◌++◌, ◌||◌, ◌==◌, Bool, true, false, length, get_or, take, map, nat_eq, if◌then◌else◌, ap, sym, arith}
 use Rattle.std.proofs.Math.Bool.{or-false}
 use Rattle.std.proofs.lemmas.Bool.Decides.{eqb_tells}
 use Rattle.std.proofs.lemmas.List.{append-nil, length-take-le, length-map, get_or-take, get_or-map}
 use Rattle.std.proofs.lemmas.List.Folds.{list_any_more, list_any_none}
 use Rattle.std.proofs.lemmas.Map.Keys.{apart_from_distinct}
+use Rattle.flat_groups.specs.Groups.{group}
+use Rattle.flat_groups.proofs.Grouped.{group_here, group_elsewhere}
 use Rattle.order_frontier.specs.declared.types.Predecessor.{Predecessor}
-use Rattle.edge_graph.specs.Successors.{place_of, HaveOwnPlaces, has_place, list_at}
+use Rattle.edge_graph.specs.Successors.{place_of, HaveOwnPlaces, has_place}
 
 abbrev if_has : Bool → ℕ → List ℕ
 if_has b place = if b then place ∷ [] else []
@@ -32,28 +34,24 @@ module _ (places : List ℕ) (ps : List Predecessor) (i : ℕ) (p : Predecessor)
       ∙ differ)
 
   pub next_pushed :
-      (lists lists' : List (List ℕ)) (place : ℕ) (list : List ℕ)
-      → length lists ≡ length lists'
-      → place_of places p < length lists
-      → list ≡ list_at lists (place_of places p) ++ place ∷ []
-      → ((first : ℕ) → first < length lists' → list_at lists first ≡ list_at lists' first ++ if_has (has_place places (take i ps) first) place)
+      (pairs pairs' : List (ℕ × ℕ)) (place : ℕ)
+      → ((first : ℕ) → group first pairs ≡ group first pairs' ++ if_has (has_place places (take i ps) first) place)
       → (first : ℕ)
-      → first < length lists'
-      → list_at (set lists (place_of places p) list) first ≡ list_at lists' first ++ if_has (has_place places (take (i + 1) ps) first) place
-  next_pushed lists lists' place list long there pushed so_far first h =
+      → group first (pairs ++ (place_of places p, place) ∷ []) ≡ group first pairs' ++ if_has (has_place places (take (i + 1) ps) first) place
+  next_pushed pairs pairs' place so_far first =
       elim (eqb_tells (place_of places p) first) [
         | inl same ↦
             let one : place_of places p ≡ first = same.1 in
             let none : has_place places (take i ps) first ≡ false = ap (has_place places (take i ps)) (sym one) ∙ new_place in
             let now : has_place places (take (i + 1) ps) first ≡ true =
             more first ∙ ap (λ b. b || (place_of places p == first)) none ∙ same.0 in
-            ap (λ k. list_at (set lists (place_of places p) list) k) (sym one) ∙ get_or-set_same lists (place_of places p) list [] there ∙ pushed
+            ap (λ k. group k (pairs ++ (place_of places p, place) ∷ [])) (sym one) ∙ group_here (place_of places p) place pairs
             ∙ ap (λ xs. xs ++ place ∷ [])
-            (ap (list_at lists) one ∙ so_far first h ∙ ap (λ b. list_at lists' first ++ if_has b place) none ∙ append-nil (list_at lists' first))
-            ∙ ap (λ b. list_at lists' first ++ if_has b place) (sym now)
+            (ap (λ k. group k pairs) one ∙ so_far first ∙ ap (λ b. group first pairs' ++ if_has b place) none ∙ append-nil (group first pairs'))
+            ∙ ap (λ b. group first pairs' ++ if_has b place) (sym now)
         | inr other ↦
             let now : has_place places (take (i + 1) ps) first ≡ has_place places (take i ps) first =
             more first ∙ ap (λ b. has_place places (take i ps) first || b) other.0 ∙ or-false (has_place places (take i ps) first) in
-            get_or-set_other lists (place_of places p) first list [] (λ e. other.1 (sym e)) ∙ so_far first h
-            ∙ ap (λ b. list_at lists' first ++ if_has b place) (sym now)
+            group_elsewhere (place_of places p) first place pairs other.0 ∙ so_far first
+            ∙ ap (λ b. group first pairs' ++ if_has b place) (sym now)
       ]

@@ -5,6 +5,7 @@ use Rattle.hist_types.specs.Transactions.{Transaction, is_node}
 use Rattle.hist_types.specs.declared.types.Level.{Level}
 use Rattle.hist_types.specs.declared.types.Level.TheVariants.{Plain, Process, Realtime}
 use Rattle.dep_edges.specs.Tables.{txn_at}
+use Rattle.flat_groups.specs.Groups.{group, IsNumbered}
 use Rattle.order_frontier.specs.Predecessors.{Before, before_at}
 use Rattle.order_frontier.specs.declared.types.Predecessor.{Predecessor}
 
@@ -54,10 +55,11 @@ lists_at Plain in_process in_realtime = []
 lists_at Process in_process in_realtime = in_process
 lists_at Realtime in_process in_realtime = in_realtime
 
--- the successors among the first places
-pub record AreFirstSuccessors (ts : List Transaction) (order : List Before) (level : Level) (places : ℕ) (lists : List (List ℕ)) : Type 0 where
+pub record AreSuccessors (ts : List Transaction) (order : List Before) (level : Level) (lists : List (List ℕ)) : Type 0 where
   pub count : length lists ≡ length ts
-  pub each : (place : ℕ) → place < length ts → list_at lists place ≡ filter (is_successor ts order level place) (range_with_len 0 places)
+  pub each : (place : ℕ) → place < length ts → list_at lists place ≡ filter (is_successor ts order level place) (range_with_len 0 (length ts))
 
-abbrev pub AreSuccessors : List Transaction → List Before → Level → List (List ℕ) → Type 0
-AreSuccessors ts order level lists = AreFirstSuccessors ts order level (length ts) lists
+-- the same, before it is grouped: each place with its successors among the first places
+pub record AreFirstPairs (ts : List Transaction) (order : List Before) (level : Level) (places : ℕ) (pairs : List (ℕ × ℕ)) : Type 0 where
+  pub numbered : All (IsNumbered (length ts)) pairs
+  pub each : (place : ℕ) → place < length ts → group place pairs ≡ filter (is_successor ts order level place) (range_with_len 0 places)

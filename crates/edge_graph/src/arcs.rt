@@ -3,17 +3,17 @@
 ghost use Rattle.std.specs.Prelude.{◌≡◌};
 ghost use Rattle.edge_graph.specs.Made.{joined, AreWithin};
 
-use crate::orders::{Successors, list};
+use crate::orders::LaterNodes;
 use crate::rows::Rows;
 use crate::types::Dependencies;
-use graph_search::arcs::Arcs;
+use graph_search::arcs::{Arcs, Successors};
 use std::marker::Model;
 
 /// The arcs of some kinds of a graph. Its vertices are the transactions, by place, and behind them the versions, by number.
 #[derive(Drop)]
 pub struct GraphArcs<'g> {
     rows: &'g Rows,
-    order: &'g [Successors],
+    order: &'g LaterNodes,
     dependencies: Dependencies,
 }
 
@@ -29,7 +29,7 @@ impl<'g> Model for GraphArcs<'g> {
 }
 
 impl<'g> GraphArcs<'g> {
-    pub(crate) fn new(rows: &'g Rows, order: &'g [Successors], dependencies: Dependencies) -> Self
+    pub(crate) fn new(rows: &'g Rows, order: &'g LaterNodes, dependencies: Dependencies) -> Self
         requires { AreWithin (joined dependencies rows.now order.now) }
         ensures { result ≡ joined dependencies rows.now order.now }
     {
@@ -50,16 +50,11 @@ impl Arcs for GraphArcs<'_> {
         self.rows.len()
     }
 
-    fn out_degree(&self, vertex: usize) -> usize {
-        self.rows.row(vertex, self.dependencies).len() + list(self.order, vertex).len()
-    }
-
-    fn successor(&self, vertex: usize, index: usize) -> usize {
-        let row = self.rows.row(vertex, self.dependencies);
-        if index < row.len() {
-            row[index] as usize
-        } else {
-            list(self.order, vertex)[index - row.len()] as usize
-        }
+    fn successors(&self, vertex: usize) -> Successors<'_> {
+        Successors::new(
+            self.rows.len(),
+            self.rows.row(vertex, self.dependencies),
+            self.order.get(vertex),
+        )
     }
 }

@@ -53,7 +53,7 @@ impl<'g, 'v, 'a> Model for Graph<'g, 'v, 'a> {
 
     ghost view = { λ g. record { txns = g.history.now.txns; order = g.order.now; versions = g.history.now.table.versions } };
 
-    ghost invariant = { λ g. (g.deps.now ≡ g.history.now.txns) × IsMade g.history.now.txns g.order.now g.history.now.table g.rows g.orders.in_process.items g.orders.in_realtime.items };
+    ghost invariant = { λ g. (g.deps.now ≡ g.history.now.txns) × IsMade g.history.now.txns g.order.now g.history.now.table g.rows g.orders.in_process g.orders.in_realtime };
 }
 
 /// Adds the dependency edges of the kinds that leave the transaction.
@@ -135,8 +135,8 @@ fn rows_and_orders<'v, 'a, R: Threads + Sync>(
     requires history { history.now.txns ≡ deps.now }
     requires order { IsOrderOf deps.now order.now }
     ensures rows { IfOk result (λ made. AreRows history.now.txns history.now.table made.0) }
-    ensures process { IfOk result (λ made. AreSuccessors deps.now order.now Process made.1.in_process.items) }
-    ensures realtime { IfOk result (λ made. AreSuccessors deps.now order.now Realtime made.1.in_realtime.items) }
+    ensures process { IfOk result (λ made. AreSuccessors deps.now order.now Process made.1.in_process) }
+    ensures realtime { IfOk result (λ made. AreSuccessors deps.now order.now Realtime made.1.in_realtime) }
 {
     let (rows, orders) = join_mut(
         rt,
@@ -216,7 +216,7 @@ impl<'g, 'v, 'a> Graph<'g, 'v, 'a> {
         ensures err { OnErr result (Begins out.old.items out.new.items) }
     {
         add_dependencies(self.alloc, self.deps, place, kinds, out)?;
-        let later = self.orders.of(kinds.level, place);
+        let later = self.orders.at(kinds.level).get(place);
         add_order_edges(self.history.txns(), kinds.level, place, later, out)
     }
 

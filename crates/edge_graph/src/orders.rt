@@ -1,67 +1,73 @@
 //! What each transaction comes before.
 
-ghost use Rattle.std.specs.Prelude.{◌≡◌, ◌<◌, ◌++◌, ◌∷◌, [], ℕ, length, map, if◌then◌else◌, OnOk, IfOk};
+ghost use Rattle.std.specs.Prelude.{◌≡◌, ◌<◌, ◌++◌, ◌∷◌, [], ℕ, length, All, if◌then◌else◌, OnOk, IfOk};
 ghost use Rattle.hist_types.specs.Thinning.{AreInvokedInOrder};
+ghost use Rattle.hist_types.specs.declared.types.Level.TheVariants.{Process, Realtime};
+ghost use Rattle.flat_groups.specs.Groups.{group, groups_from, IsNumbered};
 ghost use Rattle.dep_edges.specs.Histories.{AreOfHistory};
 ghost use Rattle.order_frontier.specs.Predecessors.{before_at};
+ghost use Rattle.order_frontier.specs.declared.types.Predecessor.{Predecessor as APredecessor};
 ghost use Rattle.edge_graph.specs.Parts.{IsOrderOf};
-ghost use Rattle.edge_graph.specs.Successors.{ArePlaces, predecessors_at, HavePlaces, HaveOwnPlaces, has_place, list_at, lists_at, AreSuccessors};
-ghost use Rattle.hist_types.specs.declared.types.Level.TheVariants.{Process, Realtime};
+ghost use Rattle.edge_graph.specs.Successors.{ArePlaces, AreFirstPairs, predecessors_at, HavePlaces, HaveOwnPlaces, has_place, list_at, lists_at, AreSuccessors};
 
 use crate::rows::number;
 use dep_edges::deps::Deps;
+use flat_groups::groups::Groups;
 use hist_types::types::Level;
 use order_frontier::types::{Order, Predecessor};
-use smallvec::SmallVec;
 use std::alloc::{AllocError, Global};
 use std::marker::Model;
 use std::thread::{Threads, join_mut};
 use txn_pairs::types::Txn;
 
-/// The places of the nodes that a transaction comes before.
+/// For each transaction the places of the nodes that it comes before.
 #[derive(Drop)]
-pub(crate) struct Successors {
-    places: SmallVec<u32, 4>,
+pub(crate) struct LaterNodes {
+    /// How many transactions there are.
+    txns: usize,
+    places: Groups<u32>,
 }
 
-impl Model for Successors {
-    ghost use Rattle.std.specs.Prelude.{List, ℕ};
+impl Model for LaterNodes {
+    ghost use Rattle.std.specs.Prelude.{◌≡◌, List, ℕ, length};
 
-    ghost Value = { List ℕ };
+    ghost Value = { List (List ℕ) };
 
-    ghost view = { λ s. s.places.items };
+    ghost view = { λ later. later.places };
+
+    ghost invariant = { λ later. length later.places ≡ later.txns };
 }
 
-impl Successors {
-    fn new(alloc: Global) -> Self
-        ensures { result ≡ [] }
+impl LaterNodes {
+    /// Of the places of so many transactions, each with that of a node that it comes before.
+    fn of(alloc: Global, txns: usize, pairs: &[(u32, u32)]) -> Result<Self, AllocError>
+        requires { All (IsNumbered txns) pairs.now }
+        ensures { IfOk result (λ later. later ≡ groups_from 0 txns pairs.now) }
     {
-        Successors {
-            places: SmallVec::new(alloc),
+        let places = Groups::of(alloc, txns, pairs)?;
+        Ok(LaterNodes { txns, places })
+    }
+
+    /// Those of the transaction at the place; behind the transactions, none.
+    pub fn get(&self, place: usize) -> &[u32]
+        ensures { result.now ≡ list_at self.now place }
+    {
+        if place < self.txns {
+            self.places.get(place)
+        } else {
+            &[]
         }
-    }
-
-    fn push(&mut self, place: u32) -> Result<(), AllocError>
-        ensures { OnOk result (self.new ≡ self.old ++ place ∷ []) }
-    {
-        self.places.push(place)?;
-        Ok(())
-    }
-
-    pub fn as_slice(&self) -> &[u32]
-        ensures { result.now ≡ self.now }
-    {
-        self.places.as_slice()
     }
 }
 
 /// The place of each transaction, by the index of its invocation.
-pub fn places(alloc: Global, txns: &[Txn<'_>]) -> Result<Vec<usize>, AllocError>
+pub fn places(alloc: Global, txns: &[Txn<'_>]) -> Result<Vec<u32>, AllocError>
     requires { AreInvokedInOrder txns.now }
     ensures { IfOk result (λ places. ArePlaces txns.now places.items) }
 {
     let mut places = Vec::new(alloc);
     for (place, txn) in txns.iter().enumerate() {
+        let place = number(place)?;
         // Completions before this invocation have its place too.
         places.resize(txn.invocation() as usize, place)?;
         places.push(place)?;
@@ -80,67 +86,76 @@ fn predecessors(order: &Order, place: usize, level: Level) -> &[Predecessor]
     }
 }
 
-/// Adds a place to the list of each predecessor.
-fn push_to_each(
+/// Adds a pair for each predecessor: its place with this one.
+fn push_pairs(
     predecessors: &[Predecessor],
-    places: &[usize],
+    places: &[u32],
     place: u32,
-    lists: &mut [Successors],
+    pairs: &mut Vec<(u32, u32)>,
 ) -> Result<(), AllocError>
-    requires within { HavePlaces places.now (length lists.old) predecessors.now }
+    requires within { All (λ (p : APredecessor). p.invocation < length places.now) predecessors.now }
     requires apart { HaveOwnPlaces places.now predecessors.now }
-    ensures { OnOk result ((first : ℕ) → first < length lists.old → list_at lists.new first ≡ list_at lists.old first ++ (if has_place places.now predecessors.now first then place ∷ [] else [])) }
+    ensures numbered { OnOk result ((count : ℕ) → HavePlaces places.now count predecessors.now → All (IsNumbered count) pairs.old.items → All (IsNumbered count) pairs.new.items) }
+    ensures groups { OnOk result ((first : ℕ) → group first pairs.new.items ≡ group first pairs.old.items ++ (if has_place places.now predecessors.now first then place ∷ [] else [])) }
 {
     for predecessor in predecessors {
-        let list = &mut lists[places[predecessor.invocation as usize]];
-        list.push(place)?;
+        let first = places[predecessor.invocation as usize];
+        pairs.push((first, place))?;
     }
     Ok(())
 }
 
-fn empty_lists(alloc: Global, count: usize) -> Result<Vec<Successors>, AllocError>
-    ensures count { IfOk result (λ lists. length lists.items ≡ count) }
-    ensures empty { IfOk result (λ lists. (place : ℕ) → list_at lists.items place ≡ []) }
+/// Each transaction of the order of the level with the nodes that it comes before.
+fn pairs(
+    alloc: Global,
+    deps: &Deps<'_, '_>,
+    order: &Order,
+    places: &[u32],
+    level: Level,
+) -> Result<Vec<(u32, u32)>, AllocError>
+    requires kept { AreOfHistory deps.now }
+    requires order { IsOrderOf deps.now order.now }
+    requires places { ArePlaces deps.now places.now }
+    ensures { IfOk result (λ pairs. AreFirstPairs deps.now order.now level (length deps.now) pairs.items) }
 {
-    let mut lists = Vec::new(alloc);
-    for _ in 0..count {
-        lists.push(Successors::new(alloc))?;
+    let mut pairs = Vec::new(alloc);
+    for place in 0..order.len() {
+        if deps.is_node(place) {
+            push_pairs(
+                predecessors(order, place, level),
+                places,
+                number(place)?,
+                &mut pairs,
+            )?;
+        }
     }
-    Ok(lists)
+    Ok(pairs)
 }
 
-/// The order of the level turned round: for each transaction the nodes that it comes before.
+/// The order of the level turned round.
 fn turned(
     alloc: Global,
     deps: &Deps<'_, '_>,
     order: &Order,
-    places: &[usize],
+    places: &[u32],
     level: Level,
-) -> Result<Vec<Successors>, AllocError>
+) -> Result<LaterNodes, AllocError>
     requires kept { AreOfHistory deps.now }
     requires order { IsOrderOf deps.now order.now }
     requires places { ArePlaces deps.now places.now }
-    ensures { IfOk result (λ lists. AreSuccessors deps.now order.now level lists.items) }
+    ensures { IfOk result (λ later. AreSuccessors deps.now order.now level later) }
 {
-    let mut lists = empty_lists(alloc, order.len())?;
-    for place in 0..order.len() {
-        if deps.is_node(place) {
-            push_to_each(
-                predecessors(order, place, level),
-                places,
-                number(place)?,
-                &mut lists,
-            )?;
-        }
-    }
-    Ok(lists)
+    let pairs = pairs(alloc, deps, order, places, level)?;
+    LaterNodes::of(alloc, order.len(), &pairs)
 }
 
 /// For each transaction the nodes that it comes before, within its process and in real time.
 #[derive(Drop)]
 pub(crate) struct Orders {
-    in_process: Vec<Successors>,
-    in_realtime: Vec<Successors>,
+    in_plain: LaterNodes,
+    in_process: LaterNodes,
+    in_realtime: LaterNodes,
+    ghost plain: { in_plain ≡ [] },
 }
 
 impl Orders {
@@ -151,8 +166,8 @@ impl Orders {
         order: &Order,
     ) -> Result<Self, AllocError>
         requires { IsOrderOf deps.now order.now }
-        ensures process { IfOk result (λ orders. AreSuccessors deps.now order.now Process orders.in_process.items) }
-        ensures realtime { IfOk result (λ orders. AreSuccessors deps.now order.now Realtime orders.in_realtime.items) }
+        ensures process { IfOk result (λ orders. AreSuccessors deps.now order.now Process orders.in_process) }
+        ensures realtime { IfOk result (λ orders. AreSuccessors deps.now order.now Realtime orders.in_realtime) }
     {
         let places = places(alloc, deps.history().txns())?;
         Orders::by_places(rt, alloc, deps, order, &places)
@@ -164,13 +179,13 @@ impl Orders {
         alloc: Global,
         deps: &Deps<'_, '_>,
         order: &Order,
-        places: &[usize],
+        places: &[u32],
     ) -> Result<Self, AllocError>
         requires kept { AreOfHistory deps.now }
         requires order { IsOrderOf deps.now order.now }
         requires places { ArePlaces deps.now places.now }
-        ensures process { IfOk result (λ orders. AreSuccessors deps.now order.now Process orders.in_process.items) }
-        ensures realtime { IfOk result (λ orders. AreSuccessors deps.now order.now Realtime orders.in_realtime.items) }
+        ensures process { IfOk result (λ orders. AreSuccessors deps.now order.now Process orders.in_process) }
+        ensures realtime { IfOk result (λ orders. AreSuccessors deps.now order.now Realtime orders.in_realtime) }
     {
         let (in_process, in_realtime) = join_mut(
             rt,
@@ -178,36 +193,20 @@ impl Orders {
             &mut || turned(alloc, deps, order, places, Level::Realtime),
         );
         Ok(Orders {
+            in_plain: LaterNodes::of(alloc, 0, &[])?,
             in_process: in_process?,
             in_realtime: in_realtime?,
         })
     }
 
-    /// The lists of the level; at plain, none.
-    pub fn at(&self, level: Level) -> &[Successors]
-        ensures { result.now ≡ lists_at level self.now.in_process.items self.now.in_realtime.items }
+    /// The order of the level turned round.
+    pub fn at(&self, level: Level) -> &LaterNodes
+        ensures { result.now ≡ lists_at level self.now.in_process self.now.in_realtime }
     {
         match level {
-            Level::Plain => &[],
+            Level::Plain => &self.in_plain,
             Level::Process => &self.in_process,
             Level::Realtime => &self.in_realtime,
         }
-    }
-
-    /// The list of the transaction at the place.
-    pub fn of(&self, level: Level, place: usize) -> &[u32]
-        ensures { result.now ≡ list_at (lists_at level self.now.in_process.items self.now.in_realtime.items) place }
-    {
-        list(self.at(level), place)
-    }
-}
-
-/// The list at a place, or none.
-pub(crate) fn list(lists: &[Successors], place: usize) -> &[u32]
-    ensures { result.now ≡ list_at lists.now place }
-{
-    match lists.get(place) {
-        Some(list) => list.as_slice(),
-        None => &[],
     }
 }

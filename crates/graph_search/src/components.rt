@@ -74,13 +74,12 @@ impl Components {
         Ok(())
     }
 
-    /// A vertex leads to all that another one does.
-    fn lower(&mut self, vertex: usize, other: usize)
-        requires vertex { vertex < length self.old.numbers.items }
-        requires other { other < length self.old.numbers.items }
+    /// A vertex leads to one with this number.
+    fn lower(&mut self, vertex: usize, number: u32)
+        requires { vertex < length self.old.numbers.items }
         ensures { length self.new.numbers.items ≡ length self.old.numbers.items }
     {
-        self.numbers[vertex] = self.numbers[vertex].min(self.numbers[other]);
+        self.numbers[vertex] = self.numbers[vertex].min(number);
     }
 
     /// Makes a component of a vertex that leads nowhere.
@@ -112,11 +111,12 @@ impl Components {
         ensures { length self.new.numbers.items ≡ length self.old.numbers.items }
     {
         let vertex = frame.vertex as usize;
-        if self.numbers[vertex] == frame.place {
+        let number = self.numbers[vertex];
+        if number == frame.place {
             self.complete(frame.place as usize);
         } else if let Some(parent) = self.path.last() {
             let parent = parent.vertex as usize;
-            self.lower(parent, vertex);
+            self.lower(parent, number);
         }
     }
 
@@ -130,14 +130,16 @@ impl Components {
             return Ok(false);
         };
         let vertex = frame.vertex as usize;
+        let mut lowest = UNSEEN;
         let successors = graph.successors(vertex);
         for index in frame.followed..successors.len() {
             let next = successors.at(index);
             if self.numbers[next] != UNSEEN {
-                self.lower(vertex, next);
+                lowest = lowest.min(self.numbers[next]);
             } else if graph.successors(next).is_empty() {
                 self.complete_alone(next);
             } else {
+                self.lower(vertex, lowest);
                 self.path.push(Frame {
                     vertex: frame.vertex,
                     place: frame.place,
@@ -147,6 +149,7 @@ impl Components {
                 return Ok(true);
             }
         }
+        self.lower(vertex, lowest);
         self.leave(frame);
         Ok(true)
     }

@@ -116,7 +116,7 @@ fn find_each<'a, R: Threads>(
     ensures ok { IfOk result (AreFindings graph.now.txns) }
     ensures err { IfErr result (λ fault. fault ≡ memory_fault) }
 {
-    let graph = RankedGraph::new(alloc, graph)?;
+    let graph = RankedGraph::new(rt, alloc, graph)?;
     if graph.rules_out_cycles() {
         return Ok(Findings::none());
     }

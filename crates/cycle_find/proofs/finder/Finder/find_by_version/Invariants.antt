@@ -1,5 +1,5 @@
 -- What the version's arcs so far lead to has no way back.
-use Rattle.std.proofs.Common.{◌≡◌, ◌<◌, ℕ, [], get_or}
+use Rattle.std.proofs.Common.{◌≡◌, ◌<◌, ℕ, get_or}
 use Rattle.cycle_find.specs.Tasks.{HasReturnBetween}
 use Rattle.cycle_find.proofs.finder.Finder.find_by_version.Given as goal
 
@@ -7,6 +7,6 @@ abbrev pub invariant-loop-index : goal.invariant-loop-index
 invariant-loop-index l = record {
   search : l.search ≡ l.fn.search;
   passed :
-      (k : ℕ) → k < l.index → (l.from ≡ get_or (get_or l.self-inside.needed l.version []) k 0 → ⊥)
-      → ¬ HasReturnBetween l.self l.from (get_or (get_or l.self-inside.needed l.version []) k 0);
+      (k : ℕ) → k < l.index → (l.from ≡ get_or l.successors.to k 0 → ⊥)
+      → ¬ HasReturnBetween l.self l.from (get_or l.successors.to k 0);
 }

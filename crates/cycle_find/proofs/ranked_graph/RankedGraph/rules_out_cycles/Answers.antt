@@ -1,26 +1,11 @@
 use Rattle.std.proofs.Common.{subst}
-use Rattle.std.proofs.lemmas.Bool.{OnTrue_at, OnTrue_from}
-use Rattle.edge_graph.specs.Kinds.{kinds_of}
+use Rattle.std.specs.Bool.{OnTrue}
 use Rattle.edge_graph.specs.Parts.{Parts, edges_in}
-use Rattle.edge_graph.specs.declared.types.Dependencies.TheVariants.{All}
-use Rattle.hist_types.specs.declared.types.Level.TheVariants.{Plain, Realtime}
+use Rattle.hist_types.specs.declared.types.Level.TheVariants.{Realtime}
 use Rattle.cycle_find.specs.Found.{ShowNothing}
-use Rattle.cycle_find.specs.Ranked.{Ranking}
-use Rattle.cycle_find.specs.Ways.{Rises}
-use Rattle.cycle_find.proofs.RankedArcs.{fewer_plain}
-use Rattle.cycle_find.proofs.Returning.{settled}
 use Rattle.cycle_find.proofs.ranked_graph.RankedGraph.rules_out_cycles.Goals as goal
-
-pub new-requires : goal.new-requires
-new-requires c =
-    let a = c.self.inside in
-    fewer_plain a.graph.now All All Realtime a.ranks (record { ww = λ h. h; wr = λ h. h; rw = λ h. h }) c.self.invariant.0
 
 pub returns : goal.returns
 returns c =
     let a = c.self.inside in
-    OnTrue_from c.rise.result (ShowNothing (edges_in c.args.self.now Realtime))
-    (λ yes.
-    subst (λ (g : Parts). ShowNothing (edges_in g Realtime)) c.self.view_is
-    (settled a.graph.now Realtime a.ranks c.new.ensures.kept c.new.ensures.rw c.self.invariant.0
-    (subst (λ (r : Ranking). Rises r.graph (kinds_of All Plain) r.ranks) c.new.ensures.view (OnTrue_at yes c.rise.ensures))))
+    subst (λ (g : Parts). OnTrue a.rules_out_cycles (ShowNothing (edges_in g Realtime))) c.self.view_is c.self.invariant.2

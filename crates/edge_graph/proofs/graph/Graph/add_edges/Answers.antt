@@ -21,10 +21,11 @@ add_order_edges-requires-clause-places c =
     let level = c.args.kinds.level in
     let place = c.args.place in
     let within : place < length ts = subst (λ (g : Parts). IsPlace g.txns place) (sym c.self.view_is) c.requires in
-    let later = list_at (lists_at level a.orders.in_process.items a.orders.in_realtime.items) place in
-    subst (λ (xs : List Transaction). All (IsPlace xs) c.of-later.result.now) (sym c.txns.ensures.value)
-    (subst (λ (places : List ℕ). All (IsPlace ts) places) (sym c.of-later.ensures)
-    (all_in (IsPlace ts) later (λ next i. (later_from ts a.order.now made.kept made.ordered a.orders.in_process.items a.orders.in_realtime.items made.process made.realtime level place next within i).0)))
+    let later_is : c.get-later.result.now ≡ list_at (lists_at level a.orders.in_process a.orders.in_realtime) place = c.get-later.ensures ∙ ap (λ lists. list_at lists place) c.at.ensures in
+    let later = list_at (lists_at level a.orders.in_process a.orders.in_realtime) place in
+    subst (λ (xs : List Transaction). All (IsPlace xs) c.get-later.result.now) (sym c.txns.ensures.value)
+    (subst (λ (places : List ℕ). All (IsPlace ts) places) (sym later_is)
+    (all_in (IsPlace ts) later (λ next i. (later_from ts a.order.now made.kept made.ordered a.orders.in_process a.orders.in_realtime made.process made.realtime level place next within i).0)))
 
 pub returns-clause-ok : goal.returns-clause-ok
 returns-clause-ok c =
@@ -37,7 +38,8 @@ returns-clause-ok c =
     let after = c.add_order_edges.new.out.items in
     let g : Parts = record { txns = ts; order = a.order.now; versions = a.history.now.table.versions } in
     let within : place < length ts = subst (λ (g : Parts). IsPlace g.txns place) (sym c.self.view_is) c.requires in
-    let later = list_at (lists_at kinds.level a.orders.in_process.items a.orders.in_realtime.items) place in
+    let later_is : c.get-later.result.now ≡ list_at (lists_at kinds.level a.orders.in_process a.orders.in_realtime) place = c.get-later.ensures ∙ ap (λ lists. list_at lists place) c.at.ensures in
+    let later = list_at (lists_at kinds.level a.orders.in_process a.orders.in_realtime) place in
     let (es, added, found) = c.in_ok-add_dependencies.ensures.ok in
     let are : out_edges.AreEdgesFrom ts (txn_at ts place) es =
     subst (λ (xs : List Transaction). out_edges.AreEdgesFrom xs (txn_at xs place) es) c.self.invariant.0 found in
@@ -46,12 +48,12 @@ returns-clause-ok c =
     on_ok_weaker c.add_order_edges.result
     (λ is.
     let all : after ≡ before ++ (some ++ more) =
-    is ∙ ap (λ (xs : List Transaction). c.add_dependencies.new.out.items ++ order_edges_over xs kinds.level place c.of-later.result.now) c.txns.ensures.value
-    ∙ ap (λ (places : List ℕ). c.add_dependencies.new.out.items ++ order_edges_over ts kinds.level place places) c.of-later.ensures
+    is ∙ ap (λ (xs : List Transaction). c.add_dependencies.new.out.items ++ order_edges_over xs kinds.level place c.get-later.result.now) c.txns.ensures.value
+    ∙ ap (λ (places : List ℕ). c.add_dependencies.new.out.items ++ order_edges_over ts kinds.level place places) later_is
     ∙ ap (λ (xs : List Edge). xs ++ more) added ∙ append_assoc before some more in
     subst (λ (g : Parts). AddsEdgesFrom g kinds place before after) c.self.view_is (
       some ++ more,
       all,
-      edges_out ts a.order.now made.kept made.ordered a.orders.in_process.items a.orders.in_realtime.items made.process made.realtime a.history.now.table.versions kinds place es within are,
+      edges_out ts a.order.now made.kept made.ordered a.orders.in_process a.orders.in_realtime made.process made.realtime a.history.now.table.versions kinds place es within are,
     ))
     c.add_order_edges.ensures.ok
