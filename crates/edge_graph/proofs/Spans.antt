@@ -5,7 +5,7 @@ use Rattle.std.proofs.lemmas.List.{length-append, take-append-le, drop-append-le
 use Rattle.std.proofs.lemmas.List.Elements.{recursion_from_All, All-from_recursion, All-append}
 use Rattle.std.proofs.Math.Seq.{drop-append_seam, take-length, take-add}
 use Rattle.std.specs.List.{AllByRecursion}
-use Rattle.edge_graph.specs.FlatRows.{Row, no_row, row_at, led_to, row_in, IsSpanIn}
+use Rattle.edge_graph.specs.FlatRows.{Row, no_row, row_at, led_to, row_in, IsSpanIn, IsRowBehind}
 use Rattle.edge_graph.specs.declared.rows.Span.{Span}
 use Rattle.edge_graph.specs.declared.types.Dependencies.{Dependencies}
 use Rattle.edge_graph.specs.declared.types.Dependencies.TheVariants.{Ww, Wr, Rw, WrAndWw, All as AllOfThem}
@@ -71,10 +71,10 @@ same_rows items more ss are = rows-append items more ss (recursion_from_All (IsS
 -- ---- one more row
 
 module _ (items rw wr ww : List ℕ) (ss : List Span) (are : All (IsSpanIn items) ss) where
-  abbrev pub grown : List ℕ
+  abbrev grown : List ℕ
   grown = ((items ++ rw) ++ wr) ++ ww
 
-  abbrev pub new_span : Span
+  abbrev new_span : Span
   new_span =
       record {
         start = length items;
@@ -106,12 +106,12 @@ module _ (items rw wr ww : List ℕ) (ss : List Span) (are : All (IsSpanIn items
   still : All (IsSpanIn grown) ss
   still = still_spans ((items ++ rw) ++ wr) ww ss (still_spans (items ++ rw) wr ss (still_spans items rw ss are))
 
-  pub more_spans : All (IsSpanIn grown) (ss ++ new_span ∷ [])
+  more_spans : All (IsSpanIn grown) (ss ++ new_span ∷ [])
   more_spans =
       All-append (IsSpanIn grown) ss (new_span ∷ []) still
       (All-from_recursion (IsSpanIn grown) (new_span ∷ []) (record { wr = a-b; ww = b-c; end = c-d; within = omega arith }, tt))
 
-  pub more_rows : map (row_in grown) (ss ++ new_span ∷ []) ≡ map (row_in items) ss ++ record { rw = rw; wr = wr; ww = ww } ∷ []
+  more_rows : map (row_in grown) (ss ++ new_span ∷ []) ≡ map (row_in items) ss ++ record { rw = rw; wr = wr; ww = ww } ∷ []
   more_rows =
       let same : map (row_in grown) ss ≡ map (row_in items) ss =
       same_rows ((items ++ rw) ++ wr) ww ss (still_spans (items ++ rw) wr ss (still_spans items rw ss are))
@@ -122,29 +122,23 @@ module _ (items rw wr ww : List ℕ) (ss : List Span) (are : All (IsSpanIn items
 abbrev span_of : ℕ → ℕ → ℕ → ℕ → Span
 span_of a b c d = record { start = a; wr = b; ww = c; end = d }
 
-pub pushed :
-    (items items1 items2 items3 rw wr ww : List ℕ) (ss more : List Span) (a b c d : ℕ) (rows : List Row) (row : Row)
-    → All (IsSpanIn items) ss
-    → map (row_in items) ss ≡ rows
-    → row_of rw wr ww ≡ row
-    → items1 ≡ items ++ rw
-    → items2 ≡ items1 ++ wr
-    → items3 ≡ items2 ++ ww
-    → a ≡ length items
-    → b ≡ length items1
-    → c ≡ length items2
-    → d ≡ length items3
-    → more ≡ ss ++ span_of a b c d ∷ []
-    → map (row_in items3) more ≡ rows ++ row ∷ []
-pushed items items1 items2 items3 rw wr ww ss more a b c d rows row are is row_is e1 e2 e3 la lb lc ld added =
-    let g2 : items2 ≡ (items ++ rw) ++ wr = e2 ∙ ap (λ xs. xs ++ wr) e1 in
-    let g3 : items3 ≡ grown items rw wr ww ss are = e3 ∙ ap (λ xs. xs ++ ww) g2 in
-    let span : span_of a b c d ≡ new_span items rw wr ww ss are =
-    ap (λ n. span_of n b c d) la ∙ ap (λ n. span_of (length items) n c d) (lb ∙ ap length e1)
-    ∙ ap (λ n. span_of (length items) (length (items ++ rw)) n d) (lc ∙ ap length g2)
-    ∙ ap (span_of (length items) (length (items ++ rw)) (length ((items ++ rw) ++ wr))) (ld ∙ ap length g3) in
-    ap (λ xs. map (row_in xs) more) g3 ∙ ap (map (row_in (grown items rw wr ww ss are))) (added ∙ ap (λ s. ss ++ s ∷ []) span)
-    ∙ more_rows items rw wr ww ss are ∙ ap (λ rs. rs ++ row_of rw wr ww ∷ []) is ∙ ap (λ r. rows ++ r ∷ []) row_is
+module _ (items more : List ℕ) (ss : List Span) (s : Span) (row : Row) (are : All (IsSpanIn items) ss) (is : IsRowBehind items more s row) where
+  is_new : s ≡ new_span items row.rw row.wr row.ww ss are
+  is_new =
+      ap (λ n. span_of n s.wr s.ww s.end) is.start ∙ ap (λ n. span_of (length items) n s.ww s.end) is.wr
+      ∙ ap (λ n. span_of (length items) (length (items ++ row.rw)) n s.end) is.ww
+      ∙ ap (span_of (length items) (length (items ++ row.rw)) (length ((items ++ row.rw) ++ row.wr))) (is.end ∙ ap length is.items)
+
+  pub one_more_span : All (IsSpanIn more) (ss ++ s ∷ [])
+  one_more_span =
+      subst (λ xs. All (IsSpanIn xs) (ss ++ s ∷ [])) (sym is.items)
+      (subst (λ (t : Span). All (IsSpanIn (grown items row.rw row.wr row.ww ss are)) (ss ++ t ∷ [])) (sym is_new) (more_spans items row.rw row.wr row.ww ss are))
+
+  pub one_more_row : map (row_in more) (ss ++ s ∷ []) ≡ map (row_in items) ss ++ row ∷ []
+  one_more_row =
+      ap (λ xs. map (row_in xs) (ss ++ s ∷ [])) is.items
+      ∙ ap (λ (t : Span). map (row_in (grown items row.rw row.wr row.ww ss are)) (ss ++ t ∷ [])) is_new
+      ∙ more_rows items row.rw row.wr row.ww ss are
 
 -- ---- a row that is read
 

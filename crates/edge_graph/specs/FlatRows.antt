@@ -1,5 +1,5 @@
 -- Rows of numbers in one flat list.
-use Rattle.std.specs.Prelude.{◌≤◌, ℕ, List, [], ◌++◌, length, slice_range, slice_index_or}
+use Rattle.std.specs.Prelude.{◌≡◌, ◌≤◌, ℕ, List, [], ◌++◌, length, slice_range, slice_index_or}
 use Rattle.edge_graph.specs.declared.rows.Span.{Span}
 use Rattle.edge_graph.specs.declared.types.Dependencies.{Dependencies}
 use Rattle.edge_graph.specs.declared.types.Dependencies.TheVariants.{Ww, Wr, Rw, WrAndWw, All}
@@ -35,3 +35,11 @@ pub record IsSpanIn (items : List ℕ) (s : Span) : Type 0 where
   pub ww : s.wr ≤ s.ww
   pub end : s.ww ≤ s.end
   pub within : s.end ≤ length items
+
+-- the row stands behind what was there before, where the span says
+pub record IsRowBehind (before after : List ℕ) (s : Span) (row : Row) : Type 0 where
+  pub items : after ≡ ((before ++ row.rw) ++ row.wr) ++ row.ww
+  pub start : s.start ≡ length before
+  pub wr : s.wr ≡ length (before ++ row.rw)
+  pub ww : s.ww ≡ length ((before ++ row.rw) ++ row.wr)
+  pub end : s.end ≡ length after

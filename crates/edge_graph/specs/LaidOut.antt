@@ -4,7 +4,8 @@ use Rattle.hist_types.specs.Transactions.{Transaction, Version, is_node, install
 use Rattle.key_versions.specs.Histories.{read_by, readers_of, followers_of}
 use Rattle.key_versions.specs.Tables.{Table}
 use Rattle.dep_edges.specs.Tables.{IsNumber, txn_at, version_at}
-use Rattle.edge_graph.specs.FlatRows.{Row, row_at}
+use Rattle.edge_graph.specs.FlatRows.{Row, row_at, IsRowBehind}
+use Rattle.edge_graph.specs.declared.rows.Span.{Span}
 
 -- the places of the nodes that install a version behind this one
 abbrev pub nodes_behind : List Transaction → Version → List ℕ
@@ -36,15 +37,26 @@ pub record IsTxnRow (ts : List Transaction) (table : Table) (place : ℕ) (row :
   pub wr : row.wr ≡ if_node ts place (readers_behind ts place)
   pub ww : row.ww ≡ if_node ts place (writers_behind ts place)
 
+-- such a row, behind what was there before
+abbrev pub AddsTxnRow : List Transaction → Table → (place : ℕ) → (before after : List ℕ) → Span → Type 0
+AddsTxnRow ts table place before after s = (row : Row) × IsTxnRow ts table place row × IsRowBehind before after s row
+
 -- a version leads to who installs a version behind it
 abbrev pub version_row : List Transaction → Version → Row
 version_row ts v = record { rw = nodes_behind ts v; wr = []; ww = [] }
 
--- the rows of the first transactions, and behind them of the first versions
-pub record AreFirstRows (ts : List Transaction) (table : Table) (places numbers : ℕ) (rows : List Row) : Type 0 where
-  pub count : length rows ≡ places + numbers
-  pub txns : (place : ℕ) → place < places → IsTxnRow ts table place (row_at rows place)
-  pub versions : (number : ℕ) → number < numbers → row_at rows (places + number) ≡ version_row ts (version_at table number)
+-- the rows of the first transactions
+pub record AreFirstTxnRows (ts : List Transaction) (table : Table) (places : ℕ) (rows : List Row) : Type 0 where
+  pub count : length rows ≡ places
+  pub each : (place : ℕ) → place < places → IsTxnRow ts table place (row_at rows place)
 
-abbrev pub AreRows : List Transaction → Table → List Row → Type 0
-AreRows ts table rows = AreFirstRows ts table (length ts) (length table.versions) rows
+-- the rows of the first versions
+pub record AreFirstVersionRows (ts : List Transaction) (table : Table) (numbers : ℕ) (rows : List Row) : Type 0 where
+  pub count : length rows ≡ numbers
+  pub each : (number : ℕ) → number < numbers → row_at rows number ≡ version_row ts (version_at table number)
+
+-- the rows of the transactions, and behind them of the versions
+pub record AreRows (ts : List Transaction) (table : Table) (rows : List Row) : Type 0 where
+  pub count : length rows ≡ length ts + length table.versions
+  pub txns : (place : ℕ) → place < length ts → IsTxnRow ts table place (row_at rows place)
+  pub versions : (number : ℕ) → number < length table.versions → row_at rows (length ts + number) ≡ version_row ts (version_at table number)

@@ -20,7 +20,7 @@ ghost use Rattle.edge_graph.specs.Walks.{IsEdgeIfAny, IsTxnWalk, AreEdgesAlong};
 use crate::arcs::GraphArcs;
 use crate::layout;
 use crate::orders::Orders;
-use crate::rows::Rows;
+use crate::rows::VertexRows;
 use crate::types::{Dependencies, Kinds};
 use dep_edges::deps::Deps;
 use dep_edges::history::History;
@@ -40,7 +40,7 @@ pub struct Graph<'g, 'v, 'a> {
     deps: &'g Deps<'v, 'a>,
     history: &'g History<'v, 'a>,
     order: &'g Order,
-    rows: Rows,
+    rows: VertexRows,
     orders: Orders,
 }
 
@@ -131,7 +131,7 @@ fn rows_and_orders<'v, 'a, R: Threads + Sync>(
     deps: &Deps<'v, 'a>,
     history: &History<'v, 'a>,
     order: &Order,
-) -> Result<(Rows, Orders), AllocError>
+) -> Result<(VertexRows, Orders), AllocError>
     requires history { history.now.txns ≡ deps.now }
     requires order { IsOrderOf deps.now order.now }
     ensures rows { IfOk result (λ made. AreRows history.now.txns history.now.table made.0) }
@@ -140,7 +140,7 @@ fn rows_and_orders<'v, 'a, R: Threads + Sync>(
 {
     let (rows, orders) = join_mut(
         rt,
-        &mut || layout::rows(alloc, deps, history),
+        &mut || layout::rows(rt, alloc, deps, history),
         &mut || -> Result<Orders, AllocError>
             requires { IsSync R.row × IsOrderOf deps.now order.now }
         { Orders::new(rt, alloc, deps, order) },

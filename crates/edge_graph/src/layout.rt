@@ -1,15 +1,16 @@
 //! The arcs of dependencies, laid out vertex by vertex.
 
-ghost use Rattle.std.specs.Prelude.{◌≡◌, ◌++◌, [], not, ◌==◌, filter, length, IfOk, OnOk};
-ghost use Rattle.hist_types.specs.Transactions.{is_node};
+ghost use Rattle.std.specs.Prelude.{◌≡◌, ◌++◌, not, ◌==◌, filter, length, IfOk, OnOk};
 ghost use Rattle.key_versions.specs.Histories.{read_by};
 ghost use Rattle.dep_edges.specs.Tables.{IsPlace, IsNumber, txn_at, version_at};
-ghost use Rattle.edge_graph.specs.LaidOut.{nodes_behind, readers_behind, writers_behind, AddsVersionVertices, IsTxnRow, AreFirstRows, AreRows};
+ghost use Rattle.edge_graph.specs.FlatRows.{IsRowBehind};
+ghost use Rattle.edge_graph.specs.LaidOut.{nodes_behind, readers_behind, writers_behind, version_row, AddsTxnRow, AddsVersionVertices, AreFirstTxnRows, AreFirstVersionRows, AreRows};
 
-use crate::rows::{Row, Rows, number};
+use crate::rows::{Rows, Span, VertexRows, number};
 use dep_edges::deps::Deps;
 use dep_edges::history::History;
 use std::alloc::{AllocError, Global};
+use std::thread::{Threads, join_mut};
 
 /// A history and what its transactions depend on each other for.
 #[derive(Drop)]
@@ -80,59 +81,95 @@ impl<'g, 'v, 'a> Layout<'g, 'v, 'a> {
         Ok(())
     }
 
-    /// What the transaction leads to.
-    fn fill(&self, place: usize, row: &mut Row) -> Result<(), AllocError>
+    /// Adds what the transaction leads to, and answers where that is.
+    fn push_txn(&self, place: usize, items: &mut Vec<u32>) -> Result<Span, AllocError>
         requires { IsPlace self.now.history.now.txns place }
-        ensures { OnOk result (IsTxnRow self.now.history.now.txns self.now.history.now.table place row.new) }
+        ensures { IfOk result (λ span. AddsTxnRow self.now.history.now.txns self.now.history.now.table place items.old.items items.new.items span) }
     {
-        row.clear();
-        self.push_read(place, &mut row.rw)?;
-        if self.deps.is_node(place) {
-            self.push_readers(place, &mut row.wr)?;
-            self.push_writers(place, &mut row.ww)?;
+        let start = number(items.len())?;
+        self.push_read(place, items)?;
+        let wr = number(items.len())?;
+        if !self.deps.is_node(place) {
+            return Ok(Span {
+                start,
+                wr,
+                ww: wr,
+                end: wr,
+            });
         }
-        Ok(())
+        self.push_readers(place, items)?;
+        let ww = number(items.len())?;
+        self.push_writers(place, items)?;
+        let end = number(items.len())?;
+        Ok(Span { start, wr, ww, end })
+    }
+
+    /// Adds what the version leads to, and answers where that is.
+    fn push_version(&self, version: usize, items: &mut Vec<u32>) -> Result<Span, AllocError>
+        requires { IsNumber self.now.history.now.table version }
+        ensures { IfOk result (λ span. IsRowBehind items.old.items items.new.items span (version_row self.now.history.now.txns (version_at self.now.history.now.table version))) }
+    {
+        let start = number(items.len())?;
+        self.push_nodes_behind(version, items)?;
+        let end = number(items.len())?;
+        Ok(Span {
+            start,
+            wr: end,
+            ww: end,
+            end,
+        })
     }
 
     /// The rows of the transactions.
     fn txn_rows(&self, alloc: Global) -> Result<Rows, AllocError>
-        ensures { IfOk result (AreFirstRows self.now.history.now.txns self.now.history.now.table (length self.now.history.now.txns) 0) }
+        ensures { IfOk result (AreFirstTxnRows self.now.history.now.txns self.now.history.now.table (length self.now.history.now.txns)) }
     {
-        let mut rows = Rows::new(alloc);
-        let mut row = Row::new(alloc);
-        for place in 0..self.history.txns().len() {
-            self.fill(place, &mut row)?;
-            rows.push(&row)?;
+        let count = self.history.txns().len();
+        let mut spans = Vec::with_capacity(alloc, count)?;
+        let mut items = Vec::new(alloc);
+        for place in 0..count {
+            spans.push(self.push_txn(place, &mut items)?)?;
         }
-        Ok(rows)
+        Ok(Rows::new(spans, items))
     }
 
-    /// Adds the rows of the versions.
-    fn push_version_rows(&self, alloc: Global, rows: &mut Rows) -> Result<(), AllocError>
-        requires { AreFirstRows self.now.history.now.txns self.now.history.now.table (length self.now.history.now.txns) 0 rows.old }
-        ensures { OnOk result (AreRows self.now.history.now.txns self.now.history.now.table rows.new) }
+    /// The rows of the versions.
+    fn version_rows(&self, alloc: Global) -> Result<Rows, AllocError>
+        ensures { IfOk result (AreFirstVersionRows self.now.history.now.txns self.now.history.now.table (length self.now.history.now.table.versions)) }
     {
-        let mut row = Row::new(alloc);
-        for version in 0..self.history.versions() {
-            row.clear();
-            self.push_nodes_behind(version, &mut row.rw)?;
-            rows.push(&row)?;
+        let count = self.history.versions();
+        let mut spans = Vec::with_capacity(alloc, count)?;
+        let mut items = Vec::new(alloc);
+        for version in 0..count {
+            spans.push(self.push_version(version, &mut items)?)?;
         }
-        Ok(())
+        Ok(Rows::new(spans, items))
+    }
+
+    /// The rows of the transactions and those of the versions: two threads make them, where another can be made.
+    fn both<R: Threads>(&self, rt: &R, alloc: Global) -> Result<(Rows, Rows), AllocError>
+        ensures txns { IfOk result (λ made. AreFirstTxnRows self.now.history.now.txns self.now.history.now.table (length self.now.history.now.txns) made.0) }
+        ensures versions { IfOk result (λ made. AreFirstVersionRows self.now.history.now.txns self.now.history.now.table (length self.now.history.now.table.versions) made.1) }
+    {
+        let (txns, versions) = join_mut(
+            rt,
+            &mut || self.txn_rows(alloc),
+            &mut || self.version_rows(alloc),
+        );
+        Ok((txns?, versions?))
     }
 }
 
 /// A row for each transaction, and behind them one for each version.
-pub fn rows<'v, 'a>(
+pub fn rows<'v, 'a, R: Threads>(
+    rt: &R,
     alloc: Global,
     deps: &Deps<'v, 'a>,
     history: &History<'v, 'a>,
-) -> Result<Rows, AllocError>
+) -> Result<VertexRows, AllocError>
     requires { history.now.txns ≡ deps.now }
     ensures { IfOk result (AreRows history.now.txns history.now.table) }
 {
-    let layout = Layout { deps, history };
-    let mut rows = layout.txn_rows(alloc)?;
-    layout.push_version_rows(alloc, &mut rows)?;
-    Ok(rows)
+    let (txns, versions) = Layout { deps, history }.both(rt, alloc)?;
+    VertexRows::new(txns, versions)
 }

@@ -1,47 +1,11 @@
-//! What each vertex leads to, in one flat list.
+//! What each vertex leads to, in flat lists.
 
-ghost use Rattle.std.specs.Prelude.{◌≡◌, ◌<◌, [], ◌∷◌, ◌++◌, length, IfOk, OnOk, OnErr};
-ghost use Rattle.edge_graph.specs.FlatRows.{no_row, row_at, led_to};
+ghost use Rattle.std.specs.Prelude.{◌≡◌, ◌<◌, ◌++◌, length, map, All, IfOk};
+ghost use Rattle.edge_graph.specs.FlatRows.{row_in, row_at, led_to, IsSpanIn};
 
 use crate::types::Dependencies;
-use std::alloc::{AllocError, Global};
+use std::alloc::AllocError;
 use std::marker::Model;
-
-/// What one vertex leads to, by kind of edge.
-#[derive(Drop)]
-pub(crate) struct Row {
-    pub rw: Vec<u32>,
-    pub wr: Vec<u32>,
-    pub ww: Vec<u32>,
-}
-
-impl Model for Row {
-    ghost use Rattle.edge_graph.specs.FlatRows.{Row as ARow};
-
-    ghost Value = { ARow };
-
-    ghost view = { λ r. record { rw = r.rw.items; wr = r.wr.items; ww = r.ww.items } };
-}
-
-impl Row {
-    pub fn new(alloc: Global) -> Self
-        ensures { result ≡ no_row }
-    {
-        Row {
-            rw: Vec::new(alloc),
-            wr: Vec::new(alloc),
-            ww: Vec::new(alloc),
-        }
-    }
-
-    pub fn clear(&mut self)
-        ensures { self.new ≡ no_row }
-    {
-        self.rw.clear();
-        self.wr.clear();
-        self.ww.clear();
-    }
-}
 
 /// The places of a row in the flat list: rw from `start` on, then wr, then ww, so that what may be followed is at its end.
 #[derive(Clone, Copy, Debug, Default, PartialEq, Eq)]
@@ -52,7 +16,7 @@ pub(crate) struct Span {
     pub end: u32,
 }
 
-/// A row for each vertex.
+/// A row for each of some vertices.
 #[derive(Drop)]
 pub(crate) struct Rows {
     spans: Vec<Span>,
@@ -77,42 +41,19 @@ pub(crate) fn number(place: usize) -> Result<u32, AllocError>
     u32::try_from(place).map_err(|_| AllocError)
 }
 
-/// Adds numbers, and answers where they end.
-fn extend(items: &mut Vec<u32>, more: &[u32]) -> Result<u32, AllocError>
-    ensures ok { IfOk result (λ end. (items.new.items ≡ items.old.items ++ more.now) × (end ≡ length items.new.items)) }
-    ensures err { OnErr result (items.new.items ≡ items.old.items) }
-{
-    let end = number(items.len() + more.len())?;
-    items.extend_from_slice(more)?;
-    Ok(end)
-}
-
 impl Rows {
-    pub fn new(alloc: Global) -> Self
-        ensures { result ≡ [] }
+    /// The rows at these places of the list.
+    pub fn new(spans: Vec<Span>, items: Vec<u32>) -> Self
+        requires { All (IsSpanIn items.items) spans.items }
+        ensures { result ≡ map (row_in items.items) spans.items }
     {
-        Rows {
-            spans: Vec::new(alloc),
-            items: Vec::new(alloc),
-        }
+        Rows { spans, items }
     }
 
     pub fn len(&self) -> usize
         ensures { result ≡ length self.now }
     {
         self.spans.len()
-    }
-
-    /// Adds the next vertex's row.
-    pub fn push(&mut self, row: &Row) -> Result<(), AllocError>
-        ensures { OnOk result (self.new ≡ self.old ++ row.now ∷ []) }
-    {
-        let start = number(self.items.len())?;
-        let wr = extend(&mut self.items, &row.rw)?;
-        let ww = extend(&mut self.items, &row.wr)?;
-        let end = extend(&mut self.items, &row.ww)?;
-        self.spans.push(Span { start, wr, ww, end })?;
-        Ok(())
     }
 
     /// What a vertex leads to by these dependencies.
@@ -129,5 +70,58 @@ impl Rows {
             Dependencies::All => (span.start, span.end),
         };
         &self.items[start as usize..end as usize]
+    }
+}
+
+/// A row for each vertex: those of the transactions, and behind them those of the versions.
+#[derive(Drop)]
+pub(crate) struct VertexRows {
+    txns: Rows,
+    versions: Rows,
+    /// How many vertices there are.
+    count: usize,
+}
+
+impl Model for VertexRows {
+    ghost use Rattle.std.specs.Prelude.{◌≡◌, ◌++◌, List, length};
+    ghost use Rattle.edge_graph.specs.FlatRows.{Row as ARow};
+
+    ghost Value = { List ARow };
+
+    ghost view = { λ r. r.txns ++ r.versions };
+
+    ghost invariant = { λ r. r.count ≡ length (r.txns ++ r.versions) };
+}
+
+impl VertexRows {
+    pub fn new(txns: Rows, versions: Rows) -> Result<Self, AllocError>
+        ensures { IfOk result (λ rows. rows ≡ txns ++ versions) }
+    {
+        let count = txns.len().checked_add(versions.len()).ok_or(AllocError)?;
+        Ok(VertexRows {
+            txns,
+            versions,
+            count,
+        })
+    }
+
+    /// How many vertices there are.
+    pub fn len(&self) -> usize
+        ensures { result ≡ length self.now }
+    {
+        self.count
+    }
+
+    /// What a vertex leads to by these dependencies.
+    pub fn row(&self, vertex: usize, dependencies: Dependencies) -> &[u32]
+        requires { vertex < length self.now }
+        ensures { result.now ≡ led_to dependencies (row_at self.now vertex) }
+    {
+        let txns = self.txns.len();
+        if vertex < txns {
+            self.txns.row(vertex, dependencies)
+        } else {
+            self.versions.row(vertex - txns, dependencies)
+        }
     }
 }
