@@ -106,8 +106,33 @@ fn find_two<'a, R: Threads>(
     Ok((found?, also?))
 }
 
+/// What is found of the four phenomena.
+fn find_four<'a, R: Threads + Sync>(
+    rt: &R,
+    alloc: Global,
+    graph: &RankedGraph<'_, '_, '_, 'a>,
+) -> Result<Findings<'a>, Fault>
+    requires { IsThinned graph.now }
+    ensures ok { IfOk result (AreFindings graph.now.txns) }
+    ensures err { IfErr result (λ fault. fault ≡ memory_fault) }
+{
+    let (direct, by_rw) = join_mut(
+        rt,
+        &mut || find_two(rt, alloc, graph, Phenomenon::G0, Phenomenon::G1c),
+        &mut || find_two(rt, alloc, graph, Phenomenon::GSingle, Phenomenon::G2Item),
+    );
+    let (g0, g1c) = direct?;
+    let (single, item) = by_rw?;
+    Ok(Findings {
+        g0,
+        g1c,
+        single,
+        item,
+    })
+}
+
 /// What is found of each phenomenon.
-fn find_each<'a, R: Threads>(
+fn find_each<'a, R: Threads + Sync>(
     rt: &R,
     alloc: Global,
     graph: &Graph<'_, '_, 'a>,
@@ -120,14 +145,7 @@ fn find_each<'a, R: Threads>(
     if graph.rules_out_cycles() {
         return Ok(Findings::none());
     }
-    let (g0, g1c) = find_two(rt, alloc, &graph, Phenomenon::G0, Phenomenon::G1c)?;
-    let (single, item) = find_two(rt, alloc, &graph, Phenomenon::GSingle, Phenomenon::G2Item)?;
-    Ok(Findings {
-        g0,
-        g1c,
-        single,
-        item,
-    })
+    find_four(rt, alloc, &graph)
 }
 
 /// The graph of a history over its thinned order, and what is found in it.

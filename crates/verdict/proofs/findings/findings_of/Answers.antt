@@ -19,5 +19,4 @@ find_each-requires g c =
     let graph = c.in_ok-graph.graph in
     let history = c.requires.history in
     let made : IsMadeOf ts order graph = subst (λ us. IsMadeOf us order graph) c.requires.deps c.in_ok-graph.ensures.ok in
-    thinned_graph graph ts made.txns (history.0, history.2)
-    (λ level e. of_thinned ts history level e order graph made c.requires.order.0)
+    (c.type_bounds.sync-R, thinned_graph graph ts made.txns (history.0, history.2) (λ level e. of_thinned ts history level e order graph made c.requires.order.0))
