@@ -2,13 +2,13 @@
 
 ghost use Rattle.std.specs.Prelude.{◌≡◌, ◌+◌, ◌<◌, length, IfOk};
 ghost use Rattle.dep_edges.specs.Tables.{IsPlace};
-ghost use Rattle.edge_graph.specs.Kinds.{kinds_of};
 ghost use Rattle.edge_graph.specs.Parts.{edges_in};
 ghost use Rattle.edge_graph.specs.Vertices.{IsArc};
-ghost use Rattle.cycle_find.specs.Dependencies as dependencies;
 ghost use Rattle.cycle_find.specs.Found.{IsFound};
-ghost use Rattle.cycle_find.specs.Ranked.{AreRanksOver, AreRanksWithin, NeverFalls};
-ghost use Rattle.cycle_find.specs.Tasks.{needed_kinds, whole_kinds, HasReturnBetween, IsShownOr, IsWayBackIfAny, NoneBy, NoneFrom, task_of};
+ghost use Rattle.cycle_find.specs.Prepared.{AreCoarseRanks, AreWholeRanks, AreBackRanks};
+ghost use Rattle.cycle_find.specs.Ranked.{NeverFalls};
+ghost use Rattle.cycle_find.specs.Tasks.{task_of, needed_kinds, whole_kinds, HasReturnBetween};
+ghost use Rattle.cycle_find.specs.Tasks.{IsShownOr, IsWayBackIfAny, NoneBy, NoneFrom};
 
 use crate::kinds::{needed, way_back};
 use crate::ranking::NotAbove;
@@ -50,7 +50,8 @@ impl<'r, 'g, 'v, 'a> Model for Finder<'r, 'g, 'v, 'a> {
 
     ghost view = { λ f. task_of f.graph.now f.phenomenon f.level };
 
-    ghost invariant = { λ f. IsPrepared (task_of f.graph.now f.phenomenon f.level) f.needed f.back f.coarse.now f.ranks.now f.finer.now };
+    ghost invariant = { λ f. IsPrepared (task_of f.graph.now f.phenomenon f.level)
+        f.needed f.back f.coarse.now f.ranks.now f.finer.now };
 }
 
 impl<'r, 'g, 'v, 'a> Finder<'r, 'g, 'v, 'a> {
@@ -63,9 +64,9 @@ impl<'r, 'g, 'v, 'a> Finder<'r, 'g, 'v, 'a> {
         ranks: &'r Ranks,
         finer: &'r Ranks,
     ) -> Self
-        requires coarse { AreRanksOver graph.now (kinds_of (dependencies.whole phenomenon) level) coarse.now }
-        requires ranks { AreRanksWithin graph.now (kinds_of (dependencies.whole phenomenon) level) coarse.now ranks.now }
-        requires finer { AreRanksWithin graph.now (kinds_of (dependencies.way_back phenomenon) level) coarse.now finer.now }
+        requires coarse { AreCoarseRanks (task_of graph.now phenomenon level) coarse.now }
+        requires ranks { AreWholeRanks (task_of graph.now phenomenon level) coarse.now ranks.now }
+        requires finer { AreBackRanks (task_of graph.now phenomenon level) coarse.now finer.now }
         ensures { result ≡ task_of graph.now phenomenon level }
     {
         Finder {
@@ -83,7 +84,8 @@ impl<'r, 'g, 'v, 'a> Finder<'r, 'g, 'v, 'a> {
 
     /// A closed walk, if there is one.
     pub fn find(&self) -> Result<Option<Walk<'a>>, AllocError>
-        ensures { IfOk result (IsFound self.now.phenomenon (edges_in self.now.graph self.now.level)) }
+        ensures { IfOk result
+            (IsFound self.now.phenomenon (edges_in self.now.graph self.now.level)) }
     {
         let mut search = Search::new(self.alloc, self.back.vertices())?;
         for from in 0..self.graph.len() {

@@ -52,7 +52,9 @@ impl<'r, 'g, 'v, 'a> Model for RankedGraph<'r, 'g, 'v, 'a> {
 
     ghost view = { λ r. r.graph.now };
 
-    ghost invariant = { λ r. AreRanksOver r.graph.now (kinds_of All Realtime) r.ranks × AreSharing r.ranks r.shared.items × OnTrue r.rules_out_cycles (ShowNothing (edges_in r.graph.now Realtime)) };
+    ghost invariant = { λ r. AreRanksOver r.graph.now (kinds_of All Realtime) r.ranks
+        × AreSharing r.ranks r.shared.items
+        × OnTrue r.rules_out_cycles (ShowNothing (edges_in r.graph.now Realtime)) };
 }
 
 /// Whether a single look at each edge settles that no phenomenon is shown at real time. Where it doesn't, that says nothing.

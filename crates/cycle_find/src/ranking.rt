@@ -85,7 +85,8 @@ pub(crate) struct NotAbove<'r> {
 impl Vertices for NotAbove<'_> {
     ghost use Rattle.cycle_find.specs.Ranked.{not_above};
 
-    ghost members = { λ set. not_above set.coarse.now set.most_coarse set.ranks.now set.most set.finer.now set.most_finer };
+    ghost members = { λ set. not_above
+        set.coarse.now set.most_coarse set.ranks.now set.most set.finer.now set.most_finer };
 
     fn contains(&self, vertex: usize) -> bool {
         self.coarse.rank(vertex) <= self.most_coarse

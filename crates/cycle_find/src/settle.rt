@@ -67,7 +67,8 @@ impl<'r, 'g, 'v, 'a> RankedEdges<'r, 'g, 'v, 'a> {
     /// Whether it rises along those that leave the transaction.
     fn rise_from(&self, from: usize) -> bool
         requires { IsPlace self.now.graph.txns from }
-        ensures { OnTrue result (RisesFrom self.now.graph (kinds_of All Plain) self.now.ranks from) }
+        ensures { OnTrue result
+            (RisesFrom self.now.graph (kinds_of All Plain) self.now.ranks from) }
     {
         let successors = self.arcs.successors(from);
         for index in 0..successors.len() {
@@ -82,7 +83,8 @@ impl<'r, 'g, 'v, 'a> RankedEdges<'r, 'g, 'v, 'a> {
     fn rise_by(&self, from: usize, by: usize) -> bool
         requires from { IsPlace self.now.graph.txns from }
         requires by { IsArc self.now.graph (kinds_of All Plain) from by }
-        ensures { OnTrue result (RisesBy self.now.graph (kinds_of All Plain) self.now.ranks from by) }
+        ensures { OnTrue result
+            (RisesBy self.now.graph (kinds_of All Plain) self.now.ranks from by) }
     {
         if self.ranks.rank(by) > self.ranks.rank(from) {
             true
@@ -98,7 +100,8 @@ impl<'r, 'g, 'v, 'a> RankedEdges<'r, 'g, 'v, 'a> {
         requires from { IsPlace self.now.graph.txns from }
         requires version { ¬ IsPlace self.now.graph.txns version }
         requires by { IsArc self.now.graph (kinds_of All Plain) from version }
-        ensures { OnTrue result (RisesBy self.now.graph (kinds_of All Plain) self.now.ranks from version) }
+        ensures { OnTrue result
+            (RisesBy self.now.graph (kinds_of All Plain) self.now.ranks from version) }
     {
         let successors = self.arcs.successors(version);
         for index in 0..successors.len() {

@@ -38,7 +38,8 @@ impl<'v, 'a> Model for Deps<'v, 'a> {
 
     ghost view = { λ d. d.marked.txns };
 
-    ghost invariant = { λ d. IsHistory d.marked.txns d.marked.table × RulesOutReads d.marked.txns d.possible × (vec_len d.strays ≡ stray d.marked.txns) };
+    ghost invariant = { λ d. IsHistory d.marked.txns d.marked.table
+        × RulesOutReads d.marked.txns d.possible × (vec_len d.strays ≡ stray d.marked.txns) };
 }
 
 impl<'v, 'a> Deps<'v, 'a> {
@@ -82,7 +83,8 @@ impl<'v, 'a> Deps<'v, 'a> {
     /// Appends the dependency edges that leave the transaction; none where it is no node. Out of memory leaves what was there.
     pub fn edges_from(&self, place: usize, out: &mut Vec<Edge<'a>>) -> Result<(), AllocError>
         requires { IsPlace self.now place }
-        ensures ok { OnOk result (AddsEdgesFrom self.now (txn_at self.now place) out.old.items out.new.items) }
+        ensures ok { OnOk result
+            (AddsEdgesFrom self.now (txn_at self.now place) out.old.items out.new.items) }
         ensures err { OnErr result (out.new.items ≡ out.old.items) }
     {
         let before = out.len();

@@ -81,7 +81,8 @@ impl<'v, 'a> History<'v, 'a> {
     pub fn written(&self, number: usize) -> Written<'a>
         requires number { IsNumber self.now.table number }
         requires written { IsWritten self.now.table number }
-        ensures { version_at self.now.table number ≡ record { key = result.key; value = Some result.value } }
+        ensures { version_at self.now.table number
+            ≡ record { key = result.key; value = Some result.value } }
     {
         let version = self.version(number);
         Written {
@@ -96,7 +97,8 @@ impl<'v, 'a> History<'v, 'a> {
         ensures value { result ≡ writer_of self.now.txns (version_at self.now.table number) }
         ensures within { IsWriterPlace self.now.txns result }
         ensures aborted { DecidesAborted self.now.txns (version_at self.now.table number) result }
-        ensures intermediate { DecidesIntermediate self.now.txns (version_at self.now.table number) result }
+        ensures intermediate { DecidesIntermediate self.now.txns
+            (version_at self.now.table number) result }
     {
         self.versions.writer(number)
     }
@@ -113,8 +115,10 @@ impl<'v, 'a> History<'v, 'a> {
     /// The transactions that install a version behind this one.
     pub fn followers(&self, number: usize) -> &'v [Follower]
         requires { IsNumber self.now.table number }
-        ensures value { map (later_in self.now.table) result.now ≡ followers_of self.now.txns (version_at self.now.table number) }
-        ensures within { All (IsBehind self.now.txns self.now.table (version_at self.now.table number)) result.now }
+        ensures value { map (later_in self.now.table) result.now
+            ≡ followers_of self.now.txns (version_at self.now.table number) }
+        ensures within { All
+            (IsBehind self.now.txns self.now.table (version_at self.now.table number)) result.now }
     {
         self.versions.followers(number)
     }
@@ -122,7 +126,8 @@ impl<'v, 'a> History<'v, 'a> {
     /// The numbers of what the transaction reads; none where it isn't ok.
     pub fn reads(&self, place: usize) -> &'v [u32]
         requires { IsPlace self.now.txns place }
-        ensures value { map (version_at self.now.table) result.now ≡ read_by (txn_at self.now.txns place) }
+        ensures value { map (version_at self.now.table) result.now
+            ≡ read_by (txn_at self.now.txns place) }
         ensures within { All (IsNumber self.now.table) result.now }
         ensures apart { AreNamedOnce self.now.table }
     {
@@ -132,7 +137,8 @@ impl<'v, 'a> History<'v, 'a> {
     /// The numbers of what the transaction installs.
     pub fn installs(&self, place: usize) -> &'v [u32]
         requires { IsPlace self.now.txns place }
-        ensures value { map (version_at self.now.table) result.now ≡ installed_by (txn_at self.now.txns place) }
+        ensures value { map (version_at self.now.table) result.now
+            ≡ installed_by (txn_at self.now.txns place) }
         ensures within { All (IsNumber self.now.table) result.now }
         ensures written { All (IsWritten self.now.table) result.now }
     {

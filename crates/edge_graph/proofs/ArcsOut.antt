@@ -11,14 +11,14 @@ use Rattle.hist_types.specs.declared.types.Level.TheVariants.{Process, Realtime}
 use Rattle.hist_types.proofs.Members.{In, in_from_Contains, Contains_from_in, in_front, in_back, in_append, in_filtered, passes_filter}
 use Rattle.key_versions.specs.Tables.{Table, IsTableOf}
 use Rattle.order_frontier.specs.Predecessors.{Before}
-use Rattle.dep_edges.specs.Histories.{AreOfHistory}
+use Rattle.dep_edges.specs.Histories.{AreOfHistory, History}
 use Rattle.dep_edges.specs.Tables.{IsNumber, txn_at, version_at}
 use Rattle.edge_graph.specs.FlatRows.{Row, row_at, led_to}
 use Rattle.edge_graph.specs.Kinds.{includes, has_ww, has_wr, has_rw, kinds_of}
 use Rattle.edge_graph.specs.LaidOut.{nodes_behind, IsTxnRow, AreRows}
-use Rattle.edge_graph.specs.Made.{joined, AreWithin}
+use Rattle.edge_graph.specs.Made.{joined, AreWithin, IsMade}
 use Rattle.edge_graph.specs.Parts.{Parts, IsOrderOf, HasEdge}
-use Rattle.edge_graph.specs.Successors.{list_at, lists_at, AreSuccessors}
+use Rattle.edge_graph.specs.Successors.{Turned, list_at, lists_at}
 use Rattle.edge_graph.specs.Vertices.{Vertex, txn, version, IsVertex, LeadsDirectly, LeadsTo, IsArc, AreArcs, HasRw, LeadsByVersion}
 use Rattle.edge_graph.specs.declared.types.Dependencies.{Dependencies}
 use Rattle.edge_graph.specs.declared.types.Dependencies.TheVariants.{Ww, Wr, Rw, WrAndWw, All as AllOfThem}
@@ -71,7 +71,25 @@ no_rw (rw earlier later) is = absurd is
 no_rw (process number) is = refl
 no_rw (realtime completion invocation) is = refl
 
-module _ (ts : List Transaction) (order : List Before) (table : Table) (rows : List Row) (in_process in_realtime : List (List ℕ)) (kept : AreOfHistory ts) (told : IsTableOf ts table) (ordered : IsOrderOf ts order) (are : AreRows ts table rows) (process_are : AreSuccessors ts order Process in_process) (realtime_are : AreSuccessors ts order Realtime in_realtime) where
+module _ (deps : List Transaction) (history : History) (order : List Before) (rows : List Row) (turned : Turned) (made : IsMade deps history order rows turned) where
+  abbrev ts : List Transaction
+  ts = history.txns
+
+  abbrev table : Table
+  table = history.table
+
+  abbrev kept : AreOfHistory ts
+  kept = made.kept
+
+  abbrev told : IsTableOf ts table
+  told = made.versions
+
+  abbrev ordered : IsOrderOf ts order
+  ordered = made.ordered
+
+  abbrev are : AreRows ts table rows
+  are = made.rows
+
   abbrev parts : Parts
   parts = record { txns = ts; order = order; versions = table.versions }
 
@@ -88,7 +106,7 @@ module _ (ts : List Transaction) (order : List Before) (table : Table) (rows : L
     kinds = kinds_of d level
 
     abbrev later : ℕ → List ℕ
-    later place = list_at (lists_at level in_process in_realtime) place
+    later place = list_at (lists_at level turned) place
 
     directly : (t u : Transaction) (label : Label) → HasEdge parts level (edge t u label) → includes kinds label ≡ true → not (is_rw_label label) ≡ true → LeadsDirectly parts kinds t u
     directly t u label has included other = (label, has, and_from (includes kinds label) (not (is_rw_label label)) included other)
@@ -117,7 +135,7 @@ module _ (ts : List Transaction) (order : List Before) (table : Table) (rows : L
     order_arc v w h i =
         let t = txn_at ts v in
         let u = txn_at ts w in
-        let (k, successor) = later_from ts order kept ordered in_process in_realtime process_are realtime_are level v w h i in
+        let (k, successor) = later_from ts order kept ordered turned made.orders level v w h i in
         let (label, known, c, one, whole) = order_from ts order kept ordered level v w h k successor in
         let is = order_label level t u.invocation label known in
         (txn t, txn u, txn_vertex v h, txn_vertex w k, directly t u label (inr (c, one)) (order_included kinds label is) (no_rw label is))
@@ -148,7 +166,7 @@ module _ (ts : List Transaction) (order : List Before) (table : Table) (rows : L
                     subst (λ n. IsArc parts kinds n w) at
                     (version_arc (v - length ts) w within (subst (λ n. In w (led_to d (row_at rows n))) (sym at) j))
                 | inr j ↦
-                    absurd (subst (In w) (none_past ts order kept ordered in_process in_realtime process_are realtime_are level v (omega (arith, high))) j)
+                    absurd (subst (In w) (none_past ts order kept ordered turned made.orders level v (omega (arith, high))) j)
               ])
         ]
 
@@ -178,7 +196,7 @@ module _ (ts : List Transaction) (order : List Before) (table : Table) (rows : L
               let (next, l, to, successor, i) = order_to ts order kept ordered level v (edge t u label) h c.0 c.1 refl in
               let one : next ≡ w = one_place ts kept next w l k (sym to) in
               in_back w (led_to d (row_at rows v)) (later v)
-              (subst (λ n. In n (later v)) one (later_to ts order kept ordered in_process in_realtime process_are realtime_are level v next h l successor)))
+              (subst (λ n. In n (later v)) one (later_to ts order kept ordered turned made.orders level v next h l successor)))
         ]
 
     abbrev Arrives : ℕ → ℕ → Type 0
@@ -220,23 +238,23 @@ module _ (ts : List Transaction) (order : List Before) (table : Table) (rows : L
     -- ---- the whole
 
     abbrev all : List (List ℕ)
-    all = joined d rows (lists_at level in_process in_realtime)
+    all = joined d rows (lists_at level turned)
 
     pub arcs_out : AreArcs parts kinds all
     arcs_out =
-        let long = length-joined d rows (lists_at level in_process in_realtime) in
+        let long = length-joined d rows (lists_at level turned) in
         record {
           count = long ∙ are.count;
           arcs =
               λ v w. (
                 λ (h, c).
                     let k : v < length rows = omega (arith, h, long) in
-                    arc_from v w k (subst (In w) (joined_at d rows (lists_at level in_process in_realtime) v k) (in_from_Contains w (list_at all v) c)),
+                    arc_from v w k (subst (In w) (joined_at d rows (lists_at level turned) v k) (in_from_Contains w (list_at all v) c)),
                 λ (x, y, at, at', leads).
                     let there = arc_to v w x y at at' leads in (
                       omega (arith, there.0, long),
                       Contains_from_in w (list_at all v)
-                          (subst (In w) (sym (joined_at d rows (lists_at level in_process in_realtime) v there.0)) there.1),
+                          (subst (In w) (sym (joined_at d rows (lists_at level turned) v there.0)) there.1),
                     ),
               );
         }

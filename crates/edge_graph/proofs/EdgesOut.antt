@@ -18,7 +18,7 @@ use Rattle.dep_edges.proofs.Apart.{apart_append, apart_each, apart_filter, none_
 use Rattle.edge_graph.specs.Kinds.{includes}
 use Rattle.edge_graph.specs.Made.{order_labels_to, order_edges_to, order_edges_over}
 use Rattle.edge_graph.specs.Parts.{Parts, IsOrderOf, HasEdge, AreEdgesFrom}
-use Rattle.edge_graph.specs.Successors.{list_at, lists_at, AreSuccessors}
+use Rattle.edge_graph.specs.Successors.{Turned, list_at, lists_at, AreTurned}
 use Rattle.edge_graph.specs.declared.types.Kinds.{Kinds}
 use Rattle.edge_graph.proofs.OrderTo.{order_from, order_to, later_from, later_to, later_apart}
 use Rattle.edge_graph.proofs.Txns.{txn_there, txn_of, one_place}
@@ -62,12 +62,12 @@ apart_from_none_twice : (es : List Edge) → NoneTwice es → AreApart es
 apart_from_none_twice [] once = tt
 apart_from_none_twice (e ∷ es) once = ((λ i. once.0 (Contains_from_in e es i)), apart_from_none_twice es once.1)
 
-module _ (ts : List Transaction) (order : List Before) (kept : AreOfHistory ts) (is : IsOrderOf ts order) (in_process in_realtime : List (List ℕ)) (process_are : AreSuccessors ts order Process in_process) (realtime_are : AreSuccessors ts order Realtime in_realtime) (versions : List Version) where
+module _ (ts : List Transaction) (order : List Before) (kept : AreOfHistory ts) (is : IsOrderOf ts order) (turned : Turned) (turned_are : AreTurned ts order turned) (versions : List Version) where
   abbrev parts : Parts
   parts = record { txns = ts; order = order; versions = versions }
 
   abbrev over : Kinds → ℕ → List Edge
-  over kinds place = order_edges_over ts kinds.level place (list_at (lists_at kinds.level in_process in_realtime) place)
+  over kinds place = order_edges_over ts kinds.level place (list_at (lists_at kinds.level turned) place)
 
   abbrev included : Kinds → Edge → Bool
   included kinds e = includes kinds e.label
@@ -78,9 +78,9 @@ module _ (ts : List Transaction) (order : List Before) (kept : AreOfHistory ts) 
   over_from kinds place e h i =
       let level = kinds.level in
       let t = txn_at ts place in
-      let later = list_at (lists_at level in_process in_realtime) place in
+      let later = list_at (lists_at level turned) place in
       let (next, among, j) = in_some (λ n. order_edges_to level t (txn_at ts n)) e later i in
-      let (k, successor) = later_from ts order kept is in_process in_realtime process_are realtime_are level place next h among in
+      let (k, successor) = later_from ts order kept is turned turned_are level place next h among in
       let u = txn_at ts next in
       let (label, known, c, one, whole) = order_from ts order kept is level place next h k successor in
       let same : edge t u label ≡ e = only (edge t u label) e (subst (In e) whole j) in
@@ -94,10 +94,10 @@ module _ (ts : List Transaction) (order : List Before) (kept : AreOfHistory ts) 
   over_apart kinds place h =
       let level = kinds.level in
       let t = txn_at ts place in
-      let later = list_at (lists_at level in_process in_realtime) place in
+      let later = list_at (lists_at level turned) place in
       let f = λ (n : ℕ). order_edges_to level t (txn_at ts n) in
-      let to = λ (n : ℕ) (i : In n later). later_from ts order kept is in_process in_realtime process_are realtime_are level place n h i in
-      apart_each f later (later_apart ts order kept is in_process in_realtime process_are realtime_are level place h)
+      let to = λ (n : ℕ) (i : In n later). later_from ts order kept is turned turned_are level place n h i in
+      apart_each f later (later_apart ts order kept is turned turned_are level place h)
       (λ n i.
       let (k, successor) = to n i in
       let (label, known, c, one, whole) = order_from ts order kept is level place n h k successor in
@@ -113,7 +113,7 @@ module _ (ts : List Transaction) (order : List Before) (kept : AreOfHistory ts) 
   edges_out kinds place es h are =
       let t = txn_at ts place in
       let level = kinds.level in
-      let later = list_at (lists_at level in_process in_realtime) place in
+      let later = list_at (lists_at level turned) place in
       let first = filter (included kinds) es in
       let second = over kinds place in
       record {
@@ -138,7 +138,7 @@ module _ (ts : List Transaction) (order : List Before) (kept : AreOfHistory ts) 
                         let (next, k, to, successor, i) = order_to ts order kept is level place e h ordered.0 ordered.1 leaves in
                         in_back e first second
                         (in_each (λ n. order_edges_to level t (txn_at ts n)) e next later
-                        (later_to ts order kept is in_process in_realtime process_are realtime_are level place next h k successor) i))
+                        (later_to ts order kept is turned turned_are level place next h k successor) i))
                   ]),
             );
         once =

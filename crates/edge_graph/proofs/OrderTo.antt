@@ -19,7 +19,7 @@ use Rattle.dep_edges.proofs.Out.{one_by_invocation}
 use Rattle.hist_types.proofs.WrittenOnce.{AreApart}
 use Rattle.edge_graph.specs.Made.{order_labels_to, order_edges_to}
 use Rattle.edge_graph.specs.Parts.{IsOrderOf}
-use Rattle.edge_graph.specs.Successors.{predecessors_at, has_invocation, is_successor, list_at, lists_at, AreSuccessors}
+use Rattle.edge_graph.specs.Successors.{predecessors_at, has_invocation, is_successor, Turned, list_at, lists_at, AreSuccessors, AreTurned}
 use Rattle.edge_graph.proofs.Ordered.{Joins, joins, long, in_at}
 use Rattle.edge_graph.proofs.Txns.{txn_there, txn_in}
 
@@ -227,24 +227,24 @@ module _ (ts : List Transaction) (order : List Before) (kept : AreOfHistory ts) 
         | inr other ↦ inr (range_has (a + 1) n k (omega (arith, low, other)) (omega (arith, high)))
       ]
 
-  module _ (in_process in_realtime : List (List ℕ)) (process_are : AreSuccessors ts order Process in_process) (realtime_are : AreSuccessors ts order Realtime in_realtime) where
-    pub later_from : (level : Level) (place next : ℕ) → place < length ts → In next (list_at (lists_at level in_process in_realtime) place) → (next < length ts) × (is_successor ts order level place next ≡ true)
+  module _ (turned : Turned) (turned_are : AreTurned ts order turned) where
+    pub later_from : (level : Level) (place next : ℕ) → place < length ts → In next (list_at (lists_at level turned) place) → (next < length ts) × (is_successor ts order level place next ≡ true)
     later_from Plain place next h i = absurd i
-    later_from Process place next h i = listed_from Process in_process place next process_are h i
-    later_from Realtime place next h i = listed_from Realtime in_realtime place next realtime_are h i
+    later_from Process place next h i = listed_from Process turned.in_process place next turned_are.process h i
+    later_from Realtime place next h i = listed_from Realtime turned.in_realtime place next turned_are.realtime h i
 
-    pub later_to : (level : Level) (place next : ℕ) → place < length ts → next < length ts → is_successor ts order level place next ≡ true → In next (list_at (lists_at level in_process in_realtime) place)
+    pub later_to : (level : Level) (place next : ℕ) → place < length ts → next < length ts → is_successor ts order level place next ≡ true → In next (list_at (lists_at level turned) place)
     later_to Plain place next h k e = absurd (false≢true (and_parts (is_node ts (txn_at ts next)) false e).1)
-    later_to Process place next h k e = listed_to Process in_process place next process_are h k e
-    later_to Realtime place next h k e = listed_to Realtime in_realtime place next realtime_are h k e
+    later_to Process place next h k e = listed_to Process turned.in_process place next turned_are.process h k e
+    later_to Realtime place next h k e = listed_to Realtime turned.in_realtime place next turned_are.realtime h k e
 
-    pub later_apart : (level : Level) (place : ℕ) → place < length ts → AreApart (list_at (lists_at level in_process in_realtime) place)
+    pub later_apart : (level : Level) (place : ℕ) → place < length ts → AreApart (list_at (lists_at level turned) place)
     later_apart Plain place h = tt
-    later_apart Process place h = subst AreApart (sym (process_are.each place h)) (apart_filter (is_successor ts order Process place) (range_with_len 0 (length ts)) (range_apart 0 (length ts)))
-    later_apart Realtime place h = subst AreApart (sym (realtime_are.each place h)) (apart_filter (is_successor ts order Realtime place) (range_with_len 0 (length ts)) (range_apart 0 (length ts)))
+    later_apart Process place h = subst AreApart (sym (turned_are.process.each place h)) (apart_filter (is_successor ts order Process place) (range_with_len 0 (length ts)) (range_apart 0 (length ts)))
+    later_apart Realtime place h = subst AreApart (sym (turned_are.realtime.each place h)) (apart_filter (is_successor ts order Realtime place) (range_with_len 0 (length ts)) (range_apart 0 (length ts)))
 
     -- no list goes past the transactions
-    pub none_past : (level : Level) (place : ℕ) → length ts ≤ place → list_at (lists_at level in_process in_realtime) place ≡ []
+    pub none_past : (level : Level) (place : ℕ) → length ts ≤ place → list_at (lists_at level turned) place ≡ []
     none_past Plain place h = refl
-    none_past Process place h = get_or_past in_process place [] (omega (arith, h, process_are.count))
-    none_past Realtime place h = get_or_past in_realtime place [] (omega (arith, h, realtime_are.count))
+    none_past Process place h = get_or_past turned.in_process place [] (omega (arith, h, turned_are.process.count))
+    none_past Realtime place h = get_or_past turned.in_realtime place [] (omega (arith, h, turned_are.realtime.count))

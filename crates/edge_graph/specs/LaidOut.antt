@@ -3,6 +3,7 @@ use Rattle.std.specs.Prelude.{◌≡◌, ℕ, ◌+◌, ◌<◌, List, [], ◌++�
 use Rattle.hist_types.specs.Transactions.{Transaction, Version, is_node, installed_by}
 use Rattle.key_versions.specs.Histories.{read_by, readers_of, followers_of}
 use Rattle.key_versions.specs.Tables.{Table}
+use Rattle.dep_edges.specs.Histories.{History}
 use Rattle.dep_edges.specs.Tables.{IsNumber, txn_at, version_at}
 use Rattle.edge_graph.specs.FlatRows.{Row, row_at, IsRowBehind}
 use Rattle.edge_graph.specs.declared.rows.Span.{Span}
@@ -11,9 +12,17 @@ use Rattle.edge_graph.specs.declared.rows.Span.{Span}
 abbrev pub nodes_behind : List Transaction → Version → List ℕ
 nodes_behind ts v = filter (λ place. is_node ts (txn_at ts place)) (map (λ p. p.0) (followers_of ts v))
 
+-- the places of the nodes that install a version behind the one with this number
+abbrev pub nodes_of : History → (number : ℕ) → List ℕ
+nodes_of h number = nodes_behind h.txns (version_at h.table number)
+
+-- the places but for one
+abbrev pub others : List ℕ → (place : ℕ) → List ℕ
+others places place = filter (λ u. not (u == place)) places
+
 -- the places of the other transactions that read a version which this one installs
 abbrev pub readers_behind : List Transaction → ℕ → List ℕ
-readers_behind ts place = flat_map (λ v. filter (λ u. not (u == place)) (readers_of ts v)) (installed_by (txn_at ts place))
+readers_behind ts place = flat_map (λ v. others (readers_of ts v) place) (installed_by (txn_at ts place))
 
 -- the places of the nodes that install a version behind one which this transaction installs
 abbrev pub writers_behind : List Transaction → ℕ → List ℕ
@@ -27,9 +36,10 @@ abbrev pub AreVersionVertices : List Transaction → Table → List Version → 
 AreVersionVertices ts table vs vertices =
     (numbers : List ℕ) × (vertices ≡ map (λ k. length ts + k) numbers) × (map (version_at table) numbers ≡ vs) × All (IsNumber table) numbers
 
--- these, behind what was there before
-abbrev pub AddsVersionVertices : List Transaction → Table → List Version → (before after : List ℕ) → Type 0
-AddsVersionVertices ts table vs before after = (vertices : List ℕ) × (after ≡ before ++ vertices) × AreVersionVertices ts table vs vertices
+-- those of the versions that the transaction at the place reads, behind what was there before
+abbrev pub AddsReads : History → (place : ℕ) → (before after : List ℕ) → Type 0
+AddsReads h place before after =
+    (vertices : List ℕ) × (after ≡ before ++ vertices) × AreVersionVertices h.txns h.table (read_by (txn_at h.txns place)) vertices
 
 -- a transaction leads to the versions that it reads, to who reads what it installs, and to who installs a version behind that
 pub record IsTxnRow (ts : List Transaction) (table : Table) (place : ℕ) (row : Row) : Type 0 where
@@ -38,12 +48,16 @@ pub record IsTxnRow (ts : List Transaction) (table : Table) (place : ℕ) (row :
   pub ww : row.ww ≡ if_node ts place (writers_behind ts place)
 
 -- such a row, behind what was there before
-abbrev pub AddsTxnRow : List Transaction → Table → (place : ℕ) → (before after : List ℕ) → Span → Type 0
-AddsTxnRow ts table place before after s = (row : Row) × IsTxnRow ts table place row × IsRowBehind before after s row
+abbrev pub AddsTxnRow : History → (place : ℕ) → (before after : List ℕ) → Span → Type 0
+AddsTxnRow h place before after s = (row : Row) × IsTxnRow h.txns h.table place row × IsRowBehind before after s row
 
 -- a version leads to who installs a version behind it
 abbrev pub version_row : List Transaction → Version → Row
 version_row ts v = record { rw = nodes_behind ts v; wr = []; ww = [] }
+
+-- such a row, behind what was there before
+abbrev pub AddsVersionRow : History → (number : ℕ) → (before after : List ℕ) → Span → Type 0
+AddsVersionRow h number before after s = IsRowBehind before after s (version_row h.txns (version_at h.table number))
 
 -- the rows of the first transactions
 pub record AreFirstTxnRows (ts : List Transaction) (table : Table) (places : ℕ) (rows : List Row) : Type 0 where
@@ -54,6 +68,14 @@ pub record AreFirstTxnRows (ts : List Transaction) (table : Table) (places : ℕ
 pub record AreFirstVersionRows (ts : List Transaction) (table : Table) (numbers : ℕ) (rows : List Row) : Type 0 where
   pub count : length rows ≡ numbers
   pub each : (number : ℕ) → number < numbers → row_at rows number ≡ version_row ts (version_at table number)
+
+-- the rows of all transactions
+abbrev pub AreTxnRows : History → (rows : List Row) → Type 0
+AreTxnRows h rows = AreFirstTxnRows h.txns h.table (length h.txns) rows
+
+-- the rows of all versions
+abbrev pub AreVersionRows : History → (rows : List Row) → Type 0
+AreVersionRows h rows = AreFirstVersionRows h.txns h.table (length h.table.versions) rows
 
 -- the rows of the transactions, and behind them of the versions
 pub record AreRows (ts : List Transaction) (table : Table) (rows : List Row) : Type 0 where

@@ -1,26 +1,39 @@
 -- How a graph is kept.
-use Rattle.std.specs.Prelude.{ℕ, ◌<◌, List, [], ◌∷◌, ◌++◌, length, map, flat_map, All}
+use Rattle.std.specs.Prelude.{◌≡◌, ℕ, ◌<◌, List, [], ◌∷◌, ◌++◌, length, map, filter, flat_map, All}
 use Rattle.hist_types.specs.Edges.{Label, process, realtime_label, Edge, edge}
 use Rattle.hist_types.specs.Transactions.{Transaction}
 use Rattle.hist_types.specs.declared.types.Level.{Level}
 use Rattle.hist_types.specs.declared.types.Level.TheVariants.{Plain, Process, Realtime}
-use Rattle.key_versions.specs.Tables.{Table, IsTableOf}
+use Rattle.key_versions.specs.Tables.{IsTableOf}
 use Rattle.order_frontier.specs.Predecessors.{Before}
-use Rattle.dep_edges.specs.Histories.{AreOfHistory}
+use Rattle.dep_edges.specs.Histories.{AreOfHistory, History}
+use Rattle.dep_edges.specs.OutEdges as out_edges
 use Rattle.dep_edges.specs.Tables.{txn_at}
 use Rattle.edge_graph.specs.FlatRows.{Row, led_to}
+use Rattle.edge_graph.specs.Kinds.{includes}
 use Rattle.edge_graph.specs.LaidOut.{AreRows}
-use Rattle.edge_graph.specs.Parts.{IsOrderOf}
-use Rattle.edge_graph.specs.Successors.{AreSuccessors}
+use Rattle.edge_graph.specs.Parts.{Parts, IsOrderOf}
+use Rattle.edge_graph.specs.Successors.{Turned, AreTurned}
 use Rattle.edge_graph.specs.declared.types.Dependencies.{Dependencies}
+use Rattle.edge_graph.specs.declared.types.Kinds.{Kinds}
 
-pub record IsMade (ts : List Transaction) (order : List Before) (table : Table) (laid_out : List Row) (in_process in_realtime : List (List ℕ)) : Type 0 where
-  pub kept : AreOfHistory ts
-  pub versions : IsTableOf ts table
-  pub ordered : IsOrderOf ts order
-  pub rows : AreRows ts table laid_out
-  pub process : AreSuccessors ts order Process in_process
-  pub realtime : AreSuccessors ts order Realtime in_realtime
+pub record IsMade (deps : List Transaction) (history : History) (order : List Before) (laid_out : List Row) (turned : Turned) : Type 0 where
+  pub txns : deps ≡ history.txns
+  pub kept : AreOfHistory history.txns
+  pub versions : IsTableOf history.txns history.table
+  pub ordered : IsOrderOf history.txns order
+  pub rows : AreRows history.txns history.table laid_out
+  pub orders : AreTurned history.txns order turned
+
+abbrev pub parts_of : History → List Before → Parts
+parts_of history order = record { txns = history.txns; order = order; versions = history.table.versions }
+
+-- ---- dependency edges
+
+-- those of the kinds that leave the transaction at the place, behind what was there before
+abbrev pub AddsDependencies : List Transaction → Kinds → (place : ℕ) → (before after : List Edge) → Type 0
+AddsDependencies ts kinds place before after =
+    (es : List Edge) × (after ≡ before ++ filter (λ e. includes kinds e.label) es) × out_edges.AreEdgesFrom ts (txn_at ts place) es
 
 -- ---- order edges
 

@@ -1,5 +1,5 @@
 -- The order turned round: for each transaction, the nodes that it comes before.
-use Rattle.std.specs.Prelude.{◌≡◌, ℕ, ◌<◌, List, [], length, Bool, ◌&&◌, ◌==◌, Some, slice_get, slice_index, slice_index_or, map, filter, nat_eq, All}
+use Rattle.std.specs.Prelude.{◌≡◌, ℕ, ◌<◌, List, [], ◌∷◌, ◌++◌, length, Bool, ◌&&◌, ◌==◌, if◌then◌else◌, Some, slice_get, slice_index, slice_index_or, map, filter, nat_eq, All}
 use Rattle.std.specs.List.{list_any, range_with_len, IsDistinct}
 use Rattle.hist_types.specs.Transactions.{Transaction, is_node}
 use Rattle.hist_types.specs.declared.types.Level.{Level}
@@ -25,6 +25,10 @@ predecessors_at Plain before = []
 predecessors_at Process before = before.in_process
 predecessors_at Realtime before = before.in_realtime
 
+-- each has a place
+abbrev pub AreListed : List ℕ → List Predecessor → Type 0
+AreListed places ps = All (λ (p : Predecessor). p.invocation < length places) ps
+
 -- each has a place below the count
 abbrev pub HavePlaces : List ℕ → (count : ℕ) → List Predecessor → Type 0
 HavePlaces places count ps = All (λ (p : Predecessor). (p.invocation < length places) × (place_of places p < count)) ps
@@ -40,6 +44,11 @@ has_place places ps place = list_any (λ p. place_of places p == place) ps
 abbrev pub has_invocation : List Predecessor → ℕ → Bool
 has_invocation ps invocation = list_any (λ (p : Predecessor). p.invocation == invocation) ps
 
+-- pairs are added: to each predecessor's own list, the place that it comes before
+pub record AddsPairs (places : List ℕ) (ps : List Predecessor) (place : ℕ) (before after : List (ℕ × ℕ)) : Type 0 where
+  pub numbered : (count : ℕ) → HavePlaces places count ps → All (IsNumbered count) before → All (IsNumbered count) after
+  pub groups : (first : ℕ) → group first after ≡ group first before ++ (if has_place places ps first then place ∷ [] else [])
+
 -- ---- all transactions
 
 -- the second place has a node with the transaction at the first one among its predecessors
@@ -50,16 +59,25 @@ is_successor ts order level place next =
 abbrev pub list_at : List (List ℕ) → ℕ → List ℕ
 list_at lists place = slice_index_or lists place []
 
-abbrev pub lists_at : Level → (in_process in_realtime : List (List ℕ)) → List (List ℕ)
-lists_at Plain in_process in_realtime = []
-lists_at Process in_process in_realtime = in_process
-lists_at Realtime in_process in_realtime = in_realtime
+-- for each place those of the nodes that its transaction comes before, at both levels that have an order
+pub record Turned : Type 0 where
+  pub in_process : List (List ℕ)
+  pub in_realtime : List (List ℕ)
+
+abbrev pub lists_at : Level → Turned → List (List ℕ)
+lists_at Plain turned = []
+lists_at Process turned = turned.in_process
+lists_at Realtime turned = turned.in_realtime
 
 pub record AreSuccessors (ts : List Transaction) (order : List Before) (level : Level) (lists : List (List ℕ)) : Type 0 where
   pub count : length lists ≡ length ts
   pub each : (place : ℕ) → place < length ts → list_at lists place ≡ filter (is_successor ts order level place) (range_with_len 0 (length ts))
 
--- the same, before it is grouped: each place with its successors among the first places
+pub record AreTurned (ts : List Transaction) (order : List Before) (turned : Turned) : Type 0 where
+  pub process : AreSuccessors ts order Process turned.in_process
+  pub realtime : AreSuccessors ts order Realtime turned.in_realtime
+
+-- the same of one level, before it is grouped: each place with its successors among the first places
 pub record AreFirstPairs (ts : List Transaction) (order : List Before) (level : Level) (places : ℕ) (pairs : List (ℕ × ℕ)) : Type 0 where
   pub numbered : All (IsNumbered (length ts)) pairs
   pub each : (place : ℕ) → place < length ts → group place pairs ≡ filter (is_successor ts order level place) (range_with_len 0 places)

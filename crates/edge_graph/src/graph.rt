@@ -1,19 +1,16 @@
 //! The graph of a history's transactions.
 
-ghost use Rattle.std.specs.Prelude.{◌≡◌, ◌++◌, ◌==◌, List, filter, length, All, IfOk, IfErr, OnOk, OnErr};
+ghost use Rattle.std.specs.Prelude.{◌≡◌, ◌++◌, ◌==◌, length, All, IfOk, IfErr, OnOk, OnErr};
 ghost use Rattle.std.specs.Thread.{IsSync};
 ghost use Rattle.dep_edges.specs.Histories.{AreOfHistory};
-ghost use Rattle.dep_edges.specs.OutEdges as out_edges;
 ghost use Rattle.dep_edges.specs.OutEdges.{Begins};
-ghost use Rattle.dep_edges.specs.Tables.{IsPlace, txn_at};
-ghost use Rattle.hist_types.specs.Edges.{Edge as AnEdge};
+ghost use Rattle.dep_edges.specs.Tables.{IsPlace};
 ghost use Rattle.hist_types.specs.Refusals.{memory_fault};
-ghost use Rattle.hist_types.specs.declared.types.Level.TheVariants.{Process, Realtime};
-ghost use Rattle.edge_graph.specs.Kinds.{includes, kinds_of};
+ghost use Rattle.edge_graph.specs.Kinds.{kinds_of};
 ghost use Rattle.edge_graph.specs.LaidOut.{AreRows};
-ghost use Rattle.edge_graph.specs.Made.{order_edges_over, order_edges_to};
+ghost use Rattle.edge_graph.specs.Made.{order_edges_over, order_edges_to, AddsDependencies};
 ghost use Rattle.edge_graph.specs.Parts.{IsOrderOf, IsMadeOf, AddsEdgesFrom};
-ghost use Rattle.edge_graph.specs.Successors.{AreSuccessors};
+ghost use Rattle.edge_graph.specs.Successors.{AreTurned};
 ghost use Rattle.edge_graph.specs.Vertices.{AreArcs, RwByVersions};
 ghost use Rattle.edge_graph.specs.Walks.{IsEdgeIfAny, IsTxnWalk, AreEdgesAlong};
 
@@ -45,15 +42,14 @@ pub struct Graph<'g, 'v, 'a> {
 }
 
 impl<'g, 'v, 'a> Model for Graph<'g, 'v, 'a> {
-    ghost use Rattle.std.specs.Prelude.{◌≡◌};
-    ghost use Rattle.edge_graph.specs.Made.{IsMade};
+    ghost use Rattle.edge_graph.specs.Made.{parts_of, IsMade};
     ghost use Rattle.edge_graph.specs.Parts.{Parts};
 
     ghost Value = { Parts };
 
-    ghost view = { λ g. record { txns = g.history.now.txns; order = g.order.now; versions = g.history.now.table.versions } };
+    ghost view = { λ g. parts_of g.history.now g.order.now };
 
-    ghost invariant = { λ g. (g.deps.now ≡ g.history.now.txns) × IsMade g.history.now.txns g.order.now g.history.now.table g.rows g.orders.in_process g.orders.in_realtime };
+    ghost invariant = { λ g. IsMade g.deps.now g.history.now g.order.now g.rows g.orders };
 }
 
 /// Adds the dependency edges of the kinds that leave the transaction.
@@ -65,7 +61,7 @@ fn add_dependencies<'a>(
     out: &mut Vec<Edge<'a>>,
 ) -> Result<(), AllocError>
     requires { IsPlace deps.now place }
-    ensures ok { OnOk result ((es : List AnEdge) × (out.new.items ≡ out.old.items ++ filter (λ e. includes kinds e.label) es) × out_edges.AreEdgesFrom deps.now (txn_at deps.now place) es) }
+    ensures ok { OnOk result (AddsDependencies deps.now kinds place out.old.items out.new.items) }
     ensures err { OnErr result (Begins out.old.items out.new.items) }
 {
     let mut found = Vec::new(alloc);
@@ -85,7 +81,8 @@ fn add_order_edge<'a>(
     to: &Txn<'_>,
     out: &mut Vec<Edge<'a>>,
 ) -> Result<(), AllocError>
-    ensures ok { OnOk result (out.new.items ≡ out.old.items ++ order_edges_to level from.now to.now) }
+    ensures ok { OnOk result
+        (out.new.items ≡ out.old.items ++ order_edges_to level from.now to.now) }
     ensures err { OnErr result (Begins out.old.items out.new.items) }
 {
     let label = match level {
@@ -115,7 +112,8 @@ fn add_order_edges<'a>(
 ) -> Result<(), AllocError>
     requires from { IsPlace txns.now from }
     requires places { All (IsPlace txns.now) places.now }
-    ensures ok { OnOk result (out.new.items ≡ out.old.items ++ order_edges_over txns.now level from places.now) }
+    ensures ok { OnOk result
+        (out.new.items ≡ out.old.items ++ order_edges_over txns.now level from places.now) }
     ensures err { OnErr result (Begins out.old.items out.new.items) }
 {
     for place in places {
@@ -135,8 +133,7 @@ fn rows_and_orders<'v, 'a, R: Threads + Sync>(
     requires history { history.now.txns ≡ deps.now }
     requires order { IsOrderOf deps.now order.now }
     ensures rows { IfOk result (λ made. AreRows history.now.txns history.now.table made.0) }
-    ensures process { IfOk result (λ made. AreSuccessors deps.now order.now Process made.1.in_process) }
-    ensures realtime { IfOk result (λ made. AreSuccessors deps.now order.now Realtime made.1.in_realtime) }
+    ensures orders { IfOk result (λ made. AreTurned deps.now order.now made.1) }
 {
     let (rows, orders) = join_mut(
         rt,
@@ -261,7 +258,8 @@ impl<'g, 'v, 'a> Graph<'g, 'v, 'a> {
         level: Level,
     ) -> Result<Vec<Edge<'a>>, AllocError>
         requires { IsTxnWalk self.now (kinds_of dependencies level) walk.now }
-        ensures { IfOk result (λ es. AreEdgesAlong self.now (kinds_of dependencies level) walk.now es.items) }
+        ensures { IfOk result
+            (λ es. AreEdgesAlong self.now (kinds_of dependencies level) walk.now es.items) }
     {
         let kinds = Kinds::of(dependencies, level);
         let mut edges = Vec::new(self.alloc);

@@ -20,21 +20,33 @@ ghost use Rattle.edge_graph.specs.declared.types.Dependencies.TheVariants.{Ww, W
 
 /// A graph can be made over the order of all pairs and over the thinned one.
 pub fn orders_of_a_history()
-    ensures all_pairs { (ts : List Transaction) → (order : List Before) → HasOrderEdges ts order → All NoneTwice order → names order ≡ map name_of ts → IsOrderOf ts order }
-    ensures thinned { (ts : List Transaction) → (order : List Before) → HasThinnedEdges ts order → All NoneTwice order → names order ≡ map name_of ts → IsOrderOf ts order }
+    ensures all_pairs { (ts : List Transaction) → (order : List Before) → HasOrderEdges ts order
+        → All NoneTwice order → names order ≡ map name_of ts → IsOrderOf ts order }
+    ensures thinned { (ts : List Transaction) → (order : List Before) → HasThinnedEdges ts order
+        → All NoneTwice order → names order ≡ map name_of ts → IsOrderOf ts order }
 {}
 
 /// The list of a graph's edges has exactly its edges. Those of every level are the dependency edges, and plain has no others.
 pub fn edges_listed()
-    ensures listed { (g : Parts) → (level : Level) → (e : Edge) → Contains (edges_in g level) e ↔ HasEdge g level e }
-    ensures plain { (g : Parts) → (e : Edge) → Contains (edges_in g Plain) e ↔ Contains (dependency_edges g.txns) e }
-    ensures levels { (g : Parts) → (level : Level) → (e : Edge) → Contains (edges_in g Plain) e ↔ (Contains (edges_in g level) e × IsFalse (is_order e)) }
+    ensures listed { (g : Parts) → (level : Level) → (e : Edge)
+        → Contains (edges_in g level) e ↔ HasEdge g level e }
+    ensures plain { (g : Parts) → (e : Edge)
+        → Contains (edges_in g Plain) e ↔ Contains (dependency_edges g.txns) e }
+    ensures levels { (g : Parts) → (level : Level) → (e : Edge)
+        → Contains (edges_in g Plain) e ↔ (Contains (edges_in g level) e × IsFalse (is_order e)) }
 {}
 
 /// The graph of a history has the edges that phenomena are defined by, or over a thinned order those that show the same ones.
 pub fn edges_of_a_history()
-    ensures all_pairs { (ts : List Transaction) → (order : List Before) → (g : Parts) → AreOfHistory ts → IsMadeOf ts order g → HasOrderEdges ts order → (level : Level) → (e : Edge) → Contains (edges_in g level) e ↔ Contains (edges_at level ts) e }
-    ensures thinned { (ts : List Transaction) → (order : List Before) → (g : Parts) → AreOfHistory ts → IsMadeOf ts order g → HasThinnedEdges ts order → (level : Level) → (e : Edge) → Contains (edges_in g level) e ↔ Contains (dependency_edges ts ++ thinned_edges level ts) e }
+    ensures all_pairs { (ts : List Transaction) → (order : List Before) → (g : Parts)
+        → AreOfHistory ts → IsMadeOf ts order g → HasOrderEdges ts order
+        → (level : Level) → (e : Edge)
+        → Contains (edges_in g level) e ↔ Contains (edges_at level ts) e }
+    ensures thinned { (ts : List Transaction) → (order : List Before) → (g : Parts)
+        → AreOfHistory ts → IsMadeOf ts order g → HasThinnedEdges ts order
+        → (level : Level) → (e : Edge)
+        → Contains (edges_in g level) e
+        ↔ Contains (dependency_edges ts ++ thinned_edges level ts) e }
 {}
 
 /// At plain the edges of one kind of dependencies are those that have its label.
@@ -46,24 +58,37 @@ pub fn edges_of_one_kind()
 
 /// Arcs of fewer dependencies are arcs of more at the same level, and arcs of plain are arcs of each level.
 pub fn arcs_of_more_dependencies()
-    ensures level { (g : Parts) → (few more : Dependencies) → AreAmong few more → (level : Level) → (v w : ℕ) → IsArc g (kinds_of few level) v w → IsArc g (kinds_of more level) v w }
-    ensures plain { (g : Parts) → (few more : Dependencies) → AreAmong few more → (level : Level) → (v w : ℕ) → IsArc g (kinds_of few Plain) v w → IsArc g (kinds_of more level) v w }
+    ensures level { (g : Parts) → (few more : Dependencies) → AreAmong few more
+        → (level : Level) → (v w : ℕ)
+        → IsArc g (kinds_of few level) v w → IsArc g (kinds_of more level) v w }
+    ensures plain { (g : Parts) → (few more : Dependencies) → AreAmong few more
+        → (level : Level) → (v w : ℕ)
+        → IsArc g (kinds_of few Plain) v w → IsArc g (kinds_of more level) v w }
 {}
 
 /// A ww or wr edge has an arc between its two transactions, and an rw edge a way by a version.
 pub fn arcs_of_edges()
-    ensures ww { (g : Parts) → (level : Level) → (e : Edge) → Contains (edges_in g level) e → IsTrue (is_ww e) → HasDirectArc g Ww e }
-    ensures wr { (g : Parts) → (level : Level) → (e : Edge) → Contains (edges_in g level) e → IsTrue (is_wr e) → HasDirectArc g Wr e }
-    ensures rw { (g : Parts) → RwByVersions g → (level : Level) → (e : Edge) → Contains (edges_in g level) e → IsTrue (is_rw e) → HasWayByVersion g Rw e }
+    ensures ww { (g : Parts) → (level : Level) → (e : Edge) → Contains (edges_in g level) e
+        → IsTrue (is_ww e) → HasDirectArc g Ww e }
+    ensures wr { (g : Parts) → (level : Level) → (e : Edge) → Contains (edges_in g level) e
+        → IsTrue (is_wr e) → HasDirectArc g Wr e }
+    ensures rw { (g : Parts) → RwByVersions g
+        → (level : Level) → (e : Edge) → Contains (edges_in g level) e
+        → IsTrue (is_rw e) → HasWayByVersion g Rw e }
 {}
 
 /// An arc between two transactions represents an edge, and a way by a version from one to another an rw edge.
 pub fn edges_of_arcs()
-    ensures direct { (g : Parts) → (kinds : Kinds) → (from to : ℕ) → IsDirectArc g kinds from to → HasEdgeBetween g kinds from to }
-    ensures rw { (g : Parts) → AreOfHistory g.txns → RwByVersions g → (kinds : Kinds) → (from version to : ℕ) → IsWayByVersion g kinds from version to → HasEdgeBetween g kinds from to }
+    ensures direct { (g : Parts) → (kinds : Kinds) → (from to : ℕ)
+        → IsDirectArc g kinds from to → HasEdgeBetween g kinds from to }
+    ensures rw { (g : Parts) → AreOfHistory g.txns → RwByVersions g
+        → (kinds : Kinds) → (from version to : ℕ)
+        → IsWayByVersion g kinds from version to → HasEdgeBetween g kinds from to }
 {}
 
 /// Where edges lead from one transaction to another, there is a walk over the arcs of their kinds.
 pub fn walks_over_arcs()
-    ensures { (g : Parts) → AreOfHistory g.txns → RwByVersions g → (kinds : Kinds) → (from to : ℕ) → IsPlace g.txns from → IsPlace g.txns to → (es : List Edge) → AreEdgesBetween g kinds from to es → HasWalkBetween g kinds from to }
+    ensures { (g : Parts) → AreOfHistory g.txns → RwByVersions g
+        → (kinds : Kinds) → (from to : ℕ) → IsPlace g.txns from → IsPlace g.txns to
+        → (es : List Edge) → AreEdgesBetween g kinds from to es → HasWalkBetween g kinds from to }
 {}

@@ -1,10 +1,9 @@
 //! The arcs of dependencies, laid out vertex by vertex.
 
-ghost use Rattle.std.specs.Prelude.{◌≡◌, ◌++◌, not, ◌==◌, filter, length, IfOk, OnOk};
-ghost use Rattle.key_versions.specs.Histories.{read_by};
-ghost use Rattle.dep_edges.specs.Tables.{IsPlace, IsNumber, txn_at, version_at};
-ghost use Rattle.edge_graph.specs.FlatRows.{IsRowBehind};
-ghost use Rattle.edge_graph.specs.LaidOut.{nodes_behind, readers_behind, writers_behind, version_row, AddsTxnRow, AddsVersionVertices, AreFirstTxnRows, AreFirstVersionRows, AreRows};
+ghost use Rattle.std.specs.Prelude.{◌≡◌, ◌++◌, IfOk, OnOk};
+ghost use Rattle.dep_edges.specs.Tables.{IsPlace, IsNumber};
+ghost use Rattle.edge_graph.specs.LaidOut.{others, nodes_of, readers_behind, writers_behind, AreRows};
+ghost use Rattle.edge_graph.specs.LaidOut.{AddsReads, AddsTxnRow, AddsVersionRow, AreTxnRows, AreVersionRows};
 
 use crate::rows::{Rows, Span, VertexRows, number};
 use dep_edges::deps::Deps;
@@ -22,7 +21,7 @@ struct Layout<'g, 'v, 'a> {
 
 /// Adds the places but for one.
 fn push_others(places: &[u32], place: usize, out: &mut Vec<u32>) -> Result<(), AllocError>
-    ensures { OnOk result (out.new.items ≡ out.old.items ++ filter (λ u. not (u == place)) places.now) }
+    ensures { OnOk result (out.new.items ≡ out.old.items ++ others places.now place) }
 {
     for other in places {
         if *other as usize != place {
@@ -36,7 +35,7 @@ impl<'g, 'v, 'a> Layout<'g, 'v, 'a> {
     /// Adds the vertices of the versions that the transaction reads.
     fn push_read(&self, place: usize, out: &mut Vec<u32>) -> Result<(), AllocError>
         requires { IsPlace self.now.history.now.txns place }
-        ensures { OnOk result (AddsVersionVertices self.now.history.now.txns self.now.history.now.table (read_by (txn_at self.now.history.now.txns place)) out.old.items out.new.items) }
+        ensures { OnOk result (AddsReads self.now.history.now place out.old.items out.new.items) }
     {
         let first = self.history.txns().len();
         for version in self.history.reads(place) {
@@ -49,7 +48,8 @@ impl<'g, 'v, 'a> Layout<'g, 'v, 'a> {
     /// Adds the other transactions that read what the transaction installs.
     fn push_readers(&self, place: usize, out: &mut Vec<u32>) -> Result<(), AllocError>
         requires { IsPlace self.now.history.now.txns place }
-        ensures { OnOk result (out.new.items ≡ out.old.items ++ readers_behind self.now.history.now.txns place) }
+        ensures { OnOk result
+            (out.new.items ≡ out.old.items ++ readers_behind self.now.history.now.txns place) }
     {
         for version in self.history.installs(place) {
             push_others(self.history.readers(*version as usize), place, out)?;
@@ -60,7 +60,8 @@ impl<'g, 'v, 'a> Layout<'g, 'v, 'a> {
     /// Adds the nodes that install a version behind this one.
     fn push_nodes_behind(&self, version: usize, out: &mut Vec<u32>) -> Result<(), AllocError>
         requires { IsNumber self.now.history.now.table version }
-        ensures { OnOk result (out.new.items ≡ out.old.items ++ nodes_behind self.now.history.now.txns (version_at self.now.history.now.table version)) }
+        ensures { OnOk result
+            (out.new.items ≡ out.old.items ++ nodes_of self.now.history.now version) }
     {
         for follower in self.history.followers(version) {
             if self.deps.is_node(follower.txn as usize) {
@@ -73,7 +74,8 @@ impl<'g, 'v, 'a> Layout<'g, 'v, 'a> {
     /// Adds the nodes that install a version behind one which the transaction installs.
     fn push_writers(&self, place: usize, out: &mut Vec<u32>) -> Result<(), AllocError>
         requires { IsPlace self.now.history.now.txns place }
-        ensures { OnOk result (out.new.items ≡ out.old.items ++ writers_behind self.now.history.now.txns place) }
+        ensures { OnOk result
+            (out.new.items ≡ out.old.items ++ writers_behind self.now.history.now.txns place) }
     {
         for version in self.history.installs(place) {
             self.push_nodes_behind(*version as usize, out)?;
@@ -84,7 +86,8 @@ impl<'g, 'v, 'a> Layout<'g, 'v, 'a> {
     /// Adds what the transaction leads to, and answers where that is.
     fn push_txn(&self, place: usize, items: &mut Vec<u32>) -> Result<Span, AllocError>
         requires { IsPlace self.now.history.now.txns place }
-        ensures { IfOk result (λ span. AddsTxnRow self.now.history.now.txns self.now.history.now.table place items.old.items items.new.items span) }
+        ensures { IfOk result
+            (λ span. AddsTxnRow self.now.history.now place items.old.items items.new.items span) }
     {
         let start = number(items.len())?;
         self.push_read(place, items)?;
@@ -107,7 +110,8 @@ impl<'g, 'v, 'a> Layout<'g, 'v, 'a> {
     /// Adds what the version leads to, and answers where that is.
     fn push_version(&self, version: usize, items: &mut Vec<u32>) -> Result<Span, AllocError>
         requires { IsNumber self.now.history.now.table version }
-        ensures { IfOk result (λ span. IsRowBehind items.old.items items.new.items span (version_row self.now.history.now.txns (version_at self.now.history.now.table version))) }
+        ensures { IfOk result
+            (λ span. AddsVersionRow self.now.history.now version items.old.items items.new.items span) }
     {
         let start = number(items.len())?;
         self.push_nodes_behind(version, items)?;
@@ -122,7 +126,7 @@ impl<'g, 'v, 'a> Layout<'g, 'v, 'a> {
 
     /// The rows of the transactions.
     fn txn_rows(&self, alloc: Global) -> Result<Rows, AllocError>
-        ensures { IfOk result (AreFirstTxnRows self.now.history.now.txns self.now.history.now.table (length self.now.history.now.txns)) }
+        ensures { IfOk result (AreTxnRows self.now.history.now) }
     {
         let count = self.history.txns().len();
         let mut spans = Vec::with_capacity(alloc, count)?;
@@ -135,7 +139,7 @@ impl<'g, 'v, 'a> Layout<'g, 'v, 'a> {
 
     /// The rows of the versions.
     fn version_rows(&self, alloc: Global) -> Result<Rows, AllocError>
-        ensures { IfOk result (AreFirstVersionRows self.now.history.now.txns self.now.history.now.table (length self.now.history.now.table.versions)) }
+        ensures { IfOk result (AreVersionRows self.now.history.now) }
     {
         let count = self.history.versions();
         let mut spans = Vec::with_capacity(alloc, count)?;
@@ -148,8 +152,8 @@ impl<'g, 'v, 'a> Layout<'g, 'v, 'a> {
 
     /// The rows of the transactions and those of the versions: two threads make them, where another can be made.
     fn both<R: Threads>(&self, rt: &R, alloc: Global) -> Result<(Rows, Rows), AllocError>
-        ensures txns { IfOk result (λ made. AreFirstTxnRows self.now.history.now.txns self.now.history.now.table (length self.now.history.now.txns) made.0) }
-        ensures versions { IfOk result (λ made. AreFirstVersionRows self.now.history.now.txns self.now.history.now.table (length self.now.history.now.table.versions) made.1) }
+        ensures txns { IfOk result (λ made. AreTxnRows self.now.history.now made.0) }
+        ensures versions { IfOk result (λ made. AreVersionRows self.now.history.now made.1) }
     {
         let (txns, versions) = join_mut(
             rt,

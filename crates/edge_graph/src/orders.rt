@@ -1,14 +1,13 @@
 //! What each transaction comes before.
 
-ghost use Rattle.std.specs.Prelude.{◌≡◌, ◌<◌, ◌++◌, ◌∷◌, [], ℕ, length, All, if◌then◌else◌, OnOk, IfOk};
+ghost use Rattle.std.specs.Prelude.{◌≡◌, ◌<◌, length, All, OnOk, IfOk};
 ghost use Rattle.hist_types.specs.Thinning.{AreInvokedInOrder};
-ghost use Rattle.hist_types.specs.declared.types.Level.TheVariants.{Process, Realtime};
-ghost use Rattle.flat_groups.specs.Groups.{group, groups_from, IsNumbered};
+ghost use Rattle.flat_groups.specs.Groups.{groups_from, IsNumbered};
 ghost use Rattle.dep_edges.specs.Histories.{AreOfHistory};
 ghost use Rattle.order_frontier.specs.Predecessors.{before_at};
-ghost use Rattle.order_frontier.specs.declared.types.Predecessor.{Predecessor as APredecessor};
 ghost use Rattle.edge_graph.specs.Parts.{IsOrderOf};
-ghost use Rattle.edge_graph.specs.Successors.{ArePlaces, AreFirstPairs, predecessors_at, HavePlaces, HaveOwnPlaces, has_place, list_at, lists_at, AreSuccessors};
+ghost use Rattle.edge_graph.specs.Successors.{ArePlaces, predecessors_at, AreListed, HaveOwnPlaces, AddsPairs};
+ghost use Rattle.edge_graph.specs.Successors.{list_at, lists_at, AreSuccessors, AreTurned, AreFirstPairs};
 
 use crate::rows::number;
 use dep_edges::deps::Deps;
@@ -93,10 +92,10 @@ fn push_pairs(
     place: u32,
     pairs: &mut Vec<(u32, u32)>,
 ) -> Result<(), AllocError>
-    requires within { All (λ (p : APredecessor). p.invocation < length places.now) predecessors.now }
+    requires listed { AreListed places.now predecessors.now }
     requires apart { HaveOwnPlaces places.now predecessors.now }
-    ensures numbered { OnOk result ((count : ℕ) → HavePlaces places.now count predecessors.now → All (IsNumbered count) pairs.old.items → All (IsNumbered count) pairs.new.items) }
-    ensures groups { OnOk result ((first : ℕ) → group first pairs.new.items ≡ group first pairs.old.items ++ (if has_place places.now predecessors.now first then place ∷ [] else [])) }
+    ensures { OnOk result
+        (AddsPairs places.now predecessors.now place pairs.old.items pairs.new.items) }
 {
     for predecessor in predecessors {
         let first = places[predecessor.invocation as usize];
@@ -116,7 +115,8 @@ fn pairs(
     requires kept { AreOfHistory deps.now }
     requires order { IsOrderOf deps.now order.now }
     requires places { ArePlaces deps.now places.now }
-    ensures { IfOk result (λ pairs. AreFirstPairs deps.now order.now level (length deps.now) pairs.items) }
+    ensures { IfOk result
+        (λ pairs. AreFirstPairs deps.now order.now level (length deps.now) pairs.items) }
 {
     let mut pairs = Vec::new(alloc);
     for place in 0..order.len() {
@@ -155,7 +155,17 @@ pub(crate) struct Orders {
     in_plain: LaterNodes,
     in_process: LaterNodes,
     in_realtime: LaterNodes,
-    ghost plain: { in_plain ≡ [] },
+}
+
+impl Model for Orders {
+    ghost use Rattle.std.specs.Prelude.{◌≡◌, []};
+    ghost use Rattle.edge_graph.specs.Successors.{Turned};
+
+    ghost Value = { Turned };
+
+    ghost view = { λ o. record { in_process = o.in_process; in_realtime = o.in_realtime } };
+
+    ghost invariant = { λ o. o.in_plain ≡ [] };
 }
 
 impl Orders {
@@ -166,8 +176,7 @@ impl Orders {
         order: &Order,
     ) -> Result<Self, AllocError>
         requires { IsOrderOf deps.now order.now }
-        ensures process { IfOk result (λ orders. AreSuccessors deps.now order.now Process orders.in_process) }
-        ensures realtime { IfOk result (λ orders. AreSuccessors deps.now order.now Realtime orders.in_realtime) }
+        ensures { IfOk result (AreTurned deps.now order.now) }
     {
         let places = places(alloc, deps.history().txns())?;
         Orders::by_places(rt, alloc, deps, order, &places)
@@ -184,8 +193,7 @@ impl Orders {
         requires kept { AreOfHistory deps.now }
         requires order { IsOrderOf deps.now order.now }
         requires places { ArePlaces deps.now places.now }
-        ensures process { IfOk result (λ orders. AreSuccessors deps.now order.now Process orders.in_process) }
-        ensures realtime { IfOk result (λ orders. AreSuccessors deps.now order.now Realtime orders.in_realtime) }
+        ensures { IfOk result (AreTurned deps.now order.now) }
     {
         let (in_process, in_realtime) = join_mut(
             rt,
@@ -201,7 +209,7 @@ impl Orders {
 
     /// The order of the level turned round.
     pub fn at(&self, level: Level) -> &LaterNodes
-        ensures { result.now ≡ lists_at level self.now.in_process self.now.in_realtime }
+        ensures { result.now ≡ lists_at level self.now }
     {
         match level {
             Level::Plain => &self.in_plain,

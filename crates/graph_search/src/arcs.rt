@@ -22,7 +22,8 @@ impl<'a> Model for Successors<'a> {
 
     ghost view = { λ s. record { count = s.vertices; to = s.first.now ++ s.second.now } };
 
-    ghost invariant = { λ s. All (λ v. v < s.vertices) s.first.now × All (λ v. v < s.vertices) s.second.now };
+    ghost invariant = { λ s. All (λ v. v < s.vertices) s.first.now
+        × All (λ v. v < s.vertices) s.second.now };
 }
 
 impl<'a> Successors<'a> {
@@ -79,7 +80,8 @@ pub trait Arcs {
     /// What a vertex leads to.
     fn successors(&self, vertex: usize) -> Successors<'_>
         requires { vertex < (graph self.now).count }
-        ensures { result ≡ record { count = (graph self.now).count; to = (graph self.now).successors vertex } };
+        ensures { result
+            ≡ record { count = (graph self.now).count; to = (graph self.now).successors vertex } };
 }
 
 /// A set of vertices.

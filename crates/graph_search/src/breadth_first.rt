@@ -32,8 +32,10 @@ impl Reached {
     fn start(&mut self, from: usize) -> Result<(), AllocError>
         requires { from < length self.old.marks }
         ensures count { length self.new.marks ≡ length self.old.marks }
-        ensures marks { OnOk result (self.new.marks ≡ slice_set (replicate (length self.old.marks) false) from true) }
-        ensures queue { OnOk result (self.new.queue.items ≡ record { vertex = from; parent = 0 } ∷ []) }
+        ensures marks { OnOk result
+            (self.new.marks ≡ slice_set (replicate (length self.old.marks) false) from true) }
+        ensures queue { OnOk result
+            (self.new.queue.items ≡ record { vertex = from; parent = 0 } ∷ []) }
     {
         self.marks.clear();
         self.marks.mark(from);
@@ -56,14 +58,23 @@ impl Reached {
     ) -> Result<bool, AllocError>
         requires graph { (G.graph graph.now).count ≡ length self.old.marks }
         requires allowed { (S.members allowed.now).count ≡ length self.old.marks }
-        requires reached { AreReached (HasArcInto (G.graph graph.now) (S.members allowed.now)) self.old.marks self.old.queue.items }
+        requires reached { AreReached (HasArcInto (G.graph graph.now) (S.members allowed.now))
+            self.old.marks self.old.queue.items }
         requires at { at < length self.old.queue.items }
         requires to { ¬ IsMarked self.old.marks to }
         ensures count { length self.new.marks ≡ length self.old.marks }
-        ensures reached { OnOk result (AreReached (HasArcInto (G.graph graph.now) (S.members allowed.now)) self.new.marks self.new.queue.items) }
-        ensures extends { OnOk result (Extends self.old.marks self.old.queue.items self.new.marks self.new.queue.items) }
-        ensures found { IfOk result (λ found. OnTrue found (vertex_at self.new.queue.items (length self.new.queue.items - 1) ≡ to)) }
-        ensures opened { IfOk result (λ found. OnFalse found (IsOpened (HasArcInto (G.graph graph.now) (S.members allowed.now)) self.new.marks (vertex_at self.old.queue.items at))) }
+        ensures reached { OnOk result
+            (AreReached (HasArcInto (G.graph graph.now) (S.members allowed.now))
+            self.new.marks self.new.queue.items) }
+        ensures extends { OnOk result
+            (Extends self.old.marks self.old.queue.items self.new.marks self.new.queue.items) }
+        ensures found { IfOk result
+            (λ found. OnTrue found
+            (vertex_at self.new.queue.items (length self.new.queue.items - 1) ≡ to)) }
+        ensures opened { IfOk result
+            (λ found. OnFalse found
+            (IsOpened (HasArcInto (G.graph graph.now) (S.members allowed.now))
+            self.new.marks (vertex_at self.old.queue.items at))) }
         ensures unfound { IfOk result (λ found. OnFalse found (¬ IsMarked self.new.marks to)) }
     {
         let vertex = self.queue[at].vertex;
@@ -86,8 +97,11 @@ impl Reached {
     /// The way to the vertex at a place in the queue.
     fn walk_to(&self, alloc: Global, place: usize) -> Result<Vec<usize>, AllocError>
         requires place { place < length self.now.queue.items }
-        requires earlier { (k : ℕ) → 0 < k → k < length self.now.queue.items → parent_at self.now.queue.items k < k }
-        ensures { IfOk result (λ walk. IsWalk (IsStep self.now.queue.items) (vertex_at self.now.queue.items 0) (vertex_at self.now.queue.items place) walk.items) }
+        requires earlier { (k : ℕ) → 0 < k → k < length self.now.queue.items
+            → parent_at self.now.queue.items k < k }
+        ensures { IfOk result
+            (λ walk. IsWalk (IsStep self.now.queue.items)
+            (vertex_at self.now.queue.items 0) (vertex_at self.now.queue.items place) walk.items) }
     {
         let mut walk = vec![in alloc; self.queue[place].vertex]?;
         let mut at = place;
@@ -140,7 +154,9 @@ impl Search {
         requires allowed { (S.members allowed.now).count ≡ self.old }
         requires from { from < self.old }
         ensures count { self.new ≡ self.old }
-        ensures walk { let leads = HasArcInto (G.graph graph.now) (S.members allowed.now) in IfOk result (λ found. IsWalkIfAny leads from to (option_map (λ walk. walk.items) found)) }
+        ensures walk { let leads = HasArcInto (G.graph graph.now) (S.members allowed.now) in
+            IfOk result
+            (λ found. IsWalkIfAny leads from to (option_map (λ walk. walk.items) found)) }
     {
         if from == to {
             return Ok(Some(vec![in alloc; from]?));

@@ -5,19 +5,29 @@ ghost use Rattle.graph_search.specs.Graphs.{Graph, VertexSet, HasArc, HasArcInto
 
 /// Ranks don't fall along a walk, so all of it is between the ranks of its ends.
 pub fn walks_keep_or_raise_the_rank()
-    ensures ends { (g : Graph) (ranks walk : List ℕ) (from to : ℕ) → AreRanks g ranks → IsWalk (HasArc g) from to walk → slice_index ranks from ≤ slice_index ranks to }
-    ensures least { (g : Graph) (ranks walk : List ℕ) (from to : ℕ) → AreRanks g ranks → IsWalk (HasArc g) from to walk → All (λ v. slice_index ranks from ≤ slice_index ranks v) walk }
-    ensures most { (g : Graph) (ranks walk : List ℕ) (from to : ℕ) → AreRanks g ranks → IsWalk (HasArc g) from to walk → All (λ v. slice_index ranks v ≤ slice_index ranks to) walk }
+    ensures ends { (g : Graph) (ranks walk : List ℕ) (from to : ℕ) → AreRanks g ranks
+        → IsWalk (HasArc g) from to walk → slice_index ranks from ≤ slice_index ranks to }
+    ensures least { (g : Graph) (ranks walk : List ℕ) (from to : ℕ) → AreRanks g ranks
+        → IsWalk (HasArc g) from to walk
+        → All (λ v. slice_index ranks from ≤ slice_index ranks v) walk }
+    ensures most { (g : Graph) (ranks walk : List ℕ) (from to : ℕ) → AreRanks g ranks
+        → IsWalk (HasArc g) from to walk
+        → All (λ v. slice_index ranks v ≤ slice_index ranks to) walk }
 {}
 
 /// A closed walk is in one rank. So an arc that is on one leads to a vertex of its own rank.
 pub fn closed_walks_keep_their_rank()
-    ensures walk { (g : Graph) (ranks walk : List ℕ) (v : ℕ) → AreRanks g ranks → IsWalk (HasArc g) v v walk → All (λ w. slice_index ranks w ≡ slice_index ranks v) walk }
-    ensures arc { (g : Graph) (ranks walk : List ℕ) (v w : ℕ) → AreRanks g ranks → HasArc g v w → IsWalk (HasArc g) w v walk → slice_index ranks w ≡ slice_index ranks v }
+    ensures walk { (g : Graph) (ranks walk : List ℕ) (v : ℕ) → AreRanks g ranks
+        → IsWalk (HasArc g) v v walk → All (λ w. slice_index ranks w ≡ slice_index ranks v) walk }
+    ensures arc { (g : Graph) (ranks walk : List ℕ) (v w : ℕ) → AreRanks g ranks → HasArc g v w
+        → IsWalk (HasArc g) w v walk → slice_index ranks w ≡ slice_index ranks v }
 {}
 
 /// Whoever looks for a walk between vertices of one rank needs to enter no other.
 pub fn one_rank_is_enough()
-    ensures inside { (g : Graph) (ranks walk : List ℕ) (from to : ℕ) → AreRanks g ranks → slice_index ranks from ≡ slice_index ranks to → IsWalk (HasArc g) from to walk → IsWalk (HasArcInto g (of_rank ranks (slice_index ranks to))) from to walk }
-    ensures outside { (g : Graph) (allowed : VertexSet) (walk : List ℕ) (from to : ℕ) → IsWalk (HasArcInto g allowed) from to walk → IsWalk (HasArc g) from to walk }
+    ensures inside { (g : Graph) (ranks walk : List ℕ) (from to : ℕ) → AreRanks g ranks
+        → slice_index ranks from ≡ slice_index ranks to → IsWalk (HasArc g) from to walk
+        → IsWalk (HasArcInto g (of_rank ranks (slice_index ranks to))) from to walk }
+    ensures outside { (g : Graph) (allowed : VertexSet) (walk : List ℕ) (from to : ℕ)
+        → IsWalk (HasArcInto g allowed) from to walk → IsWalk (HasArc g) from to walk }
 {}

@@ -65,7 +65,9 @@ impl Ranks {
 fn never_fall_from<G: Arcs>(graph: &G, ranks: &[u32], vertex: usize) -> bool
     requires ranks { length ranks.now ≡ (G.graph graph.now).count }
     requires vertex { vertex < (G.graph graph.now).count }
-    ensures { IsTrue result ↔ ((w : ℕ) → HasArc (G.graph graph.now) vertex w → slice_index ranks.now vertex ≤ slice_index ranks.now w) }
+    ensures { IsTrue result
+        ↔ ((w : ℕ) → HasArc (G.graph graph.now) vertex w
+        → slice_index ranks.now vertex ≤ slice_index ranks.now w) }
 {
     let rank = ranks[vertex];
     let successors = graph.successors(vertex);

@@ -29,7 +29,12 @@ impl Model for Frontier {
 
     ghost Value = { Summary };
 
-    ghost view = { λ f. record { events = f.events; opened = f.opened.entries; recent = f.moving.recent.items; last = f.moving.last } };
+    ghost view = { λ f. record {
+      events = f.events;
+      opened = f.opened.entries;
+      recent = f.moving.recent.items;
+      last = f.moving.last;
+    } };
 }
 
 impl Frontier {

@@ -61,10 +61,14 @@ impl Moving {
 
     /// Takes an ok transaction, which removes those that completed before its invocation.
     pub fn complete(&mut self, done: Completed) -> Result<(), AllocError>
-        ensures recent { OnOk result (self.new.recent.items ≡ frontier_after self.old.recent.items done) }
-        ensures last { OnOk result ((p : ℕ) → value_of self.new.last p ≡ (if done.process == p then Some (predecessor_of done) else value_of self.old.last p)) }
+        ensures recent { OnOk result
+            (self.new.recent.items ≡ frontier_after self.old.recent.items done) }
+        ensures last { OnOk result
+            ((p : ℕ) → value_of self.new.last p
+            ≡ (if done.process == p then Some (predecessor_of done) else value_of self.old.last p)) }
         ensures recent_kept { OnErr result (self.new.recent.items ≡ self.old.recent.items) }
-        ensures last_kept { OnErr result ((p : ℕ) → value_of self.new.last p ≡ value_of self.old.last p) }
+        ensures last_kept { OnErr result
+            ((p : ℕ) → value_of self.new.last p ≡ value_of self.old.last p) }
     {
         self.recent.reserve(1)?;
         self.last.insert(done.process, done.predecessor())?;

@@ -15,10 +15,16 @@ use txn_pairs::types::Txn;
 
 /// Takes the first of the ok transactions, those that completed before the index, and answers how many these are.
 fn advance(moving: &mut Moving, done: &[Completed], index: u64) -> Result<usize, AllocError>
-    ensures kept { IfOk result (λ count. (earlier : List _) → AreTimely (earlier ++ done.now) → AreKept earlier moving.old.recent.items (value_of moving.old.last) → AreKept (earlier ++ take count done.now) moving.new.recent.items (value_of moving.new.last)) }
+    ensures kept { IfOk result
+        (λ count. (earlier : List _) → AreTimely (earlier ++ done.now)
+        → AreKept earlier moving.old.recent.items (value_of moving.old.last)
+        → AreKept (earlier ++ take count done.now)
+        moving.new.recent.items (value_of moving.new.last)) }
     ensures count { IfOk result (λ count. count ≤ length done.now) }
     ensures before { IfOk result (λ count. All (λ d. d.completion < index) (take count done.now)) }
-    ensures next { IfOk result (λ count. (d : _) → count < length done.now → index ≤ (slice_index_or done.now count d).completion) }
+    ensures next { IfOk result
+        (λ count. (d : _) → count < length done.now
+        → index ≤ (slice_index_or done.now count d).completion) }
 {
     for (count, ok) in done.iter().enumerate() {
         if ok.completion >= index {
@@ -49,8 +55,10 @@ fn row_of(
     in_process: &mut Vec<Predecessor>,
 ) -> Result<Row, AllocError>
     requires { length moving.now.recent.items ≤ taken }
-    ensures row { IfOk result (λ row. row ≡ row_next moving.now txn.now (length in_process.old.items) taken) }
-    ensures last { OnOk result (in_process.new.items ≡ in_process.old.items ++ last_of moving.now txn.now.process) }
+    ensures row { IfOk result
+        (λ row. row ≡ row_next moving.now txn.now (length in_process.old.items) taken) }
+    ensures last { OnOk result
+        (in_process.new.items ≡ in_process.old.items ++ last_of moving.now txn.now.process) }
 {
     let first = in_process.len();
     if let Some(last) = moving.last(txn.process()) {

@@ -50,7 +50,12 @@ impl Model for Predecessors {
 
     ghost Value = { Before };
 
-    ghost view = { λ u. record { process = u.process; invocation = u.invocation; in_process = u.in_process.items; in_realtime = u.in_realtime.items } };
+    ghost view = { λ u. record {
+      process = u.process;
+      invocation = u.invocation;
+      in_process = u.in_process.items;
+      in_realtime = u.in_realtime.items;
+    } };
 }
 
 impl Predecessors {
@@ -60,7 +65,13 @@ impl Predecessors {
         in_process: SmallVec<Predecessor, 1>,
         in_realtime: SmallVec<Predecessor, 4>,
     ) -> Self
-        ensures { result ≡ record { process = process; invocation = invocation; in_process = in_process.items; in_realtime = in_realtime.items } }
+        ensures { result
+            ≡ record {
+              process = process;
+              invocation = invocation;
+              in_process = in_process.items;
+              in_realtime = in_realtime.items;
+            } }
     {
         Predecessors {
             process,
@@ -157,9 +168,11 @@ impl Model for Order {
 
     ghost Value = { List Before };
 
-    ghost view = { λ order. map (before_in order.in_process.items order.in_realtime.items) order.rows.items };
+    ghost view = { λ order. map
+        (before_in order.in_process.items order.in_realtime.items) order.rows.items };
 
-    ghost invariant = { λ order. All (IsRowIn order.in_process.items order.in_realtime.items) order.rows.items };
+    ghost invariant = { λ order. All
+        (IsRowIn order.in_process.items order.in_realtime.items) order.rows.items };
 }
 
 impl Order {

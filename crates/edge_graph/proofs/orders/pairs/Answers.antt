@@ -21,8 +21,8 @@ have c =
     subst (HavePlaces places (length ts)) (sym c.predecessors.ensures)
     (have_places ts order c.requires.kept c.requires.order places c.requires.places c.args.level (before_at order c.loop-place.place) i)
 
-pub push_pairs-requires-clause-within : goal.push_pairs-requires-clause-within
-push_pairs-requires-clause-within c k d h = (have c k d h).0
+pub push_pairs-requires-clause-listed : goal.push_pairs-requires-clause-listed
+push_pairs-requires-clause-listed c k d h = (have c k d h).0
 
 pub push_pairs-requires-clause-apart : goal.push_pairs-requires-clause-apart
 push_pairs-requires-clause-apart c =

@@ -1,9 +1,9 @@
-use Rattle.std.proofs.Common.{◌≡◌, ◌∙◌, ◌++◌, ◌∷◌, [], ℕ, All, ap, sym, subst, get_or}
-use Rattle.std.proofs.lemmas.List.{get_or_default}
+use Rattle.std.proofs.Common.{◌≡◌, ◌∙◌, ◌++◌, ◌∷◌, [], ℕ, List, All, if◌then◌else◌, ap, sym, subst, get_or}
+use Rattle.std.proofs.lemmas.List.{get_or_default, take_all}
 use Rattle.std.proofs.lemmas.List.Elements.{All-push}
 use Rattle.flat_groups.specs.Groups.{group, IsNumbered}
 use Rattle.order_frontier.specs.declared.types.Predecessor.{Predecessor}
-use Rattle.edge_graph.specs.Successors.{place_of}
+use Rattle.edge_graph.specs.Successors.{place_of, has_place}
 use Rattle.edge_graph.proofs.Pushed.{next_pushed}
 use Rattle.edge_graph.proofs.orders.push_pairs.Goals as goal
 
@@ -27,4 +27,17 @@ loop-predecessor-preserved c =
           λ first.
           ap (group first) items
           ∙ next_pushed places ps i p within (get_or_default ps i none p within) c.requires.apart pairs c.args.pairs.now.items c.args.place c.loop-predecessor.invariant.groups first;
+    }
+
+pub returns : goal.returns
+returns c =
+    let ps = c.args.predecessors.now in
+    let inv = c.loop-predecessor.invariant in
+    record {
+      numbered = inv.numbered;
+      groups =
+          λ first.
+          inv.groups first
+          ∙ ap (λ (some : List Predecessor). group first c.args.pairs.now.items ++ (if has_place c.args.places.now some first then c.args.place ∷ [] else []))
+          (take_all c.loop-predecessor.predecessor-index ps c.loop-predecessor-test.false);
     }

@@ -16,21 +16,21 @@ use Rattle.edge_graph.proofs.graph.Graph.add_edges.Goals as goal
 pub add_order_edges-requires-clause-places : goal.add_order_edges-requires-clause-places
 add_order_edges-requires-clause-places c =
     let a = c.self.inside in
-    let made = c.self.invariant.1 in
+    let made = c.self.invariant in
     let ts : List Transaction = a.history.now.txns in
     let level = c.args.kinds.level in
     let place = c.args.place in
     let within : place < length ts = subst (λ (g : Parts). IsPlace g.txns place) (sym c.self.view_is) c.requires in
-    let later_is : c.get-later.result.now ≡ list_at (lists_at level a.orders.in_process a.orders.in_realtime) place = c.get-later.ensures ∙ ap (λ lists. list_at lists place) c.at.ensures in
-    let later = list_at (lists_at level a.orders.in_process a.orders.in_realtime) place in
+    let later_is : c.get-later.result.now ≡ list_at (lists_at level a.orders) place = c.get-later.ensures ∙ ap (λ lists. list_at lists place) c.at.ensures in
+    let later = list_at (lists_at level a.orders) place in
     subst (λ (xs : List Transaction). All (IsPlace xs) c.get-later.result.now) (sym c.txns.ensures.value)
     (subst (λ (places : List ℕ). All (IsPlace ts) places) (sym later_is)
-    (all_in (IsPlace ts) later (λ next i. (later_from ts a.order.now made.kept made.ordered a.orders.in_process a.orders.in_realtime made.process made.realtime level place next within i).0)))
+    (all_in (IsPlace ts) later (λ next i. (later_from ts a.order.now made.kept made.ordered a.orders made.orders level place next within i).0)))
 
 pub returns-clause-ok : goal.returns-clause-ok
 returns-clause-ok c =
     let a = c.self.inside in
-    let made = c.self.invariant.1 in
+    let made = c.self.invariant in
     let ts : List Transaction = a.history.now.txns in
     let kinds = c.args.kinds in
     let place = c.args.place in
@@ -38,11 +38,11 @@ returns-clause-ok c =
     let after = c.add_order_edges.new.out.items in
     let g : Parts = record { txns = ts; order = a.order.now; versions = a.history.now.table.versions } in
     let within : place < length ts = subst (λ (g : Parts). IsPlace g.txns place) (sym c.self.view_is) c.requires in
-    let later_is : c.get-later.result.now ≡ list_at (lists_at kinds.level a.orders.in_process a.orders.in_realtime) place = c.get-later.ensures ∙ ap (λ lists. list_at lists place) c.at.ensures in
-    let later = list_at (lists_at kinds.level a.orders.in_process a.orders.in_realtime) place in
+    let later_is : c.get-later.result.now ≡ list_at (lists_at kinds.level a.orders) place = c.get-later.ensures ∙ ap (λ lists. list_at lists place) c.at.ensures in
+    let later = list_at (lists_at kinds.level a.orders) place in
     let (es, added, found) = c.in_ok-add_dependencies.ensures.ok in
     let are : out_edges.AreEdgesFrom ts (txn_at ts place) es =
-    subst (λ (xs : List Transaction). out_edges.AreEdgesFrom xs (txn_at xs place) es) c.self.invariant.0 found in
+    subst (λ (xs : List Transaction). out_edges.AreEdgesFrom xs (txn_at xs place) es) c.self.invariant.txns found in
     let some = filter (λ (e : Edge). includes kinds e.label) es in
     let more = order_edges_over ts kinds.level place later in
     on_ok_weaker c.add_order_edges.result
@@ -54,6 +54,6 @@ returns-clause-ok c =
     subst (λ (g : Parts). AddsEdgesFrom g kinds place before after) c.self.view_is (
       some ++ more,
       all,
-      edges_out ts a.order.now made.kept made.ordered a.orders.in_process a.orders.in_realtime made.process made.realtime a.history.now.table.versions kinds place es within are,
+      edges_out ts a.order.now made.kept made.ordered a.orders made.orders a.history.now.table.versions kinds place es within are,
     ))
     c.add_order_edges.ensures.ok

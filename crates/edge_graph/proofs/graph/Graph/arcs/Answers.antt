@@ -9,22 +9,22 @@ use Rattle.edge_graph.proofs.graph.Graph.arcs.Goals as goal
 pub new-requires : goal.new-requires
 new-requires c =
     let a = c.self.inside in
-    let made = c.self.invariant.1 in
+    let made = c.self.invariant in
     subst (λ lists. AreWithin (joined c.args.dependencies a.rows lists)) (sym c.at.ensures)
-    (arcs_within a.history.now.txns a.order.now a.history.now.table a.rows a.orders.in_process a.orders.in_realtime made.kept made.versions made.ordered made.rows made.process made.realtime c.args.dependencies c.args.level)
+    (arcs_within a.deps.now a.history.now a.order.now a.rows a.orders made c.args.dependencies c.args.level)
 
 pub returns-clause-arcs : goal.returns-clause-arcs
 returns-clause-arcs c =
     let a = c.self.inside in
-    let made = c.self.invariant.1 in
+    let made = c.self.invariant in
     let kinds = kinds_of c.args.dependencies c.args.level in
     subst (λ (g : Parts). AreArcs g kinds c.new.result) c.self.view_is
     (subst (AreArcs (record { txns = a.history.now.txns; order = a.order.now; versions = a.history.now.table.versions }) kinds) (sym (c.new.ensures ∙ ap (joined c.args.dependencies a.rows) c.at.ensures))
-    (arcs_out a.history.now.txns a.order.now a.history.now.table a.rows a.orders.in_process a.orders.in_realtime made.kept made.versions made.ordered made.rows made.process made.realtime c.args.dependencies c.args.level))
+    (arcs_out a.deps.now a.history.now a.order.now a.rows a.orders made c.args.dependencies c.args.level))
 
 pub returns-clause-rw : goal.returns-clause-rw
 returns-clause-rw c =
     let a = c.self.inside in
-    let made = c.self.invariant.1 in
+    let made = c.self.invariant in
     subst RwByVersions c.self.view_is
-    (rw_by_versions a.history.now.txns a.order.now a.history.now.table a.rows a.orders.in_process a.orders.in_realtime made.kept made.versions made.ordered made.rows made.process made.realtime)
+    (rw_by_versions a.deps.now a.history.now a.order.now a.rows a.orders made)
