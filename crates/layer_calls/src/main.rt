@@ -17,7 +17,7 @@ use op_view::mops::Mops;
 use order_frontier::frontier::Frontier;
 use order_frontier::types::Order;
 use order_frontier::{all_pairs, thin};
-use std::alloc::Global;
+use std::alloc::{AllocError, Global};
 use std::hash::{BuildHasherDefault, FoldHasher};
 use std::io::Read;
 use std::thread::Threads;
@@ -26,13 +26,19 @@ use txn_pairs::pair;
 use txn_pairs::types::Txns;
 use verdict::{verdict, write_verdict};
 
-/// The journal of the blocks, each of which is judged before it is taken.
+/// Judges the block before it is taken.
+fn take_judged<'a>(core: &mut Core<'a>, block: &'a Block) -> Result<(), Fault> {
+    core.judge(block)?;
+    core.reserve_for(block)?;
+    core.take(block);
+    Ok(())
+}
+
+/// The journal of the blocks.
 fn journal_of<'a>(alloc: Global, blocks: &'a [Block]) -> Result<Prefix<'a>, Fault> {
     let mut core = Core::new(alloc);
     for block in blocks {
-        core.judge(block)?;
-        core.reserve_for(block)?;
-        core.take(block);
+        take_judged(&mut core, block)?;
     }
     core.prefix()
 }
@@ -87,6 +93,7 @@ fn frontier_count(alloc: Global, prefix: &Prefix<'_>) -> Result<u64, Fault> {
     Ok(count)
 }
 
+/// The transactions of the journal's events.
 fn txns_of<'a>(alloc: Global, prefix: &Prefix<'a>) -> Result<Txns<'a>, Fault>
     ensures { IfOk result (λ txns. AreOfEvents txns) }
 {
@@ -103,26 +110,60 @@ fn predecessor_count(order: &Order) -> u64 {
     count
 }
 
-/// What the layers answer for a text.
-fn answer<R: Threads + Sync>(rt: &R, alloc: Global, text: &[u8]) -> Result<MemorySink, Fault> {
-    let blocks = read_blocks(rt, alloc, text)?;
-    let prefix = journal_of(alloc, &blocks)?;
-    let txns = txns_of(alloc, &prefix)?;
+/// How many there are in the order of all pairs, and in the thinned one.
+fn order_counts(alloc: Global, prefix: &Prefix<'_>) -> Result<(u64, u64), Fault> {
+    let txns = txns_of(alloc, prefix)?;
     let all = predecessor_count(&all_pairs(alloc, &txns)?);
     let thinned = predecessor_count(&thin(alloc, &txns)?);
-    let frontier = frontier_count(alloc, &prefix)?;
-    let copies = equal_copies(&blocks)?;
-    let mut lines = keys(alloc, &prefix)?;
-    let counts = format!(in alloc;
+    Ok((all, thinned))
+}
+
+/// Appends the lines of what was counted, of a refusal and of a device that failed.
+fn write_counts(
+    alloc: Global,
+    out: &mut Vec<u8>,
+    orders: (u64, u64),
+    frontier: u64,
+    copies: u64,
+) -> Result<(), AllocError> {
+    let (all, thinned) = orders;
+    let lines = format!(in alloc;
         "\nall pairs {all}\nthinned {thinned}\nby the frontier {frontier}\nequal copies {copies}\n{}\n{Failed}\n",
         Refusal::Busy
     )?;
-    lines.extend_from_slice(counts.as_bytes())?;
-    let verdict = verdict(rt, alloc, &prefix, BuildHasherDefault::<FoldHasher>::new())?;
+    out.extend_from_slice(lines.as_bytes())
+}
+
+/// The keys of all events, and what is counted of them.
+fn lines(alloc: Global, blocks: &[Block], prefix: &Prefix<'_>) -> Result<Vec<u8>, Fault> {
+    let orders = order_counts(alloc, prefix)?;
+    let frontier = frontier_count(alloc, prefix)?;
+    let copies = equal_copies(blocks)?;
+    let mut lines = keys(alloc, prefix)?;
+    write_counts(alloc, &mut lines, orders, frontier, copies)?;
+    Ok(lines)
+}
+
+/// The same, and behind it the text of the verdict.
+fn lines_and_verdict<R: Threads + Sync>(
+    rt: &R,
+    alloc: Global,
+    blocks: &[Block],
+    prefix: &Prefix<'_>,
+) -> Result<MemorySink, Fault> {
+    let lines = lines(alloc, blocks, prefix)?;
+    let verdict = verdict(rt, alloc, prefix, BuildHasherDefault::<FoldHasher>::new())?;
     let mut sink = MemorySink::new(alloc);
     let _taken = sink.write(&lines);
     let _written = write_verdict(&verdict, &mut sink);
     Ok(sink)
+}
+
+/// What the layers answer for a text.
+fn answer<R: Threads + Sync>(rt: &R, alloc: Global, text: &[u8]) -> Result<MemorySink, Fault> {
+    let blocks = read_blocks(rt, alloc, text)?;
+    let prefix = journal_of(alloc, &blocks)?;
+    lines_and_verdict(rt, alloc, &blocks, &prefix)
 }
 
 fn main(rt: HostRuntime) -> io::Result<()> {
