@@ -1,24 +1,14 @@
 //! A strict serializability checker of journals of register transactions.
 #![tactic(auto)]
 
-mod answer;
-mod check;
-mod devices;
-mod dispatch;
-mod edge_order;
-mod edges;
-mod inputs;
-mod laws;
-mod reads;
-mod run;
 #[cfg(test)]
 mod runs;
-mod tables;
 #[cfg(test)]
 mod tests;
 
 use command_line::types::{Asked, LineFault};
 use command_line::words::{asked_for, unread_line};
+use command_run::dispatch::dispatch;
 use hist_types::device::{StreamSink, StreamSource};
 use std::env;
 use std::process::ExitCode;
@@ -36,7 +26,7 @@ fn main(rt: HostRuntime) -> ExitCode {
     let mut source = StreamSource::new(rt.stdin());
     let mut sink = StreamSink::new(rt.stdout());
     let mut errors = StreamSink::new(rt.stderr());
-    let status = dispatch::dispatch(
+    let status = dispatch(
         &rt,
         rt.alloc(),
         asked(&rt),

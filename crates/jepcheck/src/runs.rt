@@ -2,11 +2,11 @@
 
 ghost use Rattle.std.specs.Prelude.{None};
 
-use crate::answer::Status;
-use crate::dispatch::dispatch;
-use crate::run::run;
 use arrayvec::ArrayVec;
 use command_line::types::{Asked, Command, LineFault};
+use command_run::answer::Status;
+use command_run::dispatch::dispatch;
+use command_run::run::run;
 use hist_types::device::{Failed, MemorySource, Sink, Source};
 use std::process::Abort;
 use std::test::Fail;

@@ -1,4 +1,4 @@
-use crate::laws;
+use command_run::laws;
 
 #[test]
 fn laws_return() {

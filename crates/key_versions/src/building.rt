@@ -10,6 +10,7 @@ use crate::table::Versions;
 use std::alloc::{AllocError, Global};
 use std::hash::BuildHasher;
 use std::marker::Model;
+use std::thread::Threads;
 use txn_pairs::types::Txn;
 
 /// The table of the transactions so far.
@@ -42,7 +43,8 @@ impl<'a, S: BuildHasher + Copy> Building<'a, S> {
 
     /// Takes the next transaction.
     pub fn take(&mut self, txn: &Txn<'a>) -> Result<(), AllocError>
-        ensures { (ts : List Transaction) → IsTableOf ts self.old → OnOk result (IsTableOf (ts ++ txn.now ∷ []) self.new) }
+        ensures { (ts : List Transaction) → IsTableOf ts self.old
+            → OnOk result (IsTableOf (ts ++ txn.now ∷ []) self.new) }
     {
         let accessed = self.numbering.take(txn)?;
         self.rows.grow(self.numbering.len())?;
@@ -51,14 +53,25 @@ impl<'a, S: BuildHasher + Copy> Building<'a, S> {
         Ok(())
     }
 
+    /// Takes all transactions of a history, one after the other.
+    pub fn take_all(&mut self, txns: &[Txn<'a>]) -> Result<(), AllocError>
+        requires { IsTableOf [] self.old }
+        ensures { OnOk result (IsTableOf txns.now self.new) }
+    {
+        for txn in txns {
+            self.take(txn)?;
+        }
+        Ok(())
+    }
+
     /// Puts the table together. The only error is out of memory.
-    pub fn finish(self, alloc: Global) -> Result<Versions<'a>, AllocError>
+    pub fn finish<R: Threads>(self, rt: &R, alloc: Global) -> Result<Versions<'a>, AllocError>
         requires { length self.writers ≡ length self.versions }
         ensures { IfOk result (λ versions. versions ≡ self.entry) }
     {
         let numbered = self.numbering.finish();
         let rows = self.rows;
-        let known = rows.rows.finish(alloc)?;
+        let known = rows.rows.finish(rt, alloc)?;
         Ok(Versions::new(numbered, known, rows.accesses))
     }
 }

@@ -18,13 +18,16 @@ use crate::table::Versions;
 use hist_types::types::Fault;
 use std::alloc::Global;
 use std::hash::BuildHasher;
+use std::thread::Threads;
 use txn_pairs::types::Txns;
 
 /// The versions that the transactions name, in time for their micro-operations but for the square of the length of one
-/// transaction. They borrow the journal's blocks. No answer depends on the hasher.
+/// transaction. They borrow the journal's blocks. No answer depends on the hasher. Two threads group them in the end, where
+/// another can be made.
 ///
 /// The only error is out of memory.
-pub fn versions<'a, S: BuildHasher + Copy>(
+pub fn versions<'a, R: Threads, S: BuildHasher + Copy>(
+    rt: &R,
     alloc: Global,
     txns: &Txns<'a>,
     hasher: S,
@@ -33,8 +36,6 @@ pub fn versions<'a, S: BuildHasher + Copy>(
     ensures err { IfErr result (λ fault. fault ≡ memory_fault) }
 {
     let mut building = Building::with_capacity(alloc, hasher, txns.as_slice().len())?;
-    for txn in txns.as_slice() {
-        building.take(txn)?;
-    }
-    Ok(building.finish(alloc)?)
+    building.take_all(txns.as_slice())?;
+    Ok(building.finish(rt, alloc)?)
 }

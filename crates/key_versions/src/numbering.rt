@@ -44,7 +44,12 @@ impl<'a, S: BuildHasher> Model for Numbering<'a, S> {
 
     ghost Value = { Numbers };
 
-    ghost view = { λ n. record { keys = n.keys.items; values = n.values.items; pairs = n.pairs.items; nils = n.nils.items } };
+    ghost view = { λ n. record {
+      keys = n.keys.items;
+      values = n.values.items;
+      pairs = n.pairs.items;
+      nils = n.nils.items;
+    } };
 
     ghost invariant = { λ n. IsNumbering n.keys.items n.values.items n.pairs.items n.nils.items };
 }
@@ -81,8 +86,11 @@ impl<'a, S: BuildHasher> Numbering<'a, S> {
 
     /// The number of a key. Where it is new, its nil version gets a number too.
     fn key(&mut self, key: Atom<'a>) -> Result<usize, AllocError>
-        ensures number { IfOk result (λ number. number_in atom_eq key.entry self.new.keys ≡ Some number) }
-        ensures versions { OnOk result (versions_of self.new ≡ with_item version_eq (versions_of self.old) (nil_of key.entry)) }
+        ensures number { IfOk result
+            (λ number. number_in atom_eq key.entry self.new.keys ≡ Some number) }
+        ensures versions { OnOk result
+            (versions_of self.new
+            ≡ with_item version_eq (versions_of self.old) (nil_of key.entry)) }
     {
         if let Some(number) = self.keys.get(&key) {
             return Ok(number);
@@ -98,8 +106,13 @@ impl<'a, S: BuildHasher> Numbering<'a, S> {
     /// The version with a value and the key of this number.
     fn version(&mut self, key: usize, value: Atom<'a>) -> Result<usize, AllocError>
         requires { key < length self.old.keys }
-        ensures versions { OnOk result (versions_of self.new ≡ with_item version_eq (versions_of self.old) (version_with (key_at self.old.keys key) (Some value.entry))) }
-        ensures number { IfOk result (λ number. slice_get (versions_of self.new) number ≡ Some (version_with (key_at self.old.keys key) (Some value.entry))) }
+        ensures versions { OnOk result
+            (versions_of self.new
+            ≡ with_item version_eq (versions_of self.old)
+            (version_with (key_at self.old.keys key) (Some value.entry))) }
+        ensures number { IfOk result
+            (λ number. slice_get (versions_of self.new) number
+            ≡ Some (version_with (key_at self.old.keys key) (Some value.entry))) }
     {
         let value = self.values.insert(value)?;
         let version = self.pairs.insert(key, Some(value))?;
@@ -108,8 +121,12 @@ impl<'a, S: BuildHasher> Numbering<'a, S> {
 
     /// The version with this key and value, where None stands for nil.
     fn access(&mut self, key: Atom<'a>, value: Option<Atom<'a>>) -> Result<Access, AllocError>
-        ensures versions { OnOk result (versions_of self.new ≡ with_versions (versions_of self.old) (nil_of key.entry ∷ version_with key.entry value.entry ∷ [])) }
-        ensures access { IfOk result (IsAccess (versions_of self.new) (version_with key.entry value.entry)) }
+        ensures versions { OnOk result
+            (versions_of self.new
+            ≡ with_versions (versions_of self.old)
+            (nil_of key.entry ∷ version_with key.entry value.entry ∷ [])) }
+        ensures access { IfOk result
+            (IsAccess (versions_of self.new) (version_with key.entry value.entry)) }
     {
         let key = self.key(key)?;
         let nil = self.nils[key];
@@ -125,9 +142,13 @@ impl<'a, S: BuildHasher> Numbering<'a, S> {
 
     /// Numbers the versions that a transaction names.
     pub fn take(&mut self, txn: &Txn<'a>) -> Result<Accessed, AllocError>
-        ensures versions { OnOk result (versions_of self.new ≡ with_versions (versions_of self.old) (named_in txn.now.mops)) }
-        ensures reads { IfOk result (λ a. AreAccesses (versions_of self.new) (read_by txn.now) a.reads.items) }
-        ensures writes { IfOk result (λ a. AreAccesses (versions_of self.new) (map version_of (writes_of txn.now.mops)) a.writes.items) }
+        ensures versions { OnOk result
+            (versions_of self.new ≡ with_versions (versions_of self.old) (named_in txn.now.mops)) }
+        ensures reads { IfOk result
+            (λ a. AreAccesses (versions_of self.new) (read_by txn.now) a.reads.items) }
+        ensures writes { IfOk result
+            (λ a. AreAccesses (versions_of self.new)
+            (map version_of (writes_of txn.now.mops)) a.writes.items) }
     {
         let is_ok = txn.status() == Status::Ok;
         let mut reads = SmallVec::new(self.alloc);
@@ -146,7 +167,8 @@ impl<'a, S: BuildHasher> Numbering<'a, S> {
     pub fn finish(self) -> Numbered<'a>
     where
         S: Drop,
-        ensures versions { versions_in result.keys.items result.values.items result.pairs.items ≡ versions_of self.entry }
+        ensures versions { versions_in result.keys.items result.values.items result.pairs.items
+            ≡ versions_of self.entry }
         ensures in_range { AreInRange result.keys.items result.values.items result.pairs.items }
     {
         Numbered {

@@ -1,14 +1,17 @@
 //! What is known of each version while transactions are taken, and how it is put together.
 
-ghost use Rattle.std.specs.Prelude.{◌≡◌, ◌<◌, ◌++◌, ◌∷◌, [], Some, length, map, IfOk, OnOk};
+ghost use Rattle.std.specs.Prelude.{◌≡◌, ◌<◌, ◌++◌, ◌∷◌, [], Some, length, map, All, IfOk, OnOk};
 ghost use Rattle.std.specs.Option.{option_or};
+ghost use Rattle.flat_groups.specs.Groups.{groups_from, IsNumbered};
 ghost use Rattle.key_versions.specs.Pending.{writer_in};
-ghost use Rattle.key_versions.specs.Rows.{Known, change, is_behind, unknown, with_follower, with_place, with_reader, with_writer};
+ghost use Rattle.key_versions.specs.Rows.{Known, change, is_behind, unknown};
+ghost use Rattle.key_versions.specs.Rows.{with_follower, with_place, with_reader, with_writer};
 
 use crate::types::{Follower, Writer};
 use flat_groups::groups::Groups;
 use std::alloc::{AllocError, Global};
 use std::marker::Model;
+use std::thread::{Threads, join_mut};
 
 /// A version that a transaction reads or writes, by number, and the nil version of its key.
 #[derive(Clone, Copy, Debug, Default, PartialEq, Eq)]
@@ -89,6 +92,27 @@ pub(crate) struct Grouped {
     pub followers: Groups<Follower>,
 }
 
+/// The readers and the followers of each of so many versions: two threads group them, where another can be made.
+fn group_both<R: Threads>(
+    rt: &R,
+    alloc: Global,
+    versions: usize,
+    readers: &[(u32, u32)],
+    followers: &[(u32, Follower)],
+) -> Result<(Groups<u32>, Groups<Follower>), AllocError>
+    requires readers { All (IsNumbered versions) readers.now }
+    requires followers { All (IsNumbered versions) followers.now }
+    ensures readers { IfOk result (λ both. both.0 ≡ groups_from 0 versions readers.now) }
+    ensures followers { IfOk result (λ both. both.1 ≡ groups_from 0 versions followers.now) }
+{
+    let (readers, followers) = join_mut(
+        rt,
+        &mut || Groups::of(alloc, versions, readers),
+        &mut || Groups::of(alloc, versions, followers),
+    );
+    Ok((readers?, followers?))
+}
+
 impl Pending {
     /// No version yet, with room for what so many transactions mostly do: each writes a version, reads two and installs
     /// two.
@@ -144,7 +168,8 @@ impl Pending {
     /// The transaction at the place reads the version. What it installs follows; behind nil that is known already.
     pub fn read(&mut self, place: u32, read: Access, installs: &[Access]) -> Result<(), AllocError>
         requires { read.version < length self.old }
-        ensures { OnOk result (self.new ≡ change (with_reader place read installs.now) read.version self.old) }
+        ensures { OnOk result
+            (self.new ≡ change (with_reader place read installs.now) read.version self.old) }
     {
         self.add_reader(read.version, place)?;
         for install in installs {
@@ -162,16 +187,23 @@ impl Pending {
     }
 
     /// Puts together what is known of each version.
-    pub fn finish(self, alloc: Global) -> Result<Grouped, AllocError>
-        ensures writers { IfOk result (λ g. map writer_in g.writers.items ≡ map (λ (k : Known). k.writer) self) }
+    pub fn finish<R: Threads>(self, rt: &R, alloc: Global) -> Result<Grouped, AllocError>
+        ensures writers { IfOk result
+            (λ g. map writer_in g.writers.items ≡ map (λ (k : Known). k.writer) self) }
         ensures readers { IfOk result (λ g. g.readers ≡ map (λ (k : Known). k.readers) self) }
         ensures followers { IfOk result (λ g. g.followers ≡ map (λ (k : Known). k.followers) self) }
     {
-        let versions = self.writers.len();
+        let (readers, followers) = group_both(
+            rt,
+            alloc,
+            self.writers.len(),
+            self.readers.as_slice(),
+            self.followers.as_slice(),
+        )?;
         Ok(Grouped {
-            readers: Groups::of(alloc, versions, self.readers.as_slice())?,
-            followers: Groups::of(alloc, versions, self.followers.as_slice())?,
             writers: self.writers,
+            readers,
+            followers,
         })
     }
 }

@@ -122,8 +122,11 @@ impl Rows {
     pub fn add(&mut self, reads: &[Access], writes: &[Access]) -> Result<(), AllocError>
         requires reads { All (IsWithin (length self.old.rows)) reads.now }
         requires writes { All (IsWithin (length self.old.rows)) writes.now }
-        ensures rows { OnOk result (self.new.rows ≡ rows_after (length self.old.accesses) reads.now writes.now self.old.rows) }
-        ensures accesses { OnOk result (self.new.accesses ≡ self.old.accesses ++ accessed reads.now writes.now ∷ []) }
+        ensures rows { OnOk result
+            (self.new.rows
+            ≡ rows_after (length self.old.accesses) reads.now writes.now self.old.rows) }
+        ensures accesses { OnOk result
+            (self.new.accesses ≡ self.old.accesses ++ accessed reads.now writes.now ∷ []) }
     {
         let place = number_of(self.accesses.len())?;
         let installs = add_writes(self.alloc, &mut self.rows, place, writes)?;

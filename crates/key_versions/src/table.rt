@@ -33,16 +33,22 @@ impl<'a> Model for Versions<'a> {
 
     ghost Value = { Table };
 
-    ghost view = { λ v. table_of (versions_in v.keys.items v.values.items v.pairs.items) v.writers.items v.readers v.followers v.accesses };
+    ghost view = { λ v. table_of (versions_in v.keys.items v.values.items v.pairs.items)
+        v.writers.items v.readers v.followers v.accesses };
 
-    ghost invariant = { λ v. AreVersions v.keys.items v.values.items v.pairs.items v.writers.items v.readers v.followers };
+    ghost invariant = { λ v. AreVersions v.keys.items v.values.items v.pairs.items
+        v.writers.items v.readers v.followers };
 }
 
 impl<'a> Versions<'a> {
     /// The versions with these keys and values, and what is known of each.
     pub(crate) fn new(numbered: Numbered<'a>, known: Grouped, accesses: Accesses) -> Self
-        requires { AreVersions numbered.keys.items numbered.values.items numbered.pairs.items known.writers.items known.readers known.followers }
-        ensures { result ≡ table_of (versions_in numbered.entry.keys.items numbered.entry.values.items numbered.entry.pairs.items) known.writers.items known.readers known.followers accesses }
+        requires { AreVersions numbered.keys.items numbered.values.items numbered.pairs.items
+            known.writers.items known.readers known.followers }
+        ensures { result ≡ table_of
+            (versions_in
+            numbered.entry.keys.items numbered.entry.values.items numbered.entry.pairs.items)
+            known.writers.items known.readers known.followers accesses }
     {
         Versions {
             keys: numbered.keys,

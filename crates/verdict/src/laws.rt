@@ -7,5 +7,6 @@ ghost use Rattle.verdict.specs.Verdicts.{Report, IsVerdictOf, report_lines};
 
 /// The text of a verdict is a text of its events' verdict.
 pub fn verdicts_in_text()
-    ensures { (events : List Operation) → (r : Report) → IsVerdictOf events r → IsVerdictText events (report_lines r) }
+    ensures { (events : List Operation) → (r : Report) → IsVerdictOf events r
+        → IsVerdictText events (report_lines r) }
 {}

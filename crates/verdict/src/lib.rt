@@ -78,7 +78,8 @@ pub fn verdict<'a, R: Threads + Sync, S: BuildHasher + Copy>(
 /// Hands the verdict's text to a sink, or a beginning of it where the sink fails. It takes no memory.
 pub fn write_verdict<T: Sink>(verdict: &Verdict<'_>, sink: &mut T) -> Result<(), Failed>
     ensures ok { OnOk result (HasTaken T.Sink sink.old sink.new (report_lines verdict.now)) }
-    ensures err { OnErr result (HasFailedBehind T.Sink sink.old sink.new (report_lines verdict.now)) }
+    ensures err { OnErr result
+        (HasFailedBehind T.Sink sink.old sink.new (report_lines verdict.now)) }
 {
     write_all(sink, verdict.text())
 }

@@ -69,5 +69,12 @@ impl<'a> Model for Report<'a> {
 
     ghost Value = { AReport };
 
-    ghost view = { λ r. record { prefix = r.prefix; txns = r.txns; findings = r.findings; g1a = r.g1a; g1b = r.g1b; stray = r.stray } };
+    ghost view = { λ r. record {
+      prefix = r.prefix;
+      txns = r.txns;
+      findings = r.findings;
+      g1a = r.g1a;
+      g1b = r.g1b;
+      stray = r.stray;
+    } };
 }

@@ -27,7 +27,7 @@ pub struct Tables<'a> {
 }
 
 /// The thinned order of the transactions, and the table of their versions: two threads make them, where another can be made.
-fn order_and_versions<'a, R: Threads, S: BuildHasher + Copy>(
+fn order_and_versions<'a, R: Threads + Sync, S: BuildHasher + Copy>(
     rt: &R,
     alloc: Global,
     txns: &Txns<'a>,
@@ -41,7 +41,7 @@ fn order_and_versions<'a, R: Threads, S: BuildHasher + Copy>(
     let (order, versions) = join_mut(
         rt,
         &mut || thin(alloc, txns),
-        &mut || versions(alloc, txns, hasher),
+        &mut || versions(rt, alloc, txns, hasher),
     );
     Ok((order?, versions?))
 }

@@ -68,14 +68,16 @@ impl<'a> Verdict<'a> {
 
     /// The lowest level at which a cycle shows the phenomenon, or none.
     pub fn level(&self, phenomenon: Phenomenon) -> Option<Level>
-        ensures { result ≡ option_map (λ (f : AFinding). f.level) (finding self.now.findings phenomenon) }
+        ensures { result
+            ≡ option_map (λ (f : AFinding). f.level) (finding self.now.findings phenomenon) }
     {
         Some(self.finding(phenomenon)?.level)
     }
 
     /// A cycle that shows the phenomenon at its lowest level.
     pub fn witness(&self, phenomenon: Phenomenon) -> Option<&Witness<'a>>
-        ensures { option_copied result ≡ option_map (λ (f : AFinding). f.walk) (finding self.now.findings phenomenon) }
+        ensures { option_copied result
+            ≡ option_map (λ (f : AFinding). f.walk) (finding self.now.findings phenomenon) }
     {
         Some(&self.finding(phenomenon)?.witness)
     }
@@ -106,5 +108,12 @@ impl<'a> Verdict<'a> {
         ensures { result.now ≡ report_lines self.now }
     {
         &self.text
+    }
+
+    /// The same text, for one who needs no more than that.
+    pub fn into_text(self) -> Vec<u8>
+        ensures { result.items ≡ report_lines self.entry }
+    {
+        self.text
     }
 }

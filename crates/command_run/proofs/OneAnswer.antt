@@ -1,0 +1,114 @@
+-- A text has one answer.
+use Rattle.std.proofs.Common.{◌≡◌, ℕ, List, ◌||◌, Option, Some, None, is_some, inl, inr, refl, sym, ap, subst, ◌∙◌}
+use Rattle.std.specs.Prelude.{◌≢◌, ◌⊎◌}
+use Rattle.std.proofs.lemmas.Option.{none-some, same_Some}
+use Rattle.hist_types.specs.Operations.{Operation}
+use Rattle.hist_types.specs.Entries.{operations_of}
+use Rattle.hist_types.specs.Laws.{HasOne}
+use Rattle.hist_types.specs.Reading.{Reads}
+use Rattle.hist_types.specs.Texts.{reads_text, edges_text, has_bad_read, IsVerdictText, refusal_line}
+use Rattle.hist_types.specs.Transactions.{Transaction}
+use Rattle.hist_types.specs.Witness.{Finding, IsFinding}
+use Rattle.hist_types.specs.declared.types.Fault.{Fault}
+use Rattle.hist_types.specs.declared.types.Phenomenon.{Phenomenon}
+use Rattle.block_reader.specs.Texts.{GivesOperations, GivesFault}
+use Rattle.command_run.specs.Answers.{GivesEvents, journal_fault, IsRefused, names_cycle, IsVerdict, Reports, IsReport, IsAnswer}
+use Rattle.command_run.specs.Statuses.{status_by}
+use Rattle.command_run.specs.declared.answer.Status.{Status}
+use Rattle.command_run.specs.declared.answer.Status.TheVariants as statuses
+use Rattle.command_line.specs.declared.types.Command.{Command}
+use Rattle.command_line.specs.declared.types.Command.TheVariants.{Reads as the_reads, Edges as the_edges, Check as the_check}
+
+module _ (text : List ℕ) (one_reading : HasOne (Reads text)) where
+  same_operations : (ops others : List Operation) → GivesOperations text ops → GivesOperations text others → ops ≡ others
+  same_operations ops others one two =
+      let same = one_reading.1 one.entries two.entries None None one.read two.read in
+      sym one.given ∙ (ap operations_of same.0 ∙ two.given)
+
+  same_fault : (fault other : Fault) → GivesFault text fault → GivesFault text other → fault ≡ other
+  same_fault fault other one two =
+      same_Some fault other (one_reading.1 one.entries two.entries (Some fault) (Some other) one.read two.read).1
+
+  not_both : (ops : List Operation) (fault : Fault) → GivesOperations text ops → GivesFault text fault → ⊥
+  not_both ops fault given refused =
+      none-some fault (one_reading.1 given.entries refused.entries None (Some fault) given.read refused.read).1
+
+  -- operations whose journal is refused are no events
+  no_events : (events ops : List Operation) (fault : Fault) → GivesEvents text events → GivesOperations text ops → journal_fault ops ≡ Some fault → ⊥
+  no_events events ops fault kept given broken =
+      let same = same_operations events ops kept.given given in
+      let none : journal_fault ops ≡ None = subst (λ (os : List Operation). journal_fault os ≡ None) same (rw kept.kept refl) in
+      none-some fault (sym none ∙ broken)
+
+  same_refusal : (fault other : Fault) → IsRefused text fault → IsRefused text other → fault ≡ other
+  same_refusal fault other (inl one) (inl two) = same_fault fault other one two
+  same_refusal fault other (inl one) (inr two) = absurd (not_both two.0 fault two.1 one)
+  same_refusal fault other (inr one) (inl two) = absurd (not_both one.0 other one.1 two)
+  same_refusal fault other (inr one) (inr two) =
+      let same = same_operations one.0 two.0 one.1 two.1 in
+      same_Some fault other (sym one.2 ∙ (ap journal_fault same ∙ two.2))
+
+  not_refused : (events : List Operation) (fault : Fault) → GivesEvents text events → IsRefused text fault → ⊥
+  not_refused events fault kept (inl reading) = not_both events fault kept.given reading
+  not_refused events fault kept (inr journal) = no_events events journal.0 fault kept journal.1 journal.2
+
+-- an answer is a report or a refusal
+record Refuses (text : List ℕ) (status : Status) (printed : List ℕ) : Type 0 where
+  fault : Fault
+  refused : IsRefused text fault
+  by : status ≡ statuses.Refused
+  line : printed ≡ refusal_line fault
+
+judged : (command : Command) (text : List ℕ) (status : Status) (printed : List ℕ) → status ≢ statuses.Memory → IsAnswer command text status printed → IsReport command text status printed ⊎ Refuses text status printed
+judged command text statuses.NoPhenomenon printed given a = inl a
+judged command text statuses.SomePhenomenon printed given a = inl a
+judged command text statuses.Refused printed given a = inr (record { fault = a.0; refused = a.1; by = refl; line = a.2 })
+judged command text statuses.DeviceFault printed given a = absurd a
+judged command text statuses.Memory printed given a = absurd (given refl)
+
+-- a phenomenon is found or not
+same_finding : (phenomenon : Phenomenon) (ts : List Transaction) (found other : Option Finding) → IsFinding phenomenon ts found → IsFinding phenomenon ts other → is_some found ≡ is_some other
+same_finding phenomenon ts None None one two = refl
+same_finding phenomenon ts (Some f) (Some g) one two = refl
+same_finding phenomenon ts None (Some g) one two = absurd (one.0 g.level two.0.0)
+same_finding phenomenon ts (Some f) None one two = absurd (two.0 f.level one.0.0)
+
+same_named : (events : List Operation) (printed lines : List ℕ) (one : IsVerdictText events printed) (two : IsVerdictText events lines) → names_cycle one ≡ names_cycle two
+same_named events printed lines one two =
+    rw (
+      same_finding _ _ one.g0 two.g0 one.is_g0 two.is_g0,
+      same_finding _ _ one.g1c two.g1c one.is_g1c two.is_g1c,
+      same_finding _ _ one.single two.single one.is_single two.is_single,
+      same_finding _ _ one.item two.item one.is_item two.is_item,
+    ) refl
+
+same_status : (events : List Operation) (status other : Status) (printed lines : List ℕ) → IsVerdict events status printed → IsVerdict events other lines → status ≡ other
+same_status events status other printed lines one two =
+    one.status_is ∙ (ap (λ b. status_by (b || has_bad_read events)) (same_named events printed lines one.text two.text) ∙ sym two.status_is)
+
+-- one status, and but for a verdict one output with it
+abbrev IsSame : Command → (status other : Status) → (printed others : List ℕ) → Type 0
+IsSame command status other printed others = (status ≡ other) × (command ≢ the_check → printed ≡ others)
+
+-- events have one report
+one_report : (command : Command) (events others : List Operation) (status other : Status) (printed lines : List ℕ) → events ≡ others
+    → Reports command events status printed → Reports command others other lines → IsSame command status other printed lines
+one_report the_reads events others status other printed lines same one two =
+    (one.0 ∙ (ap (λ (es : List Operation). status_by (has_bad_read es)) same ∙ sym two.0), λ no_check. one.1 ∙ (ap reads_text same ∙ sym two.1))
+one_report the_edges events others status other printed lines same one two = (one.0 ∙ sym two.0, λ no_check. one.1 ∙ (ap edges_text same ∙ sym two.1))
+one_report the_check events others status other printed lines same one two =
+    (same_status events status other printed lines one (subst (λ (es : List Operation). IsVerdict es other lines) (sym same) two), λ no_check. absurd (no_check refl))
+
+-- a text that has one reading has one answer
+pub one_answer : ((text : List ℕ) → HasOne (Reads text)) → (command : Command) (text : List ℕ) (status other : Status) (printed others : List ℕ) → status ≢ statuses.Memory → other ≢ statuses.Memory
+    → IsAnswer command text status printed → IsAnswer command text other others → IsSame command status other printed others
+one_answer one_reading command text status other printed others given too one two = by_kind (judged command text status printed given one) (judged command text other others too two)
+  where
+    by_kind : IsReport command text status printed ⊎ Refuses text status printed → IsReport command text other others ⊎ Refuses text other others → IsSame command status other printed others
+    by_kind (inl r) (inl s) =
+        one_report command r.events s.events status other printed others (same_operations text (one_reading text) r.events s.events r.given.given s.given.given) r.reported s.reported
+    by_kind (inl r) (inr s) = absurd (not_refused text (one_reading text) r.events s.fault r.given s.refused)
+    by_kind (inr r) (inl s) = absurd (not_refused text (one_reading text) s.events r.fault s.given r.refused)
+    by_kind (inr r) (inr s) =
+        let same = same_refusal text (one_reading text) r.fault s.fault r.refused s.refused in
+        (r.by ∙ sym s.by, λ no_check. r.line ∙ (ap refusal_line same ∙ sym s.line))

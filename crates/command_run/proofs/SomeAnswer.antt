@@ -1,0 +1,83 @@
+-- A text has an answer.
+use Rattle.std.proofs.Common.{◌≡◌, ℕ, List, [], Bool, true, false, Option, Some, None, inl, inr, refl, ap, sym, ◌∙◌}
+use Rattle.std.specs.Prelude.{◌≢◌, ◌||◌, option_map}
+use Rattle.std.proofs.lemmas.Bool.{false≢true}
+use Rattle.hist_types.specs.Operations.{Operation}
+use Rattle.hist_types.specs.Journal.{first_broken}
+use Rattle.hist_types.specs.Entries.{Entry, operations_of}
+use Rattle.hist_types.specs.Laws.{HasOne}
+use Rattle.hist_types.specs.Reading.{Reads}
+use Rattle.hist_types.specs.Refusals.{event_fault}
+use Rattle.hist_types.specs.Texts.{reads_text, edges_text, has_bad_read, IsVerdictText, verdict_lines, refusal_line}
+use Rattle.hist_types.specs.declared.types.Fault.{Fault}
+use Rattle.hist_types.specs.declared.types.Refusal.{Refusal}
+use Rattle.hist_types.specs.declared.types.Phenomenon.TheVariants.{G0, G1c, GSingle, G2Item}
+use Rattle.command_run.proofs.Deciding.{has_finding}
+use Rattle.block_reader.specs.Texts.{GivesOperations}
+use Rattle.command_run.specs.Answers.{GivesEvents, IsRefused, names_cycle, HasAnswer}
+use Rattle.command_run.specs.declared.answer.Status.{Status}
+use Rattle.command_run.specs.declared.answer.Status.TheVariants as statuses
+use Rattle.command_line.specs.declared.types.Command.{Command}
+use Rattle.command_line.specs.declared.types.Command.TheVariants.{Reads as the_reads, Edges as the_edges, Check as the_check}
+
+abbrev is_memory : Status → Bool
+is_memory statuses.Memory = true
+is_memory status = false
+
+not_memory : (status : Status) → is_memory status ≡ false → status ≢ statuses.Memory
+not_memory status other e = false≢true (sym other ∙ ap is_memory e)
+
+refused : (command : Command) (text : List ℕ) (fault : Fault) → IsRefused text fault → HasAnswer command text
+refused command text fault because = (statuses.Refused, refusal_line fault, not_memory statuses.Refused refl, (fault, because, refl))
+
+reported : (command : Command) (text : List ℕ) (events : List Operation) → GivesEvents text events → HasAnswer command text
+reported the_reads text events given = by_reads (has_bad_read events) refl
+  where
+    by_reads : (named : Bool) → has_bad_read events ≡ named → HasAnswer the_reads text
+    by_reads true e =
+        (statuses.SomePhenomenon, reads_text events, not_memory statuses.SomePhenomenon refl, record { events = events; given = given; reported = (rw e refl, refl) })
+    by_reads false e =
+        (statuses.NoPhenomenon, reads_text events, not_memory statuses.NoPhenomenon refl, record { events = events; given = given; reported = (rw e refl, refl) })
+reported the_edges text events given =
+    (statuses.NoPhenomenon, edges_text events, not_memory statuses.NoPhenomenon refl, record { events = events; given = given; reported = (refl, refl) })
+reported the_check text events given = by_named (names_cycle verdict || has_bad_read events) refl
+  where
+    printed : List ℕ
+    printed = verdict_lines events (has_finding G0 events).0 (has_finding G1c events).0 (has_finding GSingle events).0 (has_finding G2Item events).0
+
+    verdict : IsVerdictText events printed
+    verdict =
+        record {
+          g0 = (has_finding G0 events).0;
+          g1c = (has_finding G1c events).0;
+          single = (has_finding GSingle events).0;
+          item = (has_finding G2Item events).0;
+          is_g0 = (has_finding G0 events).1;
+          is_g1c = (has_finding G1c events).1;
+          is_single = (has_finding GSingle events).1;
+          is_item = (has_finding G2Item events).1;
+          lines = refl;
+        }
+
+    by_named : (named : Bool) → (names_cycle verdict || has_bad_read events) ≡ named → HasAnswer the_check text
+    by_named true e =
+        (statuses.SomePhenomenon, printed, not_memory statuses.SomePhenomenon refl, record { events = events; given = given; reported = record { text = verdict; status_is = rw e refl } })
+    by_named false e =
+        (statuses.NoPhenomenon, printed, not_memory statuses.NoPhenomenon refl, record { events = events; given = given; reported = record { text = verdict; status_is = rw e refl } })
+
+judged : (command : Command) (text : List ℕ) (operations : List Operation) → GivesOperations text operations → HasAnswer command text
+judged command text operations given = by_rules (first_broken [] operations) refl
+  where
+    by_rules : (broken : Option (Refusal × ℕ)) → first_broken [] operations ≡ broken → HasAnswer command text
+    by_rules None e = reported command text operations (record { given = given; kept = e })
+    by_rules (Some rule) e = refused command text (event_fault rule) (inr (operations, given, ap (option_map event_fault) e))
+
+by_reading : (command : Command) (text : List ℕ) → (entries : List Entry) (ending : Option Fault) → Reads text entries ending → HasAnswer command text
+by_reading command text entries None read = judged command text (operations_of entries) (record { entries = entries; read = read; given = refl })
+by_reading command text entries (Some fault) read = refused command text fault (inl (record { entries = entries; read = read }))
+
+-- a text that has a reading has an answer
+pub some_answer : ((text : List ℕ) → HasOne (Reads text)) → (command : Command) (text : List ℕ) → HasAnswer command text
+some_answer one_reading command text =
+    let has = (one_reading text).0 in
+    by_reading command text has.0 has.1 has.2

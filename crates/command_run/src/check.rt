@@ -1,0 +1,75 @@
+//! The command `check`.
+
+ghost use Rattle.std.specs.Prelude.{◌≡◌, ◌⊎◌, [], None, IfOk, OnOk, IfErr};
+ghost use Rattle.hist_types.specs.Journal.{first_broken};
+ghost use Rattle.hist_types.specs.Refusals.{memory_fault};
+ghost use Rattle.verdict.specs.Lowest.{AreTablesOf};
+ghost use Rattle.block_reader.specs.Blocks.{operations_in};
+ghost use Rattle.command_run.specs.Answers.{Reports, IsFirstBrokenBy};
+ghost use Rattle.command_run.specs.Statuses.{status_by};
+ghost use Rattle.command_run.specs.Verdicts.{names_phenomenon};
+ghost use Rattle.command_line.specs.declared.types.Command.TheVariants.{Check};
+
+use crate::answer::{Answer, Status};
+use crate::tables::judged_for_verdict;
+use hist_types::types::{Fault, Phenomenon};
+use journal_core::events::Events;
+use op_block::block::Block;
+use std::alloc::Global;
+use std::thread::Threads;
+use verdict::tables::Tables;
+use verdict::types::Verdict;
+use verdict::verdict_from;
+
+fn status_of(verdict: &Verdict<'_>) -> Status
+    ensures { result ≡ status_by (names_phenomenon verdict.now) }
+{
+    let cycle = verdict.level(Phenomenon::G0).is_some()
+        || verdict.level(Phenomenon::G1c).is_some()
+        || verdict.level(Phenomenon::GSingle).is_some()
+        || verdict.level(Phenomenon::G2Item).is_some();
+    let read = verdict.g1a().is_some() || verdict.g1b().is_some();
+    if cycle || read {
+        Status::SomePhenomenon
+    } else {
+        Status::NoPhenomenon
+    }
+}
+
+/// What `check` prints of events that keep the rules. It fails only where it is out of memory.
+fn report<R: Threads + Sync>(
+    rt: &R,
+    alloc: Global,
+    events: &Events<'_>,
+    tables: &Tables<'_>,
+) -> Result<Answer, Fault>
+    requires kept { first_broken [] events.now ≡ None }
+    requires tables { AreTablesOf events.now tables.now }
+    ensures ok { IfOk result
+        (λ answer. Reports Check events.now answer.status answer.printed.items) }
+    ensures err { IfErr result (λ fault. fault ≡ memory_fault) }
+{
+    let verdict = verdict_from(rt, alloc, events, tables)?;
+    Ok(Answer {
+        status: status_of(&verdict),
+        printed: verdict.into_text(),
+    })
+}
+
+/// What `check` prints of the events of the blocks, which are judged beside.
+pub fn judged_report<'a, R: Threads + Sync>(
+    rt: &R,
+    alloc: Global,
+    blocks: &'a [Block],
+    events: &Events<'a>,
+) -> Result<Answer, Fault>
+    requires { events.now ≡ operations_in blocks.now }
+    ensures ok { IfOk result
+        (λ answer. Reports Check events.now answer.status answer.printed.items) }
+    ensures kept { OnOk result (first_broken [] events.now ≡ None) }
+    ensures err { IfErr result
+        (λ fault. (fault ≡ memory_fault) ⊎ IsFirstBrokenBy blocks.now fault) }
+{
+    let tables = judged_for_verdict(rt, alloc, blocks, events)?;
+    report(rt, alloc, events, &tables)
+}

@@ -1,0 +1,14 @@
+//! What a command does, from a source's bytes to a sink's.
+#![tactic(auto)]
+
+pub mod answer;
+mod check;
+mod devices;
+pub mod dispatch;
+mod edge_order;
+mod edges;
+mod inputs;
+pub mod laws;
+mod reads;
+pub mod run;
+mod tables;

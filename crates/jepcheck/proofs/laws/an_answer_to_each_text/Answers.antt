@@ -1,5 +1,0 @@
-use Rattle.jepcheck.proofs.SomeAnswer.{some_answer}
-use Rattle.jepcheck.proofs.laws.an_answer_to_each_text.Goals as goal
-
-pub returns : goal.returns
-returns c = some_answer c.texts_have_one_reading.ensures.reading
