@@ -1,20 +1,17 @@
 //! The command `check`.
 
-ghost use Rattle.std.specs.Prelude.{◌≡◌, ◌⊎◌, [], None, IfOk, OnOk, IfErr};
+ghost use Rattle.std.specs.Prelude.{◌≡◌, [], None, IfOk, IfErr};
 ghost use Rattle.hist_types.specs.Journal.{first_broken};
 ghost use Rattle.hist_types.specs.Refusals.{memory_fault};
 ghost use Rattle.verdict.specs.Lowest.{AreTablesOf};
-ghost use Rattle.block_reader.specs.Blocks.{operations_in};
-ghost use Rattle.command_run.specs.Answers.{Reports, IsFirstBrokenBy};
+ghost use Rattle.command_run.specs.Answers.{Reports};
 ghost use Rattle.command_run.specs.Statuses.{status_by};
 ghost use Rattle.command_run.specs.Verdicts.{names_phenomenon};
 ghost use Rattle.command_line.specs.declared.types.Command.TheVariants.{Check};
 
 use crate::answer::{Answer, Status};
-use crate::tables::judged_for_verdict;
 use hist_types::types::{Fault, Phenomenon};
 use journal_core::events::Events;
-use op_block::block::Block;
 use std::alloc::Global;
 use std::thread::Threads;
 use verdict::tables::Tables;
@@ -37,7 +34,7 @@ fn status_of(verdict: &Verdict<'_>) -> Status
 }
 
 /// What `check` prints of events that keep the rules. It fails only where it is out of memory.
-fn report<R: Threads + Sync>(
+pub fn report<R: Threads + Sync>(
     rt: &R,
     alloc: Global,
     events: &Events<'_>,
@@ -54,22 +51,4 @@ fn report<R: Threads + Sync>(
         status: status_of(&verdict),
         printed: verdict.into_text(),
     })
-}
-
-/// What `check` prints of the events of the blocks, which are judged beside.
-pub fn judged_report<'a, R: Threads + Sync>(
-    rt: &R,
-    alloc: Global,
-    blocks: &'a [Block],
-    events: &Events<'a>,
-) -> Result<Answer, Fault>
-    requires { events.now ≡ operations_in blocks.now }
-    ensures ok { IfOk result
-        (λ answer. Reports Check events.now answer.status answer.printed.items) }
-    ensures kept { OnOk result (first_broken [] events.now ≡ None) }
-    ensures err { IfErr result
-        (λ fault. (fault ≡ memory_fault) ⊎ IsFirstBrokenBy blocks.now fault) }
-{
-    let tables = judged_for_verdict(rt, alloc, blocks, events)?;
-    report(rt, alloc, events, &tables)
 }

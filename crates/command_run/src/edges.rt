@@ -1,28 +1,25 @@
 //! The command `edges`.
 
-ghost use Rattle.std.specs.Prelude.{◌≡◌, ◌⊎◌, [], None, length, IfOk, IfErr, OnOk};
+ghost use Rattle.std.specs.Prelude.{◌≡◌, [], None, length, IfOk, IfErr, OnOk};
 ghost use Rattle.hist_types.specs.Journal.{first_broken};
 ghost use Rattle.hist_types.specs.Refusals.{memory_fault};
 ghost use Rattle.dep_edges.specs.Histories.{AreOfHistory};
 ghost use Rattle.dep_edges.specs.Tables.{IsPlace, txn_at};
 ghost use Rattle.command_line.specs.declared.types.Command.TheVariants.{Edges};
-ghost use Rattle.block_reader.specs.Blocks.{operations_in};
-ghost use Rattle.command_run.specs.Answers.{Reports, IsFirstBrokenBy};
+ghost use Rattle.command_run.specs.Answers.{Reports};
 ghost use Rattle.command_run.specs.Tables.{AreTablesOf};
 ghost use Rattle.command_run.specs.Leaving.{edges_leaving, IsContinuedByAll};
 
 use crate::answer::{Answer, Status};
 use crate::edge_order::sort_edges;
-use crate::tables::{Tables, judged_tables};
+use crate::tables::Tables;
 use cycle_show::write::{write_edges, write_head, write_number};
 use dep_edges::deps::Deps;
 use dep_edges::edges;
 use dep_edges::types::Edge;
 use hist_types::types::Fault;
 use journal_core::events::Events;
-use op_block::block::Block;
 use std::alloc::{AllocError, Global};
-use std::thread::Threads;
 
 /// Makes the list that of the edges that leave the transaction at the place, in order.
 fn find_leaving<'a>(
@@ -62,7 +59,7 @@ fn write_all_edges(
 }
 
 /// What `edges` prints of events that keep the rules. It fails only where it is out of memory.
-fn report(alloc: Global, events: &Events<'_>, tables: &Tables<'_>) -> Result<Answer, Fault>
+pub fn report(alloc: Global, events: &Events<'_>, tables: &Tables<'_>) -> Result<Answer, Fault>
     requires kept { first_broken [] events.now ≡ None }
     requires tables { AreTablesOf events.now tables.now }
     ensures ok { IfOk result
@@ -80,22 +77,4 @@ fn report(alloc: Global, events: &Events<'_>, tables: &Tables<'_>) -> Result<Ans
         status: Status::NoPhenomenon,
         printed,
     })
-}
-
-/// What `edges` prints of the events of the blocks, which are judged beside.
-pub fn judged_report<'a, R: Threads + Sync>(
-    rt: &R,
-    alloc: Global,
-    blocks: &'a [Block],
-    events: &Events<'a>,
-) -> Result<Answer, Fault>
-    requires { events.now ≡ operations_in blocks.now }
-    ensures ok { IfOk result
-        (λ answer. Reports Edges events.now answer.status answer.printed.items) }
-    ensures kept { OnOk result (first_broken [] events.now ≡ None) }
-    ensures err { IfErr result
-        (λ fault. (fault ≡ memory_fault) ⊎ IsFirstBrokenBy blocks.now fault) }
-{
-    let tables = judged_tables(rt, alloc, blocks, events)?;
-    report(alloc, events, &tables)
 }

@@ -1,24 +1,21 @@
 //! The command `reads`.
 
-ghost use Rattle.std.specs.Prelude.{◌≡◌, ◌⊎◌, [], None, IfOk, OnOk, IfErr, is_some, ◌||◌};
+ghost use Rattle.std.specs.Prelude.{◌≡◌, [], None, IfOk, IfErr, is_some, ◌||◌};
 ghost use Rattle.hist_types.specs.Journal.{first_broken};
 ghost use Rattle.hist_types.specs.Refusals.{memory_fault};
-ghost use Rattle.block_reader.specs.Blocks.{operations_in};
-ghost use Rattle.command_run.specs.Answers.{Reports, IsFirstBrokenBy};
+ghost use Rattle.command_run.specs.Answers.{Reports};
 ghost use Rattle.command_run.specs.Tables.{AreTablesOf};
 ghost use Rattle.command_run.specs.Statuses.{status_by};
 ghost use Rattle.command_line.specs.declared.types.Command.TheVariants.{Reads};
 
 use crate::answer::{Answer, Status};
-use crate::tables::{Tables, judged_tables};
+use crate::tables::Tables;
 use cycle_show::write::{write_bad_read, write_head, write_number};
 use dep_edges::edges;
 use dep_edges::types::BadRead;
 use hist_types::types::Fault;
 use journal_core::events::Events;
-use op_block::block::Block;
 use std::alloc::Global;
-use std::thread::Threads;
 
 fn status_of(aborted: &Option<BadRead<'_>>, intermediate: &Option<BadRead<'_>>) -> Status
     ensures { result ≡ status_by (is_some aborted.now || is_some intermediate.now) }
@@ -31,7 +28,7 @@ fn status_of(aborted: &Option<BadRead<'_>>, intermediate: &Option<BadRead<'_>>) 
 }
 
 /// What `reads` prints of events that keep the rules. It fails only where it is out of memory.
-fn report(alloc: Global, events: &Events<'_>, tables: &Tables<'_>) -> Result<Answer, Fault>
+pub fn report(alloc: Global, events: &Events<'_>, tables: &Tables<'_>) -> Result<Answer, Fault>
     requires kept { first_broken [] events.now ≡ None }
     requires tables { AreTablesOf events.now tables.now }
     ensures ok { IfOk result
@@ -52,22 +49,4 @@ fn report(alloc: Global, events: &Events<'_>, tables: &Tables<'_>) -> Result<Ans
         status: status_of(&aborted, &intermediate),
         printed,
     })
-}
-
-/// What `reads` prints of the events of the blocks, which are judged beside.
-pub fn judged_report<'a, R: Threads + Sync>(
-    rt: &R,
-    alloc: Global,
-    blocks: &'a [Block],
-    events: &Events<'a>,
-) -> Result<Answer, Fault>
-    requires { events.now ≡ operations_in blocks.now }
-    ensures ok { IfOk result
-        (λ answer. Reports Reads events.now answer.status answer.printed.items) }
-    ensures kept { OnOk result (first_broken [] events.now ≡ None) }
-    ensures err { IfErr result
-        (λ fault. (fault ≡ memory_fault) ⊎ IsFirstBrokenBy blocks.now fault) }
-{
-    let tables = judged_tables(rt, alloc, blocks, events)?;
-    report(alloc, events, &tables)
 }

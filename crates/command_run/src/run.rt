@@ -1,24 +1,60 @@
 //! The run of a command, from a source's bytes to a sink's.
 
-ghost use Rattle.std.specs.Prelude.{◌≡◌, ◌⊎◌, ℕ, ◌≤◌, List, IfOk, IfErr, IfSome};
+ghost use Rattle.std.specs.Prelude.{◌≡◌, ◌⊎◌, ℕ, ◌≤◌, List, [], None, IfOk, OnOk, IfErr, IfSome};
 ghost use Rattle.std.specs.Io.KnownBytes.{IsAtEnd};
+ghost use Rattle.hist_types.specs.Journal.{first_broken};
 ghost use Rattle.hist_types.specs.Refusals.{memory_fault};
 ghost use Rattle.hist_types.specs.Texts.{refusal_line};
-ghost use Rattle.command_run.specs.Answers.{IsAnswer, IsRefused};
+ghost use Rattle.block_reader.specs.Blocks.{operations_in};
+ghost use Rattle.command_run.specs.Answers.{IsAnswer, IsRefused, IsFirstBrokenBy, Reports};
 ghost use Rattle.command_run.specs.Runs.{HasPrinted, HasAnswered, FailedBy};
 ghost use Rattle.command_run.specs.Statuses.{code_of};
 
 use crate::answer::{Answer, Status, refuse};
 use crate::devices::{ReadFault, read_all};
 use crate::inputs::events_of;
+use crate::tables::{judged_for_verdict, judged_tables};
 use crate::{check, edges, reads};
 use block_reader::reading::read_blocks;
 use command_line::types::Command;
 use hist_types::device::{Failed, Sink, Source};
 use hist_types::types::{Fault, Refusal};
+use journal_core::events::Events;
+use op_block::block::Block;
 use std::alloc::{AllocError, Global};
 use std::thread::Threads;
 use verdict::devices::write_all;
+
+/// What the command prints of the events of the blocks, which are judged beside.
+fn report_on<'a, R: Threads + Sync>(
+    rt: &R,
+    alloc: Global,
+    command: Command,
+    blocks: &'a [Block],
+    events: &Events<'a>,
+) -> Result<Answer, Fault>
+    requires { events.now ≡ operations_in blocks.now }
+    ensures ok { IfOk result
+        (λ answer. Reports command events.now answer.status answer.printed.items) }
+    ensures kept { OnOk result (first_broken [] events.now ≡ None) }
+    ensures err { IfErr result
+        (λ fault. (fault ≡ memory_fault) ⊎ IsFirstBrokenBy blocks.now fault) }
+{
+    match command {
+        Command::Reads => {
+            let tables = judged_tables(rt, alloc, blocks, events)?;
+            reads::report(alloc, events, &tables)
+        }
+        Command::Edges => {
+            let tables = judged_tables(rt, alloc, blocks, events)?;
+            edges::report(alloc, events, &tables)
+        }
+        Command::Check => {
+            let tables = judged_for_verdict(rt, alloc, blocks, events)?;
+            check::report(rt, alloc, events, &tables)
+        }
+    }
+}
 
 /// The report of a command on a text, unless that is refused.
 fn judge<R: Threads + Sync>(
@@ -35,11 +71,7 @@ fn judge<R: Threads + Sync>(
     // The blocks have copies of what they need.
     drop(text);
     let events = events_of(alloc, &blocks)?;
-    match command {
-        Command::Reads => reads::judged_report(rt, alloc, &blocks, &events),
-        Command::Edges => edges::judged_report(rt, alloc, &blocks, &events),
-        Command::Check => check::judged_report(rt, alloc, &blocks, &events),
-    }
+    report_on(rt, alloc, command, &blocks, &events)
 }
 
 /// The answer of a command to a text.

@@ -4,7 +4,7 @@ use Rattle.hist_types.specs.Journal.{first_broken}
 use Rattle.block_reader.specs.Blocks.{operations_in}
 use Rattle.block_reader.specs.Texts.{GivesOperations}
 use Rattle.command_run.specs.Answers.{GivesEvents}
-use Rattle.command_run.proofs.Reporting.{verdict_answers}
+use Rattle.command_run.proofs.Reporting.{report_answers}
 use Rattle.command_run.proofs.run.judge.Goals as goal
 
 -- with a value there is what holds on one
@@ -20,6 +20,5 @@ returns-clause-ok g c =
     let are : events ≡ operations_in blocks = c.in_ok-events.ensures.ok ∙ ap operations_in c.deref-2.ensures.value in
     let read : GivesOperations text (operations_in blocks) = subst (λ t. GivesOperations t (operations_in blocks)) c.deref.ensures.value c.in_ok-blocks.ensures.ok in
     let given : first_broken [] events ≡ None → GivesEvents text events = λ kept. record { given = subst (GivesOperations text) (sym are) read; kept = kept } in
-    rw c.in-Check.is
-    (with_what_holds _ _ (λ answer kept reported. verdict_answers text answer.printed.items events (given kept) answer.status reported)
-    c.judged_report-in-Check.result c.judged_report-in-Check.ensures.kept c.judged_report-in-Check.ensures.ok)
+    with_what_holds _ _ (λ answer kept reported. report_answers text answer.printed.items events (given kept) c.args.command answer.status reported)
+    c.report_on.result c.report_on.ensures.kept c.report_on.ensures.ok
