@@ -41,6 +41,10 @@ AskFor (Run command) words = NameSubcommand (word_of command) words
 abbrev pub AskForHelp : List (List ℕ) → Type 0
 AskForHelp words = fault_of program_app words ≡ DisplayHelp ∷ []
 
+-- behind the program's name, whatever that is, these words ask for help
+abbrev pub GetHelp : List (List ℕ) → Type 0
+GetHelp words = (name : List ℕ) → AskForHelp (name ∷ words)
+
 -- a request for help is among what the words may be refused for
 abbrev pub MayAskForHelp : List (List ℕ) → Type 0
 MayAskForHelp words = IsAmong DisplayHelp (fault_of program_app words)

@@ -1,7 +1,7 @@
 //! Laws of the command lines.
 
 ghost use Rattle.std.specs.Prelude.{ℕ, List, [], ◌∷◌, codes};
-ghost use Rattle.command_line.specs.Lines.{AskFor, AskForHelp, word_of};
+ghost use Rattle.command_line.specs.Lines.{AskFor, GetHelp, word_of};
 ghost use Rattle.command_line.specs.declared.types.Asked.TheVariants.{Run};
 ghost use Rattle.command_line.specs.declared.types.Command.{Command};
 
@@ -12,6 +12,6 @@ pub fn commands_are_asked_for()
 
 /// The program's name and `--help` ask for help, and so they do with the word of a command between them.
 pub fn help_is_asked_for()
-    ensures alone { (name : List ℕ) → AskForHelp (name ∷ codes "--help" ∷ []) }
-    ensures command { (command : Command) (name : List ℕ) → AskForHelp (name ∷ word_of command ∷ codes "--help" ∷ []) }
+    ensures alone { GetHelp (codes "--help" ∷ []) }
+    ensures command { (command : Command) → GetHelp (word_of command ∷ codes "--help" ∷ []) }
 {}
