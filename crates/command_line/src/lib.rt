@@ -2,7 +2,5 @@
 #![tactic(auto)]
 
 pub mod laws;
-#[cfg(test)]
-mod tests;
 pub mod types;
 pub mod words;

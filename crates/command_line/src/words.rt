@@ -51,14 +51,11 @@ const SEE_HELP: &str = "For more information, try 'jepcheck --help'.\n";
 fn program<'a>(alloc: Global) -> Result<clap::Command<'a>, AllocError>
     ensures { IfOk result (λ program. app_of program ≡ program_app) }
 {
-    let reads = clap::Command::new(alloc, "reads");
-    let edges = clap::Command::new(alloc, "edges");
-    let check = clap::Command::new(alloc, "check");
-    let program = clap::Command::new(alloc, "jepcheck").subcommand_required(true);
-    program
-        .subcommand(reads)?
-        .subcommand(edges)?
-        .subcommand(check)
+    clap::Command::new(alloc, "jepcheck")
+        .subcommand_required(true)
+        .subcommand(clap::Command::new(alloc, "reads"))?
+        .subcommand(clap::Command::new(alloc, "edges"))?
+        .subcommand(clap::Command::new(alloc, "check"))
 }
 
 /// The text up to its first line feed.

@@ -8,5 +8,3 @@ mod components;
 pub mod laws;
 mod marks;
 pub mod ranks;
-#[cfg(test)]
-mod tests;

@@ -2,9 +2,11 @@
 #![tactic(auto)]
 
 #[cfg(test)]
-mod runs;
+mod graphs;
 #[cfg(test)]
-mod tests;
+mod rows;
+#[cfg(test)]
+mod runs;
 
 use command_line::types::{Asked, LineFault};
 use command_line::words::{asked_for, unread_line};

@@ -2,5 +2,3 @@
 #![tactic(auto)]
 
 pub mod map;
-#[cfg(test)]
-mod tests;
