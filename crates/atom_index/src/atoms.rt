@@ -16,7 +16,6 @@ use std::marker::Model;
 ///
 /// The small integers, which are most of the atoms of a history, are looked up in a table that grows with the number of
 /// atoms; everything else is looked up by its hash. No number depends on the hasher.
-#[derive(Drop)]
 pub struct AtomIndex<'a, S: BuildHasher = BuildHasherDefault<FoldHasher>> {
     alloc: Global,
     /// By number.
@@ -25,6 +24,18 @@ pub struct AtomIndex<'a, S: BuildHasher = BuildHasherDefault<FoldHasher>> {
     small: Table,
     /// The numbers of the other atoms.
     others: IndexMap<Atom<'a>, usize, S>,
+}
+
+// Written out, as what is derived is repeated wherever one is dropped.
+impl<S: BuildHasher + Drop> Drop for AtomIndex<'_, S> {
+    fn drop(self) {
+        let AtomIndex {
+            alloc: _,
+            atoms: _,
+            small: _,
+            others: _,
+        } = self;
+    }
 }
 
 impl<'a, S: BuildHasher> Model for AtomIndex<'a, S> {
@@ -70,7 +81,13 @@ impl<'a, S: BuildHasher> AtomIndex<'a, S> {
         S: Drop,
         ensures { result.items ≡ self.entry.items }
     {
-        self.atoms
+        let AtomIndex {
+            alloc: _,
+            atoms,
+            small: _,
+            others: _,
+        } = self;
+        atoms
     }
 
     /// How many atoms have a number.

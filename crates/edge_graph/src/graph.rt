@@ -31,7 +31,6 @@ use txn_pairs::types::Txn;
 
 /// A history's transactions with their dependency edges and, of an order, the edges to nodes. A transaction goes by its place.
 /// No edge is stored with its label; what is stored are the arcs of a search for cycles, which are linear in the history.
-#[derive(Drop)]
 pub struct Graph<'g, 'v, 'a> {
     alloc: Global,
     deps: &'g Deps<'v, 'a>,
@@ -39,6 +38,20 @@ pub struct Graph<'g, 'v, 'a> {
     order: &'g Order,
     rows: VertexRows,
     orders: Orders,
+}
+
+// Written out, as what is derived is repeated wherever one is dropped.
+impl Drop for Graph<'_, '_, '_> {
+    fn drop(self) {
+        let Graph {
+            alloc: _,
+            deps: _,
+            history: _,
+            order: _,
+            rows: _,
+            orders: _,
+        } = self;
+    }
 }
 
 impl<'g, 'v, 'a> Model for Graph<'g, 'v, 'a> {

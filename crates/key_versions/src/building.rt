@@ -35,9 +35,10 @@ impl<'a, S: BuildHasher + Copy> Building<'a, S> {
     pub fn with_capacity(alloc: Global, hasher: S, transactions: usize) -> Result<Self, AllocError>
         ensures { IfOk result (IsTableOf []) }
     {
+        let rows = Rows::with_capacity(alloc, transactions)?;
         Ok(Building {
             numbering: Numbering::new(alloc, hasher),
-            rows: Rows::with_capacity(alloc, transactions)?,
+            rows,
         })
     }
 

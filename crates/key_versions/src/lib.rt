@@ -37,5 +37,5 @@ pub fn versions<'a, R: Threads, S: BuildHasher + Copy>(
 {
     let mut building = Building::with_capacity(alloc, hasher, txns.as_slice().len())?;
     building.take_all(txns.as_slice())?;
-    Ok(building.finish(rt, alloc)?)
+    building.finish(rt, alloc).map_err(Fault::from)
 }

@@ -14,7 +14,6 @@ use std::marker::Model;
 
 /// The versions that a history names, with what its transactions do with each. Versions go by number, transactions by their
 /// place in the history. No call takes memory.
-#[derive(Drop)]
 pub struct Versions<'a> {
     keys: Vec<Atom<'a>>,
     values: Vec<Atom<'a>>,
@@ -24,6 +23,21 @@ pub struct Versions<'a> {
     readers: Groups<u32>,
     followers: Groups<Follower>,
     accesses: Accesses,
+}
+
+// Written out, as what is derived is repeated wherever one is dropped.
+impl Drop for Versions<'_> {
+    fn drop(self) {
+        let Versions {
+            keys: _,
+            values: _,
+            pairs: _,
+            writers: _,
+            readers: _,
+            followers: _,
+            accesses: _,
+        } = self;
+    }
 }
 
 impl<'a> Model for Versions<'a> {

@@ -14,10 +14,16 @@ const SMALL: u64 = 1_024;
 ///
 /// Small numbers, which most processes have, are looked up in a table that grows to the largest of them; the others are
 /// looked up by their hash.
-#[derive(Drop)]
 pub struct ProcessMap<V> {
     small: Vec<Option<V>>,
     large: HashMap<u64, V>,
+}
+
+// Written out, as what is derived is repeated wherever one is dropped.
+impl<V: Drop> Drop for ProcessMap<V> {
+    fn drop(self) {
+        let ProcessMap { small: _, large: _ } = self;
+    }
 }
 
 impl<V> Model for ProcessMap<V> {
