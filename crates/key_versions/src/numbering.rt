@@ -21,10 +21,19 @@ use std::marker::Model;
 use txn_pairs::types::{Status, Txn};
 
 /// What a transaction reads externally, if it is ok, and what it writes.
-#[derive(Drop)]
 pub(crate) struct Accessed {
     pub reads: SmallVec<Access, 4>,
     pub writes: SmallVec<Access, 4>,
+}
+
+// Written out, as what is derived is repeated wherever one is dropped.
+impl Drop for Accessed {
+    fn drop(self) {
+        let Accessed {
+            reads: _,
+            writes: _,
+        } = self;
+    }
 }
 
 /// Numbers versions in the order in which they are first named, each behind the nil version of its key.
@@ -151,17 +160,19 @@ impl<'a, S: BuildHasher> Numbering<'a, S> {
             (map version_of (writes_of txn.now.mops)) a.writes.items) }
     {
         let is_ok = txn.status() == Status::Ok;
-        let mut reads = SmallVec::new(self.alloc);
-        let mut writes = SmallVec::new(self.alloc);
+        let mut accessed = Accessed {
+            reads: SmallVec::new(self.alloc),
+            writes: SmallVec::new(self.alloc),
+        };
         for mop in txn.mops() {
             let access = self.access(mop.key(), mop.value())?;
             if mop.is_write() {
-                writes.push(access)?;
-            } else if is_ok && !has_key(writes.as_slice(), access.nil) {
-                reads.push(access)?;
+                accessed.writes.push(access)?;
+            } else if is_ok && !has_key(accessed.writes.as_slice(), access.nil) {
+                accessed.reads.push(access)?;
             }
         }
-        Ok(Accessed { reads, writes })
+        Ok(accessed)
     }
 
     pub fn finish(self) -> Numbered<'a>

@@ -37,12 +37,23 @@ impl Completed {
 }
 
 /// A transaction's predecessors.
-#[derive(Drop)]
 pub struct Predecessors {
     process: u64,
     invocation: u64,
     in_process: SmallVec<Predecessor, 1>,
     in_realtime: SmallVec<Predecessor, 4>,
+}
+
+// Written out, as what is derived is repeated wherever one is dropped.
+impl Drop for Predecessors {
+    fn drop(self) {
+        let Predecessors {
+            process: _,
+            invocation: _,
+            in_process: _,
+            in_realtime: _,
+        } = self;
+    }
 }
 
 impl Model for Predecessors {

@@ -24,8 +24,8 @@ loop-mop-preserved-in-Continue-branch-2 g c =
     let a = c.in_ok-access.access in
     let vs = versions_of c.loop-mop.self in
     let us = versions_of c.access.new.self in
-    let ws = c.loop-mop.writes.items in
-    let rs = c.loop-mop.reads.items in
+    let ws = c.loop-mop.accessed.writes.items in
+    let rs = c.loop-mop.accessed.reads.items in
     let left : (ms ++ m ∷ []) ++ c.next.new.self ≡ c.args.txn.now.mops = append_assoc ms (m ∷ []) c.next.new.self ∙ ap (λ (xs : List Mop). ms ++ xs) (sym c.in-Some.ensures.steps) ∙ c.loop-mop.invariant.0 in
     let grown : us ≡ with_versions vs (nil_of (key_of m) ∷ version_with (key_of m) (value_of m) ∷ []) =
     c.in_ok-access.ensures.versions ∙ ap (λ (k : Atom). with_versions vs (nil_of k ∷ version_with k c.value.result ∷ [])) c.key.ensures
@@ -46,8 +46,8 @@ loop-mop-preserved-then-not-has_key g c =
     let a = c.in_ok-access.access in
     let vs = versions_of c.loop-mop.self in
     let us = versions_of c.access.new.self in
-    let ws = c.loop-mop.writes.items in
-    let rs = c.loop-mop.reads.items in
+    let ws = c.loop-mop.accessed.writes.items in
+    let rs = c.loop-mop.accessed.reads.items in
     let left : (ms ++ m ∷ []) ++ c.next.new.self ≡ c.args.txn.now.mops = append_assoc ms (m ∷ []) c.next.new.self ∙ ap (λ (xs : List Mop). ms ++ xs) (sym c.in-Some.ensures.steps) ∙ c.loop-mop.invariant.0 in
     let grown : us ≡ with_versions vs (nil_of (key_of m) ∷ version_with (key_of m) (value_of m) ∷ []) =
     c.in_ok-access.ensures.versions ∙ ap (λ (k : Atom). with_versions vs (nil_of k ∷ version_with k c.value.result ∷ [])) c.key.ensures
@@ -69,8 +69,8 @@ loop-mop-preserved g c =
     let a = c.in_ok-access.access in
     let vs = versions_of c.loop-mop.self in
     let us = versions_of c.access.new.self in
-    let ws = c.loop-mop.writes.items in
-    let rs = c.loop-mop.reads.items in
+    let ws = c.loop-mop.accessed.writes.items in
+    let rs = c.loop-mop.accessed.reads.items in
     let left : (ms ++ m ∷ []) ++ c.next.new.self ≡ c.args.txn.now.mops = append_assoc ms (m ∷ []) c.next.new.self ∙ ap (λ (xs : List Mop). ms ++ xs) (sym c.in-Some.ensures.steps) ∙ c.loop-mop.invariant.0 in
     let grown : us ≡ with_versions vs (nil_of (key_of m) ∷ version_with (key_of m) (value_of m) ∷ []) =
     c.in_ok-access.ensures.versions ∙ ap (λ (k : Atom). with_versions vs (nil_of k ∷ version_with k c.value.result ∷ [])) c.key.ensures
