@@ -1,8 +1,9 @@
 -- Atoms as tokens (EDN; the escapes `\b` and `\f` and the bound of 64 bits are this project's own).
 --
--- A key is the spelling of an atom, one token: an integer from -9223372036854775808 to 9223372036854775807, with a sign or an
--- `N` or without, a keyword, a symbol, or a string whose escapes are all among `\t` `\r` `\n` `\\` `\"` `\b` `\f`. A value
--- is that or `nil`. Every other token is no atom.
+-- A key is the spelling of an atom, one token: an integer from -9223372036854775808 to
+-- 9223372036854775807, with a sign or an `N` or without, a keyword, a symbol, or a string whose
+-- escapes are all among `\t` `\r` `\n` `\\` `\"` `\b` `\f`. A value is that or `nil`. Every other
+-- token is no atom.
 use Rattle.std.specs.Prelude.{ℕ, ℤ, pos, negsuc, ◌-◌, List, [], ◌∷◌, length, take, drop, Bool, true, false, not, ◌&&◌, ◌==◌, nat_lt, nat_le, if◌then◌else◌, Option, Some, None, option_map, option_and_then, ◌^◌}
 use Rattle.std.specs.Str.Parse.{signed_digits_value}
 use Rattle.hist_types.specs.Bytes.{quote, backslash}
@@ -35,8 +36,8 @@ abbrev pub with_byte : (taken : Bool) → ℕ → Option (List ℕ) → Option (
 with_byte true b content = option_and_then (λ c. option_map (λ cs. c ∷ cs) content) (escape_value b)
 with_byte false b content = if b == backslash then content else option_map (λ cs. b ∷ cs) content
 
--- The content of a string from what stands between its quotes, where all its escapes are among those above. `taken`
--- says that a backslash takes the first byte.
+-- The content of a string from what stands between its quotes, where all its escapes are among
+-- those above. `taken` says that a backslash takes the first byte.
 abbrev pub decoded : (taken : Bool) → List ℕ → Option (List ℕ)
 decoded true [] = None
 decoded false [] = Some []
@@ -47,7 +48,8 @@ abbrev pub between_quotes : List ℕ → List ℕ
 between_quotes bytes = take (length bytes - 2) (drop 1 bytes)
 
 abbrev pub atom_of_token : ItemKind → List ℕ → Option Atom
-atom_of_token Int bytes = if is_64_bit (int_value bytes) then Some (integer (int_value bytes)) else None
+atom_of_token Int bytes =
+    if is_64_bit (int_value bytes) then Some (integer (int_value bytes)) else None
 atom_of_token Keyword bytes = Some (keyword bytes)
 atom_of_token Symbol bytes = Some (symbol bytes)
 atom_of_token Str bytes = option_map string (decoded false (between_quotes bytes))

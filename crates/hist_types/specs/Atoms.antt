@@ -1,8 +1,9 @@
 -- Keys and values (EDN's atoms; which of them count, and their order, are this project's own).
--- An atom is an integer of 64 bits, a keyword, a string or a symbol. Integers are equal by number, strings by
--- decoded content, keywords and symbols byte for byte; atoms of different kinds differ. In order come the integers
--- by number, then the keywords, the strings and the symbols, each by its bytes (strings by their decoded bytes).
--- What a read returns is an atom or nil, and nil stands before all atoms.
+-- An atom is an integer of 64 bits, a keyword, a string or a symbol. Integers are equal by number,
+-- strings by decoded content, keywords and symbols byte for byte; atoms of different kinds differ.
+-- In order come the integers by number, then the keywords, the strings and the symbols, each by its
+-- bytes (strings by their decoded bytes). What a read returns is an atom or nil, and nil stands
+-- before all atoms.
 use Rattle.std.specs.Prelude.{ℕ, ℤ, List, Bool, false, bytes_eq, Option}
 use Rattle.std.specs.declared.cmp.Ordering.{Ordering}
 use Rattle.std.specs.Ordering.{nat_cmp, int_cmp, int_eq}

@@ -1,6 +1,6 @@
 -- The bytes that the notation gives a meaning (EDN).
--- Blanks are the bytes 9 to 13, 32 and the comma: tab, line feed, vertical tab, form feed, carriage return and
--- space. (Which bytes are blanks is this project's own choice.)
+-- Blanks are the bytes 9 to 13, 32 and the comma: tab, line feed, vertical tab, form feed, carriage
+-- return and space. (Which bytes are blanks is this project's own choice.)
 use Rattle.std.specs.Prelude.{ℕ, [], ◌∷◌, Bool, not, ◌||◌, nat_eq, ◌==◌}
 use Rattle.std.specs.List.{list_any}
 
@@ -67,6 +67,7 @@ is_opener b = list_any (nat_eq b) (open_round ∷ open_square ∷ open_brace ∷
 abbrev pub is_closer : ℕ → Bool
 is_closer b = list_any (nat_eq b) (close_round ∷ close_square ∷ close_brace ∷ [])
 
--- A run goes on over every byte but a blank, a bracket, a quote and a semicolon; a byte of 128 or more is in it.
+-- A run goes on over every byte but a blank, a bracket, a quote and a semicolon; a byte of 128 or
+-- more is in it.
 abbrev pub is_run_byte : ℕ → Bool
 is_run_byte b = not (is_blank b || is_opener b || is_closer b || (b == quote) || (b == semicolon))

@@ -1,9 +1,11 @@
 -- Devices: where bytes come from and go to (this project's own).
 --
--- A source has bytes left to give, and a sink has bytes that it took. A device may tell which, in part or never: a file or a
--- terminal tells nothing, and a stream may tell its bytes from some point on. What a read takes from these bytes and a write
--- adds to them is said by the standard library's relations for readers and writers. Both devices count their failures, and
--- report a failure only where the count rises by one or is at the greatest number of 64 bits, where it stays.
+-- A source has bytes left to give, and a sink has bytes that it took. A device may tell which, in
+-- part or never: a file or a terminal tells nothing, and a stream may tell its bytes from some
+-- point on. What a read takes from these bytes and a write adds to them is said by the standard
+-- library's relations for readers and writers. Both devices count their failures, and report a
+-- failure only where the count rises by one or is at the greatest number of 64 bits, where it
+-- stays.
 use Rattle.std.specs.Prelude.{◌≡◌, ℕ, ◌+◌, ◌-◌, ◌^◌, ◌≤◌, min}
 
 -- the greatest number of failures that a device counts

@@ -1,11 +1,11 @@
--- Edges between transactions (Adya's dependencies, over inferred version orders as in Elle; order edges are this project's
--- own).
+-- Edges between transactions (Adya's dependencies, over inferred version orders as in Elle; order
+-- edges are this project's own).
 --
 -- They lie between different nodes only:
 --     wr         from T to U   T installs a version that U reads
 --     ww         from T to U   T installs the earlier version of a pair, and U the later one
 --     rw         from T to U   T reads the earlier version of a pair, and U installs the later one
---     process    from T to U   T is ok and completed before U was invoked, and both are of one process
+--     process    from T to U   T is ok and completed before U was invoked, both in one process
 --     realtime   from T to U   T is ok and completed before U was invoked, in one process or in two
 -- All pairs of transactions are meant: nothing is thinned, and nothing closed.
 use Rattle.std.specs.Prelude.{ℕ, List, [], ◌∷◌, ◌++◌, Bool, false, ◌&&◌, ◌==◌, nat_lt, if◌then◌else◌, Option, Some, None, filter, map, flat_map}
@@ -40,10 +40,14 @@ wr_labels t u = map wr (filter (reads u) (installed_by t))
 
 -- (nobody installs nil, so it is the earlier version of no ww edge)
 abbrev pub ww_labels : List VersionPair → Transaction → Transaction → List Label
-ww_labels pairs t u = map (λ (p : VersionPair). ww p.earlier p.later) (filter (λ p. installs t p.earlier && installs u p.later) pairs)
+ww_labels pairs t u =
+    map (λ (p : VersionPair). ww p.earlier p.later)
+    (filter (λ p. installs t p.earlier && installs u p.later) pairs)
 
 abbrev pub rw_labels : List VersionPair → Transaction → Transaction → List Label
-rw_labels pairs t u = map (λ (p : VersionPair). rw p.earlier p.later) (filter (λ p. reads t p.earlier && installs u p.later) pairs)
+rw_labels pairs t u =
+    map (λ (p : VersionPair). rw p.earlier p.later)
+    (filter (λ p. reads t p.earlier && installs u p.later) pairs)
 
 abbrev pub dependency_labels : List VersionPair → Transaction → Transaction → List Label
 dependency_labels pairs t u = ww_labels pairs t u ++ wr_labels t u ++ rw_labels pairs t u
@@ -51,7 +55,8 @@ dependency_labels pairs t u = ww_labels pairs t u ++ wr_labels t u ++ rw_labels 
 -- what f gives for each two different transactions, in both orders
 abbrev pub between_each : List Transaction → (Transaction → Transaction → List Label) → List Edge
 between_each ts f =
-    flat_map (λ (t : Transaction). flat_map (λ (u : Transaction). if t.invocation == u.invocation then [] else map (edge t u) (f t u)) ts) ts
+    flat_map (λ (t : Transaction). flat_map (λ (u : Transaction).
+    if t.invocation == u.invocation then [] else map (edge t u) (f t u)) ts) ts
 
 abbrev pub dependency_edges : List Transaction → List Edge
 dependency_edges ts = between_each (nodes ts) (dependency_labels (version_pairs ts))
@@ -59,7 +64,8 @@ dependency_edges ts = between_each (nodes ts) (dependency_labels (version_pairs 
 -- ---- order edges
 
 abbrev pub completed_before : Transaction → Transaction → Bool
-completed_before t u = option_map_or (λ completion. nat_lt completion u.invocation) t.completion false
+completed_before t u =
+    option_map_or (λ completion. nat_lt completion u.invocation) t.completion false
 
 abbrev pub is_ok_before : Transaction → Transaction → Bool
 is_ok_before t u = is_ok t && completed_before t u

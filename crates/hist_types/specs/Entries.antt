@@ -1,22 +1,24 @@
 -- Operations in a text (Jepsen's in EDN; what is marked so is this project's own).
 --
--- An operation is a map with the fields `:type`, `:process` and, where it invokes a transaction or one ended ok, `:value`.
--- Whatever is no value of these three is passed over. A map whose process is no integer is skipped (own): it is no client's.
--- An operation's checks come when its map has been closed, in this order:
---     25 OddMap           the map has an odd number of members                          at its `{`
+-- An operation is a map with the fields `:type`, `:process` and, where it invokes a transaction or
+-- one ended ok, `:value`. Whatever is no value of these three is passed over. A map whose process
+-- is no integer is skipped (own): it is no client's. An operation's checks come when its map has
+-- been closed, in this order:
+--     25 OddMap           the map has an odd number of members                        at its `{`
 --        `:process`       28 MissingField at the `{`, 29 DuplicateField at the second key
 --                         where its value is no integer the operation is skipped
---     31 BadProcess       an integer outside 0 to 2147483647                            at the value
---     35 TooLong          more than 65,536 bytes from `{` to `}`                        at the `{`
---        `:type`          28 and 29 as above; 30 BadType where it is none of the four   at the value
+--     31 BadProcess       an integer outside 0 to 2147483647                          at the value
+--     35 TooLong          more than 65,536 bytes from `{` to `}`                      at the `{`
+--        `:type`          28 and 29 as above; 30 BadType where it is none of the four at the value
 --        `:value`         for invoke and ok: 28 and 29 as above
---     32 NotTxn           a `:value` that is no vector or list                          at the value
+--     32 NotTxn           a `:value` that is no vector or list                        at the value
 -- and for each member of the value in order
---     36 TooManyMicroOps  it is the 257th                                               at the member
---     32 NotTxn           no vector or list of three forms that begins with `:r` or `:w`, at the member
---     33 BadAtom          the key is no atom                                            at the key
---     34 NilWritten       a `:w` of nil                                                 at the value
---     33 BadAtom          the value is no atom, and no nil of a `:r`                    at the value
+--     36 TooManyMicroOps  it is the 257th                                             at the member
+--     32 NotTxn           no vector or list of three forms
+--                         that begins with `:r` or `:w`                               at the member
+--     33 BadAtom          the key is no atom                                          at the key
+--     34 NilWritten       a `:w` of nil                                               at the value
+--     33 BadAtom          the value is no atom, and no nil of a `:r`                  at the value
 -- The place of a tagged form is that of its tag.
 use Rattle.std.specs.Prelude.{ℕ, ℤ, suc, ◌+◌, ◌-◌, ◌%◌, List, [], ◌∷◌, length, Bool, true, false, ◌==◌, nat_lt, nat_le, if◌then◌else◌, bytes_eq, codes, Option, Some, None, Result, Ok, Err, option_map, ok_or, filter, map}
 use Rattle.std.specs.Option.{option_map_or}
@@ -55,7 +57,8 @@ pub data Entry : Type 0 where
 
 -- the operation, wherever it stands
 abbrev pub operation_of : PlacedOperation → Operation
-operation_of o = record { kind = o.kind; process = o.process; mops = map (λ (m : PlacedMop). m.mop) o.mops }
+operation_of o =
+    record { kind = o.kind; process = o.process; mops = map (λ (m : PlacedMop). m.mop) o.mops }
 
 -- the operations among the entries, with their places
 abbrev pub placed_operations : List Entry → List PlacedOperation
@@ -79,7 +82,9 @@ is_nil f = false
 
 -- the atom or nil that a form spells, with its token
 abbrev pub value_of : Form → Option (Item × Value)
-value_of (plain t) = if is_nil_kind t.kind then Some (t, None) else option_map (λ atom. (t, Some atom)) (atom_of_token t.kind t.bytes)
+value_of (plain t) =
+    if is_nil_kind t.kind then Some (t, None)
+    else option_map (λ atom. (t, Some atom)) (atom_of_token t.kind t.bytes)
 value_of f = None
 
 -- the bytes of a form that is a keyword
@@ -97,7 +102,8 @@ int_of f = None
 
 -- the members of a form that is a vector or a list
 abbrev pub elements_of : Form → Option (List Form)
-elements_of (collection opener closer members) = if is_vector_or_list opener then Some (list_of members) else None
+elements_of (collection opener closer members) =
+    if is_vector_or_list opener then Some (list_of members) else None
 elements_of f = None
 
 -- ---- checks
@@ -146,7 +152,9 @@ kind_of f =
 
 -- whether a member is a write, by its first form
 abbrev pub is_write_of : Form → Option Bool
-is_write_of f = if is_named (codes ":w") f then Some true else (if is_named (codes ":r") f then Some false else None)
+is_write_of f =
+    if is_named (codes ":w") f then Some true
+    else (if is_named (codes ":r") f then Some false else None)
 
 abbrev pub placed_write : Item × Atom → Item × Atom → PlacedMop
 placed_write key value = record { mop = write key.1 value.1; key = key.0; value = value.0 }
@@ -160,7 +168,8 @@ read_or_write true key f =
     refuse_if (is_nil f) NilWritten (place_of f) >>= λ _.
     or_refuse (atom_of f) BadAtom (place_of f) >>= λ value.
     Ok (placed_write key value)
-read_or_write false key f = or_refuse (value_of f) BadAtom (place_of f) >>= λ value. Ok (placed_read key value)
+read_or_write false key f =
+    or_refuse (value_of f) BadAtom (place_of f) >>= λ value. Ok (placed_read key value)
 
 -- a member of three forms; it begins at the offset
 abbrev pub micro_op_of : ℕ → Option (List Form) → Result PlacedMop Fault
@@ -191,7 +200,8 @@ mops_of kinds.Info offset pairs = Ok []
 
 -- ---- a closed map
 
--- a client's operation, by the value of its process and the place of that value; the map goes from `start` to `end`
+-- a client's operation, by the value of its process and the place of that value; the map goes from
+-- `start` to `end`
 abbrev pub client_operation : ℤ → ℕ → (start end : ℕ) → List (Form × Form) → Result Entry Fault
 client_operation number place start end pairs =
     or_refuse (process_of number) BadProcess place >>= λ process.
@@ -199,7 +209,13 @@ client_operation number place start end pairs =
     field (codes ":type") start pairs >>= λ type.
     or_refuse (kind_of type) BadType (place_of type) >>= λ kind.
     mops_of kind start pairs >>= λ mops.
-    Ok (operation (record { kind = kind; process = process; mops = mops; start = start; end = end }))
+    Ok (operation (record {
+      kind = kind;
+      process = process;
+      mops = mops;
+      start = start;
+      end = end;
+    }))
 
 -- an operation whose process is no integer is skipped
 abbrev pub entry_by : Option ℤ → ℕ → (start end : ℕ) → List (Form × Form) → Result Entry Fault

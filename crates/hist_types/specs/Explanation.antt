@@ -1,8 +1,10 @@
--- Strict serial explanations (strict serializability, after Papadimitriou; outcomes are Jepsen's, and registers as in Elle).
+-- Strict serial explanations (strict serializability, after Papadimitriou; outcomes are Jepsen's,
+-- and registers as in Elle).
 --
--- An explanation is a choice of transactions, all ok ones among them, no failed one, and any of the others, in a total order
--- in which T stands before U wherever T is ok and completed before U's invocation, and in which each ok transaction's reads
--- are what running the order from nil registers gives.
+-- An explanation is a choice of transactions, all ok ones among them, no failed one, and any of the
+-- others, in a total order in which T stands before U wherever T is ok and completed before U's
+-- invocation, and in which each ok transaction's reads are what running the order from nil
+-- registers gives.
 use Rattle.std.specs.Prelude.{◌≡◌, List, [], ◌∷◌, ◌==◌, if◌then◌else◌, IsTrue, IsFalse, Some, None, All, Contains, ⊤}
 use Rattle.hist_types.specs.Atoms.{Atom, Value, atom_eq}
 use Rattle.hist_types.specs.Operations.{Mop, read, write}
@@ -35,10 +37,12 @@ abbrev pub AreRead : Registers → List Mop → Type 0
 AreRead registers [] = ⊤
 AreRead registers (mop ∷ mops) = IsRead registers mop × AreRead (after_mop registers mop) mops
 
--- Run in this order, the reads of the ok transactions are what the registers hold. Nobody knows what the others read.
+-- Run in this order, the reads of the ok transactions are what the registers hold. Nobody knows
+-- what the others read.
 abbrev pub Runs : Registers → List Transaction → Type 0
 Runs registers [] = ⊤
-Runs registers (t ∷ ts) = (IsTrue (is_ok t) → AreRead registers t.mops) × Runs (after_mops registers t.mops) ts
+Runs registers (t ∷ ts) =
+    (IsTrue (is_ok t) → AreRead registers t.mops) × Runs (after_mops registers t.mops) ts
 
 -- no transaction stands behind one that it completed before
 abbrev pub KeepsRealtime : List Transaction → Type 0
@@ -48,7 +52,8 @@ KeepsRealtime (t ∷ ts) = All (λ later. IsFalse (is_ok_before later t)) ts × 
 -- no transaction stands twice
 abbrev pub AreDifferent : List Transaction → Type 0
 AreDifferent [] = ⊤
-AreDifferent (t ∷ ts) = All (λ later. IsFalse (later.invocation == t.invocation)) ts × AreDifferent ts
+AreDifferent (t ∷ ts) =
+    All (λ later. IsFalse (later.invocation == t.invocation)) ts × AreDifferent ts
 
 pub record Explains (ts : List Transaction) (order : List Transaction) : Type 0 where
   pub chosen : All (λ t. Contains ts t × IsFalse (is_failed t)) order

@@ -1,9 +1,10 @@
 -- Forms (EDN).
 --
--- A form is a token that stands alone, a collection with its members, or a tag with the form behind it. Forms are made from
--- left to right. Each open collection has its members so far, and its marks: the tags and `#_` that wait in it for a form.
--- A form settles against the marks that wait where it stands, the last first: a tag joins it, and a `#_` leaves it out and
--- is done, so that `#_ #_ a b` leaves out both a and b. What no `#_` left out is a member.
+-- A form is a token that stands alone, a collection with its members, or a tag with the form behind
+-- it. Forms are made from left to right. Each open collection has its members so far, and its
+-- marks: the tags and `#_` that wait in it for a form. A form settles against the marks that wait
+-- where it stands, the last first: a tag joins it, and a `#_` leaves it out and is done, so that
+-- `#_ #_ a b` leaves out both a and b. What no `#_` left out is a member.
 use Rattle.std.specs.Prelude.{ℕ, List, [], ◌∷◌, ◌++◌, Bool, true, false, ◌||◌, if◌then◌else◌, bytes_eq, Option, Some, None}
 use Rattle.std.specs.List.{list_any}
 use Rattle.hist_types.specs.Bytes.{open_round, open_square, open_brace}
@@ -34,8 +35,8 @@ pub record OpenCollection : Type 0 where
   pub members : List Form
   pub marks : List Item
 
--- What is open at a place of a text: the marks that wait at the top level, the last first, and the open collections, the
--- innermost first.
+-- What is open at a place of a text: the marks that wait at the top level, the last first, and the
+-- open collections, the innermost first.
 pub record Open : Type 0 where
   pub marks : List Item
   pub collections : List OpenCollection
@@ -50,7 +51,8 @@ abbrev pub is_map : Item → Bool
 is_map opener = bytes_eq opener.bytes (open_brace ∷ [])
 
 abbrev pub is_vector_or_list : Item → Bool
-is_vector_or_list opener = bytes_eq opener.bytes (open_square ∷ []) || bytes_eq opener.bytes (open_round ∷ [])
+is_vector_or_list opener =
+    bytes_eq opener.bytes (open_square ∷ []) || bytes_eq opener.bytes (open_round ∷ [])
 
 -- ---- marks
 
@@ -82,21 +84,36 @@ with_member (Some f) members = members ++ f ∷ []
 -- ---- what a token opens, ends or adds
 
 abbrev pub with_form_in : Form → OpenCollection → OpenCollection
-with_form_in f c = record { opener = c.opener; members = with_member (settled c.marks f) c.members; marks = still_waiting c.marks }
+with_form_in f c =
+    record {
+      opener = c.opener;
+      members = with_member (settled c.marks f) c.members;
+      marks = still_waiting c.marks;
+    }
 
 -- a form stands in the innermost open collection, or at the top level
 abbrev pub with_form : Form → List Item → List OpenCollection → Open
 with_form f marks [] = record { marks = still_waiting marks; collections = [] }
-with_form f marks (inner ∷ outer) = record { marks = marks; collections = with_form_in f inner ∷ outer }
+with_form f marks (inner ∷ outer) =
+    record { marks = marks; collections = with_form_in f inner ∷ outer }
 
 -- a mark waits there
 abbrev pub with_mark : Item → List Item → List OpenCollection → Open
 with_mark mark marks [] = record { marks = mark ∷ marks; collections = [] }
 with_mark mark marks (inner ∷ outer) =
-    record { marks = marks; collections = record { opener = inner.opener; members = inner.members; marks = mark ∷ inner.marks } ∷ outer }
+    record {
+      marks = marks;
+      collections =
+          record { opener = inner.opener; members = inner.members; marks = mark ∷ inner.marks }
+          ∷ outer;
+    }
 
 abbrev pub with_opener : Item → Open → Open
-with_opener opener o = record { marks = o.marks; collections = record { opener = opener; members = []; marks = [] } ∷ o.collections }
+with_opener opener o =
+    record {
+      marks = o.marks;
+      collections = record { opener = opener; members = []; marks = [] } ∷ o.collections;
+    }
 
 abbrev pub form_of : OpenCollection → Item → Form
 form_of c closer = collection c.opener closer (forms_of c.members)

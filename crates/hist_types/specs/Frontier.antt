@@ -1,7 +1,7 @@
 -- Thinned order edges (this project's own): the edges to which a moving frontier comes down.
 --
--- A thinned edge is a realtime edge from T to U such that no ok transaction was invoked after T's completion and completed
--- before U's invocation. The process form is alike, within one process.
+-- A thinned edge is a realtime edge from T to U such that no ok transaction was invoked after T's
+-- completion and completed before U's invocation. The process form is alike, within one process.
 use Rattle.std.specs.Prelude.{List, [], Bool, false, ◌&&◌, if◌then◌else◌}
 use Rattle.std.specs.List.{list_any}
 use Rattle.hist_types.specs.Transactions.{Transaction, nodes}

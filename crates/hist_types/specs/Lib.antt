@@ -20,5 +20,6 @@ pub mod Texts
 pub mod Devices
 pub mod Stored
 pub mod Thinning
+pub mod Shown
 pub mod Laws
 pub mod Dependencies

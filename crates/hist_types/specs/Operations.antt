@@ -1,6 +1,6 @@
 -- Operations (Jepsen's, of register transactions as in Elle).
--- An operation says of a process that it invokes a transaction, or how one ended. A transaction is a list of
--- micro-operations; a fail and an info carry none.
+-- An operation says of a process that it invokes a transaction, or how one ended. A transaction is
+-- a list of micro-operations; a fail and an info carry none.
 use Rattle.std.specs.Prelude.{ℕ, List, Option}
 use Rattle.hist_types.specs.Atoms.{Atom}
 use Rattle.hist_types.specs.declared.types.OpKind.{OpKind}

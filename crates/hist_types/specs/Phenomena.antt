@@ -1,18 +1,20 @@
 -- Phenomena and levels (Adya's thesis; the three levels are this project's own).
 --
--- A closed walk goes along edges, each beginning where the one before it ends, back to where it began, and has one edge at
--- least. At the level plain it uses dependency edges alone. At process it may also use process edges. At realtime it may use
--- realtime edges and no process edges: what is ordered within a process is then told as ordered in real time.
+-- A closed walk goes along edges, each beginning where the one before it ends, back to where it
+-- began, and has one edge at least. At the level plain it uses dependency edges alone. At process
+-- it may also use process edges. At realtime it may use realtime edges and no process edges: what
+-- is ordered within a process is then told as ordered in real time.
 --     G0         ww and order edges only, at least one ww
 --     G1c        ww, wr and order edges only, at least one wr
 --     G-single   exactly one rw, any other edges of the level
 --     G2-item    at least one rw
 -- A phenomenon is reported at the lowest level that has such a walk.
 --     G1a        a transaction reads a version that a failed one wrote
---     G1b        a transaction reads a version that another one, of any status, wrote and wrote over in itself
--- These two have no level; each is told by the reader with the least index and its first such read. A stray read is a read
--- of a version that isn't nil and that no transaction wrote. Reads are meant as in Transactions: external ones, of ok
--- transactions.
+--     G1b        a transaction reads a version that another one, of any status, wrote and wrote
+--                over in itself
+-- These two have no level; each is told by the reader with the least index and its first such read.
+-- A stray read is a read of a version that isn't nil and that no transaction wrote. Reads are meant
+-- as in Transactions: external ones, of ok transactions.
 use Rattle.std.specs.Prelude.{◌≡◌, ℕ, ◌<◌, List, [], ◌∷◌, length, Bool, true, false, not, ◌&&◌, ◌||◌, ◌==◌, if◌then◌else◌, IsTrue, Option, Some, None, is_some, filter, map, flat_map, Contains, All, count_by}
 use Rattle.std.specs.List.{list_any, list_all}
 use Rattle.hist_types.specs.Transactions.{Transaction, Version, is_ok, is_failed, external_reads, writes, writes_over}
@@ -66,7 +68,9 @@ makes GSingle walk = count_by is_rw walk == 1
 makes G2Item walk = list_any is_rw walk
 
 -- the walk shows the phenomenon at the level
-pub record Shows (phenomenon : Phenomenon) (level : Level) (ts : List Transaction) (walk : List Edge) : Type 0 where
+pub record Shows
+    (phenomenon : Phenomenon) (level : Level) (ts : List Transaction) (walk : List Edge)
+    : Type 0 where
   pub closed : IsClosedWalk walk
   pub within : All (Contains (edges_at level ts)) walk
   pub kinds : IsTrue (makes phenomenon walk)
@@ -83,7 +87,9 @@ height Realtime = 2
 -- the lowest level at which the phenomenon is there, or none
 abbrev pub IsLowestLevel : Phenomenon → List Transaction → Option Level → Type 0
 IsLowestLevel phenomenon ts None = (level : Level) → ¬ Has phenomenon level ts
-IsLowestLevel phenomenon ts (Some level) = Has phenomenon level ts × ((lower : Level) → height lower < height level → ¬ Has phenomenon lower ts)
+IsLowestLevel phenomenon ts (Some level) =
+    Has phenomenon level ts
+    × ((lower : Level) → height lower < height level → ¬ Has phenomenon lower ts)
 
 -- ---- reads of versions that should not have been seen
 
@@ -94,11 +100,14 @@ pub record BadRead : Type 0 where
   pub writer : ℕ
 
 abbrev pub bad_read : Transaction → Version → Transaction → BadRead
-bad_read reader v writer = record { reader = reader.invocation; version = v; writer = writer.invocation }
+bad_read reader v writer =
+    record { reader = reader.invocation; version = v; writer = writer.invocation }
 
 -- what f gives for each version that an ok transaction reads: by reader, and in it by read
-abbrev pub for_each_read : {A : Type 0} → List Transaction → (Transaction → Version → List A) → List A
-for_each_read ts f = flat_map (λ (t : Transaction). flat_map (f t) (external_reads t)) (filter is_ok ts)
+abbrev pub for_each_read :
+    {A : Type 0} → List Transaction → (Transaction → Version → List A) → List A
+for_each_read ts f =
+    flat_map (λ (t : Transaction). flat_map (f t) (external_reads t)) (filter is_ok ts)
 
 -- the first of a list
 abbrev pub first_of : {A : Type 0} → List A → Option A
@@ -117,10 +126,12 @@ g1a ts = first_of (aborted_reads ts)
 
 -- the transactions other than the reader that wrote the version over
 abbrev pub intermediate_writers : List Transaction → Transaction → Version → List Transaction
-intermediate_writers ts reader v = filter (λ writer. not (writer.invocation == reader.invocation) && writes_over writer v) ts
+intermediate_writers ts reader v =
+    filter (λ writer. not (writer.invocation == reader.invocation) && writes_over writer v) ts
 
 abbrev pub intermediate_reads : List Transaction → List BadRead
-intermediate_reads ts = for_each_read ts (λ reader v. map (bad_read reader v) (intermediate_writers ts reader v))
+intermediate_reads ts =
+    for_each_read ts (λ reader v. map (bad_read reader v) (intermediate_writers ts reader v))
 
 abbrev pub g1b : List Transaction → Option BadRead
 g1b ts = first_of (intermediate_reads ts)

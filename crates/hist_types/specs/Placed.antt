@@ -1,6 +1,7 @@
 -- Operations and the texts in which they are (this project's own).
 --
--- An operation is in a text where its map, read alone, gives the operation with its places counted from the map's own start.
+-- An operation is in a text where its map, read alone, gives the operation with its places counted
+-- from the map's own start.
 use Rattle.std.specs.Prelude.{◌≡◌, ℕ, ◌≤◌, ◌-◌, List, [], ◌∷◌, length, take, drop, Some, None, map, ⊤}
 use Rattle.hist_types.specs.Atoms.{Atom, Value}
 use Rattle.hist_types.specs.AtomTokens.{atom_of_token}
@@ -21,18 +22,29 @@ abbrev pub item_from : ℕ → Item → Item
 item_from offset item = record { kind = item.kind; start = item.start - offset; bytes = item.bytes }
 
 abbrev pub mop_from : ℕ → PlacedMop → PlacedMop
-mop_from offset m = record { mop = m.mop; key = item_from offset m.key; value = item_from offset m.value }
+mop_from offset m =
+    record { mop = m.mop; key = item_from offset m.key; value = item_from offset m.value }
 
 -- the operation with its places counted from its own start
 abbrev pub from_its_start : PlacedOperation → PlacedOperation
-from_its_start o = record { kind = o.kind; process = o.process; mops = map (mop_from o.start) o.mops; start = 0; end = o.end - o.start }
+from_its_start o =
+    record {
+      kind = o.kind;
+      process = o.process;
+      mops = map (mop_from o.start) o.mops;
+      start = 0;
+      end = o.end - o.start;
+    }
 
 -- what a text has between two offsets
 abbrev pub between : List ℕ → ℕ → ℕ → List ℕ
 between text start end = take (end - start) (drop start text)
 
 abbrev pub IsIn : List ℕ → PlacedOperation → Type 0
-IsIn text o = (o.start ≤ o.end) × (o.end ≤ length text) × IsTextOf (between text o.start o.end) (from_its_start o)
+IsIn text o =
+    (o.start ≤ o.end)
+    × (o.end ≤ length text)
+    × IsTextOf (between text o.start o.end) (from_its_start o)
 
 -- ---- what the parts of an operation are spelled by
 
@@ -55,7 +67,8 @@ SpellsParts first second (write key value) = Spells first key × Spells second v
 
 -- bytes that are one token of this kind, and nothing else
 abbrev pub IsTokenAlone : ItemKind → List ℕ → Type 0
-IsTokenAlone kind bytes = HasTokens bytes (record { kind = kind; start = 0; bytes = bytes } ∷ []) None
+IsTokenAlone kind bytes =
+    HasTokens bytes (record { kind = kind; start = 0; bytes = bytes } ∷ []) None
 
 -- the tokens of a micro-operation are in the text, and spell its key and its value
 abbrev pub IsMopIn : List ℕ → PlacedMop → Type 0
@@ -70,7 +83,10 @@ FitsKind kind mops = ⊤
 -- an operation of this text keeps the limits
 abbrev pub KeepsLimits : List ℕ → PlacedOperation → Type 0
 KeepsLimits text o =
-    (length text ≤ MAX_OPERATION_BYTES) × (o.process ≤ MAX_PROCESS) × (length o.mops ≤ MAX_MICRO_OPS) × FitsKind o.kind o.mops
+    (length text ≤ MAX_OPERATION_BYTES)
+    × (o.process ≤ MAX_PROCESS)
+    × (length o.mops ≤ MAX_MICRO_OPS)
+    × FitsKind o.kind o.mops
 
 -- the key and the value of a micro-operation are tokens by themselves
 abbrev pub IsMopOfTokens : PlacedMop → Type 0

@@ -1,16 +1,20 @@
 -- Reading (Jepsen's histories in EDN; what is marked so is this project's own).
 --
--- A text is read token by token, from left to right, and what comes first decides. At the top level each form is a map, which
--- is an operation, or a vector or list of operations (own). In an operation's place, at the top level or directly in such a
--- vector or list, tags are passed over (own) and a form behind a `#_` is left out, whatever it is. Anything else there is
--- 27 NotAMap at its token as soon as it is met; a set is no map. A map there gives its entry as soon as it is closed.
+-- A text is read token by token, from left to right, and what comes first decides. At the top level
+-- each form is a map, which is an operation, or a vector or list of operations (own). In an
+-- operation's place, at the top level or directly in such a vector or list, tags are passed over
+-- (own) and a form behind a `#_` is left out, whatever it is. Anything else there is 27 NotAMap at
+-- its token as soon as it is met; a set is no map. A map there gives its entry as soon as it is
+-- closed.
 --
--- A closer is 26 DanglingTag where a mark waits directly in the collection that it would end, told at the last such mark. So
--- is the text's end where a mark waits directly in the innermost open collection, or at the top level where none is open; a
--- text that otherwise ends in an open collection is 24 Unclosed, told at the innermost one's opener. So `[#a]` and `[#a` are 26
--- at 1, and `#a [` is 24 at 3.
+-- A closer is 26 DanglingTag where a mark waits directly in the collection that it would end, told
+-- at the last such mark. So is the text's end where a mark waits directly in the innermost open
+-- collection, or at the top level where none is open; a text that otherwise ends in an open
+-- collection is 24 Unclosed, told at the innermost one's opener. So `[#a]` and `[#a` are 26 at 1,
+-- and `#a [` is 24 at 3.
 --
--- Where the tokens end with a fault of their own, that is the fault of reading too, unless one came before it.
+-- Where the tokens end with a fault of their own, that is the fault of reading too, unless one came
+-- before it.
 use Rattle.std.specs.Prelude.{◌≡◌, ℕ, List, [], ◌∷◌, ◌++◌, Bool, true, false, not, ◌&&◌, ◌||◌, if◌then◌else◌, Option, Some, None, Result, Ok, Err}
 use Rattle.hist_types.specs.Forms.{plain, OpenCollection, Open, is_map, is_vector_or_list, leave_out, with_form, with_mark, with_opener, form_of, waiting}
 use Rattle.hist_types.specs.Entries.{Entry, entry_of, ◌>>=◌, refuse_if}
@@ -28,7 +32,8 @@ pub record Reading : Type 0 where
 -- whether the next form stands in an operation's place, where these marks wait at the top level
 abbrev pub is_place_in : List Item → List OpenCollection → Bool
 is_place_in marks [] = not (leave_out marks)
-is_place_in marks (c ∷ []) = is_vector_or_list c.opener && not (leave_out marks) && not (leave_out c.marks)
+is_place_in marks (c ∷ []) =
+    is_vector_or_list c.opener && not (leave_out marks) && not (leave_out c.marks)
 is_place_in marks (c ∷ outer ∷ more) = false
 
 abbrev pub in_operation_place : Open → Bool
@@ -40,7 +45,10 @@ at_top [] = true
 at_top (c ∷ outer) = false
 
 abbrev pub may_open : Open → Item → Bool
-may_open o opener = not (in_operation_place o) || is_map opener || (at_top o.collections && is_vector_or_list opener)
+may_open o opener =
+    not (in_operation_place o)
+    || is_map opener
+    || (at_top o.collections && is_vector_or_list opener)
 
 -- ---- one token
 
@@ -58,7 +66,8 @@ refuse_waiting [] = Ok tt
 refuse_waiting (mark ∷ marks) = Err (byte_fault DanglingTag mark.start)
 
 -- what a collection gives when it is closed; around it are these marks and collections
-abbrev pub given_by : OpenCollection → Item → List Item → List OpenCollection → Result (List Entry) Fault
+abbrev pub given_by :
+    OpenCollection → Item → List Item → List OpenCollection → Result (List Entry) Fault
 given_by c closer marks outer =
     if is_map c.opener && is_place_in marks outer
     then (entry_of c.opener closer c.members >>= λ entry. Ok (entry ∷ []))
@@ -73,11 +82,14 @@ close closer marks (c ∷ outer) =
     Ok (record { entries = entries; after = with_form (form_of c closer) marks outer })
 
 abbrev pub step_by : ItemKind → Open → Item → Result Step Fault
-step_by Opener o t = if may_open o t then Ok (goes_on (with_opener t o)) else Err (byte_fault NotAMap t.start)
+step_by Opener o t =
+    if may_open o t then Ok (goes_on (with_opener t o)) else Err (byte_fault NotAMap t.start)
 step_by Closer o t = close t o.marks o.collections
 step_by Tag o t = Ok (goes_on (with_mark t o.marks o.collections))
 step_by Drop o t = Ok (goes_on (with_mark t o.marks o.collections))
-step_by kind o t = refuse_if (in_operation_place o) NotAMap t.start >>= λ _. Ok (goes_on (with_form (plain t) o.marks o.collections))
+step_by kind o t =
+    refuse_if (in_operation_place o) NotAMap t.start >>= λ _.
+    Ok (goes_on (with_form (plain t) o.marks o.collections))
 
 abbrev pub step : Open → Item → Result Step Fault
 step o t = step_by t.kind o t
@@ -126,10 +138,16 @@ reading_of tokens ending = reading_from nothing_open tokens ending
 -- The text reads as these entries, and then it ends or a fault stands.
 abbrev pub Reads : List ℕ → List Entry → Option Fault → Type 0
 Reads text entries fault =
-    (tokens : List Item) × (ending : Option Fault) × HasTokens text tokens ending × (reading_of tokens ending ≡ record { entries = entries; fault = fault })
+    (tokens : List Item)
+    × (ending : Option Fault)
+    × HasTokens text tokens ending
+    × (reading_of tokens ending ≡ record { entries = entries; fault = fault })
 
--- From the offset on, as if nothing stood before it, the text reads as these entries, and then it ends or a fault stands.
+-- From the offset on, as if nothing stood before it, the text reads as these entries, and then it
+-- ends or a fault stands.
 abbrev pub ReadsFrom : ℕ → List ℕ → List Entry → Option Fault → Type 0
 ReadsFrom offset text entries fault =
-    (tokens : List Item) × (ending : Option Fault) × HasTokensFrom offset text tokens ending
+    (tokens : List Item)
+    × (ending : Option Fault)
+    × HasTokensFrom offset text tokens ending
     × (reading_of tokens ending ≡ record { entries = entries; fault = fault })

@@ -1,4 +1,5 @@
--- How the logic stores the plain data of these definitions, for the types of code that contracts see as such data.
+-- How the logic stores the plain data of these definitions, for the types of code that contracts
+-- see as such data.
 use Rattle.std.specs.Prelude.{◌≡◌, ℕ, ℤ, pos, List, [], Bool, true, false, cond, ◌==◌, Option, Some, None, refl}
 use Rattle.std.specs.Coded.{Coded, code_by, coded×, coded_ℕ, coded_ℤ, coded_bool, coded_list, coded_option}
 use Rattle.hist_types.specs.Atoms.{Atom, integer, keyword, string, symbol}
@@ -16,7 +17,9 @@ atom_parts (string s) = (2, (pos 0, s))
 atom_parts (symbol s) = (3, (pos 0, s))
 
 abbrev atom_from : ℕ × (ℤ × List ℕ) → Atom
-atom_from p = cond (p.0 == 0) (integer p.1.0) (cond (p.0 == 1) (keyword p.1.1) (cond (p.0 == 2) (string p.1.1) (symbol p.1.1)))
+atom_from p =
+    cond (p.0 == 0) (integer p.1.0)
+    (cond (p.0 == 1) (keyword p.1.1) (cond (p.0 == 2) (string p.1.1) (symbol p.1.1)))
 
 pub atom_from-parts : (a : Atom) → atom_from (atom_parts a) ≡ a
 atom_from-parts (integer n) = refl
@@ -25,7 +28,9 @@ atom_from-parts (string s) = refl
 atom_from-parts (symbol s) = refl
 
 abbrev pub coded_atom : Coded Atom
-coded_atom = code_by (ℕ × (ℤ × List ℕ)) (coded× coded_ℕ (coded× coded_ℤ (coded_list coded_ℕ))) atom_parts atom_from atom_from-parts
+coded_atom =
+    code_by (ℕ × (ℤ × List ℕ)) (coded× coded_ℕ (coded× coded_ℤ (coded_list coded_ℕ)))
+    atom_parts atom_from atom_from-parts
 
 -- ---- micro-operations and operations
 
@@ -46,7 +51,10 @@ mop_from-parts (read key value) = refl
 mop_from-parts (write key value) = refl
 
 abbrev pub coded_mop : Coded Mop
-coded_mop = code_by (Bool × (Atom × Option Atom)) (coded× coded_bool (coded× coded_atom (coded_option coded_atom))) mop_parts mop_from mop_from-parts
+coded_mop =
+    code_by (Bool × (Atom × Option Atom))
+    (coded× coded_bool (coded× coded_atom (coded_option coded_atom)))
+    mop_parts mop_from mop_from-parts
 
 abbrev kind_number : OpKind → ℕ
 kind_number kinds.Invoke = 0
@@ -55,7 +63,8 @@ kind_number kinds.Fail = 2
 kind_number kinds.Info = 3
 
 abbrev kind_from : ℕ → OpKind
-kind_from n = cond (n == 0) kinds.Invoke (cond (n == 1) kinds.Ok (cond (n == 2) kinds.Fail kinds.Info))
+kind_from n =
+    cond (n == 0) kinds.Invoke (cond (n == 1) kinds.Ok (cond (n == 2) kinds.Fail kinds.Info))
 
 pub kind_from-number : (k : OpKind) → kind_from (kind_number k) ≡ k
 kind_from-number kinds.Invoke = refl
@@ -69,7 +78,9 @@ coded_kind = code_by ℕ coded_ℕ kind_number kind_from kind_from-number
 abbrev pub coded_operation : Coded Operation
 coded_operation =
     code_by (OpKind × (ℕ × List Mop)) (coded× coded_kind (coded× coded_ℕ (coded_list coded_mop)))
-    (λ o. (o.kind, (o.process, o.mops))) (λ p. record { kind = p.0; process = p.1.0; mops = p.1.1 }) (λ _. refl)
+    (λ o. (o.kind, (o.process, o.mops)))
+    (λ p. record { kind = p.0; process = p.1.0; mops = p.1.1 })
+    (λ _. refl)
 
 -- ---- transactions
 
@@ -94,7 +105,15 @@ coded_status = code_by ℕ coded_ℕ status_number status_from status_from-numbe
 abbrev pub coded_transaction : Coded Transaction
 coded_transaction =
     code_by (ℕ × (ℕ × (Option ℕ × (Status × List Mop))))
-    (coded× coded_ℕ (coded× coded_ℕ (coded× (coded_option coded_ℕ) (coded× coded_status (coded_list coded_mop)))))
+    (coded× coded_ℕ
+    (coded× coded_ℕ
+    (coded× (coded_option coded_ℕ) (coded× coded_status (coded_list coded_mop)))))
     (λ t. (t.process, (t.invocation, (t.completion, (t.status, t.mops)))))
-    (λ p. record { process = p.0; invocation = p.1.0; completion = p.1.1.0; status = p.1.1.1.0; mops = p.1.1.1.1 })
+    (λ p. record {
+      process = p.0;
+      invocation = p.1.0;
+      completion = p.1.1.0;
+      status = p.1.1.1.0;
+      mops = p.1.1.1.1;
+    })
     (λ _. refl)

@@ -1,11 +1,13 @@
 -- Texts (EDN for operations and atoms; the rest is this project's own).
 --
--- Canonical operations are `{:type :T, :process P, :value [M M ..]}` for an invoke and an ok, with one blank between
--- members, and `{:type :T, :process P}` for a fail and an info. A micro-operation is `[:r K V]` or `[:w K V]`, a nil read
--- `[:r K nil]`. Canonical atoms are an integer in decimal, a keyword or symbol as it is, and a string in double quotes with
--- `\b \t \n \f \r \" \\` for the bytes 8, 9, 10, 12, 13, 34 and 92, every other byte as it stands.
+-- Canonical operations are `{:type :T, :process P, :value [M M ..]}` for an invoke and an ok, with
+-- one blank between members, and `{:type :T, :process P}` for a fail and an info. A micro-operation
+-- is `[:r K V]` or `[:w K V]`, a nil read `[:r K nil]`. Canonical atoms are an integer in decimal,
+-- a keyword or symbol as it is, and a string in double quotes with `\b \t \n \f \r \" \\` for the
+-- bytes 8, 9, 10, 12, 13, 34 and 92, every other byte as it stands.
 --
--- Each printed line ends with a byte 10. Numbers are decimal. Transactions are written `T` and their index.
+-- Each printed line ends with a byte 10. Numbers are decimal. Transactions are written `T` and
+-- their index.
 use Rattle.std.specs.Prelude.{◌≡◌, ℕ, List, [], ◌∷◌, ◌++◌, length, Bool, ◌==◌, if◌then◌else◌, codes, decimal, Option, Some, None, flat_map, is_some, fold, ◌||◌}
 use Rattle.std.specs.Fmt.{signed_decimal}
 use Rattle.std.specs.List.{join_by}
@@ -54,8 +56,10 @@ value_text None = codes "nil"
 value_text (Some atom) = atom_text atom
 
 abbrev pub mop_text : Mop → List ℕ
-mop_text (read key value) = codes "[:r " ++ atom_text key ++ codes " " ++ value_text value ++ codes "]"
-mop_text (write key value) = codes "[:w " ++ atom_text key ++ codes " " ++ atom_text value ++ codes "]"
+mop_text (read key value) =
+    codes "[:r " ++ atom_text key ++ codes " " ++ value_text value ++ codes "]"
+mop_text (write key value) =
+    codes "[:w " ++ atom_text key ++ codes " " ++ atom_text value ++ codes "]"
 
 abbrev pub mops_text : List Mop → List ℕ
 mops_text mops = codes "[" ++ join_by mop_text (codes " ") mops ++ codes "]"
@@ -75,7 +79,10 @@ value_field_text kinds.Info mops = []
 
 abbrev pub operation_text : Operation → List ℕ
 operation_text o =
-    codes "{:type " ++ kind_text o.kind ++ codes ", :process " ++ decimal o.process ++ value_field_text o.kind o.mops ++ codes "}"
+    codes "{:type " ++ kind_text o.kind
+    ++ codes ", :process " ++ decimal o.process
+    ++ value_field_text o.kind o.mops
+    ++ codes "}"
 
 -- ---- lines
 
@@ -95,14 +102,20 @@ version_text v = atom_text v.key ++ codes " " ++ value_text v.value
 
 -- of two versions the key is told once
 abbrev pub label_text : Label → List ℕ
-label_text (ww earlier later) = codes "ww " ++ version_text earlier ++ codes " " ++ value_text later.value
+label_text (ww earlier later) =
+    codes "ww " ++ version_text earlier ++ codes " " ++ value_text later.value
 label_text (wr version) = codes "wr " ++ version_text version
-label_text (rw earlier later) = codes "rw " ++ version_text earlier ++ codes " " ++ value_text later.value
+label_text (rw earlier later) =
+    codes "rw " ++ version_text earlier ++ codes " " ++ value_text later.value
 label_text (process p) = codes "process " ++ decimal p
-label_text (realtime completion invocation) = codes "realtime " ++ decimal completion ++ codes " " ++ decimal invocation
+label_text (realtime completion invocation) =
+    codes "realtime " ++ decimal completion ++ codes " " ++ decimal invocation
 
 abbrev pub edge_text : Edge → List ℕ
-edge_text e = transaction_name e.from ++ codes " -" ++ label_text e.label ++ codes "-> " ++ transaction_name e.to
+edge_text e =
+    transaction_name e.from
+    ++ codes " -" ++ label_text e.label ++ codes "-> "
+    ++ transaction_name e.to
 
 -- witness lines are indented
 abbrev pub indented : List ℕ → List ℕ
@@ -110,7 +123,9 @@ indented text = line (codes "  " ++ text)
 
 abbrev pub bad_read_text : BadRead → List ℕ
 bad_read_text r =
-    transaction_name r.reader ++ codes " read " ++ version_text r.version ++ codes " of " ++ transaction_name r.writer
+    transaction_name r.reader
+    ++ codes " read " ++ version_text r.version
+    ++ codes " of " ++ transaction_name r.writer
 
 -- ---- the text of `reads`
 
@@ -123,7 +138,8 @@ abbrev pub head_lines : (events txns : ℕ) → List ℕ
 head_lines events txns = number_line (codes "prefix") events ++ number_line (codes "txns") txns
 
 -- the lines, from these numbers, what shows G1a and G1b, and how many reads are stray
-abbrev pub reads_lines : (events txns : ℕ) → (aborted intermediate : Option BadRead) → (unwritten : ℕ) → List ℕ
+abbrev pub reads_lines :
+    (events txns : ℕ) → (aborted intermediate : Option BadRead) → (unwritten : ℕ) → List ℕ
 reads_lines events txns aborted intermediate unwritten =
     head_lines events txns
     ++ bad_read_lines (codes "G1a") aborted
@@ -137,7 +153,8 @@ reads_text events =
 
 -- whether that text names a phenomenon
 abbrev pub has_bad_read : List Operation → Bool
-has_bad_read events = is_some (g1a (transactions_of events)) || is_some (g1b (transactions_of events))
+has_bad_read events =
+    is_some (g1a (transactions_of events)) || is_some (g1b (transactions_of events))
 
 -- ---- the text of `edges`
 
@@ -160,7 +177,9 @@ label_cmp a b = nat_cmp (label_rank a) (label_rank b)
 
 -- by first transaction, second transaction and label
 abbrev pub edge_cmp : Edge → Edge → Ordering
-edge_cmp a b = ordering_then (nat_cmp a.from b.from) (ordering_then (nat_cmp a.to b.to) (label_cmp a.label b.label))
+edge_cmp a b =
+    ordering_then (nat_cmp a.from b.from)
+    (ordering_then (nat_cmp a.to b.to) (label_cmp a.label b.label))
 
 abbrev pub choose_ordering : {A : Type 0} → Ordering → A → A → A → A
 choose_ordering Less less equal greater = less
@@ -180,7 +199,9 @@ abbrev pub edges_text : List Operation → List ℕ
 edges_text events =
     let ts = transactions_of events in
     let es = in_order (dependency_edges ts) in
-    head_lines (length events) (length ts) ++ flat_map (λ (e : Edge). line (edge_text e)) es ++ number_line (codes "edges") (length es)
+    head_lines (length events) (length ts)
+    ++ flat_map (λ (e : Edge). line (edge_text e)) es
+    ++ number_line (codes "edges") (length es)
 
 -- ---- the text of a verdict
 
@@ -191,7 +212,9 @@ level_text Realtime = codes "realtime"
 
 abbrev pub finding_lines : List ℕ → Option Finding → List ℕ
 finding_lines name None = line (name ++ codes " none")
-finding_lines name (Some found) = line (name ++ codes " " ++ level_text found.level) ++ flat_map (λ (e : Edge). indented (edge_text e)) found.walk
+finding_lines name (Some found) =
+    line (name ++ codes " " ++ level_text found.level)
+    ++ flat_map (λ (e : Edge). indented (edge_text e)) found.walk
 
 -- the lines for the findings of G0, G1c, G-single and G2-item
 abbrev pub verdict_lines : List Operation → (g0 g1c single item : Option Finding) → List ℕ
@@ -227,7 +250,10 @@ place_text (Event index) = codes " event " ++ decimal index
 place_text Nowhere = []
 
 abbrev pub fault_text : Fault → List ℕ
-fault_text fault = codes "refused " ++ decimal (number_of fault.refusal) ++ codes " " ++ name_of fault.refusal ++ place_text fault.at
+fault_text fault =
+    codes "refused " ++ decimal (number_of fault.refusal)
+    ++ codes " " ++ name_of fault.refusal
+    ++ place_text fault.at
 
 abbrev pub refusal_line : Fault → List ℕ
 refusal_line fault = line (fault_text fault)

@@ -1,20 +1,25 @@
 -- Tokens (EDN; what is wider than EDN is said to be this project's own).
 --
--- A text is cut into items: single blanks, comments and tokens, one after the other, so that the spans of tokens rise
--- and only blanks and comments lie between two of them. Which item begins at a place is decided in this order:
+-- A text is cut into items: single blanks, comments and tokens, one after the other, so that the
+-- spans of tokens rise and only blanks and comments lie between two of them. Which item begins at a
+-- place is decided in this order:
 --     a blank
 --     `;`      a comment, up to a byte 10 or the text's end
---     `"`      a string, up to the next quote that no backslash takes; a backslash takes the byte after it
---     `\`      a character: the next byte, whatever it is, and the longest run that follows, which may be empty; a
---              lone `\` at the text's end is one too (wider than EDN)
+--     `"`      a string, up to the next quote that no backslash takes; a backslash takes the byte
+--              after it
+--     `\`      a character: the next byte, whatever it is, and the longest run that follows, which
+--              may be empty; a lone `\` at the text's end is one too (wider than EDN)
 --     ( [ {    an opener, and ) ] } a closer
 --     `#{`     an opener of two bytes, which `}` closes; `#_` leaves the next form out
---     `#`      not followed by another `#`: a tag, with the longest run that follows, which may be empty (own)
+--     `#`      not followed by another `#`: a tag, with the longest run that follows, which may be
+--              empty (own)
 --     else     the longest run of bytes that are no blank, no bracket, no quote and no semicolon.
--- A run is nil, true, false, an integer, a keyword, a symbol, or something other, whichever fits first.
+-- A run is nil, true, false, an integer, a keyword, a symbol, or something other, whichever fits
+-- first.
 --
 -- The items are cut up to the text's end, or up to the first item with a fault:
---     20 BadUtf8          the item's bytes are no UTF-8, told at the first byte that begins no well-formed sequence
+--     20 BadUtf8          the item's bytes are no UTF-8, told at the first byte that begins no
+--                         well-formed sequence
 --     21 UnclosedString   a string without its closing quote, told at its opening one
 --     22 StrayCloser      a closer where no collection is open or the innermost is of another kind
 --     23 TooDeep          an opener where 64 collections are open
@@ -60,7 +65,9 @@ is_sign b = (b == plus) || (b == minus)
 
 -- a digit, or a sign and a digit
 abbrev pub begins_with_number : List ℕ → Bool
-begins_with_number text = is_ascii_digit (first_byte text) || (is_sign (first_byte text) && is_ascii_digit (second_byte text))
+begins_with_number text =
+    is_ascii_digit (first_byte text)
+    || (is_sign (first_byte text) && is_ascii_digit (second_byte text))
 
 abbrev pub without_sign : List ℕ → List ℕ
 without_sign run = if is_sign (first_byte run) then drop 1 run else run
@@ -71,7 +78,10 @@ without_n run = if ends_with nat_eq run (letter_n ∷ []) then take (length run 
 
 -- `0`, or digits that don't begin with 0
 abbrev pub is_whole : List ℕ → Bool
-is_whole digits = list_all is_ascii_digit digits && nat_lt 0 (length digits) && (not (first_byte digits == zero_digit) || (length digits == 1))
+is_whole digits =
+    list_all is_ascii_digit digits
+    && nat_lt 0 (length digits)
+    && (not (first_byte digits == zero_digit) || (length digits == 1))
 
 -- `+` or `-` or neither, then digits, then `N` or nothing
 abbrev pub is_int : List ℕ → Bool
@@ -81,11 +91,16 @@ is_int run = is_whole (without_n (without_sign run))
 abbrev pub is_keyword : List ℕ → Bool
 is_keyword run = (first_byte run == colon) && nat_lt 1 (length run)
 
+-- begins with `+`, `-` or `.`, and has a digit behind that
+abbrev pub has_digit_second : List ℕ → Bool
+has_digit_second run =
+    (is_sign (first_byte run) || (first_byte run == dot)) && is_ascii_digit (second_byte run)
+
 -- begins with no digit, `:` or `#`, and has no digit behind a first `+`, `-` or `.` (own)
 abbrev pub is_symbol : List ℕ → Bool
 is_symbol run =
     not (is_ascii_digit (first_byte run) || (first_byte run == colon) || (first_byte run == hash))
-    && not ((is_sign (first_byte run) || (first_byte run == dot)) && is_ascii_digit (second_byte run))
+    && not (has_digit_second run)
 
 -- the first of the kinds that fits
 abbrev pub run_kind : List ℕ → ItemKind
@@ -100,8 +115,8 @@ run_kind run =
 
 -- ---- the other items
 
--- How many bytes stand before the quote that closes a string, if one does. `taken` says that a backslash takes the
--- first byte.
+-- How many bytes stand before the quote that closes a string, if one does. `taken` says that a
+-- backslash takes the first byte.
 abbrev pub content_len : (taken : Bool) → List ℕ → Option ℕ
 content_len taken [] = None
 content_len taken (b ∷ rest) =
@@ -121,7 +136,8 @@ hash_front rest =
     else (if first_byte rest == hash then (run_kind (hash ∷ run_of rest), Some (suc (run_len rest)))
     else (Tag, Some (suc (run_len rest)))))
 
--- The item of which b is the first byte: its kind, and how many bytes it has. A string that nothing closes has no end.
+-- The item of which b is the first byte: its kind, and how many bytes it has. A string that nothing
+-- closes has no end.
 abbrev pub front : ℕ → List ℕ → ItemKind × Option ℕ
 front b rest =
     if is_blank b then (Blank, Some 1)
@@ -141,7 +157,8 @@ closer_of opener =
     if bytes_eq opener (open_round ∷ []) then close_round
     else (if bytes_eq opener (open_square ∷ []) then close_square else close_brace)
 
--- the closers that the open collections wait for, the innermost first, once the item has been passed
+-- the closers that the open collections wait for, the innermost first, once the item has been
+-- passed
 abbrev pub open_after : ItemKind → List ℕ → List ℕ → List ℕ
 open_after Opener bytes closers = closer_of bytes ∷ closers
 open_after Closer bytes closers = drop 1 closers
@@ -149,8 +166,10 @@ open_after kind bytes closers = closers
 
 -- an item that may not stand where these collections are open
 abbrev pub nesting_refusal : ItemKind → List ℕ → List ℕ → Option Refusal
-nesting_refusal Opener bytes closers = if nat_le MAX_OPEN_COLLECTIONS (length closers) then Some TooDeep else None
-nesting_refusal Closer bytes closers = if bytes_eq bytes (take 1 closers) then None else Some StrayCloser
+nesting_refusal Opener bytes closers =
+    if nat_le MAX_OPEN_COLLECTIONS (length closers) then Some TooDeep else None
+nesting_refusal Closer bytes closers =
+    if bytes_eq bytes (take 1 closers) then None else Some StrayCloser
 nesting_refusal kind bytes closers = None
 
 -- ---- faults
@@ -161,7 +180,8 @@ byte_fault refusal offset = record { refusal = refusal; at = Byte offset }
 -- the fault of an item at this offset with these bytes, if it has one
 abbrev pub item_fault : ItemKind → ℕ → List ℕ → List ℕ → Option Fault
 item_fault kind offset bytes closers =
-    if nat_lt (utf8_valid_len bytes) (length bytes) then Some (byte_fault BadUtf8 (offset + utf8_valid_len bytes))
+    if nat_lt (utf8_valid_len bytes) (length bytes)
+    then Some (byte_fault BadUtf8 (offset + utf8_valid_len bytes))
     else option_map (λ refusal. byte_fault refusal offset) (nesting_refusal kind bytes closers)
 
 -- ---- a whole text
@@ -169,25 +189,35 @@ item_fault kind offset bytes closers =
 -- an item of this kind and with these bytes stands at the front of the text
 abbrev pub BeginsWith : List ℕ → ItemKind → List ℕ → Type 0
 BeginsWith [] kind bytes = ⊥
-BeginsWith (b ∷ rest) kind bytes = (front b rest ≡ (kind, Some (length bytes))) × (bytes ≡ take (length bytes) (b ∷ rest))
+BeginsWith (b ∷ rest) kind bytes =
+    (front b rest ≡ (kind, Some (length bytes))) × (bytes ≡ take (length bytes) (b ∷ rest))
+
+-- the item at the front of the text has this fault
+abbrev pub BeginsWithFaulty : List ℕ → ℕ → List ℕ → Fault → Type 0
+BeginsWithFaulty text offset closers fault =
+    (kind : ItemKind)
+    × (bytes : List ℕ)
+    × BeginsWith text kind bytes
+    × (item_fault kind offset bytes closers ≡ Some fault)
 
 -- this fault stands at the front of the text, which begins at the offset
 abbrev pub BeginsWithFault : List ℕ → ℕ → List ℕ → Fault → Type 0
 BeginsWithFault [] offset closers fault = ⊥
 BeginsWithFault (b ∷ rest) offset closers fault =
     ((front b rest ≡ (Str, None)) × (fault ≡ byte_fault UnclosedString offset))
-    ⊎ ((kind : ItemKind) × (bytes : List ℕ) × BeginsWith (b ∷ rest) kind bytes × (item_fault kind offset bytes closers ≡ Some fault))
+    ⊎ BeginsWithFaulty (b ∷ rest) offset closers fault
 
--- The text from an offset on, inside collections that wait for these closers, is cut into the items, and then it ends or
--- a fault stands.
+-- The text from an offset on, inside collections that wait for these closers, is cut into the
+-- items, and then it ends or a fault stands.
 abbrev pub IsCut : List ℕ → ℕ → List ℕ → List Item → Option Fault → Type 0
 IsCut text offset closers [] None = text ≡ []
 IsCut text offset closers [] (Some fault) = BeginsWithFault text offset closers fault
 IsCut text offset closers (item ∷ items) ending =
+    let len = length item.bytes in
     BeginsWith text item.kind item.bytes
     × (item.start ≡ offset)
     × (item_fault item.kind offset item.bytes closers ≡ None)
-    × IsCut (drop (length item.bytes) text) (offset + length item.bytes) (open_after item.kind item.bytes closers) items ending
+    × IsCut (drop len text) (offset + len) (open_after item.kind item.bytes closers) items ending
 
 abbrev pub is_token : ItemKind → Bool
 is_token Blank = false
@@ -200,9 +230,13 @@ tokens_of items = filter (λ item. is_token item.kind) items
 
 -- The text has these tokens, and then it ends or a fault stands.
 abbrev pub HasTokens : List ℕ → List Item → Option Fault → Type 0
-HasTokens text tokens ending = (items : List Item) × IsCut text 0 [] items ending × (tokens ≡ tokens_of items)
+HasTokens text tokens ending =
+    (items : List Item) × IsCut text 0 [] items ending × (tokens ≡ tokens_of items)
 
--- From the offset on, where nothing is open, the text has these tokens, and then it ends or a fault stands.
+-- From the offset on, where nothing is open, the text has these tokens, and then it ends or a fault
+-- stands.
 abbrev pub HasTokensFrom : ℕ → List ℕ → List Item → Option Fault → Type 0
 HasTokensFrom offset text tokens ending =
-    (items : List Item) × IsCut (drop offset text) offset [] items ending × (tokens ≡ tokens_of items)
+    (items : List Item)
+    × IsCut (drop offset text) offset [] items ending
+    × (tokens ≡ tokens_of items)

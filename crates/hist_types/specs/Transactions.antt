@@ -1,13 +1,15 @@
 -- Transactions, and what they read and write (Jepsen, Elle).
 --
--- There is one transaction for each invocation, named by the invocation's index: its process, the index of its invocation,
--- the index of its completion if it has one, its status, and its micro-operations, which are the completion's if that is
--- an ok, else the invocation's. Its completion is the next event of its process, where that is a completion.
+-- There is one transaction for each invocation, named by the invocation's index: its process, the
+-- index of its invocation, the index of its completion if it has one, its status, and its
+-- micro-operations, which are the completion's if that is an ok, else the invocation's. Its
+-- completion is the next event of its process, where that is a completion.
 --
--- A version of a key is a value that is written to the key, or nil, which the key has at first. An external read of a
--- transaction at a key is a read of the key with no write of it before; where the transaction is ok, it reads that version.
--- The external write of a key is the last one; a transaction installs that version, and its earlier writes of the key it
--- writes over. The nodes are all ok transactions, and each info or open one that wrote a version which an ok transaction
+-- A version of a key is a value that is written to the key, or nil, which the key has at first. An
+-- external read of a transaction at a key is a read of the key with no write of it before; where
+-- the transaction is ok, it reads that version. The external write of a key is the last one; a
+-- transaction installs that version, and its earlier writes of the key it writes over. The nodes
+-- are all ok transactions, and each info or open one that wrote a version which an ok transaction
 -- reads.
 use Rattle.std.specs.Prelude.{ℕ, ◌+◌, List, [], ◌∷◌, Bool, true, false, not, ◌&&◌, ◌||◌, ◌==◌, if◌then◌else◌, Option, Some, None, filter, map}
 use Rattle.std.specs.List.{list_any}
@@ -33,7 +35,8 @@ pub record Indexed : Type 0 where
   pub index : ℕ
   pub event : Operation
 
--- the completion of a process's open invocation among the events after it, of which the first has the index
+-- the completion of a process's open invocation among the events after it, of which the first has
+-- the index
 abbrev pub completion_in : ℕ → ℕ → List Operation → Option Indexed
 completion_in process index [] = None
 completion_in process index (event ∷ events) =
@@ -62,7 +65,13 @@ mops_by status invoked completed = invoked
 -- the transaction of an invocation with this index, by its completion
 abbrev pub transaction_by : ℕ → Operation → Option Indexed → Transaction
 transaction_by index invocation None =
-    record { process = invocation.process; invocation = index; completion = None; status = Open; mops = invocation.mops }
+    record {
+      process = invocation.process;
+      invocation = index;
+      completion = None;
+      status = Open;
+      mops = invocation.mops;
+    }
 transaction_by index invocation (Some completion) =
     let status = status_by completion.event.kind in
     record {
@@ -77,8 +86,9 @@ transaction_by index invocation (Some completion) =
 abbrev pub transactions_from : ℕ → List Operation → List Transaction
 transactions_from index [] = []
 transactions_from index (event ∷ events) =
+    let completion = completion_in event.process (index + 1) events in
     if is_invoke event.kind
-    then transaction_by index event (completion_in event.process (index + 1) events) ∷ transactions_from (index + 1) events
+    then transaction_by index event completion ∷ transactions_from (index + 1) events
     else transactions_from (index + 1) events
 
 abbrev pub transactions_of : List Operation → List Transaction
@@ -113,7 +123,9 @@ has_version vs v = list_any (version_eq v) vs
 abbrev pub reads_after : (written : List Atom) → List Mop → List Version
 reads_after written [] = []
 reads_after written (read key value ∷ mops) =
-    if list_any (atom_eq key) written then reads_after written mops else record { key = key; value = value } ∷ reads_after written mops
+    if list_any (atom_eq key) written
+    then reads_after written mops
+    else record { key = key; value = value } ∷ reads_after written mops
 reads_after written (write key value ∷ mops) = reads_after (key ∷ written) mops
 
 abbrev pub external_reads : Transaction → List Version
@@ -162,7 +174,8 @@ writes_over t v = has_version (map version_of (intermediate_writes t)) v
 
 -- some transaction reads a version that this one wrote
 abbrev pub was_read : List Transaction → Transaction → Bool
-was_read ts t = list_any (λ w. list_any (λ reader. reads reader (version_of w)) ts) (writes_of t.mops)
+was_read ts t =
+    list_any (λ w. list_any (λ reader. reads reader (version_of w)) ts) (writes_of t.mops)
 
 abbrev pub is_node : List Transaction → Transaction → Bool
 is_node ts t = is_ok t || (not (is_failed t) && was_read ts t)

@@ -1,8 +1,10 @@
--- Version pairs (this project's own: nil comes first, and a write follows a read of its key in one transaction).
+-- Version pairs (this project's own: nil comes first, and a write follows a read of its key in one
+-- transaction).
 --
--- A pair is of two versions of a key, the earlier and the later one. nil comes before each version that a node installs.
--- A version that an ok transaction reads comes before the one that it installs of the same key, unless they are one version.
--- Nothing else is known of their order: no closure is taken.
+-- A pair is of two versions of a key, the earlier and the later one. nil comes before each version
+-- that a node installs. A version that an ok transaction reads comes before the one that it
+-- installs of the same key, unless they are one version. Nothing else is known of their order: no
+-- closure is taken.
 use Rattle.std.specs.Prelude.{List, [], ◌∷◌, ◌++◌, Bool, not, ◌&&◌, None, filter, map, flat_map}
 use Rattle.hist_types.specs.Atoms.{Atom, atom_eq, value_eq}
 use Rattle.hist_types.specs.Transactions.{Transaction, Version, is_ok, external_reads, installed_by, nodes}

@@ -1,7 +1,8 @@
 -- Witnesses (this project's own form, after Elle's explained cycles).
 --
--- A witness of a phenomenon at a level is a closed walk that shows it there, with no transaction twice and, round the whole
--- cycle, no two order edges side by side, told from its least transaction. Where several fit, any is right.
+-- A witness of a phenomenon at a level is a closed walk that shows it there, with no transaction
+-- twice and, round the whole cycle, no two order edges side by side, told from its least
+-- transaction. Where several fit, any is right.
 use Rattle.std.specs.Prelude.{ℕ, List, [], ◌∷◌, Bool, true, false, not, ◌&&◌, nat_eq, nat_le, IsTrue, Option, IfSome, option_map, map}
 use Rattle.std.specs.List.{list_all, list_any}
 use Rattle.hist_types.specs.Transactions.{Transaction}
@@ -35,7 +36,9 @@ abbrev pub begins_least : List ℕ → Bool
 begins_least [] = true
 begins_least (n ∷ ns) = list_all (nat_le n) ns
 
-pub record IsWitness (phenomenon : Phenomenon) (level : Level) (ts : List Transaction) (walk : List Edge) : Type 0 where
+pub record IsWitness
+    (phenomenon : Phenomenon) (level : Level) (ts : List Transaction) (walk : List Edge)
+    : Type 0 where
   pub shows : Shows phenomenon level ts walk
   pub different : IsTrue (all_different (stations walk))
   pub apart : IsTrue (alternates (ends_in_order walk) walk)

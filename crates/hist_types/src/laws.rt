@@ -1,27 +1,27 @@
 //! Laws of this crate's definitions: the contracts of functions that do nothing, and of one that compares levels.
 
-ghost use Rattle.std.specs.Prelude.{◌≡◌, ◌↔◌, ◌⊎◌, ◌<◌, ◌≤◌, ℕ, List, [], ◌∷◌, ◌++◌, length, drop, Bool, false, not, ◌&&◌, ◌==◌, IsTrue, IsFalse, Option, Some, None, is_some, All, Contains, true};
+ghost use Rattle.std.specs.Prelude.{◌≡◌, ◌↔◌, ◌≤◌, ℕ, List, [], ◌++◌, length, drop, IsTrue, IsFalse, None, is_some, All, Contains};
 ghost use Rattle.std.specs.Ordering.{nat_cmp};
 ghost use Rattle.hist_types.specs.Bytes.{is_run_byte};
 ghost use Rattle.hist_types.specs.Atoms.{Atom, Value, atom_eq, value_eq};
-ghost use Rattle.hist_types.specs.Edges.{Label, Edge, edge, dependency_labels, dependency_edges, edges_at, order_labels, all_order_edges, order_edges};
+ghost use Rattle.hist_types.specs.Edges.{Edge, dependency_edges, all_order_edges, order_edges};
 ghost use Rattle.hist_types.specs.Frontier.{all_thinned_edges, thinned_edges};
-ghost use Rattle.hist_types.specs.Journal.{Write, write_eq, is_invoke, last_event, first_broken, KeepsRules, events_after, events_of};
-ghost use Rattle.hist_types.specs.Laws.{HasOne, RunEndsAt, IsNextOf, IsLastOf, ReadsFirst, WritesLast, LeavesOne, LeadsToOne, HasRealtimeTwin, Rise, HasOneAtItsPlace};
-ghost use Rattle.hist_types.specs.Dependencies.{IsVersionPair, Depends, IsDependency, IsAbortedRead, IsIntermediateRead, WroteNone, IsStrayRead, alone_if, NoneTwice, writes_of_all};
+ghost use Rattle.hist_types.specs.Journal.{Write, write_eq, KeepsRules, events_of};
+ghost use Rattle.hist_types.specs.Laws.{HasExactly, HasOne, IsReadIn, IsReadInPart, HasPartsOf, IsOfTokens, HasAtom, IsFaultlessToken, GrowBlockByBlock, KeepRulesByParts, RunEndsAt, CompletesByNextEvent, EndsWithLastEvent, ReadsFirst, WritesLast, AreSubEdges, LeaveNodes, LeadToNodes, HaveRealtimeTwins, OrderEdgesJoinAllPairs, Rise, HasOneAtItsPlace, HasAllDependenciesInOrder};
+ghost use Rattle.hist_types.specs.Dependencies.{IsVersionPair, LabelsAreDependencies, IsDependency, IsAbortedRead, IsIntermediateRead, WroteOne, WroteNone, IsStrayRead, WriterDecidesG1a, WriterDecidesG1b, HasNoIntermediateWriter, WriteNoneTwice, HaveOneWriterEach, InstallNoneReplaced, InstallsOrWritesOver, InstallsOneOfAKey};
 ghost use Rattle.hist_types.specs.Operations.{Operation};
-ghost use Rattle.hist_types.specs.Entries.{PlacedOperation, Entry, operation};
-ghost use Rattle.hist_types.specs.Phenomena.{height, makes, Has, BadRead, aborted_writers, aborted_reads, intermediate_writers, intermediate_reads, is_stray, stray_reads};
-ghost use Rattle.hist_types.specs.Placed.{IsMopIn, KeepsLimits, IsTextOf, IsIn, SpellsValue, IsTokenAlone, IsMopOfTokens};
-ghost use Rattle.hist_types.specs.Reading.{Reads, ReadsFrom};
+ghost use Rattle.hist_types.specs.Entries.{PlacedOperation};
+ghost use Rattle.hist_types.specs.Phenomena.{height, aborted_writers, aborted_reads, intermediate_reads, is_stray, stray_reads};
+ghost use Rattle.hist_types.specs.Placed.{KeepsLimits, IsTextOf, IsIn, IsTokenAlone};
+ghost use Rattle.hist_types.specs.Reading.{Reads};
 ghost use Rattle.hist_types.specs.Refusals.{number_of, name_of};
 ghost use Rattle.hist_types.specs.Texts.{in_order};
-ghost use Rattle.hist_types.specs.Tokens.{IsCut, HasTokens, run_of, run_len, Item, ItemKind, is_token, item_fault, BeginsWith};
-ghost use Rattle.hist_types.specs.Thinning.{AreInvokedInOrder, CompletesLater, CompletesBefore, IncludesAllOk, order_edges_between, thinned_edges_between, HasEdge, HasPath, HasOver, SameCounts, WalksCarryOver, HasReturn, HasWitness, open_at, most_open, predecessors};
-ghost use Rattle.hist_types.specs.Transactions.{Transaction, Indexed, completion_in, transactions_of, Version, version_eq, is_failed, external_reads, external_writes, installs, writes, writes_over, nodes};
-ghost use Rattle.hist_types.specs.Versions.{VersionPair, version_pairs};
+ghost use Rattle.hist_types.specs.Tokens.{IsCut, HasTokens, run_of, run_len, Item, ItemKind};
+ghost use Rattle.hist_types.specs.Thinning.{AreInvokedInOrder, CompletesLater, CompleteApart, CompleteBeforeNext, IncludesAllOk, OrderEdgesArePaths, open_at, most_open, LimitsPredecessors};
+ghost use Rattle.hist_types.specs.Shown.{WalksCarryToThinned, WalksCarryToOrder, WalksCarryUp, IsMadeByCounts, IsKeptByThinning, IsShownThinned, IsShownByReturn, IsFoundByReturn, IsFoundThinned, IsWitnessed, PhenomenaRise};
+ghost use Rattle.hist_types.specs.Transactions.{Transaction, transactions_of, Version, version_eq, external_reads, external_writes, writes, nodes};
+ghost use Rattle.hist_types.specs.Versions.{version_pairs};
 ghost use Rattle.hist_types.specs.declared.limits.TheConstants.{MAX_PROCESS, MAX_MICRO_OPS, MAX_OPERATION_BYTES, MAX_OPEN_COLLECTIONS, MAX_BLOCK_OPERATIONS, MAX_BLOCK_BYTES, MAX_CELLS, MAX_EVENTS, MAX_LINE_BYTES, MAX_WORKERS};
-ghost use Rattle.hist_types.specs.declared.types.Fault.{Fault};
 ghost use Rattle.hist_types.specs.declared.types.Level.{Level};
 ghost use Rattle.hist_types.specs.declared.types.Level.TheVariants.{Process, Realtime};
 ghost use Rattle.hist_types.specs.declared.types.Phenomenon.{Phenomenon};
@@ -68,21 +68,21 @@ pub fn equality_decided()
 /// A journal grows block by block, and its events keep its rules. Operations keep them where each part of them does behind what is
 /// before it.
 pub fn blocks_one_after_another()
-    ensures push { (blocks : List (List Operation)) → (block : List Operation) → events_of (blocks ++ block ∷ []) ≡ events_after (events_of blocks) block }
+    ensures push { (blocks : List (List Operation)) → GrowBlockByBlock blocks }
     ensures kept { (blocks : List (List Operation)) → KeepsRules (events_of blocks) }
-    ensures parts { (events front rest : List Operation) → (first_broken events (front ++ rest) ≡ None) ↔ ((first_broken events front ≡ None) × (first_broken (events ++ front) rest ≡ None)) }
+    ensures parts { (events front rest : List Operation) → KeepRulesByParts events front rest }
 {}
 
 /// A completion is the next event of its process, where that is no invocation. A process has no event behind its last one.
 pub fn events_of_a_process()
-    ensures completion { (process index : ℕ) → (events : List Operation) → (found : Indexed) → (completion_in process index events ≡ Some found) ↔ (IsNextOf process index events found × IsFalse (is_invoke found.event.kind)) }
-    ensures last { (process : ℕ) → (events : List Operation) → (event : Operation) → (last_event process events ≡ Some event) ↔ IsLastOf process events event }
+    ensures completion { (process index : ℕ) → CompletesByNextEvent process index }
+    ensures last { (process : ℕ) → EndsWithLastEvent process }
 {}
 
 /// An external read has no write of its key before it in its transaction, and an external write none after it.
 pub fn external_reads_and_writes()
-    ensures reads { (t : Transaction) → (v : Version) → Contains (external_reads t) v ↔ ReadsFirst t.mops v }
-    ensures writes { (t : Transaction) → (w : Write) → Contains (external_writes t) w ↔ WritesLast t.mops w }
+    ensures reads { (t : Transaction) → HasExactly (external_reads t) (ReadsFirst t.mops) }
+    ensures writes { (t : Transaction) → HasExactly (external_writes t) (WritesLast t.mops) }
 {}
 
 /// A run is the longest row of its bytes at the front of a text.
@@ -95,7 +95,7 @@ pub fn runs_longest()
 
 /// Each text has one reading, as it has one row of tokens, and one cut into items from any offset and inside any collections.
 pub fn texts_have_one_reading()
-    ensures cut { (text : List ℕ) → (offset : ℕ) → (closers : List ℕ) → HasOne (IsCut text offset closers) }
+    ensures cut { (text closers : List ℕ) (offset : ℕ) → HasOne (IsCut text offset closers) }
     ensures tokens { (text : List ℕ) → HasOne (HasTokens text) }
     ensures reading { (text : List ℕ) → HasOne (Reads text) }
 {}
@@ -103,43 +103,43 @@ pub fn texts_have_one_reading()
 /// The bytes of an operation's map, read alone, give the same operation, with its places counted from the map's start, wherever
 /// in the text the reading began that gave it.
 pub fn operations_read_alone()
-    ensures { (text : List ℕ) → (offset : ℕ) → (entries : List Entry) → (fault : Option Fault) → (o : PlacedOperation) →
-        offset ≤ length text → ReadsFrom offset text entries fault → Contains entries (operation o) → IsIn text o }
+    ensures { (text : List ℕ) (o : PlacedOperation) → IsReadInPart text o → IsIn text o }
 {}
 
 /// An operation's keys and values are spelled by tokens of its text, by itself or anywhere else, and the operation
 /// keeps the limits.
 pub fn operations_spell_their_parts()
-    ensures mops { (text : List ℕ) → (o : PlacedOperation) → IsTextOf text o → All (IsMopIn text) o.mops }
-    ensures anywhere { (text : List ℕ) → (entries : List Entry) → (fault : Option Fault) → (o : PlacedOperation) → Reads text entries fault → Contains entries (operation o) → All (IsMopIn text) o.mops }
-    ensures limits { (text : List ℕ) → (o : PlacedOperation) → IsTextOf text o → KeepsLimits text o }
+    ensures mops { (text : List ℕ) (o : PlacedOperation) → IsTextOf text o → HasPartsOf text o }
+    ensures anywhere { (text : List ℕ) (o : PlacedOperation) → IsReadIn text o → HasPartsOf text o }
+    ensures limits { (text : List ℕ) (o : PlacedOperation) → IsTextOf text o → KeepsLimits text o }
 {}
 
 /// A token that spells an atom or nil is one token by itself, and so are the keys and values of an operation. Bytes that are a
 /// token without a fault at the front of themselves are that one token.
 pub fn atoms_are_single_tokens()
-    ensures tokens { (text : List ℕ) → (tokens : List Item) → (ending : Option Fault) → (t : Item) → (value : Value) → HasTokens text tokens ending → Contains tokens t → SpellsValue t value → IsTokenAlone t.kind t.bytes }
-    ensures mops { (text : List ℕ) → (entries : List Entry) → (fault : Option Fault) → (o : PlacedOperation) → Reads text entries fault → Contains entries (operation o) → All IsMopOfTokens o.mops }
-    ensures bytes { (kind : ItemKind) → (bytes : List ℕ) → is_token kind ≡ true → BeginsWith bytes kind bytes → item_fault kind 0 bytes [] ≡ None → IsTokenAlone kind bytes }
+    ensures tokens { (text : List ℕ) (t : Item) → HasAtom text t → IsTokenAlone t.kind t.bytes }
+    ensures mops { (text : List ℕ) (o : PlacedOperation) → IsReadIn text o → IsOfTokens o }
+    ensures bytes { (kind : ItemKind) (bytes : List ℕ)
+        → IsFaultlessToken kind bytes → IsTokenAlone kind bytes }
 {}
 
 /// Order edges are those of all pairs of which the second end is a node; their first end is one by itself.
 pub fn order_edges_between_nodes()
-    ensures all { (level : Level) → (ts : List Transaction) → (e : Edge) → Contains (order_edges level ts) e → Contains (all_order_edges level ts) e }
-    ensures first { (level : Level) → (ts : List Transaction) → (e : Edge) → Contains (order_edges level ts) e → LeavesOne (nodes ts) e }
-    ensures second { (level : Level) → (ts : List Transaction) → (e : Edge) → Contains (order_edges level ts) e → LeadsToOne (nodes ts) e }
-    ensures kept { (level : Level) → (ts : List Transaction) → (t u : Transaction) → (label : Label) → Contains ts t → Contains (nodes ts) u → (t.invocation == u.invocation) ≡ false → Contains (order_labels level t u) label → Contains (order_edges level ts) (edge t u label) }
+    ensures all { (level : Level) → AreSubEdges (order_edges level) (all_order_edges level) }
+    ensures first { (level : Level) → LeaveNodes (order_edges level) }
+    ensures second { (level : Level) → LeadToNodes (order_edges level) }
+    ensures kept { (level : Level) (ts : List Transaction) → OrderEdgesJoinAllPairs level ts }
 {}
 
 /// What is ordered within a process is ordered in real time.
 pub fn process_order_in_realtime()
-    ensures { (ts : List Transaction) → (e : Edge) → Contains (order_edges Process ts) e → HasRealtimeTwin (order_edges Realtime ts) e }
+    ensures { HaveRealtimeTwins (order_edges Process) (order_edges Realtime) }
 {}
 
 /// Thinning leaves edges out, and adds none.
 pub fn thinned_among_order_edges()
-    ensures nodes { (level : Level) → (ts : List Transaction) → (e : Edge) → Contains (thinned_edges level ts) e → Contains (order_edges level ts) e }
-    ensures all { (level : Level) → (ts : List Transaction) → (e : Edge) → Contains (all_thinned_edges level ts) e → Contains (all_order_edges level ts) e }
+    ensures nodes { (level : Level) → AreSubEdges (thinned_edges level) (order_edges level) }
+    ensures all { (level : Level) → AreSubEdges (all_thinned_edges level) (all_order_edges level) }
 {}
 
 /// Transactions are listed in the order of their invocations. Each completes, if at all, after its invocation, by an event that
@@ -147,14 +147,14 @@ pub fn thinned_among_order_edges()
 pub fn transactions_in_time()
     ensures order { (events : List Operation) → AreInvokedInOrder (transactions_of events) }
     ensures later { (events : List Operation) → All CompletesLater (transactions_of events) }
-    ensures apart { (events : List Operation) → (t u : Transaction) → Contains (transactions_of events) t → Contains (transactions_of events) u → ¬ (t.completion ≡ Some u.invocation) }
-    ensures process { (events : List Operation) → (t u : Transaction) → Contains (transactions_of events) t → Contains (transactions_of events) u → t.process ≡ u.process → t.invocation < u.invocation → CompletesBefore t u }
+    ensures apart { (events : List Operation) → CompleteApart (transactions_of events) }
+    ensures process { (events : List Operation) → CompleteBeforeNext (transactions_of events) }
 {}
 
 /// In any set of nodes with all ok transactions in it, an order edge joins two nodes exactly where a path of thinned edges leads
 /// from one to the other. The nodes of a history are such a set, and so are all its transactions.
 pub fn order_edges_are_thinned_paths()
-    ensures paths { (level : Level) → (events : List Operation) → (ns : List Transaction) → IncludesAllOk (transactions_of events) ns → (from to : ℕ) → HasEdge (order_edges_between level ns) from to ↔ HasPath (thinned_edges_between level (transactions_of events) ns) from to }
+    ensures paths { (level : Level) (events : List Operation) → OrderEdgesArePaths level events }
     ensures nodes { (ts : List Transaction) → IncludesAllOk ts (nodes ts) }
     ensures all { (ts : List Transaction) → IncludesAllOk ts ts }
 {}
@@ -162,88 +162,95 @@ pub fn order_edges_are_thinned_paths()
 /// A walk over order edges and any other edges can be replaced by one with thinned edges instead, and back, with the same counts of
 /// ww, wr and rw edges. So dependency edges with thinned edges show exactly the phenomena that they show with all order edges.
 pub fn thinning_keeps_phenomena()
-    ensures thinned { (level : Level) → (events : List Operation) → (ns : List Transaction) → (others : List Edge) → IncludesAllOk (transactions_of events) ns → WalksCarryOver (others ++ order_edges_between level ns) (others ++ thinned_edges_between level (transactions_of events) ns) }
-    ensures order { (level : Level) → (ts ns : List Transaction) → (others : List Edge) → WalksCarryOver (others ++ thinned_edges_between level ts ns) (others ++ order_edges_between level ns) }
-    ensures counts { (phenomenon : Phenomenon) → (walk other : List Edge) → SameCounts walk other → IsTrue (makes phenomenon walk) → IsTrue (makes phenomenon other) }
-    ensures nodes { (phenomenon : Phenomenon) → (level : Level) → (events : List Operation) → (ns : List Transaction) → (others : List Edge) → IncludesAllOk (transactions_of events) ns → HasOver phenomenon (others ++ order_edges_between level ns) ↔ HasOver phenomenon (others ++ thinned_edges_between level (transactions_of events) ns) }
-    ensures history { (phenomenon : Phenomenon) → (level : Level) → (events : List Operation) → Has phenomenon level (transactions_of events) ↔ HasOver phenomenon (dependency_edges (transactions_of events) ++ thinned_edges level (transactions_of events)) }
+    ensures thinned { (level : Level) (events : List Operation) → WalksCarryToThinned level events }
+    ensures order { (level : Level) (ts : List Transaction) → WalksCarryToOrder level ts }
+    ensures counts { (phenomenon : Phenomenon) → IsMadeByCounts phenomenon }
+    ensures nodes { (phenomenon : Phenomenon) (level : Level) → IsKeptByThinning phenomenon level }
+    ensures history { (phenomenon : Phenomenon) (level : Level) → IsShownThinned phenomenon level }
 {}
 
 /// No transaction has more thinned predecessors in real time than transactions were ever open at once, or more than one within its
 /// process.
 pub fn thinning_leaves_few()
     ensures most { (ts : List Transaction) → (index : ℕ) → open_at index ts ≤ most_open ts }
-    ensures realtime { (events : List Operation) → (to : ℕ) → length (predecessors to (thinned_edges Realtime (transactions_of events))) ≤ most_open (transactions_of events) }
-    ensures process { (events : List Operation) → (to : ℕ) → length (predecessors to (thinned_edges Process (transactions_of events))) ≤ 1 }
-    ensures all_realtime { (events : List Operation) → (to : ℕ) → length (predecessors to (all_thinned_edges Realtime (transactions_of events))) ≤ most_open (transactions_of events) }
-    ensures all_process { (events : List Operation) → (to : ℕ) → length (predecessors to (all_thinned_edges Process (transactions_of events))) ≤ 1 }
+    ensures realtime { LimitsPredecessors most_open (thinned_edges Realtime) }
+    ensures process { LimitsPredecessors (λ ts. 1) (thinned_edges Process) }
+    ensures all_realtime { LimitsPredecessors most_open (all_thinned_edges Realtime) }
+    ensures all_process { LimitsPredecessors (λ ts. 1) (all_thinned_edges Process) }
 {}
 
 /// A phenomenon that is there at a level is there at each higher level.
 pub fn levels_rise()
-    ensures walks { (lower higher : Level) → height lower ≤ height higher → (ns : List Transaction) → (others : List Edge) → WalksCarryOver (others ++ order_edges_between lower ns) (others ++ order_edges_between higher ns) }
-    ensures phenomena { (phenomenon : Phenomenon) → (lower higher : Level) → height lower ≤ height higher → (ts : List Transaction) → Has phenomenon lower ts → Has phenomenon higher ts }
+    ensures walks { (lower higher : Level)
+        → height lower ≤ height higher → WalksCarryUp lower higher }
+    ensures phenomena { (lower higher : Level)
+        → height lower ≤ height higher → PhenomenaRise lower higher }
 {}
 
 /// A phenomenon is there exactly where some edge of its kind has a way back from its second end to its first, along the kinds of
 /// edges that the phenomenon allows.
 pub fn cycles_by_one_edge()
-    ensures edges { (phenomenon : Phenomenon) → (es : List Edge) → HasOver phenomenon es ↔ HasReturn phenomenon es }
-    ensures history { (phenomenon : Phenomenon) → (level : Level) → (ts : List Transaction) → Has phenomenon level ts ↔ HasReturn phenomenon (edges_at level ts) }
-    ensures thinned { (phenomenon : Phenomenon) → (level : Level) → (events : List Operation) → Has phenomenon level (transactions_of events) ↔ HasReturn phenomenon (dependency_edges (transactions_of events) ++ thinned_edges level (transactions_of events)) }
+    ensures edges { (phenomenon : Phenomenon) → IsShownByReturn phenomenon }
+    ensures history { (phenomenon : Phenomenon) (level : Level) → IsFoundByReturn phenomenon level }
+    ensures thinned { (phenomenon : Phenomenon) (level : Level) → IsFoundThinned phenomenon level }
 {}
 
 /// A phenomenon that is there at a level has a witness there, and a phenomenon with a witness is there.
 pub fn phenomena_have_witnesses()
-    ensures { (phenomenon : Phenomenon) → (level : Level) → (events : List Operation) → Has phenomenon level (transactions_of events) ↔ HasWitness phenomenon level (transactions_of events) }
+    ensures { (phenomenon : Phenomenon) (level : Level) → IsWitnessed phenomenon level }
 {}
 
 /// Edges in order are those that were given, one for each place, and they rise. All dependency edges of a history are there.
 pub fn edges_in_order()
     ensures among { (es : List Edge) → (e : Edge) → Contains (in_order es) e → Contains es e }
-    ensures places { (es : List Edge) → (e : Edge) → Contains es e → HasOneAtItsPlace (in_order es) e }
+    ensures places { (es : List Edge) → All (HasOneAtItsPlace (in_order es)) es }
     ensures rising { (es : List Edge) → Rise (in_order es) }
-    ensures dependencies { (events : List Operation) → (e : Edge) → Contains (dependency_edges (transactions_of events)) e → Contains (in_order (dependency_edges (transactions_of events))) e }
+    ensures dependencies { (events : List Operation) → HasAllDependenciesInOrder events }
 {}
 
 /// A pair of versions is known exactly where the earlier version is nil and a node installs the later one, or where one transaction
 /// reads the one and installs the other.
 pub fn versions_by_membership()
-    ensures { (ts : List Transaction) → (p : VersionPair) → Contains (version_pairs ts) p ↔ IsVersionPair ts p }
+    ensures { (ts : List Transaction) → HasExactly (version_pairs ts) (IsVersionPair ts) }
 {}
 
 /// A dependency edge joins two different nodes exactly where they install and read the versions of its label: for a ww or an rw, a
 /// pair that is known.
 pub fn edges_by_versions()
-    ensures labels { (ts : List Transaction) → (t u : Transaction) → (label : Label) → Contains (dependency_labels (version_pairs ts) t u) label ↔ Depends ts t u label }
-    ensures edges { (ts : List Transaction) → (e : Edge) → Contains (dependency_edges ts) e ↔ IsDependency ts e }
+    ensures labels { (ts : List Transaction) → LabelsAreDependencies ts }
+    ensures edges { (ts : List Transaction) → HasExactly (dependency_edges ts) (IsDependency ts) }
 {}
 
 /// Where the rules are kept, no version of a key is written twice, by two transactions or by one. A transaction installs each
 /// version that it writes, or writes it over, and not both; of each key it installs one version, and never nil.
 pub fn versions_written_once()
-    ensures once { (events : List Operation) → KeepsRules events → NoneTwice (writes_of_all (transactions_of events)) }
-    ensures one_writer { (events : List Operation) → KeepsRules events → (t u : Transaction) → Contains (transactions_of events) t → Contains (transactions_of events) u → (v : Version) → IsTrue (writes t v) → IsTrue (writes u v) → t ≡ u }
-    ensures installed_or_over { (t : Transaction) → (v : Version) → IsTrue (writes t v) ↔ (IsTrue (installs t v) ⊎ IsTrue (writes_over t v)) }
-    ensures not_both { (events : List Operation) → KeepsRules events → (t : Transaction) → (v : Version) → Contains (transactions_of events) t → IsTrue (writes_over t v) → IsFalse (installs t v) }
-    ensures one_of_a_key { (t : Transaction) → (v w : Version) → IsTrue (installs t v) → IsTrue (installs t w) → v.key ≡ w.key → v ≡ w }
+    ensures once { (events : List Operation) → KeepsRules events → WriteNoneTwice events }
+    ensures one_writer { (events : List Operation) → KeepsRules events → HaveOneWriterEach events }
+    ensures installed_or_over { (t : Transaction) → InstallsOrWritesOver t }
+    ensures not_both { (events : List Operation) → KeepsRules events → InstallNoneReplaced events }
+    ensures one_of_a_key { (t : Transaction) → InstallsOneOfAKey t }
     ensures not_nil { (t : Transaction) → (v : Version) → IsTrue (writes t v) → ¬ (v.value ≡ None) }
 {}
 
 /// Aborted, intermediate and stray reads by who wrote the version that is read.
 pub fn bad_reads_by_writer()
-    ensures aborted { (ts : List Transaction) → (r : BadRead) → Contains (aborted_reads ts) r ↔ IsAbortedRead ts r }
-    ensures intermediate { (ts : List Transaction) → (r : BadRead) → Contains (intermediate_reads ts) r ↔ IsIntermediateRead ts r }
-    ensures stray { (ts : List Transaction) → (v : Version) → Contains (stray_reads ts) v ↔ IsStrayRead ts v }
+    ensures aborted { (ts : List Transaction) → HasExactly (aborted_reads ts) (IsAbortedRead ts) }
+    ensures intermediate { (ts : List Transaction)
+        → HasExactly (intermediate_reads ts) (IsIntermediateRead ts) }
+    ensures stray { (ts : List Transaction) → HasExactly (stray_reads ts) (IsStrayRead ts) }
 {}
 
 /// Where the rules are kept, the one transaction that wrote a version decides what a read of it is; where nobody wrote it, the read
 /// is stray, unless it returned nil.
 pub fn writer_decides()
-    ensures aborted { (events : List Operation) → KeepsRules events → (writer : Transaction) → (v : Version) → Contains (transactions_of events) writer → IsTrue (writes writer v) → aborted_writers (transactions_of events) v ≡ alone_if (is_failed writer) writer }
-    ensures intermediate { (events : List Operation) → KeepsRules events → (reader writer : Transaction) → (v : Version) → Contains (transactions_of events) writer → IsTrue (writes writer v) → intermediate_writers (transactions_of events) reader v ≡ alone_if (not (writer.invocation == reader.invocation) && writes_over writer v) writer }
-    ensures not_stray { (ts : List Transaction) → (writer : Transaction) → (v : Version) → Contains ts writer → IsTrue (writes writer v) → IsFalse (is_stray ts v) }
-    ensures none_aborted { (ts : List Transaction) → (v : Version) → WroteNone ts v → aborted_writers ts v ≡ [] }
-    ensures none_intermediate { (ts : List Transaction) → (reader : Transaction) → (v : Version) → WroteNone ts v → intermediate_writers ts reader v ≡ [] }
-    ensures stray { (ts : List Transaction) → (v : Version) → WroteNone ts v → is_stray ts v ≡ is_some v.value }
+    ensures aborted { (events : List Operation) → KeepsRules events → WriterDecidesG1a events }
+    ensures intermediate { (events : List Operation) → KeepsRules events → WriterDecidesG1b events }
+    ensures not_stray { (ts : List Transaction) (v : Version)
+        → WroteOne ts v → IsFalse (is_stray ts v) }
+    ensures none_aborted { (ts : List Transaction) (v : Version)
+        → WroteNone ts v → aborted_writers ts v ≡ [] }
+    ensures none_intermediate { (ts : List Transaction) (v : Version)
+        → WroteNone ts v → HasNoIntermediateWriter ts v }
+    ensures stray { (ts : List Transaction) (v : Version)
+        → WroteNone ts v → is_stray ts v ≡ is_some v.value }
 {}

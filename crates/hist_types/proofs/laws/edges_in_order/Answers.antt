@@ -1,3 +1,7 @@
+use Rattle.std.specs.Prelude.{Contains}
+use Rattle.std.proofs.lemmas.List.Elements.{All-weaker, All-contains_itself}
+use Rattle.hist_types.specs.Laws.{HasOneAtItsPlace}
+use Rattle.hist_types.specs.Texts.{in_order}
 use Rattle.hist_types.proofs.EdgeOrder.{in_order-among, in_order-places, in_order-rise}
 use Rattle.hist_types.proofs.PrintedEdges.{in_order-all}
 use Rattle.hist_types.proofs.laws.edges_in_order.Goals as goal
@@ -6,7 +10,8 @@ pub returns-clause-among : goal.returns-clause-among
 returns-clause-among c = in_order-among
 
 pub returns-clause-places : goal.returns-clause-places
-returns-clause-places c = in_order-places
+returns-clause-places c es =
+    All-weaker (Contains es) (HasOneAtItsPlace (in_order es)) (in_order-places es) es (All-contains_itself es)
 
 pub returns-clause-rising : goal.returns-clause-rising
 returns-clause-rising c = in_order-rise

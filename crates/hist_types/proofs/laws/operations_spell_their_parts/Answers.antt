@@ -8,4 +8,4 @@ pub returns-clause-limits : goal.returns-clause-limits
 returns-clause-limits c = limits_kept
 
 pub returns-clause-anywhere : goal.returns-clause-anywhere
-returns-clause-anywhere c = parts_spelled_in
+returns-clause-anywhere c text o (entries, fault, reads, has) = parts_spelled_in text entries fault o reads has

@@ -2,7 +2,7 @@ use Rattle.hist_types.proofs.OneReading.{HasOne-cut, HasOne-tokens, HasOne-readi
 use Rattle.hist_types.proofs.laws.texts_have_one_reading.Goals as goal
 
 pub returns-clause-cut : goal.returns-clause-cut
-returns-clause-cut c = HasOne-cut
+returns-clause-cut c text closers offset = HasOne-cut text offset closers
 
 pub returns-clause-tokens : goal.returns-clause-tokens
 returns-clause-tokens c = HasOne-tokens

@@ -6,7 +6,7 @@ pub returns-clause-once : goal.returns-clause-once
 returns-clause-once c = written_once
 
 pub returns-clause-one_writer : goal.returns-clause-one_writer
-returns-clause-one_writer c = one_writer
+returns-clause-one_writer c events kept t u v has_t has_u = one_writer events kept t u has_t has_u v
 
 pub returns-clause-installed_or_over : goal.returns-clause-installed_or_over
 returns-clause-installed_or_over c = installed_or_over
