@@ -25,8 +25,10 @@ pub fn pair<'a>(alloc: Global, events: &Events<'a>) -> Result<Txns<'a>, Fault>
     let mut pairing = Pairing::new(alloc);
     // Where the rules are kept, each completion has an invocation of its own, so half of the events or more are invocations.
     pairing.reserve(events.len() as usize / 2)?;
-    for index in 0..events.len() {
-        pairing.take(index, events.op(index))?;
+    let mut index = 0;
+    for event in events.iter() {
+        pairing.take(index, event)?;
+        index += 1;
     }
     Ok(pairing.transactions())
 }

@@ -1,7 +1,7 @@
 -- The transactions so far are those of the events so far.
-use Rattle.std.proofs.Common.{◌≡◌, take}
+use Rattle.std.proofs.Common.{◌≡◌, length}
 use Rattle.hist_types.specs.Transactions.{transactions_of}
 use Rattle.txn_pairs.proofs.pair.Given as goal
 
-abbrev pub invariant-loop-index : goal.invariant-loop-index
-invariant-loop-index l = l.pairing ≡ transactions_of (take l.index l.events)
+abbrev pub invariant-loop-event : goal.invariant-loop-event
+invariant-loop-event l = (l.pairing ≡ transactions_of l.yielded) × (l.index ≡ length l.yielded)
