@@ -44,16 +44,16 @@ fn find_lowest<'a>(
     ensures ok { IfOk result (IsLowest phenomenon graph.now.txns) }
     ensures err { IfErr result (λ fault. fault ≡ memory_fault) }
 {
-    // What is there at some level is there at the highest one.
-    let Some(highest) = graph.find(phenomenon, Level::Realtime)? else {
-        return Ok(None);
-    };
     if let Some(walk) = graph.find(phenomenon, Level::Plain)? {
         return Ok(Some(Lowest {
             level: Level::Plain,
             walk,
         }));
     }
+    // What is there at some level is there at the highest one.
+    let Some(highest) = graph.find(phenomenon, Level::Realtime)? else {
+        return Ok(None);
+    };
     if let Some(walk) = graph.find(phenomenon, Level::Process)? {
         return Ok(Some(Lowest {
             level: Level::Process,
