@@ -18,7 +18,7 @@ IsFirst ts p =
     × Contains (nodes ts) t
     × IsTrue (installs t p.later)
 
--- one transaction reads the earlier version and installs the later one, both of the same key
+-- one transaction reads the earlier version and installs the later one, another of the same key
 abbrev pub IsUpdate : List Transaction → VersionPair → Type 0
 IsUpdate ts p =
     (p.earlier.key ≡ p.later.key)
