@@ -84,7 +84,7 @@ RunEndsAt text place = IfSome (slice_get text place) (λ b. IsFalse (is_run_byte
 
 -- ---- blocks and operations one after another
 
--- a block more adds to the events of these blocks what it would add to any events
+-- one more block adds to the events of these blocks what it would add to any events
 abbrev pub GrowBlockByBlock : List (List Operation) → Type 0
 GrowBlockByBlock blocks =
     (block : List Operation)
@@ -94,8 +94,8 @@ GrowBlockByBlock blocks =
 abbrev pub KeepRulesBehind : List Operation → List Operation → Type 0
 KeepRulesBehind events operations = first_broken events operations ≡ None
 
--- behind the events, the front and the rest keep the rules where the front does, and behind that
--- the rest
+-- front and rest keep the rules behind the events exactly where the front does so, and the rest
+-- behind both
 abbrev pub KeepRulesByParts : List Operation → List Operation → List Operation → Type 0
 KeepRulesByParts events front rest =
     KeepRulesBehind events (front ++ rest)
@@ -136,7 +136,7 @@ CompletesByNextEvent process index =
     (events : List Operation) (found : Indexed)
     → (completion_in process index events ≡ Some found) ↔ IsCompletionOf process index events found
 
--- what is found as the last event of the process has none of the process's behind it
+-- what is found as the last event of the process is the one with none of the process's behind it
 abbrev pub EndsWithLastEvent : ℕ → Type 0
 EndsWithLastEvent process =
     (events : List Operation) (event : Operation)
@@ -180,29 +180,29 @@ HasRealtimeTwin es e =
     × (invocation : ℕ)
     × Contains es (record { from = e.from; to = e.to; label = realtime completion invocation })
 
--- of any transactions, the first edges are among the second
+-- for any transactions, the first edges are among the second
 abbrev pub AreSubEdges : (List Transaction → List Edge) → (List Transaction → List Edge) → Type 0
 AreSubEdges edges others =
     (ts : List Transaction) (e : Edge) → Contains (edges ts) e → Contains (others ts) e
 
--- of any transactions, each of the edges leaves a node
+-- for any transactions, each of the edges leaves a node
 abbrev pub LeaveNodes : (List Transaction → List Edge) → Type 0
 LeaveNodes edges =
     (ts : List Transaction) (e : Edge) → Contains (edges ts) e → LeavesOne (nodes ts) e
 
--- of any transactions, each of the edges leads to a node
+-- for any transactions, each of the edges leads to a node
 abbrev pub LeadToNodes : (List Transaction → List Edge) → Type 0
 LeadToNodes edges =
     (ts : List Transaction) (e : Edge) → Contains (edges ts) e → LeadsToOne (nodes ts) e
 
--- of any transactions, each of the first edges has a twin in real time among the second
+-- for any transactions, each of the first edges has a twin in real time among the second
 abbrev pub HaveRealtimeTwins :
     (List Transaction → List Edge) → (List Transaction → List Edge) → Type 0
 HaveRealtimeTwins edges others =
     (ts : List Transaction) (e : Edge) → Contains (edges ts) e → HasRealtimeTwin (others ts) e
 
--- an order edge joins a transaction and a node, another one, for each label by which the level
--- orders them
+-- an order edge leads from each transaction to each other one that is a node, for each label by
+-- which the level orders the two
 abbrev pub OrderEdgesJoinAllPairs : Level → List Transaction → Type 0
 OrderEdgesJoinAllPairs level ts =
     (t u : Transaction) (label : Label)
@@ -222,7 +222,7 @@ Rise (e ∷ es) = All (λ later. edge_cmp e later ≡ Less) es × Rise es
 abbrev pub HasOneAtItsPlace : List Edge → Edge → Type 0
 HasOneAtItsPlace es e = (f : Edge) × Contains es f × (edge_cmp e f ≡ Equal)
 
--- all dependency edges of the history are there when they are in order
+-- none of the history's dependency edges is lost where they are put in order
 abbrev pub HasAllDependenciesInOrder : List Operation → Type 0
 HasAllDependenciesInOrder events =
     (e : Edge)

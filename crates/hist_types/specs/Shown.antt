@@ -11,13 +11,13 @@ use Rattle.hist_types.specs.declared.types.Phenomenon.{Phenomenon}
 
 -- ---- histories
 
--- of the transactions of any events this is true
+-- this is true of the transactions of any events
 abbrev pub InEachHistory : (List Transaction → Type 0) → Type 0
 InEachHistory IsSo = (events : List Operation) → IsSo (transactions_of events)
 
 -- ---- walks
 
--- walks carry over from the first edges to the second with any other edges beside both
+-- walks carry over from the first edges to the second, with any other edges beside both
 abbrev pub WalksCarryOverBeside : List Edge → List Edge → Type 0
 WalksCarryOverBeside es more = (others : List Edge) → WalksCarryOver (others ++ es) (others ++ more)
 
@@ -43,11 +43,11 @@ WalksCarryUp lower higher =
 
 -- ---- thinned order
 
--- all edges that a cycle at the level may use, of its order edges only the thinned ones
+-- the edges that a cycle at the level may use, but of order edges only the thinned ones
 abbrev pub thinned_edges_at : Level → List Transaction → List Edge
 thinned_edges_at level ts = dependency_edges ts ++ thinned_edges level ts
 
--- whether a walk makes it hangs on its numbers of ww, wr and rw edges
+-- whether a walk makes the phenomenon depends only on how many ww, wr and rw edges it has
 abbrev pub IsMadeByCounts : Phenomenon → Type 0
 IsMadeByCounts phenomenon =
     (walk other : List Edge)
@@ -55,12 +55,12 @@ IsMadeByCounts phenomenon =
     → IsTrue (makes phenomenon walk)
     → IsTrue (makes phenomenon other)
 
--- the first edges show it exactly where the second do, with any other edges beside both
+-- the first edges show the phenomenon exactly where the second do, with any other edges beside both
 abbrev pub ShowAlikeBeside : Phenomenon → List Edge → List Edge → Type 0
 ShowAlikeBeside phenomenon es more =
     (others : List Edge) → HasOver phenomenon (others ++ es) ↔ HasOver phenomenon (others ++ more)
 
--- order edges between nodes with all ok transactions of a history show it as thinned ones do
+-- order edges between nodes with all ok transactions of a history show it where thinned ones do
 abbrev pub IsKeptByThinning : Phenomenon → Level → Type 0
 IsKeptByThinning phenomenon level =
     (events : List Operation) (ns : List Transaction) →
@@ -68,37 +68,37 @@ IsKeptByThinning phenomenon level =
     IncludesAllOk ts ns
     → ShowAlikeBeside phenomenon (order_edges_between level ns) (thinned_edges_between level ts ns)
 
--- a history has it at the level exactly where its edges with thinned order show it
+-- a history has the phenomenon at the level exactly where its edges with thinned order show it
 abbrev pub IsShownThinned : Phenomenon → Level → Type 0
 IsShownThinned phenomenon level =
     InEachHistory (λ ts. Has phenomenon level ts ↔ HasOver phenomenon (thinned_edges_at level ts))
 
 -- ---- one edge and the way back
 
--- edges show it exactly where one of them has a way back
+-- edges show the phenomenon exactly where one of them has a way back
 abbrev pub IsShownByReturn : Phenomenon → Type 0
 IsShownByReturn phenomenon = (es : List Edge) → HasOver phenomenon es ↔ HasReturn phenomenon es
 
--- transactions have it at the level exactly where one of their edges has a way back
+-- transactions have the phenomenon at the level exactly where one of their edges has a way back
 abbrev pub IsFoundByReturn : Phenomenon → Level → Type 0
 IsFoundByReturn phenomenon level =
     (ts : List Transaction) → Has phenomenon level ts ↔ HasReturn phenomenon (edges_at level ts)
 
--- a history has it at the level exactly where one of its edges has a way back along thinned order
+-- a history has it there exactly where one of its edges with thinned order has a way back
 abbrev pub IsFoundThinned : Phenomenon → Level → Type 0
 IsFoundThinned phenomenon level =
     InEachHistory (λ ts. Has phenomenon level ts ↔ HasReturn phenomenon (thinned_edges_at level ts))
 
 -- ---- witnesses
 
--- a history has it at the level exactly where it has a witness of it there
+-- a history has the phenomenon at the level exactly where it has a witness of it there
 abbrev pub IsWitnessed : Phenomenon → Level → Type 0
 IsWitnessed phenomenon level =
     InEachHistory (λ ts. Has phenomenon level ts ↔ HasWitness phenomenon level ts)
 
 -- ---- levels
 
--- what is there at the lower level is there at the higher one
+-- a phenomenon that is there at the lower level is there at the higher one
 abbrev pub PhenomenaRise : (lower higher : Level) → Type 0
 PhenomenaRise lower higher =
     (phenomenon : Phenomenon) (ts : List Transaction)

@@ -197,7 +197,7 @@ most_open ts = greatest (map (λ (t : Transaction). open_at t.invocation ts) ts)
 abbrev pub predecessors : ℕ → List Edge → List ℕ
 predecessors to es = map (λ (e : Edge). e.from) (filter (λ (e : Edge). e.to == to) es)
 
--- in a history, no more than so many of the edges lead to one transaction
+-- in each history, at most so many of the edges lead to one transaction
 abbrev pub LimitsPredecessors : (List Transaction → ℕ) → (List Transaction → List Edge) → Type 0
 LimitsPredecessors most edges =
     (events : List Operation) (to : ℕ)
