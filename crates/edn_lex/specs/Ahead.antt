@@ -1,5 +1,5 @@
 -- Tokens that are found by looking ahead.
-use Rattle.std.specs.Prelude.{◌≡◌, ℕ, ◌<◌, ◌+◌, ◌≤◌, ◌==◌, List, [], ◌∷◌, length, get_or, Bool, true, false, nat_lt}
+use Rattle.std.specs.Prelude.{◌≡◌, ℕ, ◌<◌, ◌+◌, ◌≤◌, ◌==◌, List, [], ◌∷◌, length, get_or, Bool, true, false, nat_lt, Option, MatchOption}
 use Rattle.std.specs.List.{list_all}
 use Rattle.hist_types.specs.Bytes.{open_square, close_square, close_brace, backslash, hash, is_blank, is_run_byte}
 use Rattle.hist_types.specs.Tokens.{ItemKind, Blank, Comment, Opener, Closer, Drop, Tag, first_byte, run_kind}
@@ -21,12 +21,15 @@ is_lone kind = true
 
 -- a lexer that goes on at the offset, where collections wait for these closers
 abbrev pub going_at : List ℕ → ℕ → List ℕ → State
-going_at text offset closers = record { text = text; offset = offset; closers = closers; ended = false }
+going_at text offset closers =
+    record { text = text; offset = offset; closers = closers; ended = false }
 
 -- the token that is given from the offset on is a form by itself
 pub record GivesLone (text : List ℕ) (offset : ℕ) (token : Token) : Type 0 where
   pub lone : is_lone (kind_of token.kind) ≡ true
-  pub gives : (closers : List ℕ) → GivesToken (going_at text offset closers) token (going_at text token.end closers)
+  pub gives :
+      (closers : List ℕ) →
+      GivesToken (going_at text offset closers) token (going_at text token.end closers)
 
 -- only blanks are from the offset up to here
 pub record IsGap (text : List ℕ) (offset start : ℕ) : Type 0 where
@@ -41,30 +44,40 @@ IsLoneAt text start token = (offset : ℕ) → IsGap text offset start → Gives
 -- a run of ASCII of this kind, which begins neither as a tag nor as a character
 abbrev pub IsWord : List ℕ → ItemKind → Type 0
 IsWord word kind =
-    (nat_lt 0 (length word) ≡ true) × (list_all is_run_byte word ≡ true) × (list_all is_low word ≡ true)
-    × ((first_byte word == hash) ≡ false) × ((first_byte word == backslash) ≡ false) × (run_kind word ≡ kind)
+    (nat_lt 0 (length word) ≡ true) × (list_all is_run_byte word ≡ true)
+    × (list_all is_low word ≡ true) × ((first_byte word == hash) ≡ false)
+    × ((first_byte word == backslash) ≡ false) × (run_kind word ≡ kind)
 
 -- a call gave such a token
 pub record HasGivenLone (s : State) (token : Token) (t : State) : Type 0 where
   pub lone : is_lone (kind_of token.kind) ≡ true
   pub gives : GivesToken s token t
 
+-- a call gave such a token, or changed nothing
+abbrev pub NextLone : State → Option Token → State → Type 0
+NextLone s found t = MatchOption found (t ≡ s) (λ token. HasGivenLone s token t)
+
 -- the token that is given from the offset on is a tag
 pub record GivesTag (text : List ℕ) (offset : ℕ) (token : Token) : Type 0 where
   pub kind : kind_of token.kind ≡ Tag
-  pub gives : (closers : List ℕ) → GivesToken (going_at text offset closers) token (going_at text token.end closers)
+  pub gives :
+      (closers : List ℕ) →
+      GivesToken (going_at text offset closers) token (going_at text token.end closers)
 
 -- the token that is given from the offset on is this one byte, and opens a collection that waits for the closer
 pub record GivesOpener (text : List ℕ) (offset : ℕ) (byte closer : ℕ) (token : Token) : Type 0 where
   pub kind : kind_of token.kind ≡ Opener
   pub bytes : (item_of text token).bytes ≡ byte ∷ []
   pub gives :
-      (closers : List ℕ) → length closers < MAX_OPEN_COLLECTIONS → GivesToken (going_at text offset closers) token (going_at text token.end (closer ∷ closers))
+      (closers : List ℕ) → length closers < MAX_OPEN_COLLECTIONS →
+      GivesToken (going_at text offset closers) token (going_at text token.end (closer ∷ closers))
 
 -- the token that is given from the offset on closes a collection that waits for this byte
 pub record GivesCloser (text : List ℕ) (offset : ℕ) (byte : ℕ) (token : Token) : Type 0 where
   pub kind : kind_of token.kind ≡ Closer
-  pub gives : (closers : List ℕ) → GivesToken (going_at text offset (byte ∷ closers)) token (going_at text token.end closers)
+  pub gives :
+      (closers : List ℕ) →
+      GivesToken (going_at text offset (byte ∷ closers)) token (going_at text token.end closers)
 
 -- the five tokens that are given from the offset on are a vector of three forms by themselves
 pub record GivesTriple (text : List ℕ) (offset : ℕ) (triple : Triple) : Type 0 where
@@ -80,6 +93,10 @@ pub record HasGivenTriple (s : State) (triple : Triple) (t : State) : Type 0 whe
   pub going : s ≡ going_at s.text s.offset s.closers
   pub gives : GivesTriple s.text s.offset triple
   pub after : t ≡ going_at s.text triple.closer.end s.closers
+
+-- calls gave such a vector, or changed nothing
+abbrev pub NextTriple : State → Option Triple → State → Type 0
+NextTriple s found t = MatchOption found (t ≡ s) (λ triple. HasGivenTriple s triple t)
 
 -- a lexer goes on from the offset, and three more collections may be opened
 pub record LooksAhead (s : State) (offset : ℕ) : Type 0 where

@@ -23,7 +23,12 @@ kind_of kinds.Other = Other
 
 -- the item of a text that a token stands for
 abbrev pub item_of : List ℕ → Token → Item
-item_of text token = record { kind = kind_of token.kind; start = token.start; bytes = slice_range text token.start token.end }
+item_of text token =
+    record {
+      kind = kind_of token.kind;
+      start = token.start;
+      bytes = slice_range text token.start token.end;
+    }
 
 -- a byte of ASCII
 abbrev pub is_low : ℕ → Bool

@@ -3,7 +3,7 @@ use Rattle.std.specs.Prelude.{◌≡◌, ℕ, List, ◌∷◌, [], ◌++◌, tak
 use Rattle.std.specs.Iterator.{Count, at_most}
 use Rattle.std.specs.Coded.{Coded, code_by, coded×, coded_ℕ, coded_bool, coded_list}
 use Rattle.hist_types.specs.declared.types.Fault.{Fault}
-use Rattle.hist_types.specs.Tokens.{ItemKind, Item, IsCut, is_token, tokens_of, BeginsWith, BeginsWithFault, item_fault, nesting_refusal, open_after}
+use Rattle.hist_types.specs.Tokens.{ItemKind, Item, IsCut, is_token, tokens_of, HasTokens, BeginsWith, BeginsWithFault, item_fault, nesting_refusal, open_after}
 use Rattle.edn_lex.specs.declared.types.Token.{Token}
 use Rattle.edn_lex.specs.Kinds.{kind_of, item_of}
 
@@ -18,7 +18,8 @@ pub record State : Type 0 where
 -- a state is stored as the tuple of its fields
 abbrev pub state_code : Coded State
 state_code =
-    code_by (List ℕ × (ℕ × (List ℕ × Bool))) (coded× (coded_list coded_ℕ) (coded× coded_ℕ (coded× (coded_list coded_ℕ) coded_bool)))
+    code_by (List ℕ × (ℕ × (List ℕ × Bool)))
+    (coded× (coded_list coded_ℕ) (coded× coded_ℕ (coded× (coded_list coded_ℕ) coded_bool)))
     (λ s. (s.text, (s.offset, (s.closers, s.ended))))
     (λ p. record { text = p.0; offset = p.1.0; closers = p.1.1.0; ended = p.1.1.1 })
     (λ _. refl)
@@ -31,6 +32,10 @@ state_at text offset = record { text = text; offset = offset; closers = []; ende
 abbrev pub state_at_start : List ℕ → State
 state_at_start text = state_at text 0
 
+-- a lexer goes on at this offset, behind the innermost open collection
+abbrev pub closed_at : State → ℕ → State
+closed_at s offset = record s { offset = offset; closers = drop 1 s.closers }
+
 -- the text that has not been passed
 abbrev pub left : State → List ℕ
 left s = drop s.offset s.text
@@ -41,12 +46,23 @@ IsCutFrom s items ending = IsCut (left s) s.offset s.closers items ending
 
 -- what is left to give, by whether a fault has been given
 abbrev pub RestIf : (ended : Bool) → State → List Item → Option Fault → Type 0
-RestIf false s tokens ending = (items : List Item) × IsCutFrom s items ending × (tokens ≡ tokens_of items)
+RestIf false s tokens ending =
+    (items : List Item) × IsCutFrom s items ending × (tokens ≡ tokens_of items)
 RestIf true s tokens ending = (tokens ≡ []) × (ending ≡ None)
 
 -- What a lexer has still to give: these tokens, and then nothing or the fault. After a fault it gives nothing.
 abbrev pub Rest : State → List Item → Option Fault → Type 0
 Rest s tokens ending = RestIf s.ended s tokens ending
+
+-- the tokens and the ending that a lexer has still to give are such
+abbrev pub GivesOnly : (List Item → Option Fault → Type 0) → State → Type 0
+GivesOnly Has s =
+    (tokens : List Item) (ending : Option Fault) → Rest s tokens ending → Has tokens ending
+
+-- such tokens and such an ending are what a lexer has still to give
+abbrev pub GivesAll : (List Item → Option Fault → Type 0) → State → Type 0
+GivesAll Has s =
+    (tokens : List Item) (ending : Option Fault) → Has tokens ending → Rest s tokens ending
 
 -- a call gave the token, of which only blanks and comments stand in front
 pub record GivesToken (s : State) (token : Token) (t : State) : Type 0 where
@@ -61,8 +77,12 @@ pub record GivesToken (s : State) (token : Token) (t : State) : Type 0 where
   pub closers : t.closers ≡ open_after (kind_of token.kind) (item_of s.text token).bytes s.closers
   pub gap : List Item
   pub is_gap : tokens_of gap ≡ []
-  pub cut : (items : List Item) (ending : Option Fault) → IsCutFrom t items ending → IsCutFrom s (gap ++ (item_of s.text token ∷ items)) ending
-  pub first : (tokens : List Item) (ending : Option Fault) → Rest t tokens ending → Rest s (item_of s.text token ∷ tokens) ending
+  pub cut :
+      (items : List Item) (ending : Option Fault) → IsCutFrom t items ending →
+      IsCutFrom s (gap ++ (item_of s.text token ∷ items)) ending
+  pub first :
+      (tokens : List Item) (ending : Option Fault) → Rest t tokens ending →
+      Rest s (item_of s.text token ∷ tokens) ending
   pub only :
       (tokens : List Item) (ending : Option Fault) → Rest s tokens ending →
       (later : List Item) × (tokens ≡ item_of s.text token ∷ later) × Rest t later ending
@@ -73,14 +93,18 @@ pub record GivesFault (s : State) (fault : Fault) (t : State) : Type 0 where
   pub going : s.ended ≡ false
   pub ended : t.ended ≡ true
   pub rest : Rest s [] (Some fault)
-  pub only : (tokens : List Item) (ending : Option Fault) → Rest s tokens ending → (tokens ≡ []) × (ending ≡ Some fault)
+  pub only :
+      (tokens : List Item) (ending : Option Fault) → Rest s tokens ending →
+      (tokens ≡ []) × (ending ≡ Some fault)
 
 -- a call gave nothing, nor does a later one
 pub record GivesEnd (s : State) (t : State) : Type 0 where
   pub text : t.text ≡ s.text
   pub low : s.offset ≤ t.offset
   pub rest : Rest s [] None
-  pub only : (tokens : List Item) (ending : Option Fault) → Rest s tokens ending → (tokens ≡ []) × (ending ≡ None)
+  pub only :
+      (tokens : List Item) (ending : Option Fault) → Rest s tokens ending →
+      (tokens ≡ []) × (ending ≡ None)
   pub after : Rest t [] None
 
 -- what a call of `next` gives
@@ -109,8 +133,10 @@ pub record PassesOver (s : State) (kind : ItemKind) (len : ℕ) (t : State) : Ty
 -- What a call that looks at one item does: it passes over a comment, or over a token that it gives, or gives the fault that
 -- stands there.
 abbrev pub Passes : State → Result (Option Token) Fault → State → Type 0
-Passes s (Ok None) t = (kind : ItemKind) × (len : ℕ) × (is_token kind ≡ false) × PassesOver s kind len t
-Passes s (Ok (Some token)) t = (token.start ≡ s.offset) × PassesOver s (kind_of token.kind) (token.end - token.start) t
+Passes s (Ok None) t =
+    (kind : ItemKind) × (len : ℕ) × (is_token kind ≡ false) × PassesOver s kind len t
+Passes s (Ok (Some token)) t =
+    (token.start ≡ s.offset) × PassesOver s (kind_of token.kind) (token.end - token.start) t
 Passes s (Err fault) t = BeginsWithFault (left s) s.offset s.closers fault × (t.text ≡ s.text)
 
 -- the tokens that calls gave before a fault, as items of the text
@@ -124,3 +150,7 @@ abbrev pub fault_given : List (Result Token Fault) → Option Fault
 fault_given [] = None
 fault_given (Ok token ∷ results) = fault_given results
 fault_given (Err fault ∷ results) = Some fault
+
+-- what calls gave are the text's tokens and its ending
+abbrev pub AreTokensOf : List ℕ → List (Result Token Fault) → Type 0
+AreTokensOf text given = HasTokens text (items_given text given) (fault_given given)

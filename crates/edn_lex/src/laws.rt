@@ -5,11 +5,12 @@ ghost use Rattle.std.specs.Iterator.{Drains};
 ghost use Rattle.hist_types.specs.declared.types.Fault.{Fault};
 ghost use Rattle.hist_types.specs.Tokens.{Item, HasTokens};
 ghost use Rattle.edn_lex.specs.declared.types.Token.{Token};
-ghost use Rattle.edn_lex.specs.State.{state_at_start, Gives, items_given, fault_given};
+ghost use Rattle.edn_lex.specs.State.{state_at_start, Gives, AreTokensOf};
 
 /// Each text has one list of tokens and one ending at most.
 pub fn tokens_are_unique()
-    ensures { (text : List ℕ) (ts us : List Item) (e f : Option Fault) → HasTokens text ts e → HasTokens text us f → (ts ≡ us) × (e ≡ f) }
+    ensures { (text : List ℕ) (ts us : List Item) (e f : Option Fault)
+        → HasTokens text ts e → HasTokens text us f → (ts ≡ us) × (e ≡ f) }
 {}
 
 /// Each text has a list of tokens and an ending.
@@ -19,5 +20,6 @@ pub fn tokens_exist()
 
 /// What all calls of a lexer give, up to the first that gives nothing, are the text's tokens and its ending.
 pub fn collected_are_the_tokens()
-    ensures { (text : List ℕ) (given : List (Result Token Fault)) → Drains Gives (state_at_start text) given → HasTokens text (items_given text given) (fault_given given) }
+    ensures { (text : List ℕ) (given : List (Result Token Fault))
+        → Drains Gives (state_at_start text) given → AreTokensOf text given }
 {}

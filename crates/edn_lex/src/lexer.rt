@@ -1,13 +1,11 @@
 //! The lexer: an iterator over the tokens of a text.
 
-ghost use Rattle.std.specs.Prelude.{◌≡◌, ◌<◌, length, drop, get_or, false, List, Option, IsNone, IfSome, MatchOption, ◌≤◌};
+ghost use Rattle.std.specs.Prelude.{◌≡◌, ◌<◌, length, get_or, false, IsNone, IfSome, ◌≤◌};
 ghost use Rattle.hist_types.specs.Bytes.{is_blank as is_blank_byte};
-ghost use Rattle.hist_types.specs.Tokens.{nesting_refusal, open_after, closer_of, byte_fault, Item, HasTokens, HasTokensFrom};
-ghost use Rattle.hist_types.specs.declared.types.Fault.{Fault};
-ghost use Rattle.edn_lex.specs.Pieces.{kind_of_piece};
-ghost use Rattle.edn_lex.specs.Collections.{closer_byte, closers_of};
-ghost use Rattle.edn_lex.specs.State.{state_at_start, state_at, Rest, Passes};
-ghost use Rattle.edn_lex.specs.Ahead.{HasGivenLone, HasGivenTriple, LooksAhead, LooksAheadInMap};
+ghost use Rattle.hist_types.specs.Tokens.{closer_of, byte_fault, HasTokens, HasTokensFrom};
+ghost use Rattle.edn_lex.specs.Collections.{closer_byte, refusal_within, Nests};
+ghost use Rattle.edn_lex.specs.State.{state_at_start, state_at, closed_at, GivesOnly, GivesAll, Passes};
+ghost use Rattle.edn_lex.specs.Ahead.{NextLone, NextTriple, LooksAhead, LooksAheadInMap};
 
 use crate::ahead::{Triple, lone_token, three_tokens};
 use crate::pieces::{PieceKind, first_piece};
@@ -49,7 +47,12 @@ impl<'a> Model for Lexer<'a> {
 
     ghost use Rattle.edn_lex.specs.Collections.{closers_of};
 
-    ghost view = { λ lexer. record { text = lexer.text.now; offset = lexer.offset; closers = closers_of lexer.collections.items; ended = lexer.ended } };
+    ghost view = { λ lexer. record {
+      text = lexer.text.now;
+      offset = lexer.offset;
+      closers = closers_of lexer.collections.items;
+      ended = lexer.ended;
+    } };
 
     ghost invariant = { λ lexer. lexer.offset ≤ length lexer.text.now };
 }
@@ -83,8 +86,8 @@ type OpenCollections = ArrayVec<Collection, MAX_OPEN_COLLECTIONS>;
 /// Opens or closes a collection where the item is an opener or a closer, unless it is not allowed here.
 fn nest(within: &mut OpenCollections, kind: PieceKind, bytes: &[u8]) -> Option<Refusal>
     requires { 0 < length bytes.now }
-    ensures refusal { result ≡ nesting_refusal (kind_of_piece kind) bytes.now (closers_of within.old.items) }
-    ensures after { IsNone result → closers_of within.new.items ≡ open_after (kind_of_piece kind) bytes.now (closers_of within.old.items) }
+    ensures refusal { result ≡ refusal_within kind bytes.now within.old.items }
+    ensures after { IsNone result → Nests kind bytes.now within.old.items within.new.items }
 {
     match kind {
         PieceKind::Token(TokenKind::Open) => {
@@ -121,8 +124,8 @@ impl<'a> Lexer<'a> {
     /// A lexer at the front of the text.
     pub fn new(text: &'a [u8]) -> Self
         ensures start { result ≡ state_at_start text.now }
-        ensures rest { (tokens : List Item) (ending : Option Fault) → Rest result tokens ending → HasTokens text.now tokens ending }
-        ensures all { (tokens : List Item) (ending : Option Fault) → HasTokens text.now tokens ending → Rest result tokens ending }
+        ensures rest { GivesOnly (HasTokens text.now) result }
+        ensures all { GivesAll (HasTokens text.now) result }
     {
         Lexer::at(text, 0)
     }
@@ -131,8 +134,8 @@ impl<'a> Lexer<'a> {
     pub fn at(text: &'a [u8], offset: usize) -> Self
         requires { offset ≤ length text.now }
         ensures start { result ≡ state_at text.now offset }
-        ensures rest { (tokens : List Item) (ending : Option Fault) → Rest result tokens ending → HasTokensFrom offset text.now tokens ending }
-        ensures all { (tokens : List Item) (ending : Option Fault) → HasTokensFrom offset text.now tokens ending → Rest result tokens ending }
+        ensures rest { GivesOnly (HasTokensFrom offset text.now) result }
+        ensures all { GivesAll (HasTokensFrom offset text.now) result }
     {
         Lexer {
             text,
@@ -180,7 +183,7 @@ impl<'a> Lexer<'a> {
     /// The next token, if it is a form by itself that needs no closer look: a run of ASCII behind blanks. Else nothing changes.
     #[inline(always)]
     pub fn next_lone(&mut self) -> Option<Token>
-        ensures { MatchOption result (self.new ≡ self.old) (λ token. HasGivenLone self.old token self.new) }
+        ensures { NextLone self.old result self.new }
     {
         if self.ended {
             return None;
@@ -193,7 +196,7 @@ impl<'a> Lexer<'a> {
     /// The next five tokens, if they are a vector of three such tokens. Else nothing changes.
     #[inline(always)]
     pub fn next_triple(&mut self) -> Option<Triple>
-        ensures { MatchOption result (self.new ≡ self.old) (λ triple. HasGivenTriple self.old triple self.new) }
+        ensures { NextTriple self.old result self.new }
     {
         if self.ended || self.collections.is_full() {
             return None;
@@ -244,7 +247,7 @@ impl<'a> Lexer<'a> {
     #[inline(always)]
     pub fn leave(&mut self, offset: usize)
         requires { offset ≤ length self.old.text }
-        ensures { self.new ≡ record self.old { offset = offset; closers = drop 1 self.old.closers } }
+        ensures { self.new ≡ closed_at self.old offset }
     {
         self.collections.pop();
         self.offset = offset;

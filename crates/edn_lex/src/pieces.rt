@@ -1,11 +1,11 @@
 //! The item at the front of a text.
 
-ghost use Rattle.std.specs.Prelude.{◌≡◌, ◌<◌, ◌≤◌, length, drop, take, false, IsTrue, MatchOption, Some, IfSome};
+ghost use Rattle.std.specs.Prelude.{◌≡◌, ◌<◌, ◌≤◌, length, drop, take, false, IsTrue, Some, IfSome};
 ghost use Rattle.std.specs.Str.{IsAscii};
 ghost use Rattle.hist_types.specs.Bytes.{is_blank, hash};
-ghost use Rattle.hist_types.specs.Tokens.{is_token, first_byte, run_kind as kind_of_run, run_of, run_len, hash_front, front};
+ghost use Rattle.hist_types.specs.Tokens.{first_byte, run_len, hash_front, front};
 ghost use Rattle.edn_lex.specs.Kinds.{kind_of};
-ghost use Rattle.edn_lex.specs.Pieces.{kind_of_piece, front_of_piece, front_of_found};
+ghost use Rattle.edn_lex.specs.Pieces.{IsTokenBetween, front_of_piece, front_of_found, run_front};
 
 use crate::runs::run_kind;
 use crate::scan::{character_len, comment_len, content_len, first_run};
@@ -31,7 +31,7 @@ pub(crate) struct Piece {
 impl PieceKind {
     /// The token with this span, if it is one.
     pub(crate) fn token(self, start: usize, end: usize) -> Option<Token>
-        ensures { MatchOption result (is_token (kind_of_piece self) ≡ false) (λ t. (kind_of t.kind ≡ kind_of_piece self) × (t.start ≡ start) × (t.end ≡ end)) }
+        ensures { IsTokenBetween self start end result }
     {
         match self {
             PieceKind::Token(kind) => Some(Token { kind, start, end }),
@@ -56,7 +56,7 @@ const fn token(kind: TokenKind, len: usize, ascii: bool) -> Piece
 #[tactic(auto, using(crate::proofs::Flags::IsAscii_from_low))]
 pub(crate) fn run_piece(text: &[u8]) -> Piece
     requires { 0 < run_len text.now }
-    ensures front { front_of_piece result ≡ (kind_of_run (run_of text.now), Some (run_len text.now)) }
+    ensures front { front_of_piece result ≡ run_front text.now }
     ensures len { result.len ≡ run_len text.now }
     ensures some { 0 < result.len }
     ensures ascii { IsTrue result.ascii → IsAscii (take result.len text.now) }

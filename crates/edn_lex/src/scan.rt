@@ -1,15 +1,15 @@
 //! Where items end. The scans of what is seldom found are not inlined, so that those of the frequent items stay short.
 
-ghost use Rattle.std.specs.Prelude.{◌≡◌, ◌<◌, ◌≤◌, ◌==◌, length, take, drop, true, false, Some, IsTrue, not, MatchOption, IfSome};
+ghost use Rattle.std.specs.Prelude.{◌≡◌, ◌<◌, ◌≤◌, ◌==◌, length, take, true, false, IsTrue, not, IfSome};
 ghost use Rattle.std.specs.Char.{is_ascii_digit};
 ghost use Rattle.std.specs.List.{prefix_len, list_all};
 ghost use Rattle.std.specs.Str.{IsAscii};
-ghost use Rattle.std.specs.Str.Lossy.{utf8_valid_len};
 ghost use Rattle.hist_types.specs.Bytes.{is_blank as is_blank_byte, is_run_byte, line_feed, hash, backslash};
 ghost use Rattle.edn_lex.specs.declared.scan.TheConstants.{NOT_DIGIT, PAST_ASCII, BLANK, ENDS_RUN};
+ghost use Rattle.edn_lex.specs.Ends.{BeginsWithTag, StopsBeingUtf8};
 ghost use Rattle.edn_lex.specs.Flags.{has_flag};
 ghost use Rattle.edn_lex.specs.Kinds.{is_low};
-ghost use Rattle.hist_types.specs.Tokens.{front, Tag, first_byte, run_len as longest_run, content_len as len_of_content, character_len as len_of_character};
+ghost use Rattle.hist_types.specs.Tokens.{first_byte, run_len as longest_run, content_len as len_of_content, character_len as len_of_character};
 
 use memchr::{memchr, memchr2};
 
@@ -81,7 +81,7 @@ pub(crate) fn begins_run(text: &[u8]) -> bool
 #[inline(always)]
 pub(crate) fn begins_tag(text: &[u8]) -> bool
     ensures run { result ≡ true → 0 < longest_run text.now }
-    ensures tag { result ≡ true → front (first_byte text.now) (drop 1 text.now) ≡ (Tag, Some (longest_run text.now)) }
+    ensures tag { result ≡ true → BeginsWithTag text.now }
 {
     if text.is_empty() || text[0] != b'#' {
         return false;
@@ -188,7 +188,7 @@ pub(crate) fn character_len(text: &[u8]) -> usize
 /// Where the bytes stop being UTF-8, if they do. Bytes that are known to be below 128 are not looked at.
 pub(crate) fn utf8_end(bytes: &[u8], ascii: bool) -> Option<usize>
     requires { IsTrue ascii → IsAscii bytes.now }
-    ensures { MatchOption result (utf8_valid_len bytes.now ≡ length bytes.now) (λ n. (utf8_valid_len bytes.now ≡ n) × (n < length bytes.now)) }
+    ensures { StopsBeingUtf8 bytes.now result }
 {
     if ascii { None } else { wide_utf8_end(bytes) }
 }
@@ -196,7 +196,7 @@ pub(crate) fn utf8_end(bytes: &[u8], ascii: bool) -> Option<usize>
 /// The same where nothing is known of the bytes.
 #[inline(never)]
 fn wide_utf8_end(bytes: &[u8]) -> Option<usize>
-    ensures { MatchOption result (utf8_valid_len bytes.now ≡ length bytes.now) (λ n. (utf8_valid_len bytes.now ≡ n) × (n < length bytes.now)) }
+    ensures { StopsBeingUtf8 bytes.now result }
 {
     match std::str::from_utf8(bytes) {
         Ok(_) => None,
