@@ -8,6 +8,7 @@ use Rattle.hist_types.specs.Forms.{Form, collection, forms_of, Open, with_form, 
 use Rattle.hist_types.specs.Tokens.{Item, Closer, byte_fault}
 use Rattle.hist_types.specs.declared.types.Fault.{Fault}
 use Rattle.hist_types.specs.declared.types.Refusal.TheVariants.{Unclosed}
+use Rattle.arrayvec.specs.ArrayVec.{ArrayVec}
 use Rattle.edn_lex.specs.Kinds.{kind_of, item_of}
 use Rattle.edn_lex.specs.State.{State}
 use Rattle.edn_ops.specs.declared.forms.Member.{Member}
@@ -116,9 +117,11 @@ member_some s t m h = let x = GivesMember-shorter s t m h in let low = x.0 in le
 pub not_closer : (k : TokenKind) → (k ≡ kinds.Close → ⊥) → kind_of k ≢ Closer
 not_closer k never e = never (closer_kind k e)
 
-pub first_fails : {V : Type 0} (items : V → List Outline) (s u : State) (opener : Item) (fault : Fault) (result : Result V Fault) → IsErrAnd result (λ e. e ≡ fault) → StopsBehind s opener fault → ReadsFirstForms items s opener result u
-first_fails items s u opener fault (Ok v) h stops = absurd h
-first_fails items s u opener fault (Err other) h stops = subst (StopsBehind s opener) (sym h) stops
+pub first_fails :
+    (s u : State) (opener : Item) (fault : Fault) (result : Result (ArrayVec Outline) Fault) → IsErrAnd result (λ e. e ≡ fault) →
+    StopsBehind s opener fault → ReadsFirstForms s opener result u
+first_fails s u opener fault (Ok v) h stops = absurd h
+first_fails s u opener fault (Err other) h stops = subst (StopsBehind s opener) (sym h) stops
 
 pub stops_at : (s : State) (opener : Item) (fault other : Fault) → other ≡ fault → StopsBehind s opener fault → StopsBehind s opener other
 stops_at s opener fault other e stops = subst (StopsBehind s opener) (sym e) stops

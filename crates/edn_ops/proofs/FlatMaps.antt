@@ -2,7 +2,7 @@
 use Rattle.std.proofs.Common.{◌≡◌, ℕ, ℤ, ◌+◌, ◌-◌, ◌<◌, ◌≤◌, List, [], ◌∷◌, ◌++◌, length, drop, Bool, true, false, codes, Option, Some, None, Result, Ok, Err, refl, sym, ◌∙◌, ap, arith, subst, append-nil, nat_lt, lit≤}
 use Rattle.std.specs.List.{slice_get}
 use Rattle.std.specs.Prelude.{IfSome, map, slice_range, bytes_eq}
-use Rattle.std.specs.Option.{MatchOption, is_some}
+use Rattle.std.specs.Option.{is_some}
 use Rattle.std.proofs.lemmas.Bool.{true≢false, false_from_ne_true}
 use Rattle.hist_types.specs.AtomTokens.{int_value, process_of}
 use Rattle.hist_types.specs.Bytes.{close_brace, open_square, close_square}
@@ -29,7 +29,7 @@ use Rattle.edn_ops.specs.declared.types.OpShape.{OpShape}
 use Rattle.edn_ops.specs.declared.types.Span.{Span}
 use Rattle.edn_ops.specs.Collections.{ReadsMembers, ReadsMap}
 use Rattle.edn_ops.specs.Fields.{fields_named, members_of, mop_result, mops_result, result_outline, IsEntry}
-use Rattle.edn_ops.specs.Flat.{ReadsAhead, ReadsFlatMop, ReadsFlatTransaction, IsName, ReadsFlatValue, ReadsFlatField, HasKind, HasProcess, HasMops, AreFlat, AddsFlat, ReadsFlatMap, IsFlatShape, HasTransaction}
+use Rattle.edn_ops.specs.Flat.{ReadsAhead, ReadsFlatMop, ReadsFlatTransaction, IsName, ReadsFlatValue, ReadsFlatField, HasKind, NamesProcess, HasProcess, HasMops, AreFlat, AddsFlat, ReadsFlatMap, IsFlatShape, HasTransaction}
 use Rattle.edn_ops.specs.Outlines.{outline, outline_of, number_of}
 use Rattle.edn_ops.proofs.ByMember.{nothing_read, one_read}
 use Rattle.edn_ops.proofs.Closing.{IsAt, by_process, entry_from, entry_is, has_value, is_operation, value_mops, bind_ok}
@@ -66,11 +66,11 @@ no_process (Some process) found e h = cc
 
 -- what the value of `:process` says
 abbrev pub SaysProcess : Form → Option ℕ → Type 0
-SaysProcess value o = MatchOption o (Unit {0}) (λ process. (number : ℤ) × (int_of value ≡ Some number) × (process_of number ≡ Some process))
+SaysProcess value o = IfSome o (NamesProcess value)
 
 a_process : (o : Option ℕ) (key value : Form) → is_some o ≡ true → SaysProcess value o → HasProcess o ((key, value) ∷ [])
 a_process None key value e is = cc
-a_process (Some process) key value e is = ((key, value), refl, is.0, is.1, is.2)
+a_process (Some process) key value e is = ((key, value), refl, is)
 
 no_value : (has : Bool) (shapes : List MopShape) (found : List (Form × Form)) → has ≡ false → HasMops has shapes found → (found ≡ []) × (shapes ≡ [])
 no_value true shapes found e h = cc
@@ -254,7 +254,7 @@ flat_entry :
     nat_lt MAX_OPERATION_BYTES (end - start) ≡ false → shape.span ≡ record { start = start; end = end } → shape.kind ≡ kind → shape.process ≡ process →
     IsEntry (Ok (Some shape)) (entry_of opener closer (members_of pairs None))
 flat_entry opener closer start end pairs kind process shape at k p v has short is_span is_kind is_process =
-    let number = p.2 in
+    let number = p.2.0 in
     let process_one : the_one start (fields_named (codes ":process") pairs) ≡ Ok p.0.1 = ap (the_one start) p.1 in
     let type_one : Ok (outline k.0.1) ≡ result_outline (the_one start (fields_named (codes ":type") pairs)) = sym (ap (λ (found : List (Form × Form)). result_outline (the_one start found)) k.1) in
     let value_one : Ok (outline v.0.1) ≡ result_outline (the_one start (fields_named (codes ":value") pairs)) = sym (ap (λ (found : List (Form × Form)). result_outline (the_one start found)) v.1) in
@@ -262,9 +262,9 @@ flat_entry opener closer start end pairs kind process shape at k p v has short i
     subst (λ (found : List (Form × Form)). IfSome (slice_get found 0) (λ pair. Ok shape.mops.items ≡ mops_result (transaction_of pair.1))) (sym v.1) v.2 in
     let given : entry_of opener closer (members_of pairs None) ≡ client_operation number (place_of p.0.1) start end pairs =
     entry_from opener closer start end pairs None at ∙ bind_ok (the_one start (fields_named (codes ":process") pairs)) p.0.1 (by_process start end pairs) process_one
-    ∙ ap (λ (x : Option ℤ). entry_by x (place_of p.0.1) start end pairs) p.3 in
+    ∙ ap (λ (x : Option ℤ). entry_by x (place_of p.0.1) start end pairs) p.2.1 in
     entry_is shape (entry_of opener closer (members_of pairs None)) (client_operation number (place_of p.0.1) start end pairs) given
-    (is_operation number (place_of p.0.1) process start end pairs (outline k.0.1) kind shape (record { process_is = p.4; short = short }) type_one (k.2 ∙ sym (kind_of-outline k.0.1))
+    (is_operation number (place_of p.0.1) process start end pairs (outline k.0.1) kind shape (record { process_is = p.2.2; short = short }) type_one (k.2 ∙ sym (kind_of-outline k.0.1))
     (value_mops kind start pairs (outline v.0.1) (Ok shape.mops.items) (has_value kind has) value_one first) is_span is_kind is_process)
 
 -- a map that was read gives an operation of this shape

@@ -129,7 +129,7 @@ named_grows text name old new key pairs k form e grows is =
     subst (IsField text new) (ap (λ (t : Bool). fields_named name pairs ++ if_named t k form) named ∙ sym (named_more name pairs k form)) (grows (fields_named name pairs) k e is)
 
 pub value_gathered : (text : List ℕ) (old new : Fields) (members : List Form) (key : Outline) (form : Form) → Gathers text old members → old.key ≡ Some key → GrowsBy text old new key form
-    → shapes_result (λ v. v.items) new.transaction ≡ shapes_result (λ v. v.items) old.transaction → (is_named (codes ":value") (outline_of text key) && is_none old.value.value) ≡ false → Gathers text new (members ++ form ∷ [])
+    → shapes_result new.transaction ≡ shapes_result old.transaction → (is_named (codes ":value") (outline_of text key) && is_none old.value.value) ≡ false → Gathers text new (members ++ form ∷ [])
 value_gathered text old new members key form g some grows same waits =
     let found = a_key (outline_of text key) g.pending (sym (ap (option_map (outline_of text)) some) ∙ g.key) in
     let k = found.0 in
@@ -143,7 +143,7 @@ value_gathered text old new members key form g some grows same waits =
       process = named_grows text (codes ":process") old.process new.process key g.pairs k form found.2 grows.process g.process;
       value = named_grows text (codes ":value") old.value new.value key g.pairs k form found.2 grows.value g.value;
       transaction =
-          let P : Form × Form → Type 0 = λ pair. shapes_result (λ v. v.items) new.transaction ≡ mops_result (transaction_of pair.1) in
+          let P : Form × Form → Type 0 = λ pair. shapes_result new.transaction ≡ mops_result (transaction_of pair.1) in
           let before : IfSome (slice_get (fields_named (codes ":value") g.pairs) 0) P =
           subst (λ (r : Result (List MopShape) Fault). IfSome (slice_get (fields_named (codes ":value") g.pairs) 0) (λ pair. r ≡ mops_result (transaction_of pair.1))) (sym same) g.transaction in
           subst (λ (xs : List (Form × Form)). IfSome (slice_get xs 0) P) (sym (named_more (codes ":value") g.pairs k form))
@@ -157,7 +157,7 @@ none_named text field (x ∷ found) is e = let some = sym (is_none-map (outline_
 -- the first `:value`
 pub transaction_gathered : (text : List ℕ) (old new : Fields) (members : List Form) (key : Outline) (form : Form) → Gathers text old members → old.key ≡ Some key → GrowsBy text old new key form
     → is_named (codes ":value") (outline_of text key) ≡ true → is_none old.value.value ≡ true
-    → shapes_result (λ v. v.items) new.transaction ≡ mops_result (transaction_of form) → Gathers text new (members ++ form ∷ [])
+    → shapes_result new.transaction ≡ mops_result (transaction_of form) → Gathers text new (members ++ form ∷ [])
 transaction_gathered text old new members key form g some grows is_value first is =
     let found = a_key (outline_of text key) g.pending (sym (ap (option_map (outline_of text)) some) ∙ g.key) in
     let k = found.0 in
@@ -175,7 +175,7 @@ transaction_gathered text old new members key form g some grows is_value first i
       process = named_grows text (codes ":process") old.process new.process key g.pairs k form found.2 grows.process g.process;
       value = named_grows text (codes ":value") old.value new.value key g.pairs k form found.2 grows.value g.value;
       transaction =
-          subst (λ (xs : List (Form × Form)). IfSome (slice_get xs 0) (λ pair. shapes_result (λ v. v.items) new.transaction ≡ mops_result (transaction_of pair.1))) (sym all) is;
+          subst (λ (xs : List (Form × Form)). IfSome (slice_get xs 0) (λ pair. shapes_result new.transaction ≡ mops_result (transaction_of pair.1))) (sym all) is;
     }
 
 -- the key of a value that is awaited

@@ -9,6 +9,7 @@ use Rattle.hist_types.specs.Tokens.{Item, byte_fault}
 use Rattle.hist_types.specs.declared.limits.TheConstants.{MAX_MICRO_OPS}
 use Rattle.hist_types.specs.declared.types.Fault.{Fault}
 use Rattle.hist_types.specs.declared.types.Refusal.TheVariants.{TooManyMicroOps, NotTxn, BadAtom}
+use Rattle.smallvec.specs.SmallVec.{SmallVec}
 use Rattle.edn_ops.specs.declared.types.MopShape.{MopShape}
 use Rattle.edn_ops.specs.Shapes.{mop_shape_of}
 use Rattle.edn_ops.specs.Fields.{mop_result, mops_result}
@@ -238,9 +239,11 @@ pub mop_fails : (s u : State) (fault : Fault) (result : Result (ℕ × Result Mo
 mop_fails s u fault (Ok found) h stops = absurd h
 mop_fails s u fault (Err other) h stops = subst (StopsInside s) (sym h) stops
 
-pub transaction_fails : {V : Type 0} (items : V → List MopShape) (s u : State) (opener : Item) (fault : Fault) (result : Result (Result V Fault) Fault) → IsErrAnd result (λ e. e ≡ fault) → StopsBehind s opener fault → ReadsTransaction items s opener result u
-transaction_fails items s u opener fault (Ok found) h stops = absurd h
-transaction_fails items s u opener fault (Err other) h stops = λ memory. subst (StopsBehind s opener) (sym h) stops
+pub transaction_fails :
+    (s u : State) (opener : Item) (fault : Fault) (result : Result (Result (SmallVec MopShape) Fault) Fault) → IsErrAnd result (λ e. e ≡ fault) →
+    StopsBehind s opener fault → ReadsTransaction s opener result u
+transaction_fails s u opener fault (Ok found) h stops = absurd h
+transaction_fails s u opener fault (Err other) h stops = λ memory. subst (StopsBehind s opener) (sym h) stops
 
 -- a member that was read
 pub record ReadMop (s : State) (start : ℕ) (mop : Result MopShape Fault) (u : State) : Type 0 where

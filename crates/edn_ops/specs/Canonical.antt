@@ -2,17 +2,20 @@
 --
 -- Reading gives an operation with a process up to 2147483647, and at most 256 micro-operations; its atoms are
 -- integers of 64 bits, keywords and symbols of one run, and strings of well-formed UTF-8.
-use Rattle.std.specs.Prelude.{◌≡◌, ◌≢◌, ◌⊎◌, ◌<◌, ◌≤◌, ℕ, List, [], ◌∷◌, ◌++◌, length, true, Some, None, map}
+use Rattle.std.specs.Prelude.{◌≡◌, ◌≢◌, ◌⊎◌, ◌<◌, ◌≤◌, ℕ, List, [], ◌∷◌, ◌++◌, length, true, Option, Some, None, map}
 use Rattle.std.specs.List.{All, list_all, flat_map}
 use Rattle.std.specs.Str.{IsUtf8}
 use Rattle.hist_types.specs.Bytes.{backslash, line_feed, is_run_byte}
 use Rattle.hist_types.specs.Atoms.{Atom, integer, keyword, string, symbol, Value}
 use Rattle.hist_types.specs.Entries.{Entry, operation, PlacedOperation, operation_of}
 use Rattle.hist_types.specs.Operations.{Mop, read, write, Operation}
+use Rattle.hist_types.specs.Placed.{IsTextOf}
+use Rattle.hist_types.specs.Reading.{Reads}
 use Rattle.hist_types.specs.Tokens.{ItemKind, Keyword, Symbol, run_kind, first_byte}
 use Rattle.hist_types.specs.AtomTokens.{is_64_bit}
 use Rattle.hist_types.specs.Texts.{operation_text, line}
 use Rattle.hist_types.specs.declared.limits.TheConstants.{MAX_PROCESS, MAX_MICRO_OPS, MAX_OPERATION_BYTES}
+use Rattle.hist_types.specs.declared.types.Fault.{Fault}
 use Rattle.hist_types.specs.declared.types.OpKind.{OpKind}
 use Rattle.hist_types.specs.declared.types.OpKind.TheVariants as kinds
 
@@ -56,9 +59,32 @@ pub record OperationCanBeRead (o : Operation) : Type 0 where
   pub mops : MopsCanBeRead o.kind o.mops
   pub bytes : length (operation_text o) ≤ MAX_OPERATION_BYTES
 
+-- the operation can be read, unless its canonical text is too long
+abbrev pub CanBeReadIfShort : Operation → Type 0
+CanBeReadIfShort o = length (operation_text o) ≤ MAX_OPERATION_BYTES → OperationCanBeRead o
+
+-- ---- what is read
+
 -- the entries are these operations, wherever they are, and nothing is skipped
 abbrev pub AreOperations : List Entry → List Operation → Type 0
-AreOperations entries os = (placed : List PlacedOperation) × (entries ≡ map operation placed) × (map operation_of placed ≡ os)
+AreOperations entries os =
+    (placed : List PlacedOperation) × (entries ≡ map operation placed)
+    × (map operation_of placed ≡ os)
+
+-- the text is the map of the operation, wherever its parts are
+abbrev pub IsMapOf : List ℕ → Operation → Type 0
+IsMapOf text o = (placed : PlacedOperation) × IsTextOf text placed × (operation_of placed ≡ o)
+
+-- the text reads as these operations, and has no fault
+abbrev pub ReadsAsOperations : List ℕ → List Operation → Type 0
+ReadsAsOperations text os =
+    (entries : List Entry) × Reads text entries None × AreOperations entries os
+
+-- it reads as nothing else
+abbrev pub ReadsOnlyAs : List ℕ → List Operation → Type 0
+ReadsOnlyAs text os =
+    (entries : List Entry) (fault : Option Fault) → Reads text entries fault →
+    AreOperations entries os × (fault ≡ None)
 
 -- ---- lines
 

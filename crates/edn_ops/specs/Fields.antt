@@ -8,6 +8,7 @@ use Rattle.hist_types.specs.declared.types.OpKind.{OpKind}
 use Rattle.edn_lex.specs.declared.types.Token.{Token}
 use Rattle.hist_types.specs.Forms.{Form, place_of}
 use Rattle.hist_types.specs.declared.types.Fault.{Fault}
+use Rattle.smallvec.specs.SmallVec.{SmallVec}
 use Rattle.edn_ops.specs.Shapes.{mop_shape_of, IsShapeOf}
 use Rattle.edn_ops.specs.Outlines.{outline, outline_of, number_of, IsOutlineIn}
 use Rattle.edn_ops.specs.declared.types.MopShape.{MopShape}
@@ -36,7 +37,9 @@ result_outline_of text (Err fault) = Err fault
 
 -- these are the fields of the name, as keys and values
 pub record IsField (text : List ℕ) (field : Field) (found : List (Form × Form)) : Type 0 where
-  pub value : option_map (outline_of text) field.value ≡ option_map (λ pair. outline pair.1) (slice_get found 0)
+  pub value :
+      option_map (outline_of text) field.value
+      ≡ option_map (λ pair. outline pair.1) (slice_get found 0)
   pub second : field.second ≡ option_map (λ pair. place_of pair.0) (slice_get found 1)
 
 abbrev pub IsFieldIn : List ℕ → Field → Type 0
@@ -46,12 +49,19 @@ IsFieldIn text field = IfSome field.value (IsOutlineIn text)
 abbrev pub AddsField : Field → ℕ → Outline → Field → Type 0
 AddsField old place value new =
     (text : List ℕ) (found : List (Form × Form)) (key form : Form) →
-    IsField text old found → place_of key ≡ place → outline form ≡ outline_of text value → IsField text new (found ++ (key, form) ∷ [])
+    IsField text old found → place_of key ≡ place → outline form ≡ outline_of text value →
+    IsField text new (found ++ (key, form) ∷ [])
+
+-- where the text has the field and the value, it has the new field too
+abbrev pub KeepsFieldIn : Field → Outline → Field → Type 0
+KeepsFieldIn old value new =
+    (text : List ℕ) → IsFieldIn text old → IsOutlineIn text value → IsFieldIn text new
 
 -- the value of the one field of the name in a map that begins at the offset
 abbrev pub IsTheOne : Field → ℕ → Result Outline Fault → Type 0
 IsTheOne field start result =
-    (text : List ℕ) (found : List (Form × Form)) → IsField text field found → result_outline_of text result ≡ result_outline (the_one start found)
+    (text : List ℕ) (found : List (Form × Form)) → IsField text field found →
+    result_outline_of text result ≡ result_outline (the_one start found)
 
 -- ---- all fields
 
@@ -71,9 +81,9 @@ mops_result (Ok mops) = Ok (map mop_shape_of mops)
 mops_result (Err fault) = Err fault
 
 -- the same of what the code has
-abbrev pub shapes_result : {V : Type 0} → (V → List MopShape) → Result V Fault → Result (List MopShape) Fault
-shapes_result items (Ok v) = Ok (items v)
-shapes_result items (Err fault) = Err fault
+abbrev pub shapes_result : Result (SmallVec MopShape) Fault → Result (List MopShape) Fault
+shapes_result (Ok shapes) = Ok shapes.items
+shapes_result (Err fault) = Err fault
 
 -- these members have been gathered
 pub record Gathers (text : List ℕ) (fields : Fields) (members : List Form) : Type 0 where
@@ -86,7 +96,7 @@ pub record Gathers (text : List ℕ) (fields : Fields) (members : List Form) : T
   pub value : IsField text fields.value (fields_named (codes ":value") pairs)
   pub transaction :
       IfSome (slice_get (fields_named (codes ":value") pairs) 0)
-      (λ pair. shapes_result (λ v. v.items) fields.transaction ≡ mops_result (transaction_of pair.1))
+      (λ pair. shapes_result fields.transaction ≡ mops_result (transaction_of pair.1))
 
 -- what has been gathered is in the text
 pub record AreFieldsIn (text : List ℕ) (fields : Fields) : Type 0 where
@@ -98,7 +108,8 @@ pub record AreFieldsIn (text : List ℕ) (fields : Fields) : Type 0 where
 -- whether the next member is the value of the first `:value`
 abbrev pub awaits_by : List ℕ → Option Outline → Field → Bool
 awaits_by text None field = false
-awaits_by text (Some key) field = is_named (codes ":value") (outline_of text key) && is_none field.value
+awaits_by text (Some key) field =
+    is_named (codes ":value") (outline_of text key) && is_none field.value
 
 abbrev pub awaits : List ℕ → Fields → Bool
 awaits text fields = awaits_by text fields.key fields.value
@@ -125,28 +136,37 @@ IsEntry (Err fault) (Err other) = fault ≡ other
 abbrev pub AddsTransaction : Fields → Outline → Result (List MopShape) Fault → Fields → Type 0
 AddsTransaction old value shapes new =
     (text : List ℕ) (members : List Form) (form : Form) →
-    Gathers text old members → awaits text old ≡ true → outline form ≡ outline_of text value → shapes ≡ mops_result (transaction_of form) →
-    Gathers text new (members ++ form ∷ [])
+    Gathers text old members → awaits text old ≡ true → outline form ≡ outline_of text value →
+    shapes ≡ mops_result (transaction_of form) → Gathers text new (members ++ form ∷ [])
+
+-- where the text has the fields and the value, it has the new fields too
+abbrev pub KeepsFieldsIn : Fields → Outline → Fields → Type 0
+KeepsFieldsIn old value new =
+    (text : List ℕ) → AreFieldsIn text old → IsOutlineIn text value → AreFieldsIn text new
 
 -- any other member has been gathered
 abbrev pub AddsMember : List ℕ → Fields → Outline → Fields → Type 0
 AddsMember text old member new =
     (members : List Form) (form : Form) →
-    Gathers text old members → awaits text old ≡ false → outline form ≡ outline_of text member → Gathers text new (members ++ form ∷ [])
+    Gathers text old members → awaits text old ≡ false → outline form ≡ outline_of text member →
+    Gathers text new (members ++ form ∷ [])
 
 -- what the map gives whose members have been gathered
 abbrev pub GivesEntry : List ℕ → Fields → Span → Result (Option OpShape) Fault → Type 0
 GivesEntry text fields span result =
     (opener closer : Item) (members : List Form) →
-    Gathers text fields members → opener.start ≡ span.start → end_of closer ≡ span.end → IsEntry result (entry_of opener closer members)
+    Gathers text fields members → opener.start ≡ span.start → end_of closer ≡ span.end →
+    IsEntry result (entry_of opener closer members)
 
 -- what it gives where this integer is the value of `:process`
 abbrev pub GivesOperation : List ℕ → Fields → Span → Token → Result OpShape Fault → Type 0
 GivesOperation text fields span number result =
     (members : List Form) (g : Gathers text fields members) →
-    IsOperation result (client_operation (number_of text number) number.start span.start span.end g.pairs)
+    IsOperation result
+    (client_operation (number_of text number) number.start span.start span.end g.pairs)
 
 -- the micro-operations of an operation of this kind, in a map that begins at the offset
 abbrev pub GivesMops : Fields → OpKind → ℕ → Result (List MopShape) Fault → Type 0
 GivesMops fields kind start shapes =
-    (text : List ℕ) (members : List Form) (g : Gathers text fields members) → shapes ≡ mops_result (mops_of kind start g.pairs)
+    (text : List ℕ) (members : List Form) (g : Gathers text fields members) →
+    shapes ≡ mops_result (mops_of kind start g.pairs)

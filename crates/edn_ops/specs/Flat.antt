@@ -28,41 +28,60 @@ use Rattle.edn_ops.specs.Fields.{IsEntry, fields_named, members_of, mops_result}
 pub record ReadsAhead (text : List ℕ) (deep offset : ℕ) (form : Form) (end : ℕ) : Type 0 where
   pub within : end ≤ length text
   pub reads :
-      (closers : List ℕ) → length closers + deep ≤ MAX_OPEN_COLLECTIONS → ReadsMember (going_at text offset closers) form (going_at text end closers)
+      (closers : List ℕ) → length closers + deep ≤ MAX_OPEN_COLLECTIONS →
+      ReadsMember (going_at text offset closers) form (going_at text end closers)
 
 -- a call read one more micro-operation, up to the end that it gives
-abbrev pub ReadsFlatMop : List ℕ → ℕ → List MopShape → Result (Option ℕ) Fault → List MopShape → Type 0
+abbrev pub ReadsFlatMop :
+    List ℕ → ℕ → List MopShape → Result (Option ℕ) Fault → List MopShape → Type 0
 ReadsFlatMop text offset old (Ok None) new = new ≡ old
 ReadsFlatMop text offset old (Ok (Some end)) new =
     (form : Form) × ReadsAhead text 1 offset form end
-    × ((members : List Form) → Ok old ≡ mops_result (micro_ops_of 0 members) → Ok new ≡ mops_result (micro_ops_of 0 (members ++ form ∷ [])))
+    × ((members : List Form) → Ok old ≡ mops_result (micro_ops_of 0 members) →
+    Ok new ≡ mops_result (micro_ops_of 0 (members ++ form ∷ [])))
 ReadsFlatMop text offset old (Err fault) new = fault ≡ memory_fault
 
 -- a call read a transaction
 abbrev pub ReadsFlatTransaction : List ℕ → ℕ → Result (Option ℕ) Fault → List MopShape → Type 0
 ReadsFlatTransaction text offset (Ok None) new = Unit {0}
-ReadsFlatTransaction text offset (Ok (Some end)) new = (form : Form) × ReadsAhead text 2 offset form end × (Ok new ≡ mops_result (transaction_of form))
+ReadsFlatTransaction text offset (Ok (Some end)) new =
+    (form : Form) × ReadsAhead text 2 offset form end
+    × (Ok new ≡ mops_result (transaction_of form))
 ReadsFlatTransaction text offset (Err fault) new = fault ≡ memory_fault
 
 -- ---- fields
 
+-- the token is the name of the kind of operation
+abbrev pub NamesKind : List ℕ → OpKind × Token → Type 0
+NamesKind text found = Some found.0 ≡ kind_of (plain (item_of text found.1))
+
 -- the fields named `:type`
 abbrev pub HasKind : Option OpKind → List (Form × Form) → Type 0
 HasKind None found = found ≡ []
-HasKind (Some kind) found = (pair : Form × Form) × (found ≡ pair ∷ []) × (Some kind ≡ kind_of pair.1)
+HasKind (Some kind) found =
+    (pair : Form × Form) × (found ≡ pair ∷ []) × (Some kind ≡ kind_of pair.1)
+
+-- the form is the integer that is the process's number
+abbrev pub NamesProcess : Form → ℕ → Type 0
+NamesProcess form process =
+    (number : ℤ) × (int_of form ≡ Some number) × (process_of number ≡ Some process)
 
 -- the fields named `:process`
 abbrev pub HasProcess : Option ℕ → List (Form × Form) → Type 0
 HasProcess None found = found ≡ []
-HasProcess (Some process) found = (pair : Form × Form) × (found ≡ pair ∷ []) × (number : ℤ) × (int_of pair.1 ≡ Some number) × (process_of number ≡ Some process)
+HasProcess (Some process) found =
+    (pair : Form × Form) × (found ≡ pair ∷ []) × NamesProcess pair.1 process
 
 -- the fields named `:value`
 abbrev pub HasMops : Bool → List MopShape → List (Form × Form) → Type 0
 HasMops false shapes found = (found ≡ []) × (shapes ≡ [])
-HasMops true shapes found = (pair : Form × Form) × (found ≡ pair ∷ []) × (Ok shapes ≡ mops_result (transaction_of pair.1))
+HasMops true shapes found =
+    (pair : Form × Form) × (found ≡ pair ∷ [])
+    × (Ok shapes ≡ mops_result (transaction_of pair.1))
 
 -- what is known of these fields
-pub record AreFlat (fields : FlatFields) (shapes : List MopShape) (pairs : List (Form × Form)) : Type 0 where
+pub record AreFlat
+    (fields : FlatFields) (shapes : List MopShape) (pairs : List (Form × Form)) : Type 0 where
   pub kind : HasKind fields.kind (fields_named (codes ":type") pairs)
   pub process : HasProcess fields.process (fields_named (codes ":process") pairs)
   pub value : HasMops fields.has_value shapes (fields_named (codes ":value") pairs)
@@ -70,38 +89,49 @@ pub record AreFlat (fields : FlatFields) (shapes : List MopShape) (pairs : List 
 -- the same, with one more field
 abbrev pub AddsFlat : FlatFields → List MopShape → Form → Form → FlatFields → List MopShape → Type 0
 AddsFlat old shapes key value new more =
-    (pairs : List (Form × Form)) → AreFlat old shapes pairs → AreFlat new more (pairs ++ (key, value) ∷ [])
+    (pairs : List (Form × Form)) → AreFlat old shapes pairs →
+    AreFlat new more (pairs ++ (key, value) ∷ [])
 
 -- the key is of the field with this name
 abbrev pub IsName : Name → Form → Type 0
 IsName names.Kind key = is_named (codes ":type") key ≡ true
 IsName names.Process key = is_named (codes ":process") key ≡ true
 IsName names.Value key = is_named (codes ":value") key ≡ true
-IsName names.Other key = (is_named (codes ":type") key ≡ false) × (is_named (codes ":process") key ≡ false) × (is_named (codes ":value") key ≡ false)
+IsName names.Other key =
+    (is_named (codes ":type") key ≡ false) × (is_named (codes ":process") key ≡ false)
+    × (is_named (codes ":value") key ≡ false)
 
 -- a call read the value of the field with this name, which is no transaction
 abbrev pub ReadsFlatValue : List ℕ → ℕ → Name → FlatFields → Option ℕ → FlatFields → Type 0
 ReadsFlatValue text offset name old None new = Unit {0}
 ReadsFlatValue text offset name old (Some end) new =
-    (value : Form) × ReadsAhead text 2 offset value end × ((key : Form) (shapes : List MopShape) → IsName name key → AddsFlat old shapes key value new shapes)
+    (value : Form) × ReadsAhead text 2 offset value end
+    × ((key : Form) (shapes : List MopShape) → IsName name key →
+    AddsFlat old shapes key value new shapes)
 
 -- a call read the value of a key
-abbrev pub ReadsFlatField : List ℕ → Token → FlatFields → List MopShape → Result (Option ℕ) Fault → FlatFields → List MopShape → Type 0
+abbrev pub ReadsFlatField :
+    List ℕ → Token → FlatFields → List MopShape →
+    Result (Option ℕ) Fault → FlatFields → List MopShape → Type 0
 ReadsFlatField text key old shapes (Ok None) new more = Unit {0}
 ReadsFlatField text key old shapes (Ok (Some end)) new more =
-    (value : Form) × ReadsAhead text 2 key.end value end × AddsFlat old shapes (plain (item_of text key)) value new more
+    (value : Form) × ReadsAhead text 2 key.end value end
+    × AddsFlat old shapes (plain (item_of text key)) value new more
 ReadsFlatField text key old shapes (Err fault) new more = fault ≡ memory_fault
 
 -- ---- maps
 
 -- the fields of a map have been read up to its closer
-pub record ReadsFlatMap (text : List ℕ) (offset : ℕ) (fields : FlatFields) (shapes : List MopShape) (end : ℕ) : Type 0 where
+pub record ReadsFlatMap
+    (text : List ℕ) (offset : ℕ) (fields : FlatFields) (shapes : List MopShape) (end : ℕ)
+    : Type 0 where
   pub pairs : List (Form × Form)
   pub inner : ℕ
   pub closer : Token
   pub reads :
       (opener : Item) (closers : List ℕ) → length closers + 2 ≤ MAX_OPEN_COLLECTIONS →
-      ReadsMembers (going_at text offset closers) opener (members_of pairs None) (going_at text inner closers)
+      ReadsMembers (going_at text offset closers) opener (members_of pairs None)
+      (going_at text inner closers)
   pub flat : AreFlat fields shapes pairs
   pub closes : GivesCloser text inner close_brace closer
   pub end_is : end ≡ closer.end
@@ -111,7 +141,8 @@ pub record ReadsFlatMap (text : List ℕ) (offset : ℕ) (fields : FlatFields) (
 abbrev pub OpensOperation : List ℕ → ℕ → Token → Type 0
 OpensOperation text offset opener =
     GivesOpener text offset open_brace close_brace opener
-    ⊎ ((tag : Token) × GivesTag text offset tag × GivesOpener text tag.end open_brace close_brace opener)
+    ⊎ ((tag : Token) × GivesTag text offset tag
+    × GivesOpener text tag.end open_brace close_brace opener)
 
 -- an operation of this kind has a transaction
 abbrev pub HasTransaction : OpKind → Type 0
@@ -130,11 +161,13 @@ pub record IsFlatShape (text : List ℕ) (opener : Token) (shape : OpShape) : Ty
   pub closer : Token
   pub reads :
       (closers : List ℕ) → length closers + 2 ≤ MAX_OPEN_COLLECTIONS →
-      ReadsMembers (going_at text opener.end closers) (item_of text opener) members (going_at text inner closers)
+      ReadsMembers (going_at text opener.end closers) (item_of text opener) members
+      (going_at text inner closers)
   pub closes : GivesCloser text inner close_brace closer
   pub end_is : shape.span.end ≡ closer.end
   pub within : shape.span.end ≤ length text
-  pub entry : IsEntry (Ok (Some shape)) (entry_of (item_of text opener) (item_of text closer) members)
+  pub entry :
+      IsEntry (Ok (Some shape)) (entry_of (item_of text opener) (item_of text closer) members)
 
 -- a call gave such a shape, or none
 abbrev pub GivesFlatShape : List ℕ → Token → Result (Option OpShape) Fault → Type 0

@@ -26,11 +26,14 @@ pub record Leads (s : State) (o : Open) (given : List Entry) (t : State) (p : Op
   pub depth : length t.closers + length o.collections ≡ length s.closers + length p.collections
   pub reads :
       (tokens : List Item) (ending : Option Fault) → Rest s tokens ending →
-      (later : List Item) × Rest t later ending × (reading_from o tokens ending ≡ in_front_of given (reading_from p later ending))
+      (later : List Item) × Rest t later ending
+      × (reading_from o tokens ending ≡ in_front_of given (reading_from p later ending))
 
 -- what is left from s, where o is open, reads so
 abbrev pub ReadsAs : State → Open → Reading → Type 0
-ReadsAs s o reading = (tokens : List Item) (ending : Option Fault) → Rest s tokens ending → reading_from o tokens ending ≡ reading
+ReadsAs s o reading =
+    (tokens : List Item) (ending : Option Fault) → Rest s tokens ending →
+    reading_from o tokens ending ≡ reading
 
 -- From s, where o is open, nothing is read but the fault.
 abbrev pub Stops : State → Open → Fault → Type 0
@@ -39,18 +42,29 @@ Stops s o fault = SameDepth s o → ReadsAs s o (record { entries = []; fault = 
 -- ---- what is open
 
 -- a collection is open within what is open around it
-abbrev pub inside : (opener : Item) → (members : List Form) → (marks : List Item) → (around : Open) → Open
+abbrev pub inside :
+    (opener : Item) (members : List Form) (marks : List Item) (around : Open) → Open
 inside opener members marks around =
-    record { marks = around.marks; collections = record { opener = opener; members = members; marks = marks } ∷ around.collections }
+    record {
+      marks = around.marks;
+      collections =
+          record { opener = opener; members = members; marks = marks } ∷ around.collections;
+    }
 
 -- no operation's place is directly in a collection with this opener, where this is open around it
 abbrev pub NoPlaceIn : Item → Open → Type 0
-NoPlaceIn opener around = (members : List Form) (marks : List Item) → in_operation_place (inside opener members marks around) ≡ false
+NoPlaceIn opener around =
+    (members : List Form) (marks : List Item) →
+    in_operation_place (inside opener members marks around) ≡ false
 
 -- the same with these marks in the innermost open collection, or at the top level
 abbrev pub marks_among : List Item → List Item → List OpenCollection → Open
 marks_among new marks [] = record { marks = new; collections = [] }
-marks_among new marks (inner ∷ outer) = record { marks = marks; collections = record { opener = inner.opener; members = inner.members; marks = new } ∷ outer }
+marks_among new marks (inner ∷ outer) =
+    record {
+      marks = marks;
+      collections = record { opener = inner.opener; members = inner.members; marks = new } ∷ outer;
+    }
 
 abbrev pub with_marks : List Item → Open → Open
 with_marks new o = marks_among new o.marks o.collections
@@ -70,7 +84,8 @@ behind (tag ∷ tags) f = behind tags (tagged tag f)
 -- the form itself where there is no tag, or else a tagged form that begins at the first tag
 abbrev pub IsBehind : Option ℕ → Form → Form → Type 0
 IsBehind None f g = g ≡ f
-IsBehind (Some place) f g = (tag : Item) × (inner : Form) × (g ≡ tagged tag inner) × (tag.start ≡ place)
+IsBehind (Some place) f g =
+    (tag : Item) × (inner : Form) × (g ≡ tagged tag inner) × (tag.start ≡ place)
 
 abbrev pub is_mark_kind : ItemKind → Bool
 is_mark_kind Drop = true
@@ -102,7 +117,9 @@ pub record GivesMember (s : State) (member : Member) (t : State) : Type 0 where
 pub record GivesNoMember (s : State) (t : State) : Type 0 where
   pub text : t.text ≡ s.text
   pub forward : s.offset ≤ t.offset
-  pub reads : (o : Open) → ReadsAs s (with_marks [] o) (record { entries = []; fault = fault_at_end (with_marks [] o) })
+  pub reads :
+      (o : Open) →
+      ReadsAs s (with_marks [] o) (record { entries = []; fault = fault_at_end (with_marks [] o) })
   pub after : Rest t [] None
 
 -- what a call that looks for the next member gives
@@ -118,9 +135,11 @@ pub record PassesCollection (s : State) (opener : Item) (t : State) : Type 0 whe
   pub level : LevelEnds s t
   pub leads :
       (o : Open) → in_operation_place o ≡ false →
-      Leads s (with_opener opener o) [] t (with_form (collection opener closer (forms_of members)) o.marks o.collections)
+      Leads s (with_opener opener o) []
+      t (with_form (collection opener closer (forms_of members)) o.marks o.collections)
 
 -- what a call that passes over a collection gives, where no operation's place is
 abbrev pub SkipsCollection : State → Item → Result (Unit {0}) Fault → State → Type 0
 SkipsCollection s opener (Ok done) t = PassesCollection s opener t
-SkipsCollection s opener (Err fault) t = (o : Open) → in_operation_place o ≡ false → Stops s (with_opener opener o) fault
+SkipsCollection s opener (Err fault) t =
+    (o : Open) → in_operation_place o ≡ false → Stops s (with_opener opener o) fault

@@ -22,7 +22,9 @@ pub record LevelEnd : Type 0 where
   pub tokens : List Item
 
 -- one token; `inner` are the openers of the collections that are open within the level, the innermost first
-abbrev pub passed_by : Role → (inner marks : List Item) → Item → List Item → (List Item → List Item → LevelEnd) → LevelEnd
+abbrev pub passed_by :
+    Role → (inner marks : List Item) → Item → List Item → (List Item → List Item → LevelEnd) →
+    LevelEnd
 passed_by opens inner marks t ts rest = rest (t ∷ inner) marks
 passed_by closes [] marks t ts rest = record { marks = marks; tokens = t ∷ ts }
 passed_by closes (i ∷ []) marks t ts rest = rest [] (still_waiting marks)
@@ -35,7 +37,8 @@ passed_by stands (i ∷ more) marks t ts rest = rest (i ∷ more) marks
 -- the end of the level in which these tokens begin and these marks wait
 abbrev pub level_end : (inner marks : List Item) → List Item → LevelEnd
 level_end inner marks [] = record { marks = marks; tokens = [] }
-level_end inner marks (t ∷ ts) = passed_by (role_of t.kind) inner marks t ts (λ i m. level_end i m ts)
+level_end inner marks (t ∷ ts) =
+    passed_by (role_of t.kind) inner marks t ts (λ i m. level_end i m ts)
 
 -- the same, behind the closer of a collection in these
 abbrev pub end_behind : (inner marks : List Item) → List Item → LevelEnd
@@ -46,15 +49,19 @@ end_behind (i ∷ more) marks tokens = level_end (i ∷ more) marks tokens
 abbrev pub SameLevel : State → List Item → State → List Item → Type 0
 SameLevel s before t marks =
     (tokens : List Item) (ending : Option Fault) → Rest s tokens ending →
-    (later : List Item) × Rest t later ending × (level_end [] before tokens ≡ level_end [] marks later)
+    (later : List Item) × Rest t later ending
+    × (level_end [] before tokens ≡ level_end [] marks later)
 
 -- s is behind the opener of a collection, and t behind its closer
 abbrev pub LevelEnds : State → State → Type 0
 LevelEnds s t =
     (tokens : List Item) (ending : Option Fault) → Rest s tokens ending →
     (later : List Item) × Rest t later ending
-    × ((opener : Item) (inner marks : List Item) → level_end (opener ∷ inner) marks tokens ≡ end_behind inner marks later)
+    × ((opener : Item) (inner marks : List Item) →
+    level_end (opener ∷ inner) marks tokens ≡ end_behind inner marks later)
 
 -- These marks wait when the level ends in which s is, where `before` wait at s.
 abbrev pub WaitAtEnd : State → List Item → List Item → Type 0
-WaitAtEnd s before marks = (tokens : List Item) (ending : Option Fault) → Rest s tokens ending → (level_end [] before tokens).marks ≡ marks
+WaitAtEnd s before marks =
+    (tokens : List Item) (ending : Option Fault) → Rest s tokens ending →
+    (level_end [] before tokens).marks ≡ marks

@@ -2,6 +2,8 @@
 use Rattle.std.specs.Prelude.{◌≡◌, ℕ, zero, suc, ◌==◌, List, [], ◌∷◌, Bool, true, false, Option, if◌then◌else◌}
 use Rattle.hist_types.specs.Forms.{is_drop, leave_out, still_waiting}
 use Rattle.hist_types.specs.Tokens.{Item}
+use Rattle.edn_lex.specs.Kinds.{item_of}
+use Rattle.edn_lex.specs.declared.types.Token.{Token}
 use Rattle.edn_ops.specs.declared.marks.LastMark.{LastMark}
 use Rattle.edn_ops.specs.Leads.{first_place}
 
@@ -25,7 +27,8 @@ any_mark (mark ∷ marks) = true
 -- the marks up to the last behind which so many wait
 abbrev pub up_to : ℕ → List Item → List Item
 up_to drops [] = []
-up_to drops (mark ∷ marks) = if drops_among (mark ∷ marks) == drops then mark ∷ marks else up_to drops marks
+up_to drops (mark ∷ marks) =
+    if drops_among (mark ∷ marks) == drops then mark ∷ marks else up_to drops marks
 
 -- the first of them, if there is one, is at the place
 abbrev pub FirstAt : List Item → ℕ → Type 0
@@ -36,3 +39,13 @@ LastAt drops marks place = FirstAt (up_to drops marks) place
 
 abbrev pub IsLastOf : LastMark → List Item → Type 0
 IsLastOf last marks = (drops_among marks ≡ last.waiting) × LastAt last.drops marks last.place
+
+-- the token is one more of the marks
+abbrev pub IsOneMore : LastMark → Token → LastMark → Type 0
+IsOneMore old mark new =
+    (text : List ℕ) (marks : List Item) → IsLastOf old marks →
+    IsLastOf new (item_of text mark ∷ marks)
+
+-- a form has settled against the marks
+abbrev pub IsSettled : LastMark → LastMark → Type 0
+IsSettled old new = (marks : List Item) → IsLastOf old marks → IsLastOf new (still_waiting marks)

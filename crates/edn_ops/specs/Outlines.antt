@@ -1,7 +1,8 @@
 -- Members of an operation's map and of its transaction: what its checks ask of a form without looking into it.
-use Rattle.std.specs.Prelude.{Option, Some, None, ◌≡◌, ℕ, ℤ, ◌≤◌, List, [], length, true, slice_range}
+use Rattle.std.specs.Prelude.{Option, Some, None, option_map, IfSome, ◌≡◌, ℕ, ℤ, ◌≤◌, List, [], length, Bool, true, slice_range}
 use Rattle.hist_types.specs.AtomTokens.{int_value}
-use Rattle.hist_types.specs.Forms.{Form, Forms, plain, collection, tagged, no_form}
+use Rattle.hist_types.specs.Entries.{int_of}
+use Rattle.hist_types.specs.Forms.{Form, Forms, plain, collection, tagged, no_form, place_of, is_vector_or_list}
 use Rattle.hist_types.specs.Tokens.{Item, ItemKind, Opener, Tag, Int, is_int}
 use Rattle.edn_ops.specs.Leads.{is_plain_kind, IsBehind}
 use Rattle.edn_lex.specs.declared.types.Token.{Token}
@@ -62,17 +63,37 @@ outline (tagged tag f) = tagged (tag_at tag.start) (plain (tag_at tag.start))
 -- the outline of the form that a member stands for
 abbrev pub outline_of : List ℕ → Outline → Form
 outline_of text (outlines.Plain token) = plain (item_of text token)
-outline_of text (outlines.Collection opener) = collection (item_of text opener) (item_of text opener) no_form
+outline_of text (outlines.Collection opener) =
+    collection (item_of text opener) (item_of text opener) no_form
 outline_of text (outlines.Tagged place) = tagged (tag_at place) (plain (tag_at place))
 
 -- a token that is the member has this outline
 abbrev pub IsPlainOutline : Member → Outline → Type 0
 IsPlainOutline m o =
     (text : List ℕ) (form : Form) →
-    is_plain_kind (kind_of m.token.kind) ≡ true → IsBehind m.tag (plain (item_of text m.token)) form → outline form ≡ outline_of text o
+    is_plain_kind (kind_of m.token.kind) ≡ true →
+    IsBehind m.tag (plain (item_of text m.token)) form → outline form ≡ outline_of text o
 
 -- a collection that is the member has this outline
 abbrev pub IsCollectionOutline : Member → Outline → Type 0
 IsCollectionOutline m o =
     (text : List ℕ) (closer : Item) (members : Forms) (form : Form) →
-    kind_of m.token.kind ≡ Opener → IsBehind m.tag (collection (item_of text m.token) closer members) form → outline form ≡ outline_of text o
+    kind_of m.token.kind ≡ Opener →
+    IsBehind m.tag (collection (item_of text m.token) closer members) form →
+    outline form ≡ outline_of text o
+
+-- ---- what a form is by its outline
+
+-- whether the token opens a vector or a list
+abbrev pub begins_sequence : List ℕ → Token → Bool
+begins_sequence text token = is_vector_or_list (item_of text token)
+
+-- the token is the integer that the form is, if it is one
+abbrev pub IsItsInteger : Outline → Option Token → Type 0
+IsItsInteger o found =
+    (text : List ℕ) → int_of (outline_of text o) ≡ option_map (number_of text) found
+
+-- the token, if there is one, is where the form begins
+abbrev pub IsAtItsPlace : Outline → Option Token → Type 0
+IsAtItsPlace o found =
+    (text : List ℕ) → IfSome found (λ token. token.start ≡ place_of (outline_of text o))

@@ -1,17 +1,19 @@
 -- Source texts of atoms and micro-operations, and how they are written canonically.
-use Rattle.std.specs.Prelude.{◌≡◌, ℕ, List, [], ◌∷◌, ◌++◌, Bool, true, false, ◌==◌, if◌then◌else◌, bytes_eq, drop, codes, Some, None}
+use Rattle.std.specs.Prelude.{◌≡◌, ℕ, List, [], ◌∷◌, ◌++◌, Bool, true, false, ◌==◌, if◌then◌else◌, bytes_eq, drop, codes, Some, None, Result, OnOk, Vec}
 use Rattle.hist_types.specs.Atoms.{Atom, Value}
 use Rattle.hist_types.specs.AtomTokens.{atom_of_token}
 use Rattle.hist_types.specs.Bytes.{plus}
 use Rattle.hist_types.specs.Operations.{Mop, read, write, Operation}
 use Rattle.hist_types.specs.Placed.{IsTokenAlone}
+use Rattle.hist_types.specs.Texts.{operation_text}
 use Rattle.hist_types.specs.Tokens.{ItemKind, first_byte}
 use Rattle.hist_types.specs.declared.types.OpKind.{OpKind}
 use Rattle.edn_ops.specs.declared.write.MopText.{MopText}
 
 -- The text is one token, and that token is the atom.
 abbrev pub IsAtomText : List ℕ → Atom → Type 0
-IsAtomText text atom = (kind : ItemKind) × IsTokenAlone kind text × (atom_of_token kind text ≡ Some atom)
+IsAtomText text atom =
+    (kind : ItemKind) × IsTokenAlone kind text × (atom_of_token kind text ≡ Some atom)
 
 -- the same, or nil
 abbrev pub IsValueText : List ℕ → Value → Type 0
@@ -20,8 +22,10 @@ IsValueText text (Some atom) = IsAtomText text atom
 
 -- the texts of a key and of a value spell the micro-operation
 abbrev pub IsMopText : MopText → Mop → Type 0
-IsMopText t (read key value) = (t.is_write ≡ false) × IsAtomText t.key.now key × IsValueText t.value.now value
-IsMopText t (write key value) = (t.is_write ≡ true) × IsAtomText t.key.now key × IsAtomText t.value.now value
+IsMopText t (read key value) =
+    (t.is_write ≡ false) × IsAtomText t.key.now key × IsValueText t.value.now value
+IsMopText t (write key value) =
+    (t.is_write ≡ true) × IsAtomText t.key.now key × IsAtomText t.value.now value
 
 -- one for one, in order
 abbrev pub AreMopTexts : List MopText → List Mop → Type 0
@@ -33,7 +37,17 @@ AreMopTexts (text ∷ texts) (mop ∷ mops) = IsMopText text mop × AreMopTexts 
 abbrev pub operation : OpKind → ℕ → List Mop → Operation
 operation kind process mops = record { kind = kind; process = process; mops = mops }
 
+-- the canonical text of an operation, by its parts
+abbrev pub op_text : OpKind → ℕ → List Mop → List ℕ
+op_text kind process mops = operation_text (operation kind process mops)
+
 -- ---- how a source text is written
+
+-- whatever the source spells, its canonical text is appended to the Vec where the call succeeds
+abbrev pub Writes :
+    {A B G E : Type 0} → (A → Type 0) → (A → List ℕ) → Result B E → (old new : Vec ℕ G) → Type 0
+Writes {A} Spells text_of result old new =
+    (a : A) → Spells a → OnOk result (new.items ≡ old.items ++ text_of a)
 
 -- A byte of a string's source: a control byte that has an escape is written as that, every other byte as it is.
 abbrev pub source_byte_text : ℕ → List ℕ

@@ -5,7 +5,7 @@ ghost use Rattle.hist_types.specs.Entries.{the_one, transaction_of, mops_of, ent
 ghost use Rattle.hist_types.specs.Forms.{Form, place_of};
 ghost use Rattle.hist_types.specs.Tokens.{Item};
 ghost use Rattle.edn_ops.specs.Outlines.{outline, outline_of, IsOutlineIn, IsIntIn, number_of};
-ghost use Rattle.edn_ops.specs.Fields.{IsField, IsFieldIn, AddsField, IsTheOne, shapes_result, Gathers, AreFieldsIn, awaits, AddsTransaction, AddsMember, GivesEntry, GivesOperation, GivesMops};
+ghost use Rattle.edn_ops.specs.Fields.{IsField, IsFieldIn, AddsField, KeepsFieldIn, IsTheOne, shapes_result, Gathers, AreFieldsIn, awaits, AddsTransaction, KeepsFieldsIn, AddsMember, GivesEntry, GivesOperation, GivesMops};
 
 use crate::atoms;
 use crate::faults::fault_at;
@@ -40,7 +40,7 @@ impl Field {
     #[inline(always)]
     fn add(&mut self, place: usize, value: Outline)
         ensures field { AddsField self.old place value self.new }
-        ensures within { (text : List ℕ) → IsFieldIn text self.old → IsOutlineIn text value → IsFieldIn text self.new }
+        ensures within { KeepsFieldIn self.old value self.new }
     {
         if self.value.is_none() {
             self.value = Some(value);
@@ -127,8 +127,8 @@ impl Fields {
         value: Outline,
         transaction: Result<SmallVec<MopShape, 4>, Fault>,
     )
-        ensures fields { AddsTransaction self.old value (shapes_result (λ v. v.items) transaction) self.new }
-        ensures within { (text : List ℕ) → AreFieldsIn text self.old → IsOutlineIn text value → AreFieldsIn text self.new }
+        ensures fields { AddsTransaction self.old value (shapes_result transaction) self.new }
+        ensures within { KeepsFieldsIn self.old value self.new }
     {
         self.key = None;
         self.value.value = Some(value);
@@ -214,7 +214,7 @@ impl Fields {
     /// The micro-operations of an operation of this kind, whose map begins at `start`.
     #[inline(always)]
     fn mops(self, alloc: Global, kind: OpKind, start: usize) -> Result<SmallVec<MopShape, 4>, Fault>
-        ensures { GivesMops self kind start (shapes_result (λ v. v.items) result) }
+        ensures { GivesMops self kind start (shapes_result result) }
     {
         match kind {
             OpKind::Invoke | OpKind::Ok => {

@@ -1,14 +1,12 @@
 //! Maps as printers write them, read in one pass over their bytes: keys and values are runs of ASCII, but for one vector of
 //! vectors of three.
 
-ghost use Rattle.std.specs.Prelude.{◌≡◌, ◌≤◌, ℤ, List, [], length, true, false, Option, Some, IfSome, MatchOption};
-ghost use Rattle.hist_types.specs.AtomTokens.{process_of as process_of_number};
-ghost use Rattle.hist_types.specs.Entries.{int_of, kind_of as kind_of_form};
-ghost use Rattle.hist_types.specs.Forms.{Form, plain, is_map};
+ghost use Rattle.std.specs.Prelude.{◌≡◌, ◌≤◌, [], length, true, false, IfSome};
+ghost use Rattle.hist_types.specs.Forms.{plain, is_map};
 ghost use Rattle.edn_lex.specs.Ahead.{IsLoneAt, GivesLone, GivesTriple};
 ghost use Rattle.edn_lex.specs.Kinds.{item_of};
 ghost use Rattle.edn_ops.specs.Outlines.{outline_of, IsTokenIn, IsOutlineIn};
-ghost use Rattle.edn_ops.specs.Flat.{ReadsFlatMop, ReadsFlatTransaction, AreFlat, IsName, ReadsFlatValue, ReadsFlatField, GivesFlatMap, OpensOperation, GivesFlatShape, ReadsFlatOperation, HasTransaction};
+ghost use Rattle.edn_ops.specs.Flat.{NamesKind, NamesProcess, ReadsFlatMop, ReadsFlatTransaction, AreFlat, IsName, ReadsFlatValue, ReadsFlatField, GivesFlatMap, OpensOperation, GivesFlatShape, ReadsFlatOperation, HasTransaction};
 
 use crate::atoms;
 use crate::micro_ops::micro_op;
@@ -62,7 +60,7 @@ fn has_transaction(kind: OpKind) -> bool
 /// The process that a value of `:process` names.
 fn process_of(text: &[u8], value: Outline) -> Option<Process>
     requires { IsOutlineIn text.now value }
-    ensures { MatchOption result (Unit {0}) (λ process. (number : ℤ) × (int_of (outline_of text.now value) ≡ Some number) × (process_of_number number ≡ Some process)) }
+    ensures { IfSome result (NamesProcess (outline_of text.now value)) }
 {
     let number = value.integer()?;
     atoms::process_of(bytes_of(text, number))
@@ -73,7 +71,7 @@ fn process_of(text: &[u8], value: Outline) -> Option<Process>
 fn flat_kind(text: &[u8], offset: usize) -> Option<(OpKind, Token)>
     requires { offset ≤ length text.now }
     ensures gives { IfSome result (λ found. GivesLone text.now offset found.1) }
-    ensures kind { IfSome result (λ found. Some found.0 ≡ kind_of_form (plain (item_of text.now found.1))) }
+    ensures kind { IfSome result (NamesKind text.now) }
     ensures fits { IfSome result (λ found. found.1.end ≤ length text.now) }
 {
     let start = behind_blanks(text, offset);
@@ -88,7 +86,7 @@ fn flat_kind(text: &[u8], offset: usize) -> Option<(OpKind, Token)>
 #[inline(always)]
 fn other_value(text: &[u8], offset: usize) -> Option<usize>
     requires { offset ≤ length text.now }
-    ensures { (fields : FlatFields) → ReadsFlatValue text.now offset Name.Other fields result fields }
+    ensures { (old : FlatFields) → ReadsFlatValue text.now offset Name.Other old result old }
 {
     let token = lone_token(text, offset)?;
     Some(token.end)
@@ -287,7 +285,8 @@ fn flat_field(
     requires key { IsTokenIn text.now key.token }
     requires name { IsName key.name (plain (item_of text.now key.token)) }
     requires none { fields.old.has_value ≡ false → mops.old.items ≡ [] }
-    ensures { ReadsFlatField text.now key.token fields.old mops.old.items result fields.new mops.new.items }
+    ensures { ReadsFlatField text.now key.token fields.old mops.old.items
+        result fields.new mops.new.items }
 {
     let offset = key.token.end;
     match key.name {

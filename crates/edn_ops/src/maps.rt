@@ -35,7 +35,8 @@ fn add_member(
     requires fields { AreFieldsIn text.now fields.old }
     requires token { IsTokenIn text.now member.token }
     requires closer { kind_of member.token.kind ≢ Closer }
-    ensures { (s : State) → GivesMember s member lexer.old → GathersMember s fields.old result fields.new lexer.new }
+    ensures { (s : State) → GivesMember s member lexer.old
+        → GathersMember s fields.old result fields.new lexer.new }
 {
     let outline = Outline::of(member);
     if !fields.awaits_transaction(text) {

@@ -1,14 +1,13 @@
 //! Tags and `#_` that wait for a form in one level of a text.
 
 ghost use Rattle.std.specs.Prelude.{◌≡◌, ◌≢◌, ℕ, ◌+◌, ◌<◌, ◌≤◌, List, [], ◌∷◌, true, false};
-ghost use Rattle.hist_types.specs.Forms.{still_waiting};
 ghost use Rattle.hist_types.specs.Tokens.{Item, byte_fault};
 ghost use Rattle.hist_types.specs.declared.types.Refusal.TheVariants.{DanglingTag};
 ghost use Rattle.edn_lex.specs.declared.types.TokenKind.TheVariants.{Open, Close};
 ghost use Rattle.edn_lex.specs.Kinds.{kind_of, item_of};
 ghost use Rattle.edn_ops.specs.Leads.{is_mark_kind};
 ghost use Rattle.edn_ops.specs.LevelEnds.{WaitAtEnd};
-ghost use Rattle.edn_ops.specs.Marks.{Waits, any_mark, drops_among, IsLastOf};
+ghost use Rattle.edn_ops.specs.Marks.{Waits, any_mark, drops_among, IsLastOf, IsOneMore, IsSettled};
 
 use edn_lex::lexer::Lexer;
 use edn_lex::types::{Token, TokenKind};
@@ -168,7 +167,7 @@ impl LastMark {
     /// A form has settled against the marks.
     fn settled(self) -> LastMark
         ensures drops { result.drops ≡ self.drops }
-        ensures waits { (marks : List Item) → IsLastOf self marks → IsLastOf result (still_waiting marks) }
+        ensures waits { IsSettled self result }
         ensures few { result.waiting ≤ self.waiting }
     {
         LastMark {
@@ -181,10 +180,8 @@ impl LastMark {
     fn and(self, token: Token) -> LastMark
         requires { self.waiting < token.end }
         ensures drops { result.drops ≡ self.drops }
-        ensures mark { is_mark_kind (kind_of token.kind) ≡ true → (text : List ℕ) (marks : List Item)
-            → IsLastOf self marks → IsLastOf result (item_of text token ∷ marks) }
-        ensures form { is_mark_kind (kind_of token.kind) ≡ false → (marks : List Item)
-            → IsLastOf self marks → IsLastOf result (still_waiting marks) }
+        ensures mark { is_mark_kind (kind_of token.kind) ≡ true → IsOneMore self token result }
+        ensures form { is_mark_kind (kind_of token.kind) ≡ false → IsSettled self result }
         ensures few { result.waiting ≤ self.waiting + 1 }
     {
         if !is_mark(token) {

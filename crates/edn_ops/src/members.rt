@@ -19,7 +19,8 @@ use hist_types::types::{Fault, Refusal};
 /// Passes over a member, whose first token has just been given, and gives its outline.
 pub(crate) fn pass_member(lexer: &mut Lexer, member: Member) -> Result<Outline, Fault>
     requires { kind_of member.token.kind ≢ Closer }
-    ensures member { (s : State) → GivesMember s member lexer.old → PassesMember s result lexer.new }
+    ensures member { (s : State) → GivesMember s member lexer.old
+        → PassesMember s result lexer.new }
     ensures outline { IfOk result (λ o. o ≡ outline_for member) }
 {
     match member.token.kind {
@@ -31,7 +32,7 @@ pub(crate) fn pass_member(lexer: &mut Lexer, member: Member) -> Result<Outline, 
 
 /// Passes over a collection, whose opener has just been given, and gives the outlines of its first four forms.
 pub(crate) fn first_forms(lexer: &mut Lexer, opener: Token) -> Result<ArrayVec<Outline, 4>, Fault>
-    ensures { ReadsFirstForms (λ forms. forms.items) lexer.old (item_of lexer.old.text opener) result lexer.new }
+    ensures { ReadsFirstForms lexer.old (item_of lexer.old.text opener) result lexer.new }
 {
     let mut forms = ArrayVec::new();
     while let Some(member) = next_member(lexer)? {

@@ -1,15 +1,15 @@
 //! The transaction of an operation: its micro-operations, one after the other.
 
-ghost use Rattle.std.specs.Prelude.{◌≡◌, ◌≢◌, List, [], ◌∷◌, ◌++◌, Some, map, IfOk, IfErr};
+ghost use Rattle.std.specs.Prelude.{◌≡◌, ◌≢◌, List, [], ◌∷◌, ◌++◌, OnOk, IfErr};
 ghost use Rattle.std.specs.List.{AllByRecursion};
-ghost use Rattle.hist_types.specs.Entries.{is_write_of, elements_of, micro_op_of, micro_ops_of};
+ghost use Rattle.hist_types.specs.Entries.{is_write_of, elements_of, micro_ops_of};
 ghost use Rattle.hist_types.specs.Forms.{Form, place_of};
 ghost use Rattle.hist_types.specs.Refusals.{memory_fault};
 ghost use Rattle.hist_types.specs.Tokens.{Closer};
 ghost use Rattle.edn_lex.specs.Kinds.{kind_of, item_of};
 ghost use Rattle.edn_lex.specs.State.{State};
-ghost use Rattle.edn_ops.specs.Collections.{AddsMop, ReadsMop, ReadsFlat, ReadsTransaction};
-ghost use Rattle.edn_ops.specs.Fields.{mop_result, mops_result, shapes_result};
+ghost use Rattle.edn_ops.specs.Collections.{outlined_mop, AddsMop, ReadsMop, ReadsFlat, ReadsTransaction};
+ghost use Rattle.edn_ops.specs.Fields.{mops_result, shapes_result};
 ghost use Rattle.edn_ops.specs.Leads.{GivesMember};
 ghost use Rattle.edn_ops.specs.Outlines.{outline_of, IsTokenIn, IsOutlineIn};
 
@@ -54,7 +54,7 @@ pub(crate) fn micro_op(
     requires name { IsOutlineIn text.now name }
     requires key { IsOutlineIn text.now key }
     requires value { IsOutlineIn text.now value }
-    ensures { result ≡ mop_result (micro_op_of start (Some (map (outline_of text.now) (name ∷ key ∷ value ∷ [])))) }
+    ensures { result ≡ outlined_mop text.now start (name ∷ key ∷ value ∷ []) }
 {
     let Some(is_write) = is_write(text, name) else {
         return Err(fault_at(Refusal::NotTxn, start));
@@ -83,7 +83,7 @@ pub(crate) fn micro_op(
 /// The micro-operation with the forms of which these are the first four; it begins at `start`.
 fn micro_op_by(text: &[u8], start: usize, forms: &[Outline]) -> Result<MopShape, Fault>
     requires { AllByRecursion (IsOutlineIn text.now) forms.now }
-    ensures { result ≡ mop_result (micro_op_of start (Some (map (outline_of text.now) forms.now))) }
+    ensures { result ≡ outlined_mop text.now start forms.now }
 {
     match forms {
         [name, key, value] => micro_op(text, start, *name, *key, *value),
@@ -123,7 +123,8 @@ fn add_micro_op(
     start: usize,
     micro_op: Result<MopShape, Fault>,
 ) -> Result<(), Fault>
-    ensures ok { IfOk result (λ done. AddsMop (shapes_result (λ v. v.items) transaction.old) start micro_op (shapes_result (λ v. v.items) transaction.new)) }
+    ensures ok { OnOk result
+        (AddsMop (shapes_result transaction.old) start micro_op (shapes_result transaction.new)) }
     ensures err { IfErr result (λ fault. fault ≡ memory_fault) }
 {
     let mops = match transaction {
@@ -153,8 +154,8 @@ fn flat_micro_ops(
     transaction: &mut Result<SmallVec<MopShape, 4>, Fault>,
 ) -> Result<(), Fault>
     requires text { text.now ≡ lexer.old.text }
-    requires empty { shapes_result (λ v. v.items) transaction.old ≡ Ok [] }
-    ensures { ReadsFlat lexer.old result (shapes_result (λ v. v.items) transaction.new) lexer.new }
+    requires empty { shapes_result transaction.old ≡ Ok [] }
+    ensures { ReadsFlat lexer.old result (shapes_result transaction.new) lexer.new }
 {
     while let Some(triple) = lexer.next_triple() {
         let start = triple.opener.start;
@@ -179,7 +180,7 @@ pub(crate) fn transaction(
     opener: Token,
 ) -> Result<Result<SmallVec<MopShape, 4>, Fault>, Fault>
     requires { text.now ≡ lexer.old.text }
-    ensures { ReadsTransaction (λ v. v.items) lexer.old (item_of text.now opener) result lexer.new }
+    ensures { ReadsTransaction lexer.old (item_of text.now opener) result lexer.new }
 {
     let mut transaction = Ok(SmallVec::new(alloc));
     flat_micro_ops(lexer, text, &mut transaction)?;

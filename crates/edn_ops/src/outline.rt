@@ -1,12 +1,12 @@
 //! Members of an operation's map and of its transaction, as far as its checks look at them.
 
 ghost use Rattle.std.specs.Prelude.{◌≡◌, ◌≤◌, List, true, ℕ, length, slice_range, option_map, IfSome, IsNone, None};
-ghost use Rattle.hist_types.specs.Entries.{elements_of, is_named, is_nil as is_nil_form, int_of, atom_of, value_of};
-ghost use Rattle.hist_types.specs.Forms.{Form, Forms, plain, collection, place_of, is_vector_or_list};
+ghost use Rattle.hist_types.specs.Entries.{elements_of, is_named, is_nil as is_nil_form, atom_of, value_of};
+ghost use Rattle.hist_types.specs.Forms.{Form, Forms, plain, collection, place_of};
 ghost use Rattle.hist_types.specs.Tokens.{Item, Opener};
-ghost use Rattle.edn_lex.specs.Kinds.{kind_of, item_of};
+ghost use Rattle.edn_lex.specs.Kinds.{kind_of};
 ghost use Rattle.edn_ops.specs.Leads.{is_plain_kind, IsBehind};
-ghost use Rattle.edn_ops.specs.Outlines.{outline_of, outline_for, IsPlainOutline, IsCollectionOutline, IsTokenIn, IsOutlineIn, IsIntIn, number_of};
+ghost use Rattle.edn_ops.specs.Outlines.{outline_of, outline_for, IsPlainOutline, IsCollectionOutline, IsTokenIn, IsOutlineIn, IsIntIn, begins_sequence, IsItsInteger, IsAtItsPlace};
 ghost use Rattle.edn_ops.specs.Shapes.{span_of};
 
 use crate::atoms;
@@ -36,7 +36,7 @@ pub(crate) fn bytes_of(text: &[u8], token: Token) -> &[u8]
 /// Whether the token is the opener of a vector or a list.
 fn opens_sequence(text: &[u8], opener: Token) -> bool
     requires { IsTokenIn text.now opener }
-    ensures { result ≡ is_vector_or_list (item_of text.now opener) }
+    ensures { result ≡ begins_sequence text.now opener }
 {
     matches!(bytes_of(text, opener), [b'['] | [b'('])
 }
@@ -80,7 +80,7 @@ impl Outline {
     pub(crate) fn sequence(self, text: &[u8]) -> Option<Token>
         requires { IsOutlineIn text.now self }
         ensures opens { IfSome result (λ opener. self ≡ Outline.Collection opener) }
-        ensures sequence { IfSome result (λ opener. is_vector_or_list (item_of text.now opener) ≡ true) }
+        ensures sequence { IfSome result (λ opener. begins_sequence text.now opener ≡ true) }
         ensures none { IsNone result → elements_of (outline_of text.now self) ≡ None }
     {
         match self {
@@ -153,9 +153,9 @@ impl Outline {
     /// The token, if it is an integer.
     #[inline(always)]
     pub(crate) fn integer(self) -> Option<Token>
-        ensures number { (text : List ℕ) → int_of (outline_of text self) ≡ option_map (number_of text) result }
+        ensures number { IsItsInteger self result }
         ensures within { (text : List ℕ) → IsOutlineIn text self → IfSome result (IsIntIn text) }
-        ensures place { (text : List ℕ) → IfSome result (λ token. token.start ≡ place_of (outline_of text self)) }
+        ensures place { IsAtItsPlace self result }
     {
         match self {
             Outline::Plain(token) if matches!(token.kind, TokenKind::Int) => { Some(token) }

@@ -1,12 +1,12 @@
 //! The operations of a text, one after the other.
 
-ghost use Rattle.std.specs.Prelude.{◌≡◌, ◌≢◌, ◌+◌, ◌≤◌, ◌<◌, length, true, false, List, Option, IfOk, IfSome};
-ghost use Rattle.hist_types.specs.Entries.{Entry};
+ghost use Rattle.std.specs.Prelude.{◌≡◌, ◌≢◌, ◌+◌, ◌≤◌, ◌<◌, length, true, false, Option, IfOk, IfSome};
 ghost use Rattle.hist_types.specs.Reading.{Reads, ReadsFrom};
-ghost use Rattle.hist_types.specs.Forms.{is_map, is_vector_or_list};
+ghost use Rattle.hist_types.specs.Forms.{is_map};
 ghost use Rattle.edn_lex.specs.declared.types.TokenKind.TheVariants.{Open};
 ghost use Rattle.edn_lex.specs.Kinds.{item_of};
-ghost use Rattle.edn_ops.specs.Reader.{reader_at_start, reader_at, IsAtTop, Left, NextOf, FlatNext};
+ghost use Rattle.edn_ops.specs.Reader.{reader_at_start, reader_at, IsAtTop, LeavesAll, LeavesOnly, FailsAgain, NextOf, FlatNext};
+ghost use Rattle.edn_ops.specs.Outlines.{begins_sequence};
 ghost use Rattle.edn_ops.specs.Places.{NextOp, FlatOp};
 ghost use Rattle.edn_ops.specs.Shapes.{IsShapeIn};
 
@@ -48,8 +48,8 @@ fn opens_list(text: &[u8], token: Token) -> bool
     requires low { token.start < token.end }
     requires fits { token.end ≤ length text.now }
     ensures yes { result ≡ true → token.kind ≡ Open }
-    ensures list { result ≡ true → is_vector_or_list (item_of text.now token) ≡ true }
-    ensures no { result ≡ false → token.kind ≡ Open → is_vector_or_list (item_of text.now token) ≡ false }
+    ensures list { result ≡ true → begins_sequence text.now token ≡ true }
+    ensures no { result ≡ false → token.kind ≡ Open → begins_sequence text.now token ≡ false }
 {
     if !opens(token) {
         return false;
@@ -151,17 +151,23 @@ impl<'a> Model for OpReader<'a> {
 
     ghost Value = { Reader };
 
-    ghost view = { λ r. record { state = r.place.lexer; list = r.place.list; failed = r.failed; skipped = r.place.skipped } };
+    ghost view = { λ r. record {
+      state = r.place.lexer;
+      list = r.place.list;
+      failed = r.failed;
+      skipped = r.place.skipped;
+    } };
 
-    ghost invariant = { λ r. (r.place.skipped ≤ r.place.lexer.offset) × IsReadUpTo r.place r.ended };
+    ghost invariant = { λ r. (r.place.skipped ≤ r.place.lexer.offset)
+        × IsReadUpTo r.place r.ended };
 }
 
 impl<'a> OpReader<'a> {
     /// A reader at the start of the text.
     pub fn new(alloc: Global, text: &'a [u8]) -> OpReader<'a>
         ensures start { result ≡ reader_at_start text.now }
-        ensures left { (entries : List Entry) (fault : Option Fault) → Reads text.now entries fault → Left result entries fault }
-        ensures reads { (entries : List Entry) (fault : Option Fault) → Left result entries fault → Reads text.now entries fault }
+        ensures left { LeavesAll (Reads text.now) result }
+        ensures reads { LeavesOnly (Reads text.now) result }
     {
         OpReader::at(alloc, text, 0)
     }
@@ -170,8 +176,8 @@ impl<'a> OpReader<'a> {
     pub fn at(alloc: Global, text: &'a [u8], offset: usize) -> OpReader<'a>
         requires { offset ≤ length text.now }
         ensures start { result ≡ reader_at text.now offset }
-        ensures left { (entries : List Entry) (fault : Option Fault) → ReadsFrom offset text.now entries fault → Left result entries fault }
-        ensures reads { (entries : List Entry) (fault : Option Fault) → Left result entries fault → ReadsFrom offset text.now entries fault }
+        ensures left { LeavesAll (ReadsFrom offset text.now) result }
+        ensures reads { LeavesOnly (ReadsFrom offset text.now) result }
     {
         OpReader {
             alloc,
@@ -188,7 +194,7 @@ impl<'a> OpReader<'a> {
     /// The next operation, or none at the text's end. A fault ends the reading, and each later call gives it again; but
     /// out of memory (`Memory`) the reader is unchanged, and the call can be made again.
     pub fn next_op(&mut self) -> Result<Option<OpShape>, Fault>
-        ensures again { IfSome self.old.failed (λ fault. (result ≡ Err fault) × (self.new ≡ self.old)) }
+        ensures again { FailsAgain self.old result self.new }
         ensures next { self.old.failed ≡ None → NextOf self.old result self.new }
         ensures shape { IfOk result (λ found. IfSome found (IsShapeIn self.old.state.text)) }
         ensures text { self.new.state.text ≡ self.old.state.text }
@@ -213,7 +219,7 @@ impl<'a> OpReader<'a> {
     /// The same, whatever it is.
     #[inline(never)]
     fn any_op(&mut self) -> Result<Option<OpShape>, Fault>
-        ensures again { IfSome self.old.failed (λ fault. (result ≡ Err fault) × (self.new ≡ self.old)) }
+        ensures again { FailsAgain self.old result self.new }
         ensures next { self.old.failed ≡ None → NextOf self.old result self.new }
         ensures shape { IfOk result (λ found. IfSome found (IsShapeIn self.old.state.text)) }
         ensures text { self.new.state.text ≡ self.old.state.text }

@@ -6,9 +6,9 @@ ghost use Rattle.hist_types.specs.Atoms.{Atom, Value};
 ghost use Rattle.hist_types.specs.AtomTokens.{int_value, is_64_bit};
 ghost use Rattle.hist_types.specs.Bytes.{quote};
 ghost use Rattle.hist_types.specs.Operations.{Mop};
-ghost use Rattle.hist_types.specs.Texts.{atom_text, value_text, mop_text, mops_text, kind_text as text_of_kind, value_field_text, operation_text};
+ghost use Rattle.hist_types.specs.Texts.{atom_text, value_text, mop_text, mops_text, kind_text as text_of_kind, value_field_text};
 ghost use Rattle.hist_types.specs.Tokens.{is_int, first_byte, begins_with_number, without_n as before_n};
-ghost use Rattle.edn_ops.specs.SourceTexts.{IsAtomText, IsValueText, IsMopText, AreMopTexts, operation, front_of_mop, source_byte_text, decimal_spelling, IsLonger};
+ghost use Rattle.edn_ops.specs.SourceTexts.{IsAtomText, IsValueText, IsMopText, AreMopTexts, op_text, Writes, front_of_mop, source_byte_text, decimal_spelling, IsLonger};
 
 use hist_types::types::{OpKind, Process};
 use itoa::Buffer;
@@ -24,7 +24,8 @@ pub struct MopText<'a> {
 
 /// The escape of a control byte, which a source may have in a string as it is.
 fn escape_of(byte: u8) -> Option<&'static [u8]>
-    ensures { MatchOption result (source_byte_text byte ≡ byte ∷ []) (λ escape. escape.now ≡ source_byte_text byte) }
+    ensures { MatchOption result (source_byte_text byte ≡ byte ∷ [])
+        (λ escape. escape.now ≡ source_byte_text byte) }
 {
     match byte {
         8 => Some(b"\\b"),
@@ -98,7 +99,7 @@ fn begins_as_int(text: &[u8]) -> bool
 /// Appends the canonical text of an atom or of nil.
 fn append_value(out: &mut Vec<u8>, text: &[u8]) -> Result<(), AllocError>
     requires { (value : Value) × IsValueText text.now value }
-    ensures ok { (value : Value) → IsValueText text.now value → OnOk result (out.new.items ≡ out.old.items ++ value_text value) }
+    ensures ok { Writes (IsValueText text.now) value_text result out.old out.new }
     ensures err { OnErr result (IsLonger out.new.items out.old.items) }
 {
     if begins_as_string(text) {
@@ -119,7 +120,7 @@ fn mop_front(is_write: bool) -> &'static [u8]
 
 fn append_mop(out: &mut Vec<u8>, mop: MopText) -> Result<(), AllocError>
     requires { (m : Mop) × IsMopText mop m }
-    ensures ok { (m : Mop) → IsMopText mop.entry m → OnOk result (out.new.items ≡ out.old.items ++ mop_text m) }
+    ensures ok { Writes (IsMopText mop.entry) mop_text result out.old out.new }
     ensures err { OnErr result (IsLonger out.new.items out.old.items) }
 {
     out.extend_from_slice(mop_front(mop.is_write))?;
@@ -131,7 +132,7 @@ fn append_mop(out: &mut Vec<u8>, mop: MopText) -> Result<(), AllocError>
 
 fn append_mops(out: &mut Vec<u8>, mops: &[MopText]) -> Result<(), AllocError>
     requires { (ms : List Mop) × AreMopTexts mops.now ms }
-    ensures ok { (ms : List Mop) → AreMopTexts mops.now ms → OnOk result (out.new.items ≡ out.old.items ++ mops_text ms) }
+    ensures ok { Writes (AreMopTexts mops.now) mops_text result out.old out.new }
     ensures err { OnErr result (IsLonger out.new.items out.old.items) }
 {
     out.extend_from_slice(b"[")?;
@@ -158,7 +159,7 @@ fn kind_text(kind: OpKind) -> &'static [u8]
 /// Appends what an invoke and an ok have more than a fail and an info.
 fn append_value_field(out: &mut Vec<u8>, kind: OpKind, mops: &[MopText]) -> Result<(), AllocError>
     requires { (ms : List Mop) × AreMopTexts mops.now ms }
-    ensures ok { (ms : List Mop) → AreMopTexts mops.now ms → OnOk result (out.new.items ≡ out.old.items ++ value_field_text kind ms) }
+    ensures ok { Writes (AreMopTexts mops.now) (value_field_text kind) result out.old out.new }
     ensures err { OnErr result (IsLonger out.new.items out.old.items) }
 {
     match kind {
@@ -177,7 +178,7 @@ fn append_op(
     mops: &[MopText],
 ) -> Result<(), AllocError>
     requires { (ms : List Mop) × AreMopTexts mops.now ms }
-    ensures ok { (ms : List Mop) → AreMopTexts mops.now ms → OnOk result (out.new.items ≡ out.old.items ++ operation_text (operation kind process ms)) }
+    ensures ok { Writes (AreMopTexts mops.now) (op_text kind process) result out.old out.new }
     ensures err { OnErr result (IsLonger out.new.items out.old.items) }
 {
     out.extend_from_slice(b"{:type ")?;
@@ -193,7 +194,7 @@ fn append_op(
 /// An integer loses its `+` and its `N`, and a string has the control bytes that have an escape escaped.
 pub fn write_atom(out: &mut Vec<u8>, text: &[u8]) -> Result<(), AllocError>
     requires { (atom : Atom) × IsAtomText text.now atom }
-    ensures ok { (atom : Atom) → IsAtomText text.now atom → OnOk result (out.new.items ≡ out.old.items ++ atom_text atom) }
+    ensures ok { Writes (IsAtomText text.now) atom_text result out.old out.new }
     ensures err { OnErr result (out.new.items ≡ out.old.items) }
 {
     let len = out.len();
@@ -214,7 +215,7 @@ pub fn write_op(
     mops: &[MopText],
 ) -> Result<(), AllocError>
     requires { (ms : List Mop) × AreMopTexts mops.now ms }
-    ensures ok { (ms : List Mop) → AreMopTexts mops.now ms → OnOk result (out.new.items ≡ out.old.items ++ operation_text (operation kind process ms)) }
+    ensures ok { Writes (AreMopTexts mops.now) (op_text kind process) result out.old out.new }
     ensures err { OnErr result (out.new.items ≡ out.old.items) }
 {
     let len = out.len();

@@ -6,16 +6,15 @@ use Rattle.std.proofs.lemmas.Bool.{cases_Bool}
 use Rattle.std.proofs.lemmas.List.Elements.{All-nil, All-cons}
 use Rattle.hist_types.specs.Atoms.{Atom, Value}
 use Rattle.hist_types.specs.Entries.{PlacedMop, PlacedOperation, Entry, operation, skipped, operation_of, operations_of}
-use Rattle.hist_types.specs.Operations.{Mop, read, write, Operation}
+use Rattle.hist_types.specs.Operations.{Mop, read, write}
 use Rattle.hist_types.specs.Placed.{SpellsValue, SpellsParts, FitsKind, from_its_start, mop_from}
 use Rattle.hist_types.specs.Reading.{Reads}
-use Rattle.hist_types.specs.Texts.{operation_text}
 use Rattle.hist_types.specs.Tokens.{Item, IsCut, HasTokens, open_after, is_token}
-use Rattle.hist_types.specs.declared.limits.TheConstants.{MAX_MICRO_OPS, MAX_OPERATION_BYTES}
+use Rattle.hist_types.specs.declared.limits.TheConstants.{MAX_MICRO_OPS}
 use Rattle.hist_types.specs.declared.types.Fault.{Fault}
 use Rattle.hist_types.specs.declared.types.OpKind.{OpKind}
 use Rattle.hist_types.specs.declared.types.OpKind.TheVariants as kinds
-use Rattle.edn_ops.specs.Canonical.{CanBeRead, ValueCanBeRead, MopCanBeRead, MopsCanBeRead, OperationCanBeRead}
+use Rattle.edn_ops.specs.Canonical.{CanBeRead, ValueCanBeRead, MopCanBeRead, MopsCanBeRead, CanBeReadIfShort}
 use Rattle.edn_ops.specs.SourceTexts.{IsAtomText, IsValueText, IsMopText, AreMopTexts}
 use Rattle.edn_ops.specs.declared.write.MopText.{MopText}
 use Rattle.hist_types.proofs.MapAlone.{read_alone}
@@ -106,10 +105,6 @@ kind_can kinds.Invoke mops from few fits all = (omega (arith, few, as_many from 
 kind_can kinds.Ok mops from few fits all = (omega (arith, few, as_many from (λ (m : PlacedMop). m.mop) mops), all)
 kind_can kinds.Fail mops from few fits all = none_too from (λ (m : PlacedMop). m.mop) mops fits
 kind_can kinds.Info mops from few fits all = none_too from (λ (m : PlacedMop). m.mop) mops fits
-
--- what an operation lacks until its text is short enough
-abbrev CanBeReadIfShort : Operation → Type 0
-CanBeReadIfShort o = length (operation_text o) ≤ MAX_OPERATION_BYTES → OperationCanBeRead o
 
 one_back :
     (text : List ℕ) (entries : List Entry) (fault : Option Fault) (o : PlacedOperation)

@@ -1,5 +1,5 @@
 -- Lines of operations are read as these operations and as nothing else.
-use Rattle.std.proofs.Common.{◌≡◌, inl, inr, ℕ, ◌+◌, List, [], ◌∷◌, ◌++◌, length, Option, None, refl, sym, ◌∙◌, ap, subst, arith}
+use Rattle.std.proofs.Common.{◌≡◌, inl, inr, ℕ, ◌+◌, List, [], ◌∷◌, ◌++◌, length, None, refl, sym, ◌∙◌, ap, subst, arith}
 use Rattle.std.specs.Prelude.{map}
 use Rattle.std.specs.List.{All}
 use Rattle.std.proofs.lemmas.List.{append_assoc, append-nil, append_cancel_right, length-append}
@@ -7,12 +7,10 @@ use Rattle.std.proofs.lemmas.List.Elements.{All-head, All-tail}
 use Rattle.hist_types.specs.Atoms.{Atom}
 use Rattle.hist_types.specs.Entries.{Entry, operation, PlacedOperation, operation_of}
 use Rattle.hist_types.specs.Operations.{Operation}
-use Rattle.hist_types.specs.Placed.{IsTextOf}
-use Rattle.hist_types.specs.Reading.{reading_from, nothing_open, in_front_of, Reads}
+use Rattle.hist_types.specs.Reading.{reading_from, nothing_open, in_front_of}
 use Rattle.hist_types.specs.Texts.{atom_text, operation_text}
 use Rattle.hist_types.specs.Tokens.{HasTokens}
-use Rattle.hist_types.specs.declared.types.Fault.{Fault}
-use Rattle.edn_ops.specs.Canonical.{CanBeRead, OperationCanBeRead, AreOperations, operation_lines, AreLines}
+use Rattle.edn_ops.specs.Canonical.{CanBeRead, OperationCanBeRead, AreOperations, IsMapOf, ReadsAsOperations, ReadsOnlyAs, operation_lines, AreLines}
 use Rattle.edn_ops.specs.SourceTexts.{IsAtomText}
 use Rattle.hist_types.proofs.OneReading.{same_reading}
 use Rattle.edn_ops.proofs.ReadsBack.Atoms.{token_kind, atom_cut, atom_back}
@@ -108,10 +106,7 @@ lines_made text (o ∷ os) h lines = elim lines [
 ]
 
 -- what is made of chunks is read back
-abbrev ReadsAs : List ℕ → List Operation → Type 0
-ReadsAs text os = (entries : List Entry) × Reads text entries None × AreOperations entries os
-
-made_reads : (text : List ℕ) (os : List Operation) → IsMade text os → ReadsAs text os
+made_reads : (text : List ℕ) (os : List Operation) → IsMade text os → ReadsAsOperations text os
 made_reads text os m =
     let chunks = m.0 in
     let made = m.2 in (
@@ -126,23 +121,21 @@ made_reads text os m =
     )
 
 -- what reads as operations reads as nothing else
-only : (text : List ℕ) (os : List Operation) (entries : List Entry) (fault : Option Fault) → ReadsAs text os → Reads text entries fault → AreOperations entries os × (fault ≡ None)
-only text os entries fault r other =
+only : (text : List ℕ) (os : List Operation) → ReadsAsOperations text os → ReadsOnlyAs text os
+only text os r entries fault other =
     let same = same_reading text entries r.0 fault None other r.1 in
     (subst (λ (es : List Entry). AreOperations es os) (sym same.0) r.2, same.1)
 
 -- lines are read as their operations
-pub lines_read : (text : List ℕ) (os : List Operation) → All OperationCanBeRead os → AreLines text os → ReadsAs text os
+pub lines_read : (text : List ℕ) (os : List Operation) → All OperationCanBeRead os → AreLines text os → ReadsAsOperations text os
 lines_read text os h lines = made_reads text os (lines_made text os h lines)
 
 -- and as nothing else
-pub lines_only :
-    (text : List ℕ) (os : List Operation) (entries : List Entry) (fault : Option Fault)
-    → All OperationCanBeRead os → AreLines text os → Reads text entries fault → AreOperations entries os × (fault ≡ None)
-lines_only text os entries fault h lines r = only text os entries fault (lines_read text os h lines) r
+pub lines_only : (text : List ℕ) (os : List Operation) → All OperationCanBeRead os → AreLines text os → ReadsOnlyAs text os
+lines_only text os h lines = only text os (lines_read text os h lines)
 
 -- an operation's text is the operation's map
-pub operation_reads : (o : Operation) → OperationCanBeRead o → (placed : PlacedOperation) × IsTextOf (operation_text o) placed × (operation_of placed ≡ o)
+pub operation_reads : (o : Operation) → OperationCanBeRead o → IsMapOf (operation_text o) o
 operation_reads o h =
     let tokens = tokens_at 0 (operation_chunks o []) in
     let written : operation_text o ≡ text_of (operation_chunks o []) = sym (operation_written o [] ∙ append-nil (operation_text o)) in
@@ -150,10 +143,8 @@ operation_reads o h =
     (placed_at 0 o, (refl, operation_length 0 o ∙ omega arith, (tokens, None, row, operation_read 0 o [] None h)), placed_back 0 o h)
 
 -- and is read as nothing else
-pub operation_only :
-    (o : Operation) (entries : List Entry) (fault : Option Fault)
-    → OperationCanBeRead o → Reads (operation_text o) entries fault → AreOperations entries (o ∷ []) × (fault ≡ None)
-operation_only o entries fault h r =
+pub operation_only : (o : Operation) → OperationCanBeRead o → ReadsOnlyAs (operation_text o) (o ∷ [])
+operation_only o h =
     let found = operation_reads o h in
-    only (operation_text o) (o ∷ []) entries fault
-    (operation found.0 ∷ [], found.1.2, (found.0 ∷ [], refl, ap (λ (p : Operation). p ∷ []) found.2)) r
+    only (operation_text o) (o ∷ [])
+    (operation found.0 ∷ [], found.1.2, (found.0 ∷ [], refl, ap (λ (p : Operation). p ∷ []) found.2))

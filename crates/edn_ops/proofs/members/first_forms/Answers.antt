@@ -14,7 +14,7 @@ loop-member-init c =
 pub returns-in_err-member : goal.returns-in_err-member
 returns-in_err-member c =
     let s = c.args.lexer.now in
-    first_fails _ s c.next_member.new.lexer (item_of s.text c.args.opener) _ _ c.from_residual.ensures.1
+    first_fails s c.next_member.new.lexer (item_of s.text c.args.opener) _ _ c.from_residual.ensures.1
     (next_stops s c.loop-member.lexer (item_of s.text c.args.opener) c.loop-member.invariant.0 _ c.loop-member.invariant.1 (λ o no_place. c.in_err-member.ensures (inside (item_of s.text c.args.opener) c.loop-member.invariant.0 [] o)))
 
 pub returns-in-Close : goal.returns-in-Close

@@ -10,21 +10,21 @@ use Rattle.edn_ops.proofs.micro_ops.add_micro_op.Goals as goal
 
 pub returns-in-Err-clause-ok : goal.returns-in-Err-clause-ok
 returns-in-Err-clause-ok c members form e place mop =
-    ap (shapes_result (λ v. v.items)) c.in-Err.is ∙ still_fails c.in-Err.field-0 members form (sym (ap (shapes_result (λ v. v.items)) c.in-Err.is) ∙ e)
+    ap shapes_result c.in-Err.is ∙ still_fails c.in-Err.field-0 members form (sym (ap shapes_result c.in-Err.is) ∙ e)
 
 pub returns-then-len-ge-MAX_MICRO_OPS-clause-ok : goal.returns-then-len-ge-MAX_MICRO_OPS-clause-ok
 returns-then-len-ge-MAX_MICRO_OPS-clause-ok c members form e place mop =
     let full : MAX_MICRO_OPS ≤ length c.in-Ok.mops.items = subst (λ n. MAX_MICRO_OPS ≤ n) c.len.ensures.value c.if-len-ge-MAX_MICRO_OPS.true in
     ap (λ (fault : Fault). Err fault) (c.fault_at.ensures ∙ ap (byte_fault TooManyMicroOps) place)
-    ∙ too_many c.in-Ok.mops.items members form (sym (ap (shapes_result (λ v. v.items)) c.in-Ok.is) ∙ e) full
+    ∙ too_many c.in-Ok.mops.items members form (sym (ap shapes_result c.in-Ok.is) ∙ e) full
 
 pub returns-in_ok-push-in-Ok-micro_op-clause-ok : goal.returns-in_ok-push-in-Ok-micro_op-clause-ok
 returns-in_ok-push-in-Ok-micro_op-clause-ok c members form e place mop =
     let some : length c.in-Ok.mops.items < MAX_MICRO_OPS = subst (λ n. n < MAX_MICRO_OPS) c.len.ensures.value c.if-len-ge-MAX_MICRO_OPS.false in
     ap (λ (shapes : List MopShape). Ok shapes) c.in_ok-push-in-Ok-micro_op.ensures.ok
-    ∙ one_micro_op c.in-Ok.mops.items members form c.in-Ok-micro_op.shape (sym (ap (shapes_result (λ v. v.items)) c.in-Ok.is) ∙ e) some (sym c.in-Ok-micro_op.is ∙ mop)
+    ∙ one_micro_op c.in-Ok.mops.items members form c.in-Ok-micro_op.shape (sym (ap shapes_result c.in-Ok.is) ∙ e) some (sym c.in-Ok-micro_op.is ∙ mop)
 
 pub returns-in-Err-micro_op-clause-ok : goal.returns-in-Err-micro_op-clause-ok
 returns-in-Err-micro_op-clause-ok c members form e place mop =
     let some : length c.in-Ok.mops.items < MAX_MICRO_OPS = subst (λ n. n < MAX_MICRO_OPS) c.len.ensures.value c.if-len-ge-MAX_MICRO_OPS.false in
-    no_micro_op c.in-Ok.mops.items members form c.in-Err-micro_op.fault (sym (ap (shapes_result (λ v. v.items)) c.in-Ok.is) ∙ e) some (sym c.in-Err-micro_op.is ∙ mop)
+    no_micro_op c.in-Ok.mops.items members form c.in-Err-micro_op.fault (sym (ap shapes_result c.in-Ok.is) ∙ e) some (sym c.in-Err-micro_op.is ∙ mop)

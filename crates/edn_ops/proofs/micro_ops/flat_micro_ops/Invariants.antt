@@ -8,7 +8,7 @@ use Rattle.edn_ops.proofs.micro_ops.flat_micro_ops.Given as goal
 
 abbrev pub invariant-loop-triple : goal.invariant-loop-triple
 invariant-loop-triple l =
-    (members : List Form) × ((opener : Item) → ReadsMembers l.fn.lexer opener members l.lexer) × (shapes_result (λ v. v.items) l.transaction ≡ mops_result (micro_ops_of 0 members))
+    (members : List Form) × ((opener : Item) → ReadsMembers l.fn.lexer opener members l.lexer) × (shapes_result l.transaction ≡ mops_result (micro_ops_of 0 members))
     × (l.lexer.text ≡ l.fn.lexer.text)
 
 abbrev pub decreases-loop-triple : goal.decreases-loop-triple

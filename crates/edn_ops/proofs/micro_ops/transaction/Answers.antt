@@ -17,7 +17,7 @@ pub returns-in_err-member : goal.returns-in_err-member
 returns-in_err-member c =
     let i = item_of c.args.text.now c.args.opener in
     let front = c.loop-transaction.invariant in
-    transaction_fails _ c.args.lexer.now c.next_member.new.lexer i _ _ c.from_residual-in_err-member.ensures.1
+    transaction_fails c.args.lexer.now c.next_member.new.lexer i _ _ c.from_residual-in_err-member.ensures.1
     (next_stops c.args.lexer.now c.loop-transaction.lexer i front.0 _ front.1 (λ o no_place. c.in_err-member.ensures (inside i front.0 [] o)))
 
 pub returns-in-Close : goal.returns-in-Close

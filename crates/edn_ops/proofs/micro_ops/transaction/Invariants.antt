@@ -8,7 +8,7 @@ use Rattle.edn_ops.proofs.micro_ops.transaction.Given as goal
 
 abbrev pub invariant-loop-transaction : goal.invariant-loop-transaction
 invariant-loop-transaction l =
-    (members : List Form) × ReadsMembers l.fn.lexer (item_of l.text l.opener) members l.lexer × (shapes_result (λ v. v.items) l.transaction ≡ mops_result (micro_ops_of 0 members))
+    (members : List Form) × ReadsMembers l.fn.lexer (item_of l.text l.opener) members l.lexer × (shapes_result l.transaction ≡ mops_result (micro_ops_of 0 members))
 
 abbrev pub decreases-loop-transaction : goal.decreases-loop-transaction
 decreases-loop-transaction l = length l.lexer.text - l.lexer.offset
