@@ -9,7 +9,8 @@ use Rattle.hist_types.proofs.Equality.{atom_eq-same, atom_eq-itself}
 use Rattle.op_view.specs.Hashing.{atom_writes}
 
 atom_eq-back : (a b : Atom) → atom_eq a b ≡ true → atom_eq b a ≡ true
-atom_eq-back a b e = subst (λ (x : Atom). atom_eq x a ≡ true) (atom_eq-same a b e) (atom_eq-itself a)
+atom_eq-back a b e =
+    subst (λ (x : Atom). atom_eq x a ≡ true) (atom_eq-same a b e) (atom_eq-itself a)
 
 pub atom_eq_equiv : IsEquivalence atom_eq
 atom_eq_equiv = record {

@@ -6,6 +6,7 @@ use Rattle.hist_types.specs.Atoms.{Atom, integer}
 use Rattle.hist_types.specs.AtomTokens.{atom_of_token, int_value, is_64_bit}
 use Rattle.hist_types.specs.Tokens.{Item, ItemKind}
 use Rattle.hist_types.specs.Placed.{IsTokenAlone}
+use Rattle.edn_ops.specs.SourceTexts.{IsAtomText}
 use Rattle.edn_lex.specs.Kinds.{kind_of}
 use Rattle.edn_lex.specs.declared.types.TokenKind.{TokenKind}
 
@@ -24,6 +25,10 @@ HasNoTokenAlone text = (kind : ItemKind) → ¬ (IsTokenAlone kind text)
 -- The text is one token of this kind, and that token is the atom.
 abbrev pub IsTokenOf : ItemKind → List ℕ → Atom → Type 0
 IsTokenOf kind text atom = IsTokenAlone kind text × (atom_of_token kind text ≡ Some atom)
+
+-- The text is no atom.
+abbrev pub IsNoAtomText : List ℕ → Type 0
+IsNoAtomText text = (atom : Atom) → ¬ (IsAtomText text atom)
 
 -- the number of an atom that is an integer
 abbrev pub number_of : Atom → Option ℤ

@@ -23,6 +23,10 @@ atom_spelled spellings.PlainString text = string (between_quotes text)
 atom_spelled spellings.EscapedString text = string (content_of (between_quotes text))
 atom_spelled spellings.Symbol text = symbol text
 
+-- The text is one token, and that token is the atom that it spells.
+abbrev pub IsTokenSpelled : Spelling → List ℕ → Type 0
+IsTokenSpelled spelling text = IsTokenOf (kind_spelled spelling) text (atom_spelled spelling text)
+
 -- A token of this kind with these bytes is the atom that is spelled so.
 pub record IsSpelled (kind : ItemKind) (text : List ℕ) (spelling : Spelling) : Type 0 where
   pub of_kind : kind_spelled spelling ≡ kind
@@ -34,7 +38,8 @@ HasNoContent text = has_content (between_quotes text) ≡ false
 
 -- how a token of this kind with these bytes is spelled, if it is an atom
 abbrev pub IsSpellingOf : ItemKind → List ℕ → Option Spelling → Type 0
-IsSpellingOf kind text found = MatchOption found (atom_of_token kind text ≡ None) (IsSpelled kind text)
+IsSpellingOf kind text found =
+    MatchOption found (atom_of_token kind text ≡ None) (IsSpelled kind text)
 
 -- Whichever kind of token and whichever atom the text is, it is spelled so.
 abbrev pub IsKnownSpelling : List ℕ → Spelling → Type 0

@@ -3,7 +3,7 @@
 ghost use Rattle.std.specs.Prelude.{◌≡◌, MatchOption, Some, refl};
 ghost use Rattle.hist_types.specs.Atoms.{Atom as AnAtom, atom_eq, atom_cmp};
 ghost use Rattle.edn_ops.specs.SourceTexts.{IsAtomText};
-ghost use Rattle.op_view.specs.AtomTexts.{number_of, HasTokenAlone, HasNoTokenAlone};
+ghost use Rattle.op_view.specs.AtomTexts.{number_of, HasTokenAlone, HasNoTokenAlone, IsNoAtomText};
 ghost use Rattle.std.specs.Cmp.{partial_equiv_from_equiv, po};
 ghost use Rattle.hist_types.proofs.EdgeOrder.{atom_cmp_total};
 ghost use Rattle.op_view.specs.Hashing.{atom_writes};
@@ -35,12 +35,11 @@ impl<'a> Model for Atom<'a> {
 
     ghost coded = { coded_atom };
 
-    ghost use Rattle.op_view.specs.AtomTexts.{IsTokenOf};
-    ghost use Rattle.op_view.specs.Spellings.{atom_spelled, kind_spelled};
+    ghost use Rattle.op_view.specs.Spellings.{atom_spelled, IsTokenSpelled};
 
     ghost view = { λ a. atom_spelled a.spelling a.text.now };
 
-    ghost invariant = { λ a. IsTokenOf (kind_spelled a.spelling) a.text.now (atom_spelled a.spelling a.text.now) };
+    ghost invariant = { λ a. IsTokenSpelled a.spelling a.text.now };
 }
 
 /// The kind of the token that takes up the whole text, if one does.
@@ -59,7 +58,7 @@ fn only_token(text: &[u8]) -> Option<TokenKind>
 impl<'a> Atom<'a> {
     /// The atom that the text is; none where the text is anything but one token that is an atom.
     pub fn read(text: &'a [u8]) -> Option<Atom<'a>>
-        ensures { MatchOption result ((atom : AnAtom) → ¬ (IsAtomText text.now atom)) (IsAtomText text.now) }
+        ensures { MatchOption result (IsNoAtomText text.now) (IsAtomText text.now) }
     {
         let kind = only_token(text)?;
         let spelling = spelling_of(kind, text)?;

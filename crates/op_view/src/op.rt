@@ -35,7 +35,8 @@ impl<'a> OpView<'a> {
     /// The block's operation at an index.
     pub fn of(block: &'a Block, index: usize) -> Self
         requires { index < length block.now.operations }
-        ensures { IfSome (slice_get block.now.operations index) (λ o. result ≡ operation_of o.placed) }
+        ensures { IfSome (slice_get block.now.operations index)
+            (λ o. result ≡ operation_of o.placed) }
     {
         OpView {
             text: block.text(index),
