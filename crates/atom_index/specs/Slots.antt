@@ -9,8 +9,10 @@ abbrev pub number_of_entry : ℕ → Option ℕ
 number_of_entry entry = if nat_lt 0 entry then Some (entry - 1) else None
 
 -- Each slot of the table has the number of its item among the items, if it is among them.
-abbrev pub HoldsNumbersOf : {A : Type 0} → (A → A → Bool) → (item_at : ℕ → A) → List (Option ℕ) → List A → Type 0
-HoldsNumbersOf eq item_at table items = (n : ℕ) → n < length table → get_or table n None ≡ number_in eq (item_at n) items
+abbrev pub HoldsNumbersOf : {A : Type 0} → (A → A → Bool) → (item_at : ℕ → A)
+    → List (Option ℕ) → List A → Type 0
+HoldsNumbersOf eq item_at table items =
+    (n : ℕ) → n < length table → get_or table n None ≡ number_in eq (item_at n) items
 
 -- ---- small integers
 
@@ -30,7 +32,8 @@ HoldsNumbers = HoldsNumbersOf atom_eq integer_at
 -- the place of a pair: the values of a key are side by side
 abbrev pub slot_of_pair : ℕ × Option ℕ → ℕ → Option ℕ
 slot_of_pair (key, Some value) slots =
-    if nat_lt value VALUES_OF_KEY && nat_lt (key * VALUES_OF_KEY + value) slots then Some (key * VALUES_OF_KEY + value) else None
+    let slot = key * VALUES_OF_KEY + value in
+    if nat_lt value VALUES_OF_KEY && nat_lt slot slots then Some slot else None
 slot_of_pair (key, None) slots = None
 
 abbrev pub pair_at : ℕ → ℕ × Option ℕ

@@ -137,7 +137,8 @@ impl<'a, S: BuildHasher> AtomIndex<'a, S> {
 
     /// The number of an atom, which is its first one where it has none yet. Out of memory leaves the atoms as they are.
     pub fn insert(&mut self, atom: Atom<'a>) -> Result<usize, AllocError>
-        ensures number { IfOk result (λ number. number_in atom_eq atom.entry self.new.items ≡ Some number) }
+        ensures number { IfOk result
+            (λ number. number_in atom_eq atom.entry self.new.items ≡ Some number) }
         ensures items { OnOk result (self.new.items ≡ with_item atom_eq self.old.items atom.entry) }
         ensures err { OnErr result (self.new.items ≡ self.old.items) }
     {
