@@ -1,7 +1,7 @@
 //! A map from the numbers of processes to values.
 
-ghost use Rattle.std.specs.Prelude.{◌≡◌, ◌==◌, ℕ, Some, None, OnOk, OnErr, if◌then◌else◌};
-ghost use Rattle.process_map.specs.Values.{value_of};
+ghost use Rattle.std.specs.Prelude.{◌≡◌, ℕ, Some, None, OnOk, OnErr};
+ghost use Rattle.process_map.specs.Values.{value_of, ChangesOnly};
 
 use std::alloc::{AllocError, Global};
 use std::collections::HashMap;
@@ -61,7 +61,7 @@ impl<V: Copy> ProcessMap<V> {
 
     /// Gives a process a value, in place of the one that it had. Out of memory leaves the values as they are.
     pub fn insert(&mut self, process: u64, value: V) -> Result<(), AllocError>
-        ensures ok { OnOk result ((p : ℕ) → value_of self.new p ≡ (if process == p then Some value else value_of self.old p)) }
+        ensures ok { OnOk result (ChangesOnly self.old self.new process (Some value)) }
         ensures err { OnErr result ((p : ℕ) → value_of self.new p ≡ value_of self.old p) }
     {
         if process < SMALL {
@@ -79,7 +79,7 @@ impl<V: Copy> ProcessMap<V> {
     /// Takes the value of a process, if it has one.
     pub fn remove(&mut self, process: u64) -> Option<V>
         ensures value { result ≡ value_of self.old process }
-        ensures others { (p : ℕ) → value_of self.new p ≡ (if process == p then None else value_of self.old p) }
+        ensures others { ChangesOnly self.old self.new process None }
     {
         let value = self.get(process)?;
         if process < SMALL {
