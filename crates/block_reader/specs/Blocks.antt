@@ -14,5 +14,7 @@ abbrev pub operations_in : List Contents → List Operation
 operations_in blocks = flat_map operations_of blocks
 
 -- beside the operations that the blocks had, they have those that were pushed, behind them
-abbrev pub HaveAlso : (blocks : List Contents) → List BlockOperation → (blocks' : List Contents) → Type 0
-HaveAlso blocks pushed blocks' = operations_in blocks' ≡ operations_in blocks ++ operations_pushed pushed
+abbrev pub HaveAlso : (blocks : List Contents) → List BlockOperation → (blocks' : List Contents)
+    → Type 0
+HaveAlso blocks pushed blocks' =
+    operations_in blocks' ≡ operations_in blocks ++ operations_pushed pushed

@@ -11,8 +11,13 @@ use Rattle.block_reader.specs.Blocks.{operations_in}
 use Rattle.block_reader.specs.Texts.{GivesOperations, GivesFault}
 use Rattle.block_reader.specs.declared.parts.Part.{Part}
 
+-- the offset is in the text, or at its end
+abbrev pub IsIn : List ℕ → ℕ → Type 0
+IsIn text offset = offset ≤ length text
+
 -- These operations were read from the offset on, up to where the reader is.
-pub record HasReadFrom (text : List ℕ) (offset : ℕ) (r : Reader) (operations : List Operation) : Type 0 where
+pub record HasReadFrom (text : List ℕ) (offset : ℕ) (r : Reader)
+    (operations : List Operation) : Type 0 where
   pub going : r.failed ≡ None
   pub same : r.state.text ≡ text
   pub before : List Entry
@@ -38,7 +43,15 @@ pub record FailsFrom (text : List ℕ) (offset : ℕ) (fault : Fault) : Type 0 w
 abbrev pub HasReadOn : List ℕ → ℕ → Result Bool Fault → Reader → List Operation → Type 0
 HasReadOn text offset (Ok true) r operations = HasReadFrom text offset r operations
 HasReadOn text offset (Ok false) r operations = GivesFrom text offset operations
-HasReadOn text offset (Err fault) r operations = (fault ≡ memory_fault) ⊎ FailsFrom text offset fault
+HasReadOn text offset (Err fault) r operations =
+    (fault ≡ memory_fault) ⊎ FailsFrom text offset fault
+
+-- From wherever in the text the operations before the call were read, it reads on.
+abbrev pub ReadsOn : List ℕ → Result Bool Fault → (r r' : Reader)
+    → (operations operations' : List Operation) → Type 0
+ReadsOn text answer r r' operations operations' =
+    (offset : ℕ) → IsIn text offset → HasReadFrom text offset r operations
+    → HasReadOn text offset answer r' operations'
 
 -- What reading up to a place, or to the text's end, does.
 abbrev pub IsUpTo : List ℕ → Result Bool Fault → Reader → List Operation → Type 0
@@ -56,7 +69,3 @@ pub record HasBetween (text : List ℕ) (start end : ℕ) (operations : List Ope
 -- the part has the text's operations from its start to its end, if nothing is open at its start
 abbrev pub IsPartOf : List ℕ → Part → Type 0
 IsPartOf text part = HasBetween text part.start part.end (operations_in part.blocks.items)
-
--- each start is in the text
-abbrev pub IsIn : List ℕ → ℕ → Type 0
-IsIn text start = start ≤ length text

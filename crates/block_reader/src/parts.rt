@@ -1,7 +1,7 @@
 //! Parts of a text, read by threads of their own.
 
-ghost use Rattle.std.specs.Prelude.{◌≡◌, ◌<◌, ℕ, length, false, All, IfOk, IfSome, OnErr};
-ghost use Rattle.block_reader.specs.Parts.{IsIn, IsPartOf, HasReadFrom, HasReadOn};
+ghost use Rattle.std.specs.Prelude.{◌≡◌, ◌<◌, length, false, All, IfOk, IfSome, OnErr};
+ghost use Rattle.block_reader.specs.Parts.{IsIn, IsPartOf, ReadsOn};
 
 use crate::blocks::Blocks;
 use edn_ops::reader::OpReader;
@@ -22,8 +22,7 @@ pub struct Part {
 /// Reads the next operation into the blocks: false at the text's end.
 pub fn read_op(text: &[u8], reader: &mut OpReader<'_>, blocks: &mut Blocks) -> Result<bool, Fault>
     requires { reader.old.state.text ≡ text.now }
-    ensures on { (offset : ℕ) → IsIn text.now offset → HasReadFrom text.now offset reader.old blocks.old
-        → HasReadOn text.now offset result reader.new blocks.new }
+    ensures on { ReadsOn text.now result reader.old reader.new blocks.old blocks.new }
     ensures text { reader.new.state.text ≡ text.now }
     ensures end { IfOk result (λ more. more ≡ false → blocks.new ≡ blocks.old) }
     ensures err { OnErr result (blocks.new ≡ blocks.old) }
