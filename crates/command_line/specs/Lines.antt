@@ -26,9 +26,12 @@ with_command a command = with_subcommand a (new_app (word_of command)).top
 
 -- a subcommand for each command
 abbrev pub program_app : App
-program_app = with_command (with_command (with_command (with_required (new_app (codes "jepcheck"))) Reads) Edges) Check
+program_app =
+    let jepcheck = with_required (new_app (codes "jepcheck")) in
+    with_command (with_command (with_command jepcheck Reads) Edges) Check
 
--- by the definitions of the library that parses the words nothing is at fault in them, and they name this subcommand
+-- by the definitions of the library that parses the words nothing is at fault in them, and they
+-- name this subcommand
 pub record NameSubcommand (name : List ℕ) (words : List (List ℕ)) : Type 0 where
   pub no_fault : fault_of program_app words ≡ []
   pub named : option_map (λ subcommand. subcommand.0) (subcommand_of program_app words) ≡ Some name

@@ -7,7 +7,8 @@ ghost use Rattle.command_line.specs.declared.types.Command.{Command};
 
 /// The program's name, whatever it is, and the word of a command ask for the command.
 pub fn commands_are_asked_for()
-    ensures { (command : Command) (name : List ℕ) → AskFor (Run command) (name ∷ word_of command ∷ []) }
+    ensures { (command : Command) (name : List ℕ)
+        → AskFor (Run command) (name ∷ word_of command ∷ []) }
 {}
 
 /// The program's name and `--help` ask for help, and so they do with the word of a command between them.

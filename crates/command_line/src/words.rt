@@ -133,7 +133,8 @@ pub fn asked_for<'a>(alloc: Global, words: &'a [String]) -> Result<Asked, LineFa
         → IfErr result (λ fault. fault ≡ LineFault.Memory) }
     // A request for help is answered with it, and every other line with what is wrong.
     ensures help { AskForHelp (map string_bytes words.entry.now) → IfErr result Helps }
-    ensures wrong { (MayAskForHelp (map string_bytes words.entry.now) → ⊥) → IfErr result SaysWhatIsWrong }
+    ensures wrong { ¬ MayAskForHelp (map string_bytes words.entry.now)
+        → IfErr result SaysWhatIsWrong }
 {
     let matches = match program(alloc)?.try_get_matches_from(words) {
         Ok(matches) => matches,
