@@ -85,24 +85,29 @@ abbrev pub row_of : (process invocation first last start end : ℕ) → Row
 row_of process invocation first last start end =
     record { process = process; invocation = invocation; in_process = record { start = first; end = last }; in_realtime = record { start = start; end = end } }
 
+-- one more transaction, with ranges of its own
 pub pushed :
-    (own own' others others' : List Predecessor) (rs rs' : List Row) (r : Row) (old : List Before) (b : Before)
+    (own own' others others' : List Predecessor) (rs rs' : List Row) (r : Row) (b : Before)
     → All (IsRowIn own others) rs
-    → map (before_in own others) rs ≡ old
     → own' ≡ own ++ b.in_process
     → others' ≡ others ++ b.in_realtime
     → r ≡ row_of b.process b.invocation (length own) (length own') (length others) (length others')
     → rs' ≡ rs ++ r ∷ []
-    → map (before_in own' others') rs' ≡ old ++ b ∷ []
-pushed own own' others others' rs rs' r old b are is grown grown' row added =
+    → (map (before_in own' others') rs' ≡ map (before_in own others) rs ++ b ∷ []) × All (IsRowIn own' others') rs'
+pushed own own' others others' rs rs' r b are grown grown' row added =
     let new = row_of b.process b.invocation (length own) (length own') (length others) (length others') in
     let seen : before_in own' others' new ≡ b =
     ap (λ ps. record { process = b.process; invocation = b.invocation; in_process = ps; in_realtime = between others' new.in_realtime }) (last_between own own' b.in_process grown)
     ∙ ap (λ ps. record { process = b.process; invocation = b.invocation; in_process = b.in_process; in_realtime = ps }) (last_between others others' b.in_realtime grown') in
-    ap (map (before_in own' others')) (added ∙ ap (λ x. rs ++ x ∷ []) row)
-    ∙ map-append (before_in own' others') rs (new ∷ [])
-    ∙ ap (λ bs. bs ++ before_in own' others' new ∷ []) (same_rows own own' b.in_process others others' b.in_realtime rs grown grown' are ∙ is)
-    ∙ ap (λ x. old ++ x ∷ []) seen
+    let last : rs' ≡ rs ++ new ∷ [] = added ∙ ap (λ x. rs ++ x ∷ []) row in (
+      ap (map (before_in own' others')) last
+          ∙ map-append (before_in own' others') rs (new ∷ [])
+          ∙ ap (λ bs. bs ++ before_in own' others' new ∷ []) (same_rows own own' b.in_process others others' b.in_realtime rs grown grown' are)
+          ∙ ap (λ x. map (before_in own others) rs ++ x ∷ []) seen,
+      subst (All (IsRowIn own' others')) (sym last)
+          (one_more own' others' rs new (still_rows own own' b.in_process others others' b.in_realtime rs grown grown' are)
+          (last_span own own' b.in_process grown, last_span others others' b.in_realtime grown')),
+    )
 
 -- ---- what a frontier keeps of those in order
 

@@ -1,9 +1,10 @@
 -- Predecessors, as ranges of lists.
-use Rattle.std.specs.Prelude.{◌≤◌, List, length, slice_range}
+use Rattle.std.specs.Prelude.{◌≡◌, ◌≤◌, List, length, slice_range, map, All}
 use Rattle.order_frontier.specs.declared.types.Predecessor.{Predecessor}
 use Rattle.order_frontier.specs.declared.types.Span.{Span}
 use Rattle.order_frontier.specs.declared.types.Row.{Row}
-use Rattle.order_frontier.specs.Predecessors.{Before}
+use Rattle.hist_types.specs.Transactions.{Transaction}
+use Rattle.order_frontier.specs.Predecessors.{Before, HasThinned, NoneTwice, name_of, names}
 
 -- those of a range
 abbrev pub between : List Predecessor → Span → List Predecessor
@@ -20,3 +21,10 @@ pub record IsSpanOf (items : List Predecessor) (s : Span) : Type 0 where
 
 abbrev pub IsRowIn : List Predecessor → List Predecessor → Row → Type 0
 IsRowIn own others r = IsSpanOf own r.in_process × IsSpanOf others r.in_realtime
+
+-- rows in range, which say the thinned order of the transactions
+pub record AreThinnedRows (ts : List Transaction) (own others : List Predecessor) (rows : List Row) : Type 0 where
+  pub ranges : All (IsRowIn own others) rows
+  pub thinned : All (HasThinned ts) (map (before_in own others) rows)
+  pub once : All NoneTwice (map (before_in own others) rows)
+  pub names : names (map (before_in own others) rows) ≡ map name_of ts

@@ -11,10 +11,16 @@ use smallvec::SmallVec;
 use std::alloc::{AllocError, Global};
 
 /// The ok transactions so far after whose completion no ok one was invoked, and the last one of each process.
-#[derive(Drop)]
 pub struct Moving {
     recent: SmallVec<Predecessor, 8>,
     last: ProcessMap<Predecessor>,
+}
+
+// Written out, as what is derived is repeated wherever one is dropped.
+impl Drop for Moving {
+    fn drop(self) {
+        let Moving { recent: _, last: _ } = self;
+    }
 }
 
 impl Moving {

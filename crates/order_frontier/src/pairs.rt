@@ -1,30 +1,77 @@
 //! All pairs of transactions in order.
 
-ghost use Rattle.std.specs.Prelude.{◌≡◌, map, IfOk, All};
-ghost use Rattle.order_frontier.specs.Pairs.{all_before};
+ghost use Rattle.std.specs.Prelude.{◌≡◌, ◌++◌, length, map, IfOk, OnOk, All};
+ghost use Rattle.order_frontier.specs.Pairs.{all_before, is_earlier};
 ghost use Rattle.order_frontier.specs.Predecessors.{AreOfEvents, HasOrderEdges, NoneTwice, name_of, names};
 
 use crate::completions::completions;
-use crate::types::{Completed, Order, Predecessors};
-use smallvec::SmallVec;
+use crate::types::{Completed, Order, Predecessor, Row, Span};
 use std::alloc::{AllocError, Global};
 use txn_pairs::types::Txn;
 
-/// All of the ok transactions that come before one.
-fn all_before(alloc: Global, done: &[Completed], txn: &Txn<'_>) -> Result<Predecessors, AllocError>
-    ensures { IfOk result (λ before. before ≡ all_before done.now txn.now) }
+/// Whether an ok transaction, unless it is the same one, completed before one was invoked.
+fn is_earlier(ok: &Completed, txn: &Txn<'_>) -> bool
+    ensures { result ≡ is_earlier txn.now ok.now }
 {
-    let mut in_process = SmallVec::new(alloc);
-    let mut in_realtime = SmallVec::new(alloc);
+    ok.completion < txn.invocation() && ok.invocation != txn.invocation()
+}
+
+/// Adds all of the ok transactions that come before one to the lists.
+fn push_before(
+    done: &[Completed],
+    txn: &Txn<'_>,
+    in_process: &mut Vec<Predecessor>,
+    in_realtime: &mut Vec<Predecessor>,
+) -> Result<(), AllocError>
+    ensures in_process { OnOk result (in_process.new.items
+        ≡ in_process.old.items ++ (all_before done.now txn.now).in_process) }
+    ensures in_realtime { OnOk result (in_realtime.new.items
+        ≡ in_realtime.old.items ++ (all_before done.now txn.now).in_realtime) }
+{
     for ok in done {
-        if ok.completion < txn.invocation() && ok.invocation != txn.invocation() {
+        if is_earlier(ok, txn) {
             in_realtime.push(ok.predecessor())?;
             if ok.process == txn.process() {
                 in_process.push(ok.predecessor())?;
             }
         }
     }
-    Ok(Predecessors::new(txn.process(), txn.invocation(), in_process, in_realtime))
+    Ok(())
+}
+
+/// What comes before a transaction, which goes into the lists.
+fn row_of(
+    done: &[Completed],
+    txn: &Txn<'_>,
+    in_process: &mut Vec<Predecessor>,
+    in_realtime: &mut Vec<Predecessor>,
+) -> Result<Row, AllocError>
+    ensures in_process { OnOk result (in_process.new.items
+        ≡ in_process.old.items ++ (all_before done.now txn.now).in_process) }
+    ensures in_realtime { OnOk result (in_realtime.new.items
+        ≡ in_realtime.old.items ++ (all_before done.now txn.now).in_realtime) }
+    ensures row { IfOk result (λ row. row ≡ record {
+      process = txn.now.process;
+      invocation = txn.now.invocation;
+      in_process = record {
+        start = length in_process.old.items;
+        end = length in_process.new.items;
+      };
+      in_realtime = record {
+        start = length in_realtime.old.items;
+        end = length in_realtime.new.items;
+      };
+    }) }
+{
+    let first = in_process.len();
+    let start = in_realtime.len();
+    push_before(done, txn, in_process, in_realtime)?;
+    Ok(Row {
+        process: txn.process(),
+        invocation: txn.invocation(),
+        in_process: Span::new(first, in_process.len())?,
+        in_realtime: Span::new(start, in_realtime.len())?,
+    })
 }
 
 /// The predecessors of each transaction: all of them.
@@ -34,9 +81,11 @@ pub fn all(alloc: Global, txns: &[Txn<'_>]) -> Result<Order, AllocError>
     ensures names { IfOk result (λ order. names order ≡ map name_of txns.now) }
 {
     let done = completions(alloc, txns)?;
-    let mut order = Order::new(alloc);
+    let mut rows = Vec::with_capacity(alloc, txns.len())?;
+    let mut in_process = Vec::new(alloc);
+    let mut in_realtime = Vec::new(alloc);
     for txn in txns {
-        order.push(&all_before(alloc, &done, txn)?)?;
+        rows.push(row_of(&done, txn, &mut in_process, &mut in_realtime)?)?;
     }
-    Ok(order)
+    Ok(Order::of_ranges(rows, in_process, in_realtime))
 }

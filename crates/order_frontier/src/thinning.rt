@@ -1,11 +1,12 @@
 //! The pass that thins the order.
 
-ghost use Rattle.std.specs.Prelude.{◌≡◌, ◌<◌, ◌≤◌, ℕ, List, map, take, ◌++◌, ◌-◌, length, nat_eq, All, IfOk, OnOk, slice_index_or};
+ghost use Rattle.std.specs.Prelude.{◌≡◌, ◌<◌, ◌≤◌, ℕ, List, [], map, take, ◌++◌, ◌-◌, length, nat_eq, All, IfOk, OnOk, slice_index_or};
 ghost use Rattle.process_map.specs.Values.{value_of};
 ghost use Rattle.std.specs.Option.{option_to_list};
 ghost use Rattle.order_frontier.specs.Completions.{AreKept, AreRising, AreTimely, predecessor_of};
 ghost use Rattle.order_frontier.specs.Predecessors.{AreOfEvents, HasThinned, NoneTwice, name_of, names};
 ghost use Rattle.order_frontier.specs.Latest.{last_of, row_next};
+ghost use Rattle.order_frontier.specs.Ranges.{AreThinnedRows};
 
 use crate::completions::completions;
 use crate::moving::Moving;
@@ -39,11 +40,7 @@ fn advance(moving: &mut Moving, done: &[Completed], index: u64) -> Result<usize,
 fn predecessors(alloc: Global, done: &[Completed]) -> Result<Vec<Predecessor>, AllocError>
     ensures { IfOk result (λ list. list.items ≡ map predecessor_of done.now) }
 {
-    let mut list = Vec::with_capacity(alloc, done.len())?;
-    for ok in done {
-        list.push(ok.predecessor())?;
-    }
-    Ok(list)
+    done.iter().map(|ok| ok.predecessor()).collect(alloc)
 }
 
 /// What comes before a transaction that is invoked now. The last one of its process goes into the list of those; what the
@@ -73,6 +70,30 @@ fn row_of(
     })
 }
 
+/// Adds the thinned predecessors of each transaction to lists that are empty, and answers the list that ranges in real time
+/// are of.
+fn push_rows(
+    alloc: Global,
+    txns: &[Txn<'_>],
+    rows: &mut Vec<Row>,
+    in_process: &mut Vec<Predecessor>,
+) -> Result<Vec<Predecessor>, AllocError>
+    requires events { AreOfEvents txns.now }
+    requires rows { rows.old.items ≡ [] }
+    requires in_process { in_process.old.items ≡ [] }
+    ensures { IfOk result (λ in_realtime. AreThinnedRows txns.now
+        in_process.new.items in_realtime.items rows.new.items) }
+{
+    let done = completions(alloc, txns)?;
+    let mut moving = Moving::new(alloc);
+    let mut taken = 0;
+    for txn in txns {
+        taken += advance(&mut moving, &done[taken..], txn.invocation())?;
+        rows.push(row_of(&moving, txn, taken, in_process)?)?;
+    }
+    predecessors(alloc, &done)
+}
+
 /// The thinned predecessors of each transaction.
 pub fn thinned(alloc: Global, txns: &[Txn<'_>]) -> Result<Order, AllocError>
     requires { AreOfEvents txns.now }
@@ -80,15 +101,8 @@ pub fn thinned(alloc: Global, txns: &[Txn<'_>]) -> Result<Order, AllocError>
     ensures once { IfOk result (λ order. All NoneTwice order) }
     ensures names { IfOk result (λ order. names order ≡ map name_of txns.now) }
 {
-    let done = completions(alloc, txns)?;
-    let in_realtime = predecessors(alloc, &done)?;
-    let mut moving = Moving::new(alloc);
     let mut rows = Vec::with_capacity(alloc, txns.len())?;
     let mut in_process = Vec::with_capacity(alloc, txns.len())?;
-    let mut taken = 0;
-    for txn in txns {
-        taken += advance(&mut moving, &done[taken..], txn.invocation())?;
-        rows.push(row_of(&moving, txn, taken, &mut in_process)?)?;
-    }
+    let in_realtime = push_rows(alloc, txns, &mut rows, &mut in_process)?;
     Ok(Order::of_ranges(rows, in_process, in_realtime))
 }

@@ -1,6 +1,6 @@
 //! What comes before each transaction.
 
-ghost use Rattle.std.specs.Prelude.{◌≡◌, ◌==◌, ◌<◌, ◌++◌, ◌∷◌, [], length, map, All, IfOk, OnOk};
+ghost use Rattle.std.specs.Prelude.{◌≡◌, ◌==◌, ◌<◌, length, map, All, IfOk};
 ghost use Rattle.order_frontier.specs.Predecessors.{before_at};
 ghost use Rattle.order_frontier.specs.Ranges.{before_in, between, IsSpanOf, IsRowIn};
 
@@ -165,11 +165,21 @@ pub(crate) struct Row {
 
 /// The predecessors of each transaction, in the order of the transactions. Transactions share one list of predecessors in
 /// real time, since those of a thinned order are next to each other by their completions.
-#[derive(Drop)]
 pub struct Order {
     rows: Vec<Row>,
     in_process: Vec<Predecessor>,
     in_realtime: Vec<Predecessor>,
+}
+
+// Written out, as what is derived is repeated wherever one is dropped.
+impl Drop for Order {
+    fn drop(self) {
+        let Order {
+            rows: _,
+            in_process: _,
+            in_realtime: _,
+        } = self;
+    }
 }
 
 impl Model for Order {
@@ -187,17 +197,6 @@ impl Model for Order {
 }
 
 impl Order {
-    /// No transactions.
-    pub(crate) fn new(alloc: Global) -> Self
-        ensures { result ≡ [] }
-    {
-        Order {
-            rows: Vec::new(alloc),
-            in_process: Vec::new(alloc),
-            in_realtime: Vec::new(alloc),
-        }
-    }
-
     /// Transactions with ranges of lists.
     pub(crate) fn of_ranges(
         rows: Vec<Row>,
@@ -212,24 +211,6 @@ impl Order {
             in_process,
             in_realtime,
         }
-    }
-
-    /// Adds the next transaction, with ranges of its own.
-    pub(crate) fn push(&mut self, before: &Predecessors) -> Result<(), AllocError>
-        ensures { OnOk result (self.new ≡ self.old ++ before.now ∷ []) }
-    {
-        let first = self.in_process.len();
-        self.in_process.extend_from_slice(before.in_process())?;
-        let start = self.in_realtime.len();
-        self.in_realtime.extend_from_slice(before.in_realtime())?;
-        let row = Row {
-            process: before.process(),
-            invocation: before.invocation(),
-            in_process: Span::new(first, self.in_process.len())?,
-            in_realtime: Span::new(start, self.in_realtime.len())?,
-        };
-        self.rows.push(row)?;
-        Ok(())
     }
 
     /// How many transactions there are.
