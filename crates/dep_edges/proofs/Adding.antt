@@ -1,10 +1,11 @@
 -- What is added to edges, loop by loop.
-use Rattle.std.proofs.Common.{◌≡◌, ℕ, suc, ◌+◌, ◌≤◌, List, [], ◌∷◌, ◌++◌, length, take, Bool, true, false, ◌||◌, ◌==◌, if◌then◌else◌, map, flat_map, Result, Ok, Err, OnErr, All, Some, None, unwrap_or, slice_get, refl, sym, ◌∙◌, ap, subst, arith, inl, inr, append_assoc, append-nil}
+use Rattle.std.proofs.Common.{◌≡◌, ℕ, suc, ◌+◌, ◌<◌, ◌≤◌, List, [], ◌∷◌, ◌++◌, length, take, get_or, Bool, true, false, ◌||◌, ◌==◌, if◌then◌else◌, map, flat_map, Result, Ok, Err, OnErr, All, Some, None, unwrap_or, slice_get, refl, sym, ◌∙◌, ap, subst, arith, inl, inr, append_assoc, append-nil}
 use Rattle.std.specs.List.{list_any}
 use Rattle.std.proofs.lemmas.Bool.{eqb-true, eq-eqb}
-use Rattle.std.proofs.lemmas.List.{take_all}
+use Rattle.std.proofs.lemmas.List.{take_all, take_more}
 use Rattle.std.proofs.lemmas.List.Elements.{All-contains}
 use Rattle.std.proofs.lemmas.List.Folds.{flat_map-map}
+use Rattle.std.proofs.lemmas.Grind.{flat_map-append}
 use Rattle.hist_types.specs.Edges.{Label, wr, Edge}
 use Rattle.hist_types.specs.Transactions.{Transaction, Version, Open, version_eq, has_version, reads}
 use Rattle.hist_types.proofs.Equality.{version_eq-same, version_eq-itself}
@@ -66,6 +67,20 @@ followers_gathered ts table from label v fs told =
     sym (flat_map-map (λ (p : ℕ × Version). node_edge ts from (txn_at ts p.0) (label p.1)) (later_in table) fs)
     ∙ ap (flat_map (λ (p : ℕ × Version). node_edge ts from (txn_at ts p.0) (label p.1))) told
     ∙ later_gathered ts from label v
+
+-- what a loop has added, with the next item
+pub next_added :
+    {X : Type 0} (f : X → List Edge) (xs : List X) (n : ℕ) (d : X) (before mid after : List Edge)
+    → n < length xs
+    → mid ≡ before ++ flat_map f (take n xs)
+    → after ≡ mid ++ f (get_or xs n d)
+    → after ≡ before ++ flat_map f (take (n + 1) xs)
+next_added f xs n d before mid after within e added =
+    let x = get_or xs n d in
+    added ∙ ap (λ es. es ++ f x) e
+    ∙ append_assoc before (flat_map f (take n xs)) (f x)
+    ∙ ap (λ es. before ++ es)
+    (ap (λ es. flat_map f (take n xs) ++ es) (sym (append-nil (f x))) ∙ sym (flat_map-append f (take n xs) (x ∷ [])) ∙ ap (flat_map f) (sym (take_more xs n d within)))
 
 -- what a whole loop has added
 pub all_added :

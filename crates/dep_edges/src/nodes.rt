@@ -24,11 +24,7 @@ pub fn is_failed(txn: &Txn<'_>) -> bool
 fn ok_marks(alloc: Global, txns: &[Txn<'_>]) -> Result<Vec<bool>, AllocError>
     ensures { IfOk result (λ marks. marks.items ≡ map is_ok txns.now) }
 {
-    let mut marks = Vec::with_capacity(alloc, txns.len())?;
-    for txn in txns {
-        marks.push(is_ok(txn))?;
-    }
-    Ok(marks)
+    txns.iter().map(is_ok).collect(alloc)
 }
 
 /// Marks the transaction that wrote the version, if the version was read and the transaction didn't fail.
