@@ -64,7 +64,8 @@ pub record GivesTag (text : List ℕ) (offset : ℕ) (token : Token) : Type 0 wh
       (closers : List ℕ) →
       GivesToken (going_at text offset closers) token (going_at text token.end closers)
 
--- the token that is given from the offset on is this one byte, and opens a collection that waits for the closer
+-- the token that is given from the offset on is this one byte, and opens a collection that waits
+-- for the closer
 pub record GivesOpener (text : List ℕ) (offset : ℕ) (byte closer : ℕ) (token : Token) : Type 0 where
   pub kind : kind_of token.kind ≡ Opener
   pub bytes : (item_of text token).bytes ≡ byte ∷ []

@@ -7,8 +7,8 @@ use Rattle.hist_types.specs.Tokens.{ItemKind, Item, IsCut, is_token, tokens_of, 
 use Rattle.edn_lex.specs.declared.types.Token.{Token}
 use Rattle.edn_lex.specs.Kinds.{kind_of, item_of}
 
--- The whole text, the offset up to which it has been passed, the closers that the open collections wait for with the
--- innermost first, and whether a fault has been given.
+-- The whole text, the offset up to which it has been passed, the closers that the open collections
+-- wait for with the innermost first, and whether a fault has been given.
 pub record State : Type 0 where
   pub text : List ℕ
   pub offset : ℕ
@@ -50,7 +50,8 @@ RestIf false s tokens ending =
     (items : List Item) × IsCutFrom s items ending × (tokens ≡ tokens_of items)
 RestIf true s tokens ending = (tokens ≡ []) × (ending ≡ None)
 
--- What a lexer has still to give: these tokens, and then nothing or the fault. After a fault it gives nothing.
+-- What a lexer has still to give: these tokens, and then nothing or the fault. After a fault it
+-- gives nothing.
 abbrev pub Rest : State → List Item → Option Fault → Type 0
 Rest s tokens ending = RestIf s.ended s tokens ending
 
@@ -130,8 +131,8 @@ pub record PassesOver (s : State) (kind : ItemKind) (len : ℕ) (t : State) : Ty
   pub no_fault : item_fault kind s.offset (take len (left s)) s.closers ≡ None
   pub after : t ≡ after_item s kind len
 
--- What a call that looks at one item does: it passes over a comment, or over a token that it gives, or gives the fault that
--- stands there.
+-- What a call that looks at one item does: it passes over a comment, or over a token that it gives,
+-- or gives the fault that stands there.
 abbrev pub Passes : State → Result (Option Token) Fault → State → Type 0
 Passes s (Ok None) t =
     (kind : ItemKind) × (len : ℕ) × (is_token kind ≡ false) × PassesOver s kind len t

@@ -1,7 +1,7 @@
 -- Operations that can be written and read again, and the lines that they make.
 --
--- Reading gives an operation with a process up to 2147483647, and at most 256 micro-operations; its atoms are
--- integers of 64 bits, keywords and symbols of one run, and strings of well-formed UTF-8.
+-- Reading gives an operation with a process up to 2147483647, and at most 256 micro-operations; its
+-- atoms are integers of 64 bits, keywords and symbols of one run, and strings of well-formed UTF-8.
 use Rattle.std.specs.Prelude.{◌≡◌, ◌≢◌, ◌⊎◌, ◌<◌, ◌≤◌, ℕ, List, [], ◌∷◌, ◌++◌, length, true, Option, Some, None, map}
 use Rattle.std.specs.List.{All, list_all, flat_map}
 use Rattle.std.specs.Str.{IsUtf8}
@@ -21,7 +21,8 @@ use Rattle.hist_types.specs.declared.types.OpKind.TheVariants as kinds
 
 -- ---- operations
 
--- a keyword's or a symbol's spelling: one run of that kind; what begins with a backslash is a character
+-- a keyword's or a symbol's spelling: one run of that kind; what begins with a backslash is a
+-- character
 pub record IsSpelling (kind : ItemKind) (spelling : List ℕ) : Type 0 where
   pub nonempty : 0 < length spelling
   pub one_run : list_all is_run_byte spelling ≡ true

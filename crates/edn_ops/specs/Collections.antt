@@ -24,7 +24,8 @@ UnlessMemory fault P = fault ≢ memory_fault → P
 
 -- ---- a member
 
--- From s, in a collection with no operation's place in it, the form is its next member, behind which is t.
+-- From s, in a collection with no operation's place in it, the form is its next member, behind
+-- which is t.
 pub record ReadsMember (s : State) (form : Form) (t : State) : Type 0 where
   pub text : t.text ≡ s.text
   pub forward : s.offset < t.offset
@@ -59,7 +60,8 @@ pub record ReadsMembers (s : State) (opener : Item) (members : List Form) (t : S
       (o : Open) → NoPlaceIn opener o →
       Leads s (with_opener opener o) [] t (inside opener members [] o)
 
--- From s, behind the opener, the collection has been read, up to behind its closer. It is in no operation's place.
+-- From s, behind the opener, the collection has been read, up to behind its closer. It is in no
+-- operation's place.
 pub record ReadsCollection
     (s : State) (opener : Item) (members : List Form) (closer : Item) (t : State) : Type 0 where
   pub text : t.text ≡ s.text

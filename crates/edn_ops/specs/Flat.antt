@@ -137,7 +137,8 @@ pub record ReadsFlatMap
   pub end_is : end ≡ closer.end
   pub within : end ≤ length text
 
--- a token of one byte opens a map: the one that is given from the offset on, or the one behind a tag
+-- a token of one byte opens a map: the one that is given from the offset on, or the one behind a
+-- tag
 abbrev pub OpensOperation : List ℕ → ℕ → Token → Type 0
 OpensOperation text offset opener =
     GivesOpener text offset open_brace close_brace opener

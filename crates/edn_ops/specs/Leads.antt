@@ -1,7 +1,8 @@
 -- How reading goes from one place of a text to another.
 --
--- A lexer's state fixes the tokens that are left, and with what is open there it fixes how they read. `Leads` says that what is
--- read from one place is some entries, and then what is read from another place. It composes.
+-- A lexer's state fixes the tokens that are left, and with what is open there it fixes how they
+-- read. `Leads` says that what is read from one place is some entries, and then what is read from
+-- another place. It composes.
 use Rattle.std.specs.Prelude.{◌≡◌, ℕ, ◌+◌, ◌≤◌, List, [], ◌∷◌, length, Bool, true, false, Option, Some, None, Result, Ok, Err, unwrap_or}
 use Rattle.hist_types.specs.Entries.{Entry}
 use Rattle.hist_types.specs.Forms.{Form, collection, tagged, forms_of, OpenCollection, Open, leave_out, with_form, with_opener}
@@ -19,7 +20,8 @@ use Rattle.edn_ops.specs.LevelEnds.{SameLevel, LevelEnds}
 abbrev pub SameDepth : State → Open → Type 0
 SameDepth s o = length s.closers ≡ length o.collections
 
--- From s, where o is open, the entries are read first, and then what is read from t, where p is open.
+-- From s, where o is open, the entries are read first, and then what is read from t, where p is
+-- open.
 pub record Leads (s : State) (o : Open) (given : List Entry) (t : State) (p : Open) : Type 0 where
   pub text : t.text ≡ s.text
   pub forward : s.offset ≤ t.offset
@@ -100,8 +102,8 @@ is_plain_kind Drop = false
 is_plain_kind Tag = false
 is_plain_kind kind = true
 
--- From s, where no mark waits in the innermost open collection, a call passed over tags and over what is left out, and then
--- gave the token of a member or the closer, behind which is t.
+-- From s, where no mark waits in the innermost open collection, a call passed over tags and over
+-- what is left out, and then gave the token of a member or the closer, behind which is t.
 pub record GivesMember (s : State) (member : Member) (t : State) : Type 0 where
   pub tags : List Item
   pub no_drop : leave_out tags ≡ false

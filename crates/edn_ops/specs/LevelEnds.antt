@@ -16,12 +16,14 @@ role_of Drop = waits
 role_of Tag = waits
 role_of kind = stands
 
--- What waits when a level ends, and the tokens from its closer on; none where the text ends before it.
+-- What waits when a level ends, and the tokens from its closer on; none where the text ends before
+-- it.
 pub record LevelEnd : Type 0 where
   pub marks : List Item
   pub tokens : List Item
 
--- one token; `inner` are the openers of the collections that are open within the level, the innermost first
+-- one token; `inner` are the openers of the collections that are open within the level, the
+-- innermost first
 abbrev pub passed_by :
     Role → (inner marks : List Item) → Item → List Item → (List Item → List Item → LevelEnd) →
     LevelEnd

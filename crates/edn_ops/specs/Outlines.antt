@@ -1,4 +1,5 @@
--- Members of an operation's map and of its transaction: what its checks ask of a form without looking into it.
+-- Members of an operation's map and of its transaction: what its checks ask of a form without
+-- looking into it.
 use Rattle.std.specs.Prelude.{Option, Some, None, option_map, IfSome, ◌≡◌, ℕ, ℤ, ◌≤◌, List, [], length, Bool, true, slice_range}
 use Rattle.hist_types.specs.AtomTokens.{int_value}
 use Rattle.hist_types.specs.Entries.{int_of}

@@ -15,8 +15,8 @@ use Rattle.edn_ops.specs.Shapes.{IsShapeOf, IsShapeIn}
 
 -- ---- what is open between two operations
 
--- Nothing is open, or at the top level the vector or list with this opener, perhaps behind tags. The members that it has so far
--- don't matter any more.
+-- Nothing is open, or at the top level the vector or list with this opener, perhaps behind tags.
+-- The members that it has so far don't matter any more.
 abbrev pub OpenWith : List ℕ → Option Token → Open → Type 0
 OpenWith text None o = o ≡ nothing_open
 OpenWith text (Some opener) o =
@@ -47,8 +47,8 @@ EndsWith s list entries fault =
 
 -- ---- readers
 
--- A reader between two operations: the lexer's state, the opener of the vector or list that is open at the top level, the fault that
--- has been given, and how many operations were skipped.
+-- A reader between two operations: the lexer's state, the opener of the vector or list that is open
+-- at the top level, the fault that has been given, and how many operations were skipped.
 pub record Reader : Type 0 where
   pub state : State
   pub list : Option Token

@@ -49,7 +49,8 @@ abbrev pub Writes :
 Writes {A} Spells text_of result old new =
     (a : A) → Spells a → OnOk result (new.items ≡ old.items ++ text_of a)
 
--- A byte of a string's source: a control byte that has an escape is written as that, every other byte as it is.
+-- A byte of a string's source: a control byte that has an escape is written as that, every other
+-- byte as it is.
 abbrev pub source_byte_text : ℕ → List ℕ
 source_byte_text b =
     if b == 8 then codes "\\b"
