@@ -27,13 +27,21 @@ pub record GivesEvents (text : List ℕ) (events : List Operation) : Type 0 wher
   pub given : GivesOperations text events
   pub kept : first_broken [] events ≡ None
 
+-- the text reads as operations, and the fault is that of the first rule that one of them breaks
+abbrev pub BreaksRule : List ℕ → Fault → Type 0
+BreaksRule text fault =
+    (operations : List Operation)
+    × GivesOperations text operations × (journal_fault operations ≡ Some fault)
+
 -- the first refusal: a fault of reading comes before all rules of the journal
 abbrev pub IsRefused : List ℕ → Fault → Type 0
-IsRefused text fault = GivesFault text fault ⊎ ((operations : List Operation) × GivesOperations text operations × (journal_fault operations ≡ Some fault))
+IsRefused text fault = GivesFault text fault ⊎ BreaksRule text fault
 
 -- whether the text of a verdict names a phenomenon that a cycle shows
-abbrev pub names_cycle : {events : List Operation} {text : List ℕ} → IsVerdictText events text → Bool
-names_cycle verdict = is_some verdict.g0 || is_some verdict.g1c || is_some verdict.single || is_some verdict.item
+abbrev pub names_cycle :
+    {events : List Operation} {text : List ℕ} → IsVerdictText events text → Bool
+names_cycle verdict =
+    is_some verdict.g0 || is_some verdict.g1c || is_some verdict.single || is_some verdict.item
 
 -- the text of a verdict, with status 1 exactly where it names one of the six phenomena
 pub record IsVerdict (events : List Operation) (status : Status) (printed : List ℕ) : Type 0 where
@@ -42,24 +50,32 @@ pub record IsVerdict (events : List Operation) (status : Status) (printed : List
 
 -- what a command prints of the events, and the status with it
 abbrev pub Reports : Command → List Operation → Status → List ℕ → Type 0
-Reports commands.Reads events status printed = (status ≡ status_by (has_bad_read events)) × (printed ≡ reads_text events)
-Reports commands.Edges events status printed = (status ≡ statuses.NoPhenomenon) × (printed ≡ edges_text events)
+Reports commands.Reads events status printed =
+    (status ≡ status_by (has_bad_read events)) × (printed ≡ reads_text events)
+Reports commands.Edges events status printed =
+    (status ≡ statuses.NoPhenomenon) × (printed ≡ edges_text events)
 Reports commands.Check events status printed = IsVerdict events status printed
 
 -- the report of a command on the events that the text gives
-pub record IsReport (command : Command) (text : List ℕ) (status : Status) (printed : List ℕ) : Type 0 where
+pub record IsReport (command : Command) (text : List ℕ) (status : Status)
+    (printed : List ℕ) : Type 0 where
   pub events : List Operation
   pub given : GivesEvents text events
   pub reported : Reports command events status printed
 
 -- what a command prints with each status
 abbrev pub IsAnswer : Command → List ℕ → Status → List ℕ → Type 0
-IsAnswer command text statuses.NoPhenomenon printed = IsReport command text statuses.NoPhenomenon printed
-IsAnswer command text statuses.SomePhenomenon printed = IsReport command text statuses.SomePhenomenon printed
-IsAnswer command text statuses.Refused printed = (fault : Fault) × IsRefused text fault × (printed ≡ refusal_line fault)
+IsAnswer command text statuses.NoPhenomenon printed =
+    IsReport command text statuses.NoPhenomenon printed
+IsAnswer command text statuses.SomePhenomenon printed =
+    IsReport command text statuses.SomePhenomenon printed
+IsAnswer command text statuses.Refused printed =
+    (fault : Fault) × IsRefused text fault × (printed ≡ refusal_line fault)
 IsAnswer command text statuses.DeviceFault printed = ⊥
 IsAnswer command text statuses.Memory printed = printed ≡ refusal_line memory_fault
 
 -- the command has an answer to the text other than the one that is out of memory
 abbrev pub HasAnswer : Command → List ℕ → Type 0
-HasAnswer command text = (status : Status) × (printed : List ℕ) × (status ≢ statuses.Memory) × IsAnswer command text status printed
+HasAnswer command text =
+    (status : Status) × (printed : List ℕ)
+    × (status ≢ statuses.Memory) × IsAnswer command text status printed

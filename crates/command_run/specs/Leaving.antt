@@ -15,4 +15,5 @@ all_edges ts = in_order (dependency_edges ts)
 
 -- a text was continued by the lines of all edges, in order, and they are that many
 abbrev pub IsContinuedByAll : List Transaction → (text text' : List ℕ) → (count : ℕ) → Type 0
-IsContinuedByAll ts text text' count = (text' ≡ text ++ edge_lines (all_edges ts)) × (count ≡ length (all_edges ts))
+IsContinuedByAll ts text text' count =
+    (text' ≡ text ++ edge_lines (all_edges ts)) × (count ≡ length (all_edges ts))

@@ -13,4 +13,5 @@ IsCounted Memory old new = new ≡ old
 
 -- the sink took all these bytes, unless it failed
 abbrev pub HasTakenUnlessFailed : {T : Type 0} → Ghosts T → (sink sink' : T) → List ℕ → Type 0
-HasTakenUnlessFailed device sink sink' bytes = HasTaken device sink sink' bytes ⊎ HasFailedBehind device sink sink' bytes
+HasTakenUnlessFailed device sink sink' bytes =
+    HasTaken device sink sink' bytes ⊎ HasFailedBehind device sink sink' bytes
