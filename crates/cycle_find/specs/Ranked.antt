@@ -12,21 +12,29 @@ pub record AreRanksOver (g : Parts) (kinds : Kinds) (ranks : List ℕ) : Type 0 
 
 -- no ranks that don't fall along any arc of the kinds fall from the one vertex to the other
 abbrev pub NeverFalls : Parts → Kinds → (from to : ℕ) → Type 0
-NeverFalls g kinds from to = (ranks : List ℕ) → AreRanksOver g kinds ranks → slice_index ranks from ≤ slice_index ranks to
+NeverFalls g kinds from to =
+    (ranks : List ℕ) → AreRanksOver g kinds ranks → slice_index ranks from ≤ slice_index ranks to
 
 -- a rank for each vertex, none of which falls along an arc of the kinds between two vertices of one coarse rank
 pub record AreRanksWithin (g : Parts) (kinds : Kinds) (coarse ranks : List ℕ) : Type 0 where
   pub one_each : length ranks ≡ length g.txns + length g.versions
   pub rising :
-      (v w : ℕ) → IsArc g kinds v w → slice_index coarse v ≡ slice_index coarse w → slice_index ranks v ≤ slice_index ranks w
+      (v w : ℕ)
+      → IsArc g kinds v w
+      → slice_index coarse v ≡ slice_index coarse w
+      → slice_index ranks v ≤ slice_index ranks w
 
 pub record Ranking : Type 0 where
   pub graph : Parts
   pub ranks : List ℕ
 
 -- the vertices that are above a limit by none of three rankings
-abbrev pub not_above : (coarse : List ℕ) (most_coarse : ℕ) (ranks : List ℕ) (most : ℕ) (finer : List ℕ) (most_finer : ℕ) → VertexSet
+abbrev pub not_above : (coarse : List ℕ) (most_coarse : ℕ) (ranks : List ℕ) (most : ℕ)
+    (finer : List ℕ) (most_finer : ℕ) → VertexSet
 not_above coarse most_coarse ranks most finer most_finer = record {
   count = min (length coarse) (min (length ranks) (length finer));
-  has = λ v. nat_le (slice_index coarse v) most_coarse && nat_le (slice_index ranks v) most && nat_le (slice_index finer v) most_finer;
+  has =
+      λ v. nat_le (slice_index coarse v) most_coarse
+      && nat_le (slice_index ranks v) most
+      && nat_le (slice_index finer v) most_finer;
 }

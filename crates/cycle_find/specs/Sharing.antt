@@ -10,14 +10,26 @@ slot ranks vertex = min (slice_index ranks vertex) (length ranks - 1)
 pub record AreCounted (ranks counts : List ℕ) : Type 0 where
   pub one_each : length counts ≡ length ranks
   pub two :
-      (v w : ℕ) → v < length ranks → w < length ranks → slot ranks v ≡ slot ranks w → (v ≡ w) ⊎ (1 < slice_index counts (slot ranks v))
+      (v w : ℕ)
+      → v < length ranks
+      → w < length ranks
+      → slot ranks v ≡ slot ranks w
+      → (v ≡ w) ⊎ (1 < slice_index counts (slot ranks v))
 
 -- two vertices of one rank share it
 pub record AreSharing (ranks : List ℕ) (shared : List Bool) : Type 0 where
   pub one_each : length shared ≡ length ranks
   pub two :
-      (v w : ℕ) → v < length ranks → w < length ranks → slice_index ranks v ≡ slice_index ranks w → (v ≡ w) ⊎ IsTrue (slice_index_or shared v false)
+      (v w : ℕ)
+      → v < length ranks
+      → w < length ranks
+      → slice_index ranks v ≡ slice_index ranks w
+      → (v ≡ w) ⊎ IsTrue (slice_index_or shared v false)
 
 -- the arcs of a graph that leave some of its vertices
 abbrev pub leaving : Graph → List Bool → Graph
-leaving g some = record { count = g.count; successors = λ v. if slice_index_or some v false then g.successors v else [] }
+leaving g some =
+    record {
+      count = g.count;
+      successors = λ v. if slice_index_or some v false then g.successors v else [];
+    }

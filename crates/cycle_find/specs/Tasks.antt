@@ -39,23 +39,30 @@ whole_kinds task = kinds_of (whole task.phenomenon) task.level
 -- an edge of the needed kind from the transaction at the one place to that at the other has a way back
 abbrev pub HasReturnBetween : Task → (from to : ℕ) → Type 0
 HasReturnBetween task from to =
-    HasEdgeBetween task.graph (needed_kinds task) from to × HasWalkBetween task.graph (back_kinds task) to from
+    HasEdgeBetween task.graph (needed_kinds task) from to
+    × HasWalkBetween task.graph (back_kinds task) to from
 
 -- a walk over the arcs of a way back, or nothing where there is none
 abbrev pub IsWayBackIfAny : Task → (from to : ℕ) → Option (Vec ℕ Global) → Type 0
-IsWayBackIfAny task from to way = IsWalkIfAny (IsArc task.graph (back_kinds task)) from to (option_map (λ (walk : Vec ℕ Global). walk.items) way)
+IsWayBackIfAny task from to way =
+    let walk = option_map (λ (walk : Vec ℕ Global). walk.items) way in
+    IsWalkIfAny (IsArc task.graph (back_kinds task)) from to walk
 
 -- a walk that shows the phenomenon, or nothing where this holds
 abbrev pub IsShownOr : Task → Type 0 → Option (List Edge) → Type 0
 IsShownOr task Otherwise None = Otherwise
-IsShownOr task Otherwise (Some walk) = ShowsOver task.phenomenon (edges_in task.graph task.level) walk
+IsShownOr task Otherwise (Some walk) =
+    ShowsOver task.phenomenon (edges_in task.graph task.level) walk
 
 -- ---- arcs of needed edges
 
 -- no needed edge from the one transaction by the vertex has a way back
 abbrev pub NoneBy : Task → (from by : ℕ) → Type 0
 NoneBy task from by =
-    (to : ℕ) → IsPlace task.graph.txns to → LeadsOn task.graph (needed_kinds task) from by to → ¬ HasReturnBetween task from to
+    (to : ℕ)
+    → IsPlace task.graph.txns to
+    → LeadsOn task.graph (needed_kinds task) from by to
+    → ¬ HasReturnBetween task from to
 
 -- none from the transaction
 abbrev pub NoneFrom : Task → (from : ℕ) → Type 0

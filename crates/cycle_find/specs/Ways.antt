@@ -14,7 +14,10 @@ LeadsOn g kinds from by to = (by ≡ to) ⊎ (¬ IsPlace g.txns by × ¬ (from �
 -- it does from the one transaction by the vertex to any other one
 abbrev pub RisesBy : Parts → Kinds → (ranks : List ℕ) → (from by : ℕ) → Type 0
 RisesBy g kinds ranks from by =
-    (to : ℕ) → IsPlace g.txns to → LeadsOn g kinds from by to → slice_index ranks from < slice_index ranks to
+    (to : ℕ)
+    → IsPlace g.txns to
+    → LeadsOn g kinds from by to
+    → slice_index ranks from < slice_index ranks to
 
 -- from the transaction
 abbrev pub RisesFrom : Parts → Kinds → (ranks : List ℕ) → (from : ℕ) → Type 0

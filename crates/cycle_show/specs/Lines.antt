@@ -16,4 +16,5 @@ witness_lines es = flat_map (λ (e : Edge). indented (edge_text e)) es
 
 -- behind a word, a key and its value
 abbrev pub version_after : (word : List ℕ) → Atom → Option (Bor Atom) → List ℕ
-version_after word key value = word ++ (atom_text key ++ codes " " ++ value_text (option_copied value))
+version_after word key value =
+    word ++ (atom_text key ++ codes " " ++ value_text (option_copied value))

@@ -16,7 +16,8 @@ joined_label first second = first
 
 -- the order edge between the ends of two that follow each other
 abbrev pub joined : Edge → Edge → Edge
-joined first second = record { from = first.from; to = second.to; label = joined_label first.label second.label }
+joined first second =
+    record { from = first.from; to = second.to; label = joined_label first.label second.label }
 
 abbrev pub last_joined : List Edge → Edge → List Edge
 last_joined [] next = []
@@ -31,7 +32,8 @@ path_to transaction [] = []
 path_to transaction (e ∷ path) = if e.from == transaction then [] else e ∷ path_to transaction path
 
 abbrev pub extended : List Edge → Edge → List Edge
-extended path next = if is_order next && ends_in_order path then last_joined path next else path ++ next ∷ []
+extended path next =
+    if is_order next && ends_in_order path then last_joined path next else path ++ next ∷ []
 
 -- the path, one edge further along the walk
 abbrev pub followed : List Edge → Edge → List Edge
@@ -44,7 +46,8 @@ walked path walk = fold followed path walk
 -- Each transaction of the path has its place: the first has this one, and so on.
 abbrev pub HavePlaces : (ℕ → Option ℕ) → ℕ → List Edge → Type 0
 HavePlaces place_of first [] = ⊤
-HavePlaces place_of first (e ∷ path) = (place_of e.from ≡ Some first) × HavePlaces place_of (first + 1) path
+HavePlaces place_of first (e ∷ path) =
+    (place_of e.from ≡ Some first) × HavePlaces place_of (first + 1) path
 
 -- The map has the place of each transaction of the path, and may have some of others.
 abbrev pub KnowsPlaces : {S : Type 0} → HashMap ℕ ℕ S → List Edge → Type 0
@@ -54,7 +57,9 @@ KnowsPlaces places path = HavePlaces (get nat_eq places) 0 path
 
 -- the place of an edge that the walk cannot do without: an rw if it has one, else a wr, else a ww
 abbrev pub needed_place : List Edge → Option ℕ
-needed_place walk = option_or (position_from is_rw 0 walk) (option_or (position_from is_wr 0 walk) (position_from is_ww 0 walk))
+needed_place walk =
+    option_or (position_from is_rw 0 walk)
+    (option_or (position_from is_wr 0 walk) (position_from is_ww 0 walk))
 
 -- the place behind it
 abbrev pub place_behind : List Edge → ℕ

@@ -25,7 +25,8 @@ wr_edges h from number = reader_edges h.txns from (version_at h.table number)
 
 -- the same, to those that install a version behind it
 abbrev pub ww_edges : History → (from number : ℕ) → List Edge
-ww_edges h from number = later_edges h.txns from (ww (version_at h.table number)) (version_at h.table number)
+ww_edges h from number =
+    later_edges h.txns from (ww (version_at h.table number)) (version_at h.table number)
 
 -- out of a version that the transaction `from` reads, to those that install a version behind it
 abbrev pub rw_edges : History → (from number : ℕ) → List Edge
@@ -35,11 +36,13 @@ rw_edges h from number = read_edges h.txns from (version_at h.table number)
 
 -- by the versions that it installs
 abbrev pub edges_of_installs : History → (from place : ℕ) → List Edge
-edges_of_installs h from place = flat_map (written_edges h.txns from) (installed_by (txn_at h.txns place))
+edges_of_installs h from place =
+    flat_map (written_edges h.txns from) (installed_by (txn_at h.txns place))
 
 -- by those that it reads, each once
 abbrev pub edges_of_reads : History → (from place : ℕ) → List Edge
-edges_of_reads h from place = flat_map (read_edges h.txns from) (each_once (read_by (txn_at h.txns place)))
+edges_of_reads h from place =
+    flat_map (read_edges h.txns from) (each_once (read_by (txn_at h.txns place)))
 
 -- by both; none where it is no node
 abbrev pub edges_at : History → (place : ℕ) → List Edge

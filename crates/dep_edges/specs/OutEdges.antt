@@ -15,7 +15,9 @@ NoneTwice (e ∷ es) = ¬ Contains es e × NoneTwice es
 
 -- exactly the dependency edges of the history that leave the transaction, none of them twice
 pub record AreEdgesFrom (ts : List Transaction) (t : Transaction) (es : List Edge) : Type 0 where
-  pub exactly : (e : Edge) → Contains es e ↔ (Contains (dependency_edges ts) e × (e.from ≡ t.invocation))
+  pub exactly :
+      (e : Edge)
+      → Contains es e ↔ (Contains (dependency_edges ts) e × (e.from ≡ t.invocation))
   pub once : NoneTwice es
 
 -- these, behind what was there before
@@ -26,19 +28,24 @@ AddsEdgesFrom ts t before after = (es : List Edge) × (after ≡ before ++ es) �
 
 -- an edge from the transaction of this index, unless it leads back to it, and where it leads to a node
 abbrev pub edge_to : ℕ → Transaction → Label → List Edge
-edge_to from u label = if from == u.invocation then [] else record { from = from; to = u.invocation; label = label } ∷ []
+edge_to from u label =
+    if from == u.invocation
+    then []
+    else record { from = from; to = u.invocation; label = label } ∷ []
 
 abbrev pub node_edge : List Transaction → ℕ → Transaction → Label → List Edge
 node_edge ts from u label = if is_node ts u then edge_to from u label else []
 
 -- to each node that reads the version
 abbrev pub reader_edges : List Transaction → ℕ → Version → List Edge
-reader_edges ts from v = flat_map (λ (u : Transaction). if reads u v then node_edge ts from u (wr v) else []) ts
+reader_edges ts from v =
+    flat_map (λ (u : Transaction). if reads u v then node_edge ts from u (wr v) else []) ts
 
 -- to each node that installs a version behind this one, labelled by that version
 abbrev pub later_edges : List Transaction → ℕ → (Version → Label) → Version → List Edge
 later_edges ts from label v =
-    flat_map (λ (u : Transaction). flat_map (λ w. node_edge ts from u (label w)) (installs_behind u v)) ts
+    flat_map
+    (λ (u : Transaction). flat_map (λ w. node_edge ts from u (label w)) (installs_behind u v)) ts
 
 -- out of a version that the transaction installs, and out of one that it reads
 abbrev pub written_edges : List Transaction → ℕ → Version → List Edge
@@ -54,7 +61,8 @@ each_once (v ∷ vs) = if has_version vs v then each_once vs else v ∷ each_onc
 
 abbrev pub edges_out : List Transaction → Transaction → List Edge
 edges_out ts t =
-    flat_map (written_edges ts t.invocation) (installed_by t) ++ flat_map (read_edges ts t.invocation) (each_once (read_by t))
+    flat_map (written_edges ts t.invocation) (installed_by t)
+    ++ flat_map (read_edges ts t.invocation) (each_once (read_by t))
 
 abbrev pub leaving : List Transaction → Transaction → List Edge
 leaving ts t = if is_node ts t then edges_out ts t else []

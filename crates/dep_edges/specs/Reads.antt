@@ -15,14 +15,16 @@ failed_one ts (Some w) = alone_if (is_failed (txn_at ts w.txn)) (txn_at ts w.txn
 
 abbrev pub other_over : List Transaction → (reader : Transaction) → Option Writer → List Transaction
 other_over ts reader None = []
-other_over ts reader (Some w) = alone_if (not ((txn_at ts w.txn).invocation == reader.invocation) && w.over) (txn_at ts w.txn)
+other_over ts reader (Some w) =
+    alone_if (not ((txn_at ts w.txn).invocation == reader.invocation) && w.over) (txn_at ts w.txn)
 
 -- whether a read of the version is aborted, or intermediate, is decided by this transaction that wrote it
 abbrev pub DecidesAborted : List Transaction → Version → Option Writer → Type 0
 DecidesAborted ts v writer = aborted_writers ts v ≡ failed_one ts writer
 
 abbrev pub DecidesIntermediate : List Transaction → Version → Option Writer → Type 0
-DecidesIntermediate ts v writer = (reader : Transaction) → intermediate_writers ts reader v ≡ other_over ts reader writer
+DecidesIntermediate ts v writer =
+    (reader : Transaction) → intermediate_writers ts reader v ≡ other_over ts reader writer
 
 -- those of one transaction
 abbrev pub aborted_in : List Transaction → Transaction → List BadRead

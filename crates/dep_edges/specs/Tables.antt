@@ -17,7 +17,8 @@ IsNumber table number = number < length table.versions
 -- the transaction at a place
 abbrev pub txn_at : List Transaction → ℕ → Transaction
 txn_at ts place =
-    unwrap_or (slice_get ts place) (record { process = 0; invocation = 0; completion = None; status = Open; mops = [] })
+    unwrap_or (slice_get ts place)
+    (record { process = 0; invocation = 0; completion = None; status = Open; mops = [] })
 
 -- the version of a number
 abbrev pub version_at : Table → ℕ → Version
@@ -29,7 +30,12 @@ IsWritten table number = IsSome (version_at table number).value
 
 -- no version has two numbers
 abbrev pub AreNamedOnce : Table → Type 0
-AreNamedOnce table = (m n : ℕ) → IsNumber table m → IsNumber table n → version_at table m ≡ version_at table n → m ≡ n
+AreNamedOnce table =
+    (m n : ℕ)
+    → IsNumber table m
+    → IsNumber table n
+    → version_at table m ≡ version_at table n
+    → m ≡ n
 
 -- a transaction that wrote a version, if there is one
 abbrev pub IsWriterPlace : List Transaction → Option Writer → Type 0
@@ -40,7 +46,8 @@ abbrev pub later_in : Table → Follower → ℕ × Version
 later_in table f = (f.txn, version_at table f.version)
 
 -- a transaction installs a version behind this one: of the same key, and not nil
-pub record IsBehind (ts : List Transaction) (table : Table) (v : Version) (f : Follower) : Type 0 where
+pub record IsBehind (ts : List Transaction) (table : Table) (v : Version)
+    (f : Follower) : Type 0 where
   pub place : IsPlace ts f.txn
   pub number : IsNumber table f.version
   pub key : (version_at table f.version).key ≡ v.key
@@ -51,7 +58,8 @@ pub record IsBehind (ts : List Transaction) (table : Table) (v : Version) (f : F
 -- marks with that of a version's writer, if the version was read and the writer didn't fail
 abbrev pub marked_by : List Transaction → Option Writer → (was_read : Bool) → List Bool → List Bool
 marked_by ts None was_read marks = marks
-marked_by ts (Some w) was_read marks = if was_read && not (is_failed (txn_at ts w.txn)) then slice_set marks w.txn true else marks
+marked_by ts (Some w) was_read marks =
+    if was_read && not (is_failed (txn_at ts w.txn)) then slice_set marks w.txn true else marks
 
 abbrev pub marked : List Transaction → List Bool → Version → List Bool
 marked ts marks v = marked_by ts (writer_of ts v) (not (length (readers_of ts v) == 0)) marks

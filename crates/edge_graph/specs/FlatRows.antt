@@ -28,7 +28,11 @@ led_to All row = row.rw ++ (row.wr ++ row.ww)
 
 abbrev pub row_in : List ℕ → Span → Row
 row_in items s =
-    record { rw = slice_range items s.start s.wr; wr = slice_range items s.wr s.ww; ww = slice_range items s.ww s.end }
+    record {
+      rw = slice_range items s.start s.wr;
+      wr = slice_range items s.wr s.ww;
+      ww = slice_range items s.ww s.end;
+    }
 
 pub record IsSpanIn (items : List ℕ) (s : Span) : Type 0 where
   pub wr : s.start ≤ s.wr

@@ -10,7 +10,8 @@ use Rattle.edge_graph.specs.declared.rows.Span.{Span}
 
 -- the places of the nodes that install a version behind this one
 abbrev pub nodes_behind : List Transaction → Version → List ℕ
-nodes_behind ts v = filter (λ place. is_node ts (txn_at ts place)) (map (λ p. p.0) (followers_of ts v))
+nodes_behind ts v =
+    filter (λ place. is_node ts (txn_at ts place)) (map (λ p. p.0) (followers_of ts v))
 
 -- the places of the nodes that install a version behind the one with this number
 abbrev pub nodes_of : History → (number : ℕ) → List ℕ
@@ -22,7 +23,8 @@ others places place = filter (λ u. not (u == place)) places
 
 -- the places of the other transactions that read a version which this one installs
 abbrev pub readers_behind : List Transaction → ℕ → List ℕ
-readers_behind ts place = flat_map (λ v. others (readers_of ts v) place) (installed_by (txn_at ts place))
+readers_behind ts place =
+    flat_map (λ v. others (readers_of ts v) place) (installed_by (txn_at ts place))
 
 -- the places of the nodes that install a version behind one which this transaction installs
 abbrev pub writers_behind : List Transaction → ℕ → List ℕ
@@ -32,14 +34,20 @@ abbrev pub if_node : List Transaction → ℕ → List ℕ → List ℕ
 if_node ts place places = if is_node ts (txn_at ts place) then places else []
 
 -- these are the vertices of versions
-abbrev pub AreVersionVertices : List Transaction → Table → List Version → (vertices : List ℕ) → Type 0
+abbrev pub AreVersionVertices : List Transaction → Table → List Version → (vertices : List ℕ)
+    → Type 0
 AreVersionVertices ts table vs vertices =
-    (numbers : List ℕ) × (vertices ≡ map (λ k. length ts + k) numbers) × (map (version_at table) numbers ≡ vs) × All (IsNumber table) numbers
+    (numbers : List ℕ)
+    × (vertices ≡ map (λ k. length ts + k) numbers)
+    × (map (version_at table) numbers ≡ vs)
+    × All (IsNumber table) numbers
 
 -- those of the versions that the transaction at the place reads, behind what was there before
 abbrev pub AddsReads : History → (place : ℕ) → (before after : List ℕ) → Type 0
 AddsReads h place before after =
-    (vertices : List ℕ) × (after ≡ before ++ vertices) × AreVersionVertices h.txns h.table (read_by (txn_at h.txns place)) vertices
+    (vertices : List ℕ)
+    × (after ≡ before ++ vertices)
+    × AreVersionVertices h.txns h.table (read_by (txn_at h.txns place)) vertices
 
 -- a transaction leads to the versions that it reads, to who reads what it installs, and to who installs a version behind that
 pub record IsTxnRow (ts : List Transaction) (table : Table) (place : ℕ) (row : Row) : Type 0 where
@@ -49,7 +57,8 @@ pub record IsTxnRow (ts : List Transaction) (table : Table) (place : ℕ) (row :
 
 -- such a row, behind what was there before
 abbrev pub AddsTxnRow : History → (place : ℕ) → (before after : List ℕ) → Span → Type 0
-AddsTxnRow h place before after s = (row : Row) × IsTxnRow h.txns h.table place row × IsRowBehind before after s row
+AddsTxnRow h place before after s =
+    (row : Row) × IsTxnRow h.txns h.table place row × IsRowBehind before after s row
 
 -- a version leads to who installs a version behind it
 abbrev pub version_row : List Transaction → Version → Row
@@ -57,17 +66,23 @@ version_row ts v = record { rw = nodes_behind ts v; wr = []; ww = [] }
 
 -- such a row, behind what was there before
 abbrev pub AddsVersionRow : History → (number : ℕ) → (before after : List ℕ) → Span → Type 0
-AddsVersionRow h number before after s = IsRowBehind before after s (version_row h.txns (version_at h.table number))
+AddsVersionRow h number before after s =
+    IsRowBehind before after s (version_row h.txns (version_at h.table number))
 
 -- the rows of the first transactions
-pub record AreFirstTxnRows (ts : List Transaction) (table : Table) (places : ℕ) (rows : List Row) : Type 0 where
+pub record AreFirstTxnRows (ts : List Transaction) (table : Table) (places : ℕ)
+    (rows : List Row) : Type 0 where
   pub count : length rows ≡ places
   pub each : (place : ℕ) → place < places → IsTxnRow ts table place (row_at rows place)
 
 -- the rows of the first versions
-pub record AreFirstVersionRows (ts : List Transaction) (table : Table) (numbers : ℕ) (rows : List Row) : Type 0 where
+pub record AreFirstVersionRows (ts : List Transaction) (table : Table) (numbers : ℕ)
+    (rows : List Row) : Type 0 where
   pub count : length rows ≡ numbers
-  pub each : (number : ℕ) → number < numbers → row_at rows number ≡ version_row ts (version_at table number)
+  pub each :
+      (number : ℕ)
+      → number < numbers
+      → row_at rows number ≡ version_row ts (version_at table number)
 
 -- the rows of all transactions
 abbrev pub AreTxnRows : History → (rows : List Row) → Type 0
@@ -81,4 +96,7 @@ AreVersionRows h rows = AreFirstVersionRows h.txns h.table (length h.table.versi
 pub record AreRows (ts : List Transaction) (table : Table) (rows : List Row) : Type 0 where
   pub count : length rows ≡ length ts + length table.versions
   pub txns : (place : ℕ) → place < length ts → IsTxnRow ts table place (row_at rows place)
-  pub versions : (number : ℕ) → number < length table.versions → row_at rows (length ts + number) ≡ version_row ts (version_at table number)
+  pub versions :
+      (number : ℕ)
+      → number < length table.versions
+      → row_at rows (length ts + number) ≡ version_row ts (version_at table number)

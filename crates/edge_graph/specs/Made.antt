@@ -17,7 +17,8 @@ use Rattle.edge_graph.specs.Successors.{Turned, AreTurned}
 use Rattle.edge_graph.specs.declared.types.Dependencies.{Dependencies}
 use Rattle.edge_graph.specs.declared.types.Kinds.{Kinds}
 
-pub record IsMade (deps : List Transaction) (history : History) (order : List Before) (laid_out : List Row) (turned : Turned) : Type 0 where
+pub record IsMade (deps : List Transaction) (history : History) (order : List Before)
+    (laid_out : List Row) (turned : Turned) : Type 0 where
   pub txns : deps ≡ history.txns
   pub kept : AreOfHistory history.txns
   pub versions : IsTableOf history.txns history.table
@@ -26,14 +27,18 @@ pub record IsMade (deps : List Transaction) (history : History) (order : List Be
   pub orders : AreTurned history.txns order turned
 
 abbrev pub parts_of : History → List Before → Parts
-parts_of history order = record { txns = history.txns; order = order; versions = history.table.versions }
+parts_of history order =
+    record { txns = history.txns; order = order; versions = history.table.versions }
 
 -- ---- dependency edges
 
 -- those of the kinds that leave the transaction at the place, behind what was there before
-abbrev pub AddsDependencies : List Transaction → Kinds → (place : ℕ) → (before after : List Edge) → Type 0
+abbrev pub AddsDependencies : List Transaction → Kinds → (place : ℕ) → (before after : List Edge)
+    → Type 0
 AddsDependencies ts kinds place before after =
-    (es : List Edge) × (after ≡ before ++ filter (λ e. includes kinds e.label) es) × out_edges.AreEdgesFrom ts (txn_at ts place) es
+    (es : List Edge)
+    × (after ≡ before ++ filter (λ e. includes kinds e.label) es)
+    × out_edges.AreEdgesFrom ts (txn_at ts place) es
 
 -- ---- order edges
 
@@ -47,7 +52,8 @@ order_edges_to level t u = map (edge t u) (order_labels_to level t u.invocation)
 
 -- from a transaction to those at the places
 abbrev pub order_edges_over : List Transaction → Level → (from : ℕ) → List ℕ → List Edge
-order_edges_over ts level from places = flat_map (λ place. order_edges_to level (txn_at ts from) (txn_at ts place)) places
+order_edges_over ts level from places =
+    flat_map (λ place. order_edges_to level (txn_at ts from) (txn_at ts place)) places
 
 -- ---- arcs
 
@@ -55,7 +61,8 @@ order_edges_over ts level from places = flat_map (λ place. order_edges_to level
 abbrev pub joined : Dependencies → List Row → List (List ℕ) → List (List ℕ)
 joined dependencies [] lists = []
 joined dependencies (row ∷ rows) [] = led_to dependencies row ∷ joined dependencies rows []
-joined dependencies (row ∷ rows) (list ∷ lists) = (led_to dependencies row ++ list) ∷ joined dependencies rows lists
+joined dependencies (row ∷ rows) (list ∷ lists) =
+    (led_to dependencies row ++ list) ∷ joined dependencies rows lists
 
 abbrev pub AreWithin : List (List ℕ) → Type 0
 AreWithin lists = All (All (λ w. w < length lists)) lists

@@ -22,7 +22,10 @@ pub record Parts : Type 0 where
 -- what comes before each of the transactions: by order edges alone, none of them twice
 pub record IsOrderOf (ts : List Transaction) (order : List Before) : Type 0 where
   pub each : names order ≡ map name_of ts
-  pub edges : (level : Level) (e : Edge) → Contains (edges_of level order) e → Contains (all_order_edges level ts) e
+  pub edges :
+      (level : Level) (e : Edge)
+      → Contains (edges_of level order) e
+      → Contains (all_order_edges level ts) e
   pub once : All predecessors.NoneTwice order
 
 pub record IsMadeOf (ts : List Transaction) (before : List Before) (g : Parts) : Type 0 where
@@ -37,13 +40,15 @@ abbrev pub leads_to_one : List Transaction → Edge → Bool
 leads_to_one ts e = list_any (λ (u : Transaction). e.to == u.invocation) ts
 
 abbrev pub edges_in : Parts → Level → List Edge
-edges_in g level = dependency_edges g.txns ++ filter (leads_to_one (nodes g.txns)) (edges_of level g.order)
+edges_in g level =
+    dependency_edges g.txns ++ filter (leads_to_one (nodes g.txns)) (edges_of level g.order)
 
 -- the same, said of one edge
 
 abbrev pub HasEdge : Parts → Level → Edge → Type 0
 HasEdge g level e =
-    Contains (dependency_edges g.txns) e ⊎ (Contains (edges_of level g.order) e × LeadsToOne (nodes g.txns) e)
+    Contains (dependency_edges g.txns) e
+    ⊎ (Contains (edges_of level g.order) e × LeadsToOne (nodes g.txns) e)
 
 -- the edge leaves the transaction at the place
 abbrev pub Leaves : Parts → ℕ → Edge → Type 0
@@ -51,9 +56,13 @@ Leaves g place e = (t : Transaction) × (slice_get g.txns place ≡ Some t) × (
 
 -- exactly the graph's edges of the kinds that leave the transaction, none of them twice
 pub record AreEdgesFrom (g : Parts) (kinds : Kinds) (place : ℕ) (es : List Edge) : Type 0 where
-  pub exactly : (e : Edge) → Contains es e ↔ (HasEdge g kinds.level e × IsTrue (includes kinds e.label) × Leaves g place e)
+  pub exactly :
+      (e : Edge)
+      → Contains es e
+      ↔ (HasEdge g kinds.level e × IsTrue (includes kinds e.label) × Leaves g place e)
   pub once : NoneTwice es
 
 -- these, behind what was there before
 abbrev pub AddsEdgesFrom : Parts → Kinds → (place : ℕ) → (before after : List Edge) → Type 0
-AddsEdgesFrom g kinds place before after = (es : List Edge) × (after ≡ before ++ es) × AreEdgesFrom g kinds place es
+AddsEdgesFrom g kinds place before after =
+    (es : List Edge) × (after ≡ before ++ es) × AreEdgesFrom g kinds place es

@@ -19,16 +19,23 @@ pub data Vertex : Type 0 where
 -- the transactions by place, and behind them the versions by number
 abbrev pub IsVertex : Parts → ℕ → Vertex → Type 0
 IsVertex g vertex (txn t) = slice_get g.txns vertex ≡ Some t
-IsVertex g vertex (version v) = (number : ℕ) × (vertex ≡ length g.txns + number) × (slice_get g.versions number ≡ Some v)
+IsVertex g vertex (version v) =
+    (number : ℕ) × (vertex ≡ length g.txns + number) × (slice_get g.versions number ≡ Some v)
 
 -- the transaction is a node that installs a version behind this one
 abbrev pub Follows : List Transaction → Version → Transaction → Type 0
-Follows ts v u = Contains (nodes ts) u × (w : Version) × Contains (version_pairs ts) (pair v w) × IsTrue (installs u w)
+Follows ts v u =
+    Contains (nodes ts) u
+    × (w : Version)
+    × Contains (version_pairs ts) (pair v w)
+    × IsTrue (installs u w)
 
 -- some edge of the kinds other than rw joins the transactions
 abbrev pub LeadsDirectly : Parts → Kinds → Transaction → Transaction → Type 0
 LeadsDirectly g kinds t u =
-    (label : Label) × HasEdge g kinds.level (edge t u label) × IsTrue (includes_directly kinds label)
+    (label : Label)
+    × HasEdge g kinds.level (edge t u label)
+    × IsTrue (includes_directly kinds label)
 
 abbrev pub LeadsTo : Parts → Kinds → Vertex → Vertex → Type 0
 LeadsTo g kinds (txn t) (txn u) = LeadsDirectly g kinds t u
@@ -38,7 +45,8 @@ LeadsTo g kinds (version v) (version w) = ⊥
 
 -- the vertices at two numbers, of which the first leads to the second
 abbrev pub IsArc : Parts → Kinds → ℕ → ℕ → Type 0
-IsArc g kinds v w = (x : Vertex) × (y : Vertex) × IsVertex g v x × IsVertex g w y × LeadsTo g kinds x y
+IsArc g kinds v w =
+    (x : Vertex) × (y : Vertex) × IsVertex g v x × IsVertex g w y × LeadsTo g kinds x y
 
 -- the graph in which each vertex has these successors
 abbrev pub graph_by : List (List ℕ) → Graph
@@ -51,13 +59,24 @@ pub record AreArcs (g : Parts) (kinds : Kinds) (lists : List (List ℕ)) : Type 
 
 -- some rw edge joins the transactions
 abbrev pub HasRw : List Transaction → Transaction → Transaction → Type 0
-HasRw ts t u = (earlier : Version) × (later : Version) × Contains (dependency_edges ts) (edge t u (rw earlier later))
+HasRw ts t u =
+    (earlier : Version)
+    × (later : Version)
+    × Contains (dependency_edges ts) (edge t u (rw earlier later))
 
 -- the one reads a version and the other one, another transaction, installs one behind it
 abbrev pub LeadsByVersion : Parts → Transaction → Transaction → Type 0
 LeadsByVersion g t u =
-    ¬ (t.invocation ≡ u.invocation) × (v : Version) × Contains g.versions v × IsTrue (reads t v) × Follows g.txns v u
+    ¬ (t.invocation ≡ u.invocation)
+    × (v : Version)
+    × Contains g.versions v
+    × IsTrue (reads t v)
+    × Follows g.txns v u
 
 -- some rw edge joins two transactions exactly where one of the versions leads from the one to the other
 abbrev pub RwByVersions : Parts → Type 0
-RwByVersions g = (t u : Transaction) → Contains g.txns t → Contains g.txns u → HasRw g.txns t u ↔ LeadsByVersion g t u
+RwByVersions g =
+    (t u : Transaction)
+    → Contains g.txns t
+    → Contains g.txns u
+    → HasRw g.txns t u ↔ LeadsByVersion g t u

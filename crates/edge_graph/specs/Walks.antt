@@ -57,11 +57,14 @@ pub record IsWayByVersion (g : Parts) (kinds : Kinds) (from version to : ℕ) : 
 
 -- the edge's ends have such an arc, or such a way, by these dependencies alone
 abbrev pub HasDirectArc : Parts → Dependencies → Edge → Type 0
-HasDirectArc g d e = (from to : ℕ) × LeadsBetween g from to e × IsDirectArc g (kinds_of d Plain) from to
+HasDirectArc g d e =
+    (from to : ℕ) × LeadsBetween g from to e × IsDirectArc g (kinds_of d Plain) from to
 
 abbrev pub HasWayByVersion : Parts → Dependencies → Edge → Type 0
 HasWayByVersion g d e =
-    (from version to : ℕ) × LeadsBetween g from to e × IsWayByVersion g (kinds_of d Plain) from version to
+    (from version to : ℕ)
+    × LeadsBetween g from to e
+    × IsWayByVersion g (kinds_of d Plain) from version to
 
 -- ---- walks
 
@@ -86,4 +89,5 @@ IsTxnWalk g kinds walk = (from to : ℕ) × IsWalkBetween g kinds from to walk
 
 -- edges of the kinds, from the walk's first transaction to its last one
 abbrev pub AreEdgesAlong : Parts → Kinds → (walk : List ℕ) → List Edge → Type 0
-AreEdgesAlong g kinds walk es = AreEdgesBetween g kinds (slice_index walk 0) (slice_index walk (length walk - 1)) es
+AreEdgesAlong g kinds walk es =
+    AreEdgesBetween g kinds (slice_index walk 0) (slice_index walk (length walk - 1)) es

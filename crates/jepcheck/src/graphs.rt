@@ -37,7 +37,10 @@ impl Lists {
 }
 
 impl Arcs for Lists {
-    ghost graph = { λ graph. record { count = length graph.lists.items; successors = λ v. slice_index_or (map (λ (list : _). list.items) graph.lists.items) v [] } };
+    ghost graph = { λ graph. record {
+      count = length graph.lists.items;
+      successors = λ v. slice_index_or (map (λ (list : _). list.items) graph.lists.items) v [];
+    } };
 
     fn vertices(&self) -> usize {
         self.lists.len()

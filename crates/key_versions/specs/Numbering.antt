@@ -14,7 +14,8 @@ key_at keys number = get_or keys number (integer (pos 0))
 
 -- the version of a key and a value with these numbers
 abbrev pub version_by : List Atom → List Atom → ℕ × Option ℕ → Version
-version_by keys values p = version_with (key_at keys p.0) (option_map (λ m. get_or values m (integer (pos 0))) p.1)
+version_by keys values p =
+    version_with (key_at keys p.0) (option_map (λ m. get_or values m (integer (pos 0))) p.1)
 
 abbrev pub versions_in : List Atom → List Atom → List (ℕ × Option ℕ) → List Version
 versions_in keys values pairs = map (version_by keys values) pairs
@@ -28,7 +29,8 @@ abbrev pub IsInRange : List Atom → List Atom → ℕ × Option ℕ → Type 0
 IsInRange keys values p = (p.0 < length keys) × IsBelow (length values) p.1
 
 abbrev pub AreInRange : List Atom → List Atom → List (ℕ × Option ℕ) → Type 0
-AreInRange keys values pairs = (i : ℕ) (p : ℕ × Option ℕ) → slice_get pairs i ≡ Some p → IsInRange keys values p
+AreInRange keys values pairs =
+    (i : ℕ) (p : ℕ × Option ℕ) → slice_get pairs i ≡ Some p → IsInRange keys values p
 
 -- numbered keys and values, the versions by the numbers of theirs, and the nil version of each key
 pub record Numbers : Type 0 where
@@ -37,12 +39,16 @@ pub record Numbers : Type 0 where
   pub pairs : List (ℕ × Option ℕ)
   pub nils : List ℕ
 
-pub record IsNumbering (keys values : List Atom) (pairs : List (ℕ × Option ℕ)) (nils : List ℕ) : Type 0 where
+pub record IsNumbering (keys values : List Atom) (pairs : List (ℕ × Option ℕ))
+    (nils : List ℕ) : Type 0 where
   pub keys_numbered : AreNumbered atom_eq keys
   pub values_numbered : AreNumbered atom_eq values
   pub pairs_numbered : AreNumbered pair_eq pairs
   pub in_range : AreInRange keys values pairs
-  pub nils_numbered : (k : ℕ) → k < length keys → number_in pair_eq (k, None) pairs ≡ slice_get nils k
+  pub nils_numbered :
+      (k : ℕ)
+      → k < length keys
+      → number_in pair_eq (k, None) pairs ≡ slice_get nils k
   pub nil_of_each : length nils ≡ length keys
 
 abbrev pub versions_of : Numbers → List Version
@@ -54,9 +60,11 @@ with_versions versions vs = fold (with_item version_eq) versions vs
 
 -- the numbers of a version and of the nil version of its key
 abbrev pub IsAccess : List Version → Version → Access → Type 0
-IsAccess versions v a = (slice_get versions a.nil ≡ Some (nil_of v.key)) × (slice_get versions a.version ≡ Some v)
+IsAccess versions v a =
+    (slice_get versions a.nil ≡ Some (nil_of v.key)) × (slice_get versions a.version ≡ Some v)
 
 abbrev pub AreAccesses : List Version → List Version → List Access → Type 0
 AreAccesses versions [] [] = ⊤
-AreAccesses versions (v ∷ vs) (a ∷ accesses) = IsAccess versions v a × AreAccesses versions vs accesses
+AreAccesses versions (v ∷ vs) (a ∷ accesses) =
+    IsAccess versions v a × AreAccesses versions vs accesses
 AreAccesses versions vs accesses = ⊥

@@ -21,4 +21,9 @@ AreOfVersions ws readers followers =
 abbrev pub known_from : ℕ → List Written → List (ℕ × ℕ) → List (ℕ × Follower) → List Known
 known_from first [] readers followers = []
 known_from first (w ∷ ws) readers followers =
-    record { writer = writer_in w; readers = group first readers; followers = group first followers } ∷ known_from (first + 1) ws readers followers
+    record {
+      writer = writer_in w;
+      readers = group first readers;
+      followers = group first followers;
+    }
+    ∷ known_from (first + 1) ws readers followers

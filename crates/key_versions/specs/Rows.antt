@@ -33,7 +33,12 @@ change f (suc n) (x ∷ xs) = x ∷ change f n xs
 -- ---- writes
 
 abbrev pub with_writer : Writer → Known → Known
-with_writer w known = record { writer = option_or known.writer (Some w); readers = known.readers; followers = known.followers }
+with_writer w known =
+    record {
+      writer = option_or known.writer (Some w);
+      readers = known.readers;
+      followers = known.followers;
+    }
 
 -- whether one of them is of the key with this nil version
 abbrev pub is_of_key : ℕ → Access → Bool
@@ -50,7 +55,9 @@ lasts (w ∷ ws) = if has_nil w.nil ws then lasts ws else w ∷ lasts ws
 -- the rows after the writes of a transaction
 abbrev pub written_rows : ℕ → List Known → List Access → List Known
 written_rows place rows [] = rows
-written_rows place rows (w ∷ ws) = written_rows place (change (with_writer (record { txn = place; over = has_nil w.nil ws })) w.version rows) ws
+written_rows place rows (w ∷ ws) =
+    let writer = record { txn = place; over = has_nil w.nil ws } in
+    written_rows place (change (with_writer writer) w.version rows) ws
 
 -- ---- installs
 
@@ -58,12 +65,14 @@ abbrev pub follower : ℕ → Access → Follower
 follower place access = record { txn = place; version = access.version }
 
 abbrev pub with_follower : Follower → Known → Known
-with_follower f known = record { writer = known.writer; readers = known.readers; followers = known.followers ++ f ∷ [] }
+with_follower f known =
+    record { writer = known.writer; readers = known.readers; followers = known.followers ++ f ∷ [] }
 
 -- the rows after the installs of a transaction, each of which follows the nil version of its key
 abbrev pub installed_rows : ℕ → List Known → List Access → List Known
 installed_rows place rows [] = rows
-installed_rows place rows (w ∷ ws) = installed_rows place (change (with_follower (follower place w)) w.nil rows) ws
+installed_rows place rows (w ∷ ws) =
+    installed_rows place (change (with_follower (follower place w)) w.nil rows) ws
 
 -- ---- reads
 
@@ -73,7 +82,12 @@ is_behind r w = (not (r.version == r.nil) && (w.nil == r.nil)) && not (w.version
 
 -- the transaction at the place is one reader more
 abbrev pub with_place : ℕ → Known → Known
-with_place place known = record { writer = known.writer; readers = known.readers ++ place ∷ []; followers = known.followers }
+with_place place known =
+    record {
+      writer = known.writer;
+      readers = known.readers ++ place ∷ [];
+      followers = known.followers;
+    }
 
 abbrev pub with_reader : ℕ → Access → List Access → Known → Known
 with_reader place r installs known =
@@ -87,10 +101,15 @@ abbrev pub has_number : ℕ → List Access → Bool
 has_number number accesses = list_any (λ (a : Access). a.version == number) accesses
 
 -- the rows after reads of a transaction, of which those before have been there
-abbrev pub read_rows : ℕ → List Access → List Known → (before : List Access) → List Access → List Known
+abbrev pub read_rows : ℕ → List Access → List Known → (before : List Access) → List Access
+    → List Known
 read_rows place installs rows before [] = rows
 read_rows place installs rows before (r ∷ rs) =
-    read_rows place installs (if has_number r.version before then rows else change (with_reader place r installs) r.version rows) (before ++ r ∷ []) rs
+    let next =
+    if has_number r.version before
+    then rows
+    else change (with_reader place r installs) r.version rows in
+    read_rows place installs next (before ++ r ∷ []) rs
 
 -- ---- a transaction
 
@@ -107,7 +126,10 @@ accessed reads writes = record { reads = numbers_of reads; installs = numbers_of
 
 -- the rows after a transaction
 abbrev pub rows_after : ℕ → List Access → List Access → List Known → List Known
-rows_after place reads writes rows = read_rows place (lasts writes) (installed_rows place (written_rows place rows writes) (lasts writes)) [] reads
+rows_after place reads writes rows =
+    let installs = lasts writes in
+    let written = written_rows place rows writes in
+    read_rows place installs (installed_rows place written installs) [] reads
 
 -- rows for so many versions
 abbrev pub grown : ℕ → List Known → List Known

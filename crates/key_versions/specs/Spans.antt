@@ -11,4 +11,7 @@ IsSpan n s = (s.reads ≤ s.installs) × (s.installs ≤ s.end) × (s.end ≤ n)
 -- what the transaction with this span reads and installs
 abbrev pub accessed_at : List ℕ → Span → Accessed
 accessed_at numbers s =
-    record { reads = between s.reads s.installs numbers; installs = between s.installs s.end numbers }
+    record {
+      reads = between s.reads s.installs numbers;
+      installs = between s.installs s.end numbers;
+    }

@@ -21,7 +21,8 @@ abbrev pub versions_at : List Version → List ℕ → List (Option Version)
 versions_at versions numbers = map (slice_get versions) numbers
 
 abbrev pub followers_at : List Version → List Follower → List (ℕ × Option Version)
-followers_at versions followers = map (λ (f : Follower). (f.txn, slice_get versions f.version)) followers
+followers_at versions followers =
+    map (λ (f : Follower). (f.txn, slice_get versions f.version)) followers
 
 -- The versions are those that the history names, no two of them equal. Of each one the table tells the writer, the readers and
 -- the followers, and of each transaction what it reads externally, if it is ok, and what it installs.
@@ -30,6 +31,9 @@ pub record IsTableOf (ts : List Transaction) (table : Table) : Type 0 where
   pub named : (v : Version) → has_version table.versions v ≡ is_named ts v
   pub writers : table.writers ≡ map (writer_of ts) table.versions
   pub readers : table.readers ≡ map (readers_of ts) table.versions
-  pub followers : map (followers_at table.versions) table.followers ≡ map (λ v. map (λ p. (p.0, Some p.1)) (followers_of ts v)) table.versions
+  pub followers :
+      map (followers_at table.versions) table.followers
+      ≡ map (λ v. map (λ p. (p.0, Some p.1)) (followers_of ts v)) table.versions
   pub reads : map (versions_at table.versions) table.reads ≡ map (λ t. map Some (read_by t)) ts
-  pub installs : map (versions_at table.versions) table.installs ≡ map (λ t. map Some (installed_by t)) ts
+  pub installs :
+      map (versions_at table.versions) table.installs ≡ map (λ t. map Some (installed_by t)) ts

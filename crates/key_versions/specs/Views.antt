@@ -21,7 +21,8 @@ table_by versions rows accesses =
     }
 
 -- the table that is put together
-abbrev pub table_of : List Version → List Written → List (List ℕ) → List (List Follower) → List Accessed → Table
+abbrev pub table_of : List Version → List Written → List (List ℕ) → List (List Follower)
+    → List Accessed → Table
 table_of versions writers readers followers accesses =
     record {
       versions = versions;
@@ -33,7 +34,9 @@ table_of versions writers readers followers accesses =
     }
 
 -- versions of numbered keys and values, and what is known of each version
-pub record AreVersions (keys values : List Atom) (pairs : List (ℕ × Option ℕ)) (writers : List Written) (readers : List (List ℕ)) (followers : List (List Follower)) : Type 0 where
+pub record AreVersions (keys values : List Atom) (pairs : List (ℕ × Option ℕ))
+    (writers : List Written) (readers : List (List ℕ))
+    (followers : List (List Follower)) : Type 0 where
   pub in_range : AreInRange keys values pairs
   pub writer_of_each : length writers ≡ length pairs
   pub readers_of_each : length readers ≡ length pairs

@@ -23,7 +23,11 @@ done_by kind process index invocation = []
 abbrev pub after : State → Operation → State
 after s e =
     if is_invoke e.kind
-    then record { index = s.index + 1; opened = λ p. if e.process == p then Some s.index else s.opened p; done = s.done }
+    then record {
+      index = s.index + 1;
+      opened = λ p. if e.process == p then Some s.index else s.opened p;
+      done = s.done;
+    }
     else record {
       index = s.index + 1;
       opened = λ p. if e.process == p then None else s.opened p;
@@ -40,6 +44,7 @@ abbrev pub event_of : OpKind → (process : ℕ) → List Mop → Operation
 event_of kind process mops = record { kind = kind; process = process; mops = mops }
 
 -- what is kept is the state after the events
-pub record IsStateOf (events : List Operation) (opened : ℕ → Option ℕ) (recent : List Predecessor) (last : ℕ → Option Predecessor) : Type 0 where
+pub record IsStateOf (events : List Operation) (opened : ℕ → Option ℕ) (recent : List Predecessor)
+    (last : ℕ → Option Predecessor) : Type 0 where
   pub invocations : (process : ℕ) → opened process ≡ (state_of events).opened process
   pub kept : AreKept (state_of events).done recent last

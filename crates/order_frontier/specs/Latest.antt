@@ -15,7 +15,12 @@ last_of moving process = option_to_list (value_of moving.last process)
 -- what comes before a transaction: the last one of its process, and in real time all that no later one has overtaken
 abbrev pub before_next : Moving → (process invocation : ℕ) → Before
 before_next moving process invocation =
-    record { process = process; invocation = invocation; in_process = last_of moving process; in_realtime = moving.recent.items }
+    record {
+      process = process;
+      invocation = invocation;
+      in_process = last_of moving process;
+      in_realtime = moving.recent.items;
+    }
 
 -- the same, as ranges: of what is listed for processes with the last one of its process behind it, and of those that were
 -- taken, as many as none has overtaken

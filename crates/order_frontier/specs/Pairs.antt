@@ -14,6 +14,7 @@ all_before done u =
     record {
       process = u.process;
       invocation = u.invocation;
-      in_process = map predecessor_of (filter (λ (d : Completed). is_earlier u d && (d.process == u.process)) done);
+      in_process = map predecessor_of
+          (filter (λ (d : Completed). is_earlier u d && (d.process == u.process)) done);
       in_realtime = map predecessor_of (filter (is_earlier u) done);
     }

@@ -19,13 +19,16 @@ pub record Before : Type 0 where
 -- the one at a place
 abbrev pub before_at : List Before → ℕ → Before
 before_at order place =
-    unwrap_or (slice_get order place) (record { process = 0; invocation = 0; in_process = []; in_realtime = [] })
+    unwrap_or (slice_get order place)
+    (record { process = 0; invocation = 0; in_process = []; in_realtime = [] })
 
 abbrev pub process_edge : (process invocation : ℕ) → Predecessor → Edge
-process_edge number invocation p = record { from = p.invocation; to = invocation; label = process number }
+process_edge number invocation p =
+    record { from = p.invocation; to = invocation; label = process number }
 
 abbrev pub realtime_edge : (invocation : ℕ) → Predecessor → Edge
-realtime_edge invocation p = record { from = p.invocation; to = invocation; label = realtime p.completion invocation }
+realtime_edge invocation p =
+    record { from = p.invocation; to = invocation; label = realtime p.completion invocation }
 
 -- the edges of the level from a transaction's predecessors to it
 abbrev pub edges_to : Level → Before → List Edge
@@ -38,7 +41,8 @@ edges_of level order = flat_map (edges_to level) order
 
 -- exactly these edges, at each level
 abbrev pub HasEdges : List Before → (Level → List Edge) → Type 0
-HasEdges order edges = (level : Level) (e : Edge) → Contains (edges_of level order) e ↔ Contains (edges level) e
+HasEdges order edges =
+    (level : Level) (e : Edge) → Contains (edges_of level order) e ↔ Contains (edges level) e
 
 -- all order edges of the transactions, or the thinned ones, as if every transaction were a node
 abbrev pub HasOrderEdges : List Transaction → List Before → Type 0
@@ -50,7 +54,9 @@ HasThinnedEdges ts order = HasEdges order (λ level. all_thinned_edges level ts)
 -- exactly the thinned edges to the one transaction
 abbrev pub HasThinned : List Transaction → Before → Type 0
 HasThinned ts u =
-    (level : Level) (e : Edge) → Contains (edges_to level u) e ↔ (Contains (all_thinned_edges level ts) e × (e.to ≡ u.invocation))
+    (level : Level) (e : Edge)
+    → Contains (edges_to level u) e
+    ↔ (Contains (all_thinned_edges level ts) e × (e.to ≡ u.invocation))
 
 abbrev pub AreDistinct : List Predecessor → Type 0
 AreDistinct ps = IsDistinct nat_eq (map (λ (p : Predecessor). p.invocation) ps)
@@ -81,4 +87,6 @@ is_passed ts t = list_any (λ v. is_ok v && is_ok_before t v) ts
 -- exactly the ok transactions that none has passed
 abbrev pub AreFrontier : List Transaction → List Predecessor → Type 0
 AreFrontier ts ps =
-    (p : Predecessor) → Contains ps p ↔ ((t : Transaction) × Contains ts t × IsAt t p × IsTrue (is_ok t) × IsFalse (is_passed ts t))
+    (p : Predecessor)
+    → Contains ps p
+    ↔ ((t : Transaction) × Contains ts t × IsAt t p × IsTrue (is_ok t) × IsFalse (is_passed ts t))

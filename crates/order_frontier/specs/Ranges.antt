@@ -13,7 +13,12 @@ between items s = slice_range items s.start s.end
 -- a transaction, with what comes before it in two lists: one for its process and one for real time
 abbrev pub before_in : List Predecessor → List Predecessor → Row → Before
 before_in own others r =
-    record { process = r.process; invocation = r.invocation; in_process = between own r.in_process; in_realtime = between others r.in_realtime }
+    record {
+      process = r.process;
+      invocation = r.invocation;
+      in_process = between own r.in_process;
+      in_realtime = between others r.in_realtime;
+    }
 
 pub record IsSpanOf (items : List Predecessor) (s : Span) : Type 0 where
   pub rising : s.start ≤ s.end
@@ -23,7 +28,8 @@ abbrev pub IsRowIn : List Predecessor → List Predecessor → Row → Type 0
 IsRowIn own others r = IsSpanOf own r.in_process × IsSpanOf others r.in_realtime
 
 -- rows in range, which say the thinned order of the transactions
-pub record AreThinnedRows (ts : List Transaction) (own others : List Predecessor) (rows : List Row) : Type 0 where
+pub record AreThinnedRows (ts : List Transaction) (own others : List Predecessor)
+    (rows : List Row) : Type 0 where
   pub ranges : All (IsRowIn own others) rows
   pub thinned : All (HasThinned ts) (map (before_in own others) rows)
   pub once : All NoneTwice (map (before_in own others) rows)

@@ -21,12 +21,15 @@ pub record Summary : Type 0 where
 
 pub record IsSummaryOf (events : List Operation) (s : Summary) : Type 0 where
   pub count : s.events ≡ length events
-  pub state : IsStateOf events (λ p. lookup (nat_eq p) s.opened) s.recent (λ p. lookup (nat_eq p) s.last)
+  pub state :
+      IsStateOf events (λ p. lookup (nat_eq p) s.opened) s.recent (λ p. lookup (nat_eq p) s.last)
 
 -- whatever the events, these and one more of the process
 abbrev pub IsNext : OpKind → (process : ℕ) → Summary → Summary → Type 0
 IsNext kind process s next =
-    (events : List Operation) (mops : List Mop) → IsSummaryOf events s → IsSummaryOf (events ++ event_of kind process mops ∷ []) next
+    (events : List Operation) (mops : List Mop)
+    → IsSummaryOf events s
+    → IsSummaryOf (events ++ event_of kind process mops ∷ []) next
 
 -- whatever the events, the same ones
 abbrev pub IsOfSame : Summary → Summary → Type 0
@@ -34,10 +37,12 @@ IsOfSame s other = (events : List Operation) → IsSummaryOf events s → IsSumm
 
 -- whatever the events, the ok transactions of these that none has passed
 abbrev pub AreFrontierOf : Summary → List Predecessor → Type 0
-AreFrontierOf s ps = (events : List Operation) → IsSummaryOf events s → AreFrontier (transactions_of events) ps
+AreFrontierOf s ps =
+    (events : List Operation) → IsSummaryOf events s → AreFrontier (transactions_of events) ps
 
 -- whatever the events, the thinned predecessors of a transaction that the process invokes next, each once
 abbrev pub AreThinnedNext : Summary → (process : ℕ) → Before → Type 0
 AreThinnedNext s process before =
     (events : List Operation) (mops : List Mop) → IsSummaryOf events s
-    → HasThinned (transactions_of (events ++ event_of kinds.Invoke process mops ∷ [])) before × NoneTwice before
+    → HasThinned (transactions_of (events ++ event_of kinds.Invoke process mops ∷ [])) before
+    × NoneTwice before

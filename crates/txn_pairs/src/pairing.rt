@@ -35,7 +35,8 @@ impl<'a> Model for Pairing<'a> {
 
     ghost view = { λ pairing. pairing.list.items };
 
-    ghost invariant = { λ pairing. (p : ℕ) → value_of pairing.places p ≡ open_place p pairing.list.items };
+    ghost invariant = { λ pairing.
+        (p : ℕ) → value_of pairing.places p ≡ open_place p pairing.list.items };
 }
 
 /// How an event of this kind completes a transaction; none where it begins one.

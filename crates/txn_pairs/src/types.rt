@@ -51,7 +51,13 @@ impl<'a> Model for Txn<'a> {
 
     ghost use Rattle.txn_pairs.specs.Endings.{ending_index, ending_status};
 
-    ghost view = { λ t. record { process = t.process; invocation = t.invocation; completion = ending_index t.ending; status = ending_status t.ending; mops = t.op.mops } };
+    ghost view = { λ t. record {
+      process = t.process;
+      invocation = t.invocation;
+      completion = ending_index t.ending;
+      status = ending_status t.ending;
+      mops = t.op.mops;
+    } };
 }
 
 impl<'a> Txn<'a> {

@@ -15,7 +15,8 @@ use Rattle.verdict.specs.declared.tables.Tables.{Tables}
 
 -- the thinned order of the transactions, with each predecessor once
 abbrev pub IsThinnedOrder : List Transaction → List Before → Type 0
-IsThinnedOrder ts order = HasThinnedEdges ts order × All NoneTwice order × (names order ≡ map name_of ts)
+IsThinnedOrder ts order =
+    HasThinnedEdges ts order × All NoneTwice order × (names order ≡ map name_of ts)
 
 -- what a verdict of the events is made from
 pub record AreTablesOf (events : List Operation) (tables : Tables) : Type 0 where
@@ -27,7 +28,9 @@ pub record AreTablesOf (events : List Operation) (tables : Tables) : Type 0 wher
 pub record IsThinned (g : Parts) : Type 0 where
   pub events : AreOfEvents g.txns
   pub edges :
-      (level : Level) (e : Edge) → Contains (edges_in g level) e ↔ Contains (dependency_edges g.txns ++ thinned_edges level g.txns) e
+      (level : Level) (e : Edge)
+      → Contains (edges_in g level) e
+      ↔ Contains (dependency_edges g.txns ++ thinned_edges level g.txns) e
 
 -- a closed walk that shows the phenomenon at the lowest level at which it is there, or nothing where it isn't
 abbrev pub IsLowest : Phenomenon → List Transaction → Option Finding → Type 0
@@ -37,5 +40,6 @@ IsLowest phenomenon ts (Some lowest) =
     × ((lower : Level) → height lower < height lowest.level → ¬ Has phenomenon lower ts)
 
 -- what is found of two phenomena
-abbrev pub AreFindingsOfTwo : (first second : Phenomenon) → List Transaction → Option Finding × Option Finding → Type 0
+abbrev pub AreFindingsOfTwo : (first second : Phenomenon) → List Transaction
+    → Option Finding × Option Finding → Type 0
 AreFindingsOfTwo first second ts found = IsFinding first ts found.0 × IsFinding second ts found.1

@@ -5,12 +5,14 @@ use Rattle.hist_types.specs.Devices.{CountsFailure}
 use Rattle.hist_types.specs.declared.device.Sink.{Ghosts}
 
 -- the sink took all these bytes
-pub record HasTaken {T : Type 0} (device : Ghosts T) (sink sink' : T) (bytes : List ℕ) : Type 0 where
+pub record HasTaken {T : Type 0} (device : Ghosts T) (sink sink' : T)
+    (bytes : List ℕ) : Type 0 where
   pub taken : Appends (device.contents sink) (device.contents sink') bytes
   pub no_failure : device.failures sink' ≡ device.failures sink
 
 -- the sink failed, and took a beginning of these bytes
-pub record HasFailedBehind {T : Type 0} (device : Ghosts T) (sink sink' : T) (bytes : List ℕ) : Type 0 where
+pub record HasFailedBehind {T : Type 0} (device : Ghosts T) (sink sink' : T)
+    (bytes : List ℕ) : Type 0 where
   pub count : ℕ
   pub taken : Appends (device.contents sink) (device.contents sink') (take count bytes)
   pub failed : CountsFailure (device.failures sink) (device.failures sink')

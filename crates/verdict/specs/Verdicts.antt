@@ -23,7 +23,8 @@ finding found GSingle = found.single
 finding found G2Item = found.item
 
 abbrev pub AreFindings : List Transaction → Findings → Type 0
-AreFindings ts found = (phenomenon : Phenomenon) → IsFinding phenomenon ts (finding found phenomenon)
+AreFindings ts found =
+    (phenomenon : Phenomenon) → IsFinding phenomenon ts (finding found phenomenon)
 
 abbrev pub no_findings : Findings
 no_findings = record { g0 = None; g1c = None; single = None; item = None }
