@@ -56,8 +56,8 @@ lasts (w ∷ ws) = if has_nil w.nil ws then lasts ws else w ∷ lasts ws
 abbrev pub written_rows : ℕ → List Known → List Access → List Known
 written_rows place rows [] = rows
 written_rows place rows (w ∷ ws) =
-    let writer = record { txn = place; over = has_nil w.nil ws } in
-    written_rows place (change (with_writer writer) w.version rows) ws
+    written_rows place
+    (change (with_writer (record { txn = place; over = has_nil w.nil ws })) w.version rows) ws
 
 -- ---- installs
 
