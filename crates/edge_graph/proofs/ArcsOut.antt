@@ -7,7 +7,6 @@ use Rattle.hist_types.specs.Edges.{Label, ww, wr, rw, process, realtime, edge, d
 use Rattle.hist_types.specs.Phenomena.{is_rw_label}
 use Rattle.hist_types.specs.Transactions.{Transaction, Version, reads, installs, is_node, nodes}
 use Rattle.hist_types.specs.declared.types.Level.{Level}
-use Rattle.hist_types.specs.declared.types.Level.TheVariants.{Process, Realtime}
 use Rattle.hist_types.proofs.Members.{In, in_from_Contains, Contains_from_in, in_front, in_back, in_append, in_filtered, passes_filter}
 use Rattle.key_versions.specs.Tables.{Table, IsTableOf}
 use Rattle.order_frontier.specs.Predecessors.{Before}

@@ -18,6 +18,7 @@ use crate::arcs::GraphArcs;
 use crate::layout;
 use crate::orders::Orders;
 use crate::rows::VertexRows;
+use crate::threads::try_join;
 use crate::types::{Dependencies, Kinds};
 use dep_edges::deps::Deps;
 use dep_edges::history::History;
@@ -26,7 +27,7 @@ use hist_types::types::{Fault, Level};
 use order_frontier::types::Order;
 use std::alloc::{AllocError, Global};
 use std::marker::Model;
-use std::thread::{Threads, join_mut};
+use std::thread::Threads;
 use txn_pairs::types::Txn;
 
 /// A history's transactions with their dependency edges and, of an order, the edges to nodes. A transaction goes by its place.
@@ -148,14 +149,13 @@ fn rows_and_orders<'v, 'a, R: Threads + Sync>(
     ensures rows { IfOk result (λ made. AreRows history.now.txns history.now.table made.0) }
     ensures orders { IfOk result (λ made. AreTurned deps.now order.now made.1) }
 {
-    let (rows, orders) = join_mut(
+    try_join(
         rt,
         &mut || layout::rows(rt, alloc, deps, history),
         &mut || -> Result<Orders, AllocError>
             requires { IsSync R.row × IsOrderOf deps.now order.now }
         { Orders::new(rt, alloc, deps, order) },
-    );
-    Ok((rows?, orders?))
+    )
 }
 
 impl<'g, 'v, 'a> Graph<'g, 'v, 'a> {

@@ -6,10 +6,11 @@ ghost use Rattle.edge_graph.specs.LaidOut.{others, nodes_of, readers_behind, wri
 ghost use Rattle.edge_graph.specs.LaidOut.{AddsReads, AddsTxnRow, AddsVersionRow, AreTxnRows, AreVersionRows};
 
 use crate::rows::{Rows, Span, VertexRows, number};
+use crate::threads::try_join;
 use dep_edges::deps::Deps;
 use dep_edges::history::History;
 use std::alloc::{AllocError, Global};
-use std::thread::{Threads, join_mut};
+use std::thread::Threads;
 
 /// A history and what its transactions depend on each other for.
 #[derive(Drop)]
@@ -155,12 +156,11 @@ impl<'g, 'v, 'a> Layout<'g, 'v, 'a> {
         ensures txns { IfOk result (λ made. AreTxnRows self.now.history.now made.0) }
         ensures versions { IfOk result (λ made. AreVersionRows self.now.history.now made.1) }
     {
-        let (txns, versions) = join_mut(
+        try_join(
             rt,
             &mut || self.txn_rows(alloc),
             &mut || self.version_rows(alloc),
-        );
-        Ok((txns?, versions?))
+        )
     }
 }
 

@@ -7,4 +7,5 @@ pub mod laws;
 mod layout;
 mod orders;
 mod rows;
+pub mod threads;
 pub mod types;

@@ -10,13 +10,14 @@ ghost use Rattle.edge_graph.specs.Successors.{ArePlaces, predecessors_at, AreLis
 ghost use Rattle.edge_graph.specs.Successors.{list_at, lists_at, AreSuccessors, AreTurned, AreFirstPairs};
 
 use crate::rows::number;
+use crate::threads::try_join;
 use dep_edges::deps::Deps;
 use flat_groups::groups::Groups;
 use hist_types::types::Level;
 use order_frontier::types::{Order, Predecessor};
 use std::alloc::{AllocError, Global};
 use std::marker::Model;
-use std::thread::{Threads, join_mut};
+use std::thread::Threads;
 use txn_pairs::types::Txn;
 
 /// For each transaction the places of the nodes that it comes before.
@@ -195,15 +196,16 @@ impl Orders {
         requires places { ArePlaces deps.now places.now }
         ensures { IfOk result (AreTurned deps.now order.now) }
     {
-        let (in_process, in_realtime) = join_mut(
+        let in_plain = LaterNodes::of(alloc, 0, &[])?;
+        let (in_process, in_realtime) = try_join(
             rt,
             &mut || turned(alloc, deps, order, places, Level::Process),
             &mut || turned(alloc, deps, order, places, Level::Realtime),
-        );
+        )?;
         Ok(Orders {
-            in_plain: LaterNodes::of(alloc, 0, &[])?,
-            in_process: in_process?,
-            in_realtime: in_realtime?,
+            in_plain,
+            in_process,
+            in_realtime,
         })
     }
 
