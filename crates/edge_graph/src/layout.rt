@@ -88,7 +88,7 @@ impl<'g, 'v, 'a> Layout<'g, 'v, 'a> {
     fn push_txn(&self, place: usize, items: &mut Vec<u32>) -> Result<Span, AllocError>
         requires { IsPlace self.now.history.now.txns place }
         ensures { IfOk result
-            (λ span. AddsTxnRow self.now.history.now place items.old.items items.new.items span) }
+            (AddsTxnRow self.now.history.now place items.old.items items.new.items) }
     {
         let start = number(items.len())?;
         self.push_read(place, items)?;
@@ -112,7 +112,7 @@ impl<'g, 'v, 'a> Layout<'g, 'v, 'a> {
     fn push_version(&self, version: usize, items: &mut Vec<u32>) -> Result<Span, AllocError>
         requires { IsNumber self.now.history.now.table version }
         ensures { IfOk result
-            (λ span. AddsVersionRow self.now.history.now version items.old.items items.new.items span) }
+            (AddsVersionRow self.now.history.now version items.old.items items.new.items) }
     {
         let start = number(items.len())?;
         self.push_nodes_behind(version, items)?;

@@ -71,7 +71,8 @@ impl Moving {
             (self.new.recent.items ≡ frontier_after self.old.recent.items done) }
         ensures last { OnOk result
             ((p : ℕ) → value_of self.new.last p
-            ≡ (if done.process == p then Some (predecessor_of done) else value_of self.old.last p)) }
+            ≡ (if done.process == p then Some (predecessor_of done)
+            else value_of self.old.last p)) }
         ensures recent_kept { OnErr result (self.new.recent.items ≡ self.old.recent.items) }
         ensures last_kept { OnErr result
             ((p : ℕ) → value_of self.new.last p ≡ value_of self.old.last p) }
