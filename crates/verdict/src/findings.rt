@@ -13,11 +13,12 @@ use cycle_find::types::Walk;
 use cycle_show::tighten;
 use dep_edges::deps::Deps;
 use edge_graph::graph::Graph;
+use edge_graph::threads::try_join;
 use hist_types::types::{Fault, Level, Phenomenon};
 use order_frontier::types::Order;
 use std::alloc::Global;
 use std::marker::Model;
-use std::thread::{Threads, join_mut};
+use std::thread::Threads;
 use txn_pairs::types::Txns;
 
 /// The lowest level of a phenomenon, with a closed walk that shows it there.
@@ -98,12 +99,11 @@ fn find_two<'a, R: Threads>(
     ensures ok { IfOk result (AreFindingsOfTwo first second graph.now.txns) }
     ensures err { IfErr result (λ fault. fault ≡ memory_fault) }
 {
-    let (found, also) = join_mut(
+    try_join(
         rt,
         &mut || find_phenomenon(alloc, graph, first),
         &mut || find_phenomenon(alloc, graph, second),
-    );
-    Ok((found?, also?))
+    )
 }
 
 /// What is found of the four phenomena.
@@ -116,13 +116,11 @@ fn find_four<'a, R: Threads + Sync>(
     ensures ok { IfOk result (AreFindings graph.now.txns) }
     ensures err { IfErr result (λ fault. fault ≡ memory_fault) }
 {
-    let (direct, by_rw) = join_mut(
+    let ((g0, g1c), (single, item)) = try_join(
         rt,
         &mut || find_two(rt, alloc, graph, Phenomenon::G0, Phenomenon::G1c),
         &mut || find_two(rt, alloc, graph, Phenomenon::GSingle, Phenomenon::G2Item),
-    );
-    let (g0, g1c) = direct?;
-    let (single, item) = by_rw?;
+    )?;
     Ok(Findings {
         g0,
         g1c,

@@ -6,6 +6,7 @@ ghost use Rattle.key_versions.specs.Tables.{IsTableOf};
 ghost use Rattle.order_frontier.specs.Predecessors.{AreOfEvents};
 ghost use Rattle.verdict.specs.Lowest.{IsThinnedOrder, AreTablesOf};
 
+use edge_graph::threads::try_join;
 use hist_types::types::Fault;
 use journal_core::events::Events;
 use key_versions::table::Versions;
@@ -14,7 +15,7 @@ use order_frontier::thin;
 use order_frontier::types::Order;
 use std::alloc::Global;
 use std::hash::BuildHasher;
-use std::thread::{Threads, join_mut};
+use std::thread::Threads;
 use txn_pairs::pair;
 use txn_pairs::types::Txns;
 
@@ -38,12 +39,11 @@ fn order_and_versions<'a, R: Threads + Sync, S: BuildHasher + Copy>(
     ensures versions { IfOk result (λ found. IsTableOf txns.now found.1) }
     ensures err { IfErr result (λ fault. fault ≡ memory_fault) }
 {
-    let (order, versions) = join_mut(
+    try_join(
         rt,
         &mut || thin(alloc, txns),
         &mut || versions(rt, alloc, txns, hasher),
-    );
-    Ok((order?, versions?))
+    )
 }
 
 /// What a verdict of the events is made from, whether or not they keep the rules. It doesn't depend on the hasher.
