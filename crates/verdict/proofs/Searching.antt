@@ -1,5 +1,7 @@
 -- What searches in the graph of a history over its thinned order say of the history's phenomena.
-use Rattle.std.proofs.Common.{◌≡◌, inl, inr, ◌<◌, ◌≤◌, ◌↔◌, List, ◌++◌, Some, None, sym, subst, arith, Contains}
+use Rattle.std.proofs.Common.{◌≡◌, inl, inr, ◌<◌, ◌≤◌, ◌↔◌, List, ◌++◌, Option, Some, None, sym, subst, arith, Contains}
+use Rattle.std.specs.Bool.{OnTrue}
+use Rattle.std.specs.Option.{is_none}
 use Rattle.std.proofs.lemmas.List.Elements.{All-weaker}
 use Rattle.hist_types.specs.Edges.{Edge, dependency_edges, order_edges, edges_at}
 use Rattle.hist_types.specs.Frontier.{thinned_edges}
@@ -15,7 +17,7 @@ use Rattle.hist_types.proofs.Members.{in_from_Contains, Contains_from_in, in_fro
 use Rattle.hist_types.proofs.OrderEdges.{thinned_edges-order}
 use Rattle.hist_types.proofs.ThinningCycles.{has_above}
 use Rattle.hist_types.proofs.ThinningWalks.{has_thinned}
-use Rattle.cycle_find.specs.Found.{ShowNothing}
+use Rattle.cycle_find.specs.Found.{IsFound, ShowNothing}
 use Rattle.cycle_show.specs.Reductions.{IsWitnessOf}
 use Rattle.order_frontier.specs.Predecessors.{AreOfEvents}
 use Rattle.edge_graph.specs.Parts.{Parts, edges_in}
@@ -84,6 +86,15 @@ pub absent_everywhere :
     → IsLowest phenomenon g.txns None
 absent_everywhere g phenomenon thinned none level has =
     absent g phenomenon Realtime thinned none (has_above phenomenon level Realtime g.txns (highest level) has)
+
+-- what is not found at real time is there at no level
+pub ruled_out :
+    (g : Parts) (phenomenon : Phenomenon) (found : Option (List Edge))
+    → IsThinned g
+    → IsFound phenomenon (edges_in g Realtime) found
+    → OnTrue (is_none found) (IsLowest phenomenon g.txns None)
+ruled_out g phenomenon None thinned none = absent_everywhere g phenomenon thinned none
+ruled_out g phenomenon (Some walk) thinned shown = tt
 
 pub lowest_at_plain :
     (g : Parts) (phenomenon : Phenomenon) (walk : List Edge)

@@ -1,6 +1,7 @@
 //! Searches for the lowest level of each phenomenon that cycles show.
 
-ghost use Rattle.std.specs.Prelude.{◌≡◌, IfOk, IfErr};
+ghost use Rattle.std.specs.Prelude.{◌≡◌, None, IfOk, IfErr};
+ghost use Rattle.std.specs.Bool.{OnTrue};
 ghost use Rattle.dep_edges.specs.Histories.{AreOfHistory};
 ghost use Rattle.hist_types.specs.Refusals.{memory_fault};
 ghost use Rattle.hist_types.specs.Witness.{IsFinding};
@@ -36,6 +37,20 @@ impl<'a> Model for Lowest<'a> {
     ghost view = { λ l. record { level = l.level; walk = l.walk } };
 }
 
+/// Whether a search settles that the phenomenon is there at no level. It is made for G0 and G1c alone, which all but the
+/// weakest isolation rules out; where it isn't made, that says nothing.
+fn is_ruled_out(graph: &RankedGraph<'_, '_, '_, '_>, phenomenon: Phenomenon) -> Result<bool, Fault>
+    requires { IsThinned graph.now }
+    ensures ok { IfOk result (λ out. OnTrue out (IsLowest phenomenon graph.now.txns None)) }
+    ensures err { IfErr result (λ fault. fault ≡ memory_fault) }
+{
+    match phenomenon {
+        // What is there at some level is there at the highest one.
+        Phenomenon::G0 | Phenomenon::G1c => Ok(graph.find(phenomenon, Level::Realtime)?.is_none()),
+        Phenomenon::GSingle | Phenomenon::G2Item => Ok(false),
+    }
+}
+
 /// The lowest level of the phenomenon, if it is there at any.
 fn find_lowest<'a>(
     graph: &RankedGraph<'_, '_, '_, 'a>,
@@ -45,6 +60,9 @@ fn find_lowest<'a>(
     ensures ok { IfOk result (IsLowest phenomenon graph.now.txns) }
     ensures err { IfErr result (λ fault. fault ≡ memory_fault) }
 {
+    if is_ruled_out(graph, phenomenon)? {
+        return Ok(None);
+    }
     if let Some(walk) = graph.find(phenomenon, Level::Plain)? {
         return Ok(Some(Lowest {
             level: Level::Plain,
