@@ -1,10 +1,9 @@
 -- The tables in front of the maps, and one item more.
 use Rattle.std.proofs.Common.{◌≡◌, inl, inr, ℕ, ◌+◌, ◌*◌, ◌/◌, ◌%◌, ◌<◌, pos, negsuc, List, [], ◌∷◌, ◌++◌, length, get_or, take, map, replicate, zero, suc, ◌-◌, Bool, true, false, Option, Some, None, refl, sym, ◌∙◌, ap, subst, arith}
 use Rattle.std.specs.Prelude.{nat_lt, ◌≢◌, ◌&&◌, ◌==◌, nat_eq}
-use Rattle.std.proofs.lemmas.List.{take_more, get_or-set_same, get_or-set_other, length-set}
+use Rattle.std.proofs.lemmas.List.{take_more, get_or-set_same, get_or-set_other, length-set, length-take-le}
 use Rattle.std.proofs.Math.ListN.{set}
 use Rattle.std.specs.Option.{is_some, option_eq}
-use Rattle.std.proofs.lemmas.List.{length-take-le}
 use Rattle.std.proofs.lemmas.Nat.{div-mul-add, mod-mul-add}
 use Rattle.std.proofs.lemmas.Bool.{cases_Bool, true≢false, lt-ltb, ltb-true, eqb-true, and_parts, false_from_ne_true}
 use Rattle.hist_types.specs.Atoms.{Atom, integer, keyword, string, symbol, atom_eq}

@@ -22,7 +22,7 @@ pair_index_code =
     (coded× (coded_list (coded× coded_ℕ (coded_option coded_ℕ))) coded_ℕ)
     (λ x. (x.items, x.spare)) (λ p. record { items = p.0; spare = p.1 }) (λ _. refl)
 
--- the number of what stands in a list
+-- the number of what is in a list
 abbrev pub number_in : {A : Type 0} → (A → A → Bool) → A → List A → Option ℕ
 number_in eq x items = position (eq x) items
 

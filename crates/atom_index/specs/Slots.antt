@@ -16,7 +16,7 @@ HoldsNumbersOf eq item_at table items =
 
 -- ---- small integers
 
--- the place of an atom in a table with so many slots, if it has one
+-- the place of an atom in a table with n slots, if it has one
 abbrev pub slot_of : Atom → ℕ → Option ℕ
 slot_of (integer (pos number)) slots = if nat_lt number slots then Some number else None
 slot_of atom slots = None

@@ -116,11 +116,12 @@ impl<'a, S: BuildHasher> AtomIndex<'a, S> {
         }
     }
 
-    /// Makes room for so many more atoms. Out of memory, which more than 4,294,967,295 of them are, leaves the atoms as they
-    /// are.
+    /// Makes room for `additional` more atoms. Out of memory, as where there would be more than 4,294,967,295 atoms, leaves the
+    /// atoms as they are, and no less room than before.
     pub fn reserve(&mut self, additional: usize) -> Result<(), AllocError>
         ensures items { self.new.items ≡ self.old.items }
         ensures room { OnOk result (additional ≤ self.new.spare) }
+        ensures kept { self.old.spare ≤ self.new.spare }
     {
         self.atoms.try_reserve(additional)?;
         self.others.reserve(additional)?;
@@ -135,12 +136,14 @@ impl<'a, S: BuildHasher> AtomIndex<'a, S> {
         Ok(())
     }
 
-    /// The number of an atom, which is its first one where it has none yet. Out of memory leaves the atoms as they are.
+    /// The number of an atom, which is its first one where it has none yet. Out of memory leaves the atoms as they are, and no
+    /// less room than before.
     pub fn insert(&mut self, atom: Atom<'a>) -> Result<usize, AllocError>
         ensures number { IfOk result
             (λ number. number_in atom_eq atom.entry self.new.items ≡ Some number) }
         ensures items { OnOk result (self.new.items ≡ with_item atom_eq self.old.items atom.entry) }
         ensures err { OnErr result (self.new.items ≡ self.old.items) }
+        ensures kept { OnErr result (self.old.spare ≤ self.new.spare) }
     {
         if let Some(number) = self.get(&atom) {
             return Ok(number);

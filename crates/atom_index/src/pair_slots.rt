@@ -10,7 +10,7 @@ use std::alloc::{AllocError, Global};
 /// How many values of a key have places in the table of pairs: those with the smallest numbers.
 pub(crate) const VALUES_OF_KEY: usize = 64;
 
-/// The place of a pair in a table with so many slots: that of a small key and a small value, by their numbers. The values
+/// The place of a pair in a table with n slots: that of a small key and a small value, by their numbers. The values
 /// of a key are side by side.
 pub(crate) fn slot_of(pair: (usize, Option<usize>), slots: usize) -> Option<usize>
     ensures { result ≡ slot_of_pair pair slots }

@@ -38,7 +38,7 @@ impl Table {
         }
     }
 
-    /// A table with so many slots, and no number in them.
+    /// A table with n slots, and no number in them.
     pub fn with_slots(alloc: Global, slots: usize) -> Result<Self, AllocError>
         ensures { IfOk result (λ table. table ≡ replicate slots None) }
     {

@@ -3,7 +3,7 @@ use Rattle.std.proofs.Common.{◌≡◌, ℕ, ◌≤◌, ◌-◌, List, [], ◌�
 use Rattle.std.proofs.lemmas.List.{length-drop, length-take, map-append}
 use Rattle.hist_types.specs.Entries.{PlacedMop, PlacedOperation, operation_of}
 use Rattle.hist_types.specs.Operations.{Mop, Operation}
-use Rattle.hist_types.specs.Placed.{IsIn, IsTextOf, KeepsLimits, between, from_its_start, mop_from}
+use Rattle.reading_laws.specs.Placed.{IsIn, IsTextOf, KeepsLimits, between, from_its_start, mop_from}
 use Rattle.edn_ops.specs.Shapes.{IsShapeOf}
 use Rattle.edn_ops.specs.declared.types.OpShape.{OpShape}
 use Rattle.block_reader.specs.Blocks.{operations_pushed}

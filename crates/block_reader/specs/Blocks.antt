@@ -13,7 +13,7 @@ operations_pushed os = map (λ (o : BlockOperation). operation_of o.placed) os
 abbrev pub operations_in : List Contents → List Operation
 operations_in blocks = flat_map operations_of blocks
 
--- beside the operations that the blocks had, they have those that were pushed, behind them
+-- beside the operations that the blocks had, they have those that were pushed, after them
 abbrev pub HaveAlso : (blocks : List Contents) → List BlockOperation → (blocks' : List Contents)
     → Type 0
 HaveAlso blocks pushed blocks' =

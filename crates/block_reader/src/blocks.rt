@@ -2,17 +2,17 @@
 
 ghost use Rattle.std.specs.Prelude.{◌≡◌, [], ◌∷◌, ◌++◌, OnOk, OnErr, IfOk, IfErr};
 ghost use Rattle.hist_types.specs.Entries.{PlacedOperation, operation_of};
-ghost use Rattle.hist_types.specs.Placed.{IsIn};
+ghost use Rattle.reading_laws.specs.Placed.{IsIn};
 ghost use Rattle.hist_types.specs.Refusals.{memory_fault};
 ghost use Rattle.edn_ops.specs.Shapes.{IsShapeOf, IsShapeIn};
 ghost use Rattle.block_reader.specs.Blocks.{operations_in, HaveAlso};
 
 use edn_ops::types::OpShape;
-use hist_types::laws::operations_spell_their_parts;
 use hist_types::types::Fault;
 use op_block::block::Block;
 use op_block::builder::BlockBuilder;
 use op_block::stamp::Stamp;
+use reading_laws::operations_spell_their_parts;
 use std::alloc::{AllocError, Global};
 use std::marker::Model;
 use std::mem;
@@ -36,7 +36,7 @@ impl Model for Blocks {
     ghost view = { λ b. operations_in b.full.items ++ operations_pushed b.last };
 }
 
-/// Puts the last block behind the full ones, unless it is empty, and begins another. Out of memory leaves both as they were.
+/// Puts the last block after the full ones, unless it is empty, and begins another. Out of memory leaves both as they were.
 fn close(
     alloc: Global,
     seat: u32,
@@ -81,6 +81,7 @@ impl Blocks {
         ensures err { IfErr result (λ fault. fault ≡ memory_fault) }
         ensures unchanged { OnErr result (self.new ≡ self.old) }
     {
+        // A law, called for its clause that the operation's places are in the text.
         operations_spell_their_parts();
         let len = shape.span.end - shape.span.start;
         if !self.last.has_room_for(len) {

@@ -5,9 +5,9 @@ ghost use Rattle.block_reader.specs.Parts.{IsIn, IsPartOf, ReadsOn};
 
 use crate::blocks::Blocks;
 use edn_ops::reader::OpReader;
-use hist_types::laws::{operations_read_alone, texts_have_one_reading};
 use hist_types::types::Fault;
 use op_block::block::Block;
+use reading_laws::{operations_read_alone, texts_have_one_reading};
 use std::alloc::{AllocError, Global};
 use std::thread::{Threads, map_indices};
 
@@ -27,6 +27,7 @@ pub fn read_op(text: &[u8], reader: &mut OpReader<'_>, blocks: &mut Blocks) -> R
     ensures end { IfOk result (λ more. more ≡ false → blocks.new ≡ blocks.old) }
     ensures err { OnErr result (blocks.new ≡ blocks.old) }
 {
+    // Laws, called for their clauses: the text reads in one way, and each operation's map reads alone.
     texts_have_one_reading();
     operations_read_alone();
     let Some(shape) = reader.next_op()? else {
@@ -36,8 +37,8 @@ pub fn read_op(text: &[u8], reader: &mut OpReader<'_>, blocks: &mut Blocks) -> R
     Ok(true)
 }
 
-/// Reads from `start`, as if nothing stood before it, up to the first operation that ends at `stop` or behind it, or the
-/// last one before a fault or the text's end. None where memory runs out, or where an operation stands in a vector or list.
+/// Reads from `start`, as if nothing stood before it, up to the first operation that ends at `stop` or after it, or the
+/// last one before a fault or the text's end. None where memory runs out, or where an operation is in a vector or list.
 fn read_from(alloc: Global, seat: u32, text: &[u8], start: usize, stop: usize) -> Option<Part>
     requires { IsIn text.now start }
     ensures { IfSome result (IsPartOf text.now) }
@@ -68,7 +69,7 @@ fn read_part(alloc: Global, text: &[u8], starts: &[usize], index: usize) -> Opti
         Some(next) => *next,
         None => text.len(),
     };
-    // The seat 0 is that of the blocks behind the parts.
+    // The seat 0 is that of the blocks after the parts.
     let seat = u32::try_from(index + 1).ok()?;
     read_from(alloc, seat, text, starts[index], stop)
 }

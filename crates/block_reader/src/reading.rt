@@ -15,7 +15,7 @@ use op_block::block::Block;
 use std::alloc::Global;
 use std::thread::Threads;
 
-/// Reads up to a place at `stop` or behind it where nothing is open, or to the text's end, where it returns false.
+/// Reads up to a place at `stop` or after it where nothing is open, or to the text's end, where it returns false.
 fn read_up_to(
     text: &[u8],
     stop: usize,
@@ -37,7 +37,7 @@ fn read_up_to(
     Err(Fault::memory())
 }
 
-/// Goes on behind the part, if the reader is where it begins.
+/// Goes on after the part, if the reader is where it begins.
 fn take_over<'a>(
     alloc: Global,
     text: &'a [u8],

@@ -7,7 +7,7 @@ use memchr::{memchr, memrchr};
 use std::alloc::{AllocError, Global};
 use std::thread::{Threads, available_parallelism};
 
-/// A part has so many bytes at least.
+/// The least number of bytes in a part.
 const PART_BYTES: usize = 1 << 20;
 
 /// How many parts a text of this length has: no more than there are processors.
@@ -18,7 +18,7 @@ fn parts_of<R: Threads>(rt: &R, len: usize) -> usize {
     }
 }
 
-/// The end of the first line at or behind the offset, after its last `}`.
+/// The end of the first line at or after the offset, after its last `}`.
 fn line_behind(text: &[u8], offset: usize) -> Option<usize>
     requires { offset ≤ length text.now }
     ensures { IfSome result (IsIn text.now) }

@@ -1,4 +1,4 @@
--- What stands before the first line feed.
+-- What comes before the first line feed.
 use Rattle.std.proofs.Common.{◌≡◌, ◌∙◌, ℕ, suc, ◌+◌, List, [], ◌∷◌, ◌++◌, Bool, true, false, ◌&&◌, cond, codes, take, refl, ap, arith}
 use Rattle.std.proofs.lemmas.List.{append_assoc}
 use Rattle.std.specs.List.{list_all, prefix_len}
@@ -20,7 +20,7 @@ front_passes q (x ∷ xs) = by_first (q x) refl (front_passes q xs)
 pub first_line_is_one : (text : List ℕ) → IsOneLine (first_line text)
 first_line_is_one text = front_passes _ text
 
--- a first line with its line feed, and the line that says where help is
+-- a first line with its line feed, and the closing line
 pub complaint_of : (message text : List ℕ) → text ≡ (first_line message ++ codes "\n") ++ SEE_HELP.now → IsComplaint text
 complaint_of message text is =
     record {

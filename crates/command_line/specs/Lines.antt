@@ -44,7 +44,7 @@ AskFor (Run command) words = NameSubcommand (word_of command) words
 abbrev pub AskForHelp : List (List ℕ) → Type 0
 AskForHelp words = fault_of program_app words ≡ DisplayHelp ∷ []
 
--- behind the program's name, whatever that is, these words ask for help
+-- after the program's name, whatever that is, these words ask for help
 abbrev pub GetHelp : List (List ℕ) → Type 0
 GetHelp words = (name : List ℕ) → AskForHelp (name ∷ words)
 
@@ -60,7 +60,7 @@ first_line text = before_first (λ b. b == 10) text
 abbrev pub IsOneLine : List ℕ → Type 0
 IsOneLine message = list_all (λ b. not (b == 10)) message ≡ true
 
--- one line, and the line that says where help is
+-- one line, and the line that says how a history is given and where help is
 pub record IsComplaint (text : List ℕ) : Type 0 where
   pub message : List ℕ
   pub one_line : IsOneLine message

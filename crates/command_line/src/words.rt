@@ -1,11 +1,10 @@
 //! What the words of a command line ask for.
 
-ghost use Rattle.std.specs.Prelude.{◌≡◌, ◌≢◌, map, IfErr, IfOk, string_bytes};
+ghost use Rattle.std.specs.Prelude.{◌≡◌, ◌≢◌, ◌⊎◌, map, IfErr, IfOk, string_bytes};
 ghost use Rattle.std.specs.IoError.{error_kind};
 ghost use Rattle.std.specs.declared.io.ErrorKind.TheVariants.{OutOfMemory};
 ghost use Rattle.clap.specs.Words.{app_of, kind_of};
-ghost use Rattle.command_line.specs.Lines.{program_app, first_line, AskFor, AskForHelp, MayAskForHelp};
-ghost use Rattle.command_line.specs.Lines.{IsComplaint, Helps, SaysWhatIsWrong};
+ghost use Rattle.command_line.specs.Lines.{program_app, first_line, AskFor, AskForHelp, MayAskForHelp, IsComplaint, Helps, SaysWhatIsWrong};
 ghost use Rattle.command_line.specs.declared.types.Asked.{Asked};
 
 use crate::types::{Asked, Command, LineFault};
@@ -42,10 +41,13 @@ Exit status:
 
 Example:
   jepcheck check < store/NAME/TIME/history.edn
+
+Verdicts and refusals are explained in docs/GUIDE.md.
 ";
 
-/// Where help is.
-const SEE_HELP: &str = "For more information, try 'jepcheck --help'.\n";
+/// How a history is given, and where help is. A faulty command line gets this as its last line.
+const SEE_HELP: &str = "The history is read from standard input: jepcheck check < FILE. \
+                        For more, try 'jepcheck --help'.\n";
 
 /// The lines that there are.
 fn program<'a>(alloc: Global) -> Result<clap::Command<'a>, AllocError>
@@ -68,7 +70,7 @@ fn first_line(text: &str) -> &str
     }
 }
 
-/// The first line of a message, and the line that says where help is.
+/// The first line of a message, and the line that says how a history is given and where help is.
 fn complaint(alloc: Global, message: &str) -> Result<String, AllocError>
     ensures { IfOk result (λ text. IsComplaint (string_bytes text)) }
 {
@@ -103,6 +105,7 @@ fn line_fault(alloc: Global, error: &clap::Error) -> LineFault
     ensures memory { kind_of error.now ≡ ErrorKind.OutOfMemory → result ≡ LineFault.Memory }
     ensures help { kind_of error.now ≡ ErrorKind.DisplayHelp → Helps result }
     ensures wrong { kind_of error.now ≢ ErrorKind.DisplayHelp → SaysWhatIsWrong result }
+    ensures either { Helps result ⊎ SaysWhatIsWrong result }
 {
     match error.kind() {
         ErrorKind::OutOfMemory => LineFault::Memory,
@@ -135,6 +138,8 @@ pub fn asked_for<'a>(alloc: Global, words: &'a [String]) -> Result<Asked, LineFa
     ensures help { AskForHelp (map string_bytes words.entry.now) → IfErr result Helps }
     ensures wrong { ¬ MayAskForHelp (map string_bytes words.entry.now)
         → IfErr result SaysWhatIsWrong }
+    // Whatever is wrong with a line, its text is the help, or one line on what is wrong and the closing line.
+    ensures either { IfErr result (λ fault. Helps fault ⊎ SaysWhatIsWrong fault) }
 {
     let matches = match program(alloc)?.try_get_matches_from(words) {
         Ok(matches) => matches,

@@ -4,18 +4,18 @@ use Rattle.std.specs.List.{AllByRecursion, list_all, filter}
 use Rattle.std.proofs.lemmas.Bool.{false≢true, and_parts, and_from, eqb-true, eq-eqb}
 use Rattle.hist_types.specs.Edges.{Edge, edges_at}
 use Rattle.hist_types.specs.Operations.{Operation}
-use Rattle.hist_types.specs.Phenomena.{Leads, Has, height}
-use Rattle.hist_types.specs.Thinning.{is_needed, may_lead_back, HasReturn}
+use Rattle.hist_types.specs.Phenomena.{Leads, IsThere, height}
+use Rattle.history_laws.specs.WaysBack.{is_needed, may_lead_back, HasWayBack}
 use Rattle.hist_types.specs.Transactions.{Transaction, transactions_of}
 use Rattle.hist_types.specs.Witness.{Finding, IsFinding}
 use Rattle.hist_types.specs.declared.types.Level.{Level}
 use Rattle.hist_types.specs.declared.types.Level.TheVariants.{Plain, Process, Realtime}
 use Rattle.hist_types.specs.declared.types.Phenomenon.{Phenomenon}
 use Rattle.hist_types.proofs.Members.{In, in_from_Contains, Contains_from_in, in_filter, in_filtered, passes_filter}
-use Rattle.hist_types.proofs.ThinningCycles.{at_level}
-use Rattle.hist_types.proofs.ThinningPaths.{leads_on, all_of_both}
-use Rattle.hist_types.proofs.ThinningWalks.{within_in, within_contains}
-use Rattle.hist_types.proofs.ThinningWitnesses.{has_witness}
+use Rattle.history_laws.proofs.ThinningCycles.{closed_by_one}
+use Rattle.history_laws.proofs.ThinningPaths.{leads_on, all_of_both}
+use Rattle.history_laws.proofs.ThinningWalks.{within_in, within_contains}
+use Rattle.history_laws.proofs.ThinningWitnesses.{has_witness}
 
 -- ---- walks
 
@@ -142,7 +142,7 @@ within_filtered p es (e ∷ walk) within pass =
     let both = and_parts (p e) (list_all p walk) pass in
     (in_filtered p e es within.0 both.0, within_filtered p es walk within.1 both.1)
 
-return_of : (phenomenon : Phenomenon) (es : List Edge) → Closes phenomenon es es → HasReturn phenomenon es
+return_of : (phenomenon : Phenomenon) (es : List Edge) → Closes phenomenon es es → HasWayBack phenomenon es
 return_of phenomenon es c =
     let p = may_lead_back phenomenon in (
       c.edge,
@@ -156,7 +156,7 @@ return_of phenomenon es c =
       },
     )
 
-closes_of : (phenomenon : Phenomenon) (es : List Edge) → HasReturn phenomenon es → Closes phenomenon es es
+closes_of : (phenomenon : Phenomenon) (es : List Edge) → HasWayBack phenomenon es → Closes phenomenon es es
 closes_of phenomenon es r =
     record {
       edge = r.0;
@@ -165,12 +165,12 @@ closes_of phenomenon es r =
       back = record { walk = r.3; leads = r.4.leads; within = within_filtered (may_lead_back phenomenon) es r.3 (within_in es r.3 r.4.within) r.4.kinds };
     }
 
-has_decided : (phenomenon : Phenomenon) (level : Level) (ts : List Transaction) → Decided (Has phenomenon level ts)
+has_decided : (phenomenon : Phenomenon) (level : Level) (ts : List Transaction) → Decided (IsThere phenomenon level ts)
 has_decided phenomenon level ts = by_closing (closes_decided phenomenon (edges_at level ts) (edges_at level ts))
   where
-    by_closing : Decided (Closes phenomenon (edges_at level ts) (edges_at level ts)) → Decided (Has phenomenon level ts)
-    by_closing (inl c) = inl ((at_level phenomenon level ts).1 (return_of phenomenon (edges_at level ts) c))
-    by_closing (inr none) = inr (λ h. none (closes_of phenomenon (edges_at level ts) ((at_level phenomenon level ts).0 h)))
+    by_closing : Decided (Closes phenomenon (edges_at level ts) (edges_at level ts)) → Decided (IsThere phenomenon level ts)
+    by_closing (inl c) = inl ((closed_by_one phenomenon (edges_at level ts)).1 (return_of phenomenon (edges_at level ts) c))
+    by_closing (inr none) = inr (λ h. none (closes_of phenomenon (edges_at level ts) ((closed_by_one phenomenon (edges_at level ts)).0 h)))
 
 -- ---- findings
 
@@ -178,7 +178,7 @@ none_below : (level : Level) → height level < 0 → ⊥
 none_below level below = omega (arith, below)
 
 -- what is reported of a phenomenon that is there at a level and at none below
-found_at : (phenomenon : Phenomenon) (level : Level) (events : List Operation) → Has phenomenon level (transactions_of events) → ((lower : Level) → height lower < height level → ¬ Has phenomenon lower (transactions_of events)) → (found : Option Finding) × IsFinding phenomenon (transactions_of events) found
+found_at : (phenomenon : Phenomenon) (level : Level) (events : List Operation) → IsThere phenomenon level (transactions_of events) → ((lower : Level) → height lower < height level → ¬ IsThere phenomenon lower (transactions_of events)) → (found : Option Finding) × IsFinding phenomenon (transactions_of events) found
 found_at phenomenon level events here none_lower =
     let witness = (has_witness phenomenon level events).0 here in
     (Some (record { level = level; walk = witness.0 }), ((here, none_lower), witness.1))
@@ -190,22 +190,22 @@ has_finding phenomenon events = by_levels (has_decided phenomenon Plain ts) (has
     ts : List Transaction
     ts = transactions_of events
 
-    below_process : ¬ Has phenomenon Plain ts → (lower : Level) → height lower < 1 → ¬ Has phenomenon lower ts
+    below_process : ¬ IsThere phenomenon Plain ts → (lower : Level) → height lower < 1 → ¬ IsThere phenomenon lower ts
     below_process not_plain Plain below = not_plain
     below_process not_plain Process below = absurd (omega (arith, below))
     below_process not_plain Realtime below = absurd (omega (arith, below))
 
-    below_realtime : ¬ Has phenomenon Plain ts → ¬ Has phenomenon Process ts → (lower : Level) → height lower < 2 → ¬ Has phenomenon lower ts
+    below_realtime : ¬ IsThere phenomenon Plain ts → ¬ IsThere phenomenon Process ts → (lower : Level) → height lower < 2 → ¬ IsThere phenomenon lower ts
     below_realtime not_plain not_process Plain below = not_plain
     below_realtime not_plain not_process Process below = not_process
     below_realtime not_plain not_process Realtime below = absurd (omega (arith, below))
 
-    at_none : ¬ Has phenomenon Plain ts → ¬ Has phenomenon Process ts → ¬ Has phenomenon Realtime ts → (level : Level) → ¬ Has phenomenon level ts
+    at_none : ¬ IsThere phenomenon Plain ts → ¬ IsThere phenomenon Process ts → ¬ IsThere phenomenon Realtime ts → (level : Level) → ¬ IsThere phenomenon level ts
     at_none not_plain not_process not_realtime Plain = not_plain
     at_none not_plain not_process not_realtime Process = not_process
     at_none not_plain not_process not_realtime Realtime = not_realtime
 
-    by_levels : Decided (Has phenomenon Plain ts) → Decided (Has phenomenon Process ts) → Decided (Has phenomenon Realtime ts) → (found : Option Finding) × IsFinding phenomenon ts found
+    by_levels : Decided (IsThere phenomenon Plain ts) → Decided (IsThere phenomenon Process ts) → Decided (IsThere phenomenon Realtime ts) → (found : Option Finding) × IsFinding phenomenon ts found
     by_levels (inl plain) process realtime = found_at phenomenon Plain events plain (λ lower below. absurd (none_below lower below))
     by_levels (inr not_plain) (inl process) realtime = found_at phenomenon Process events process (below_process not_plain)
     by_levels (inr not_plain) (inr not_process) (inl realtime) = found_at phenomenon Realtime events realtime (below_realtime not_plain not_process)

@@ -7,20 +7,17 @@ use Rattle.std.proofs.lemmas.Grind.{flat_map-append}
 use Rattle.std.proofs.lemmas.List.{length-append}
 use Rattle.std.proofs.lemmas.Option.{slice_get-get_or}
 use Rattle.hist_types.specs.Edges.{Edge, dependency_edges}
-use Rattle.hist_types.specs.Texts.{edge_cmp, in_order, line, edge_text}
+use Rattle.hist_types.specs.EdgeOrder.{edge_cmp, in_order}
+use Rattle.hist_types.specs.Texts.{line, edge_text}
 use Rattle.hist_types.specs.Transactions.{Transaction, Open, transactions_of}
-use Rattle.hist_types.proofs.EdgesByTransaction as lists
-use Rattle.hist_types.proofs.EdgesByTransaction.{sorted_leaving, in_order-by_transaction}
+use Rattle.history_laws.proofs.EdgesByTransaction.{sorted_leaving, in_order-by_transaction}
 use Rattle.dep_edges.specs.Histories.{AreOfHistory}
-use Rattle.dep_edges.specs.OutEdges.{NoneTwice, AddsEdgesFrom}
+use Rattle.hist_types.specs.Lists.{NoneTwice}
+use Rattle.dep_edges.specs.OutEdges.{AddsEdgesFrom}
 use Rattle.dep_edges.specs.Tables.{txn_at}
 use Rattle.cycle_show.specs.Lines.{edge_lines}
 use Rattle.command_run.specs.Leaving.{edges_leaving}
 use Rattle.command_run.proofs.Lists.{drop_item}
-
-once : (es : List Edge) → NoneTwice es → lists.NoneTwice es
-once [] n = tt
-once (e ∷ es) n = (n.0, once es n.1)
 
 -- sorted they are those in order
 pub leaving_sorted :
@@ -37,7 +34,7 @@ leaving_sorted ts t before added sorted history empty adds moved up =
     let exactly : (us : List Transaction) → ts ≡ us → (e : Edge) → Contains es e ↔ (Contains (dependency_edges us) e × (e.from ≡ t.invocation)) =
     λ us same. subst (λ vs. (e : Edge) → Contains es e ↔ (Contains (dependency_edges vs) e × (e.from ≡ t.invocation))) same adds.2.exactly in
     subst (λ us. sorted ≡ edges_leaving us t) (sym history.2)
-    (sorted_leaving history.0 t es sorted (exactly (transactions_of history.0) history.2) (once es adds.2.once) (subst (λ x. IsPermutation x sorted) here moved) up)
+    (sorted_leaving history.0 t es sorted (exactly (transactions_of history.0) history.2) adds.2.once (subst (λ x. IsPermutation x sorted) here moved) up)
 
 -- all of them, one transaction's after the other's
 pub all_leaving : (ts : List Transaction) → AreOfHistory ts → flat_map (edges_leaving ts) ts ≡ in_order (dependency_edges ts)

@@ -4,6 +4,5 @@ pub mod Judging
 pub mod Deciding
 pub mod OneAnswer
 pub mod SomeAnswer
-pub mod Verdicts
 pub mod Outcomes
 pub mod Reporting

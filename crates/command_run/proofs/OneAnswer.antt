@@ -1,25 +1,31 @@
 -- A text has one answer.
-use Rattle.std.proofs.Common.{◌≡◌, ℕ, List, ◌||◌, Option, Some, None, is_some, inl, inr, refl, sym, ap, subst, ◌∙◌}
+use Rattle.std.proofs.Common.{◌≡◌, ℕ, ◌<◌, List, ◌||◌, Option, Some, None, is_some, inl, inr, refl, sym, ap, subst, ◌∙◌, arith}
 use Rattle.std.specs.Prelude.{◌≢◌, ◌⊎◌}
 use Rattle.std.proofs.lemmas.Option.{none-some, same_Some}
 use Rattle.hist_types.specs.Operations.{Operation}
 use Rattle.hist_types.specs.Entries.{operations_of}
-use Rattle.hist_types.specs.Laws.{HasOne}
+use Rattle.reading_laws.specs.Readings.{HasOneReading}
+use Rattle.hist_types.specs.Phenomena.{height}
 use Rattle.hist_types.specs.Reading.{Reads}
-use Rattle.hist_types.specs.Texts.{reads_text, edges_text, has_bad_read, IsVerdictText, refusal_line}
-use Rattle.hist_types.specs.Transactions.{Transaction}
+use Rattle.hist_types.specs.Reports.{finding, Report, IsVerdictOf}
+use Rattle.hist_types.specs.Texts.{reads_text, edges_text, has_bad_read, refusal_line}
+use Rattle.hist_types.specs.Transactions.{Transaction, transactions_of}
 use Rattle.hist_types.specs.Witness.{Finding, IsFinding}
 use Rattle.hist_types.specs.declared.types.Fault.{Fault}
+use Rattle.hist_types.specs.declared.types.Level.{Level}
+use Rattle.hist_types.specs.declared.types.Level.TheVariants.{Plain, Process, Realtime}
 use Rattle.hist_types.specs.declared.types.Phenomenon.{Phenomenon}
+use Rattle.hist_types.specs.declared.types.Phenomenon.TheVariants.{G0, G1c, GSingle, G2Item}
 use Rattle.block_reader.specs.Texts.{GivesOperations, GivesFault}
-use Rattle.command_run.specs.Answers.{GivesEvents, journal_fault, IsRefused, names_cycle, IsVerdict, Reports, IsReport, IsAnswer}
+use Rattle.command_run.specs.Answers.{GivesEvents, journal_fault, IsRefused, names_phenomenon, IsVerdict, Reports, IsReport, IsAnswer}
+use Rattle.command_run.specs.SameAnswers.{level_found, DifferInWitnessesAlone}
 use Rattle.command_run.specs.Statuses.{status_by}
 use Rattle.command_run.specs.declared.answer.Status.{Status}
 use Rattle.command_run.specs.declared.answer.Status.TheVariants as statuses
 use Rattle.command_line.specs.declared.types.Command.{Command}
 use Rattle.command_line.specs.declared.types.Command.TheVariants.{Reads as the_reads, Edges as the_edges, Check as the_check}
 
-module _ (text : List ℕ) (one_reading : HasOne (Reads text)) where
+module _ (text : List ℕ) (one_reading : HasOneReading (Reads text)) where
   same_operations : (ops others : List Operation) → GivesOperations text ops → GivesOperations text others → ops ≡ others
   same_operations ops others one two =
       let same = one_reading.1 one.entries two.entries None None one.read two.read in
@@ -73,20 +79,61 @@ same_finding phenomenon ts (Some f) (Some g) one two = refl
 same_finding phenomenon ts None (Some g) one two = absurd (one.0 g.level two.0.0)
 same_finding phenomenon ts (Some f) None one two = absurd (two.0 f.level one.0.0)
 
-same_named : (events : List Operation) (printed lines : List ℕ) (one : IsVerdictText events printed) (two : IsVerdictText events lines) → names_cycle one ≡ names_cycle two
-same_named events printed lines one two =
+same_named : (events : List Operation) (r s : Report) → IsVerdictOf events r → IsVerdictOf events s → names_phenomenon r ≡ names_phenomenon s
+same_named events r s one two =
     rw (
-      same_finding _ _ one.g0 two.g0 one.is_g0 two.is_g0,
-      same_finding _ _ one.g1c two.g1c one.is_g1c two.is_g1c,
-      same_finding _ _ one.single two.single one.is_single two.is_single,
-      same_finding _ _ one.item two.item one.is_item two.is_item,
+      same_finding _ _ r.findings.g0 s.findings.g0 (one.findings G0) (two.findings G0),
+      same_finding _ _ r.findings.g1c s.findings.g1c (one.findings G1c) (two.findings G1c),
+      same_finding _ _ r.findings.single s.findings.single (one.findings GSingle) (two.findings GSingle),
+      same_finding _ _ r.findings.item s.findings.item (one.findings G2Item) (two.findings G2Item),
+      one.g1a ∙ sym two.g1a,
+      one.g1b ∙ sym two.g1b,
     ) refl
 
 same_status : (events : List Operation) (status other : Status) (printed lines : List ℕ) → IsVerdict events status printed → IsVerdict events other lines → status ≡ other
 same_status events status other printed lines one two =
-    one.status_is ∙ (ap (λ b. status_by (b || has_bad_read events)) (same_named events printed lines one.text two.text) ∙ sym two.status_is)
+    one.status_is ∙ (ap status_by (same_named events one.report two.report one.is_verdict two.is_verdict) ∙ sym two.status_is)
 
--- one status, and but for a verdict one output with it
+-- levels of which none is below the other
+one_height : (a b : Level) → ¬ (height a < height b) → ¬ (height b < height a) → a ≡ b
+one_height Plain Plain n m = refl
+one_height Plain Process n m = absurd (n (omega arith))
+one_height Plain Realtime n m = absurd (n (omega arith))
+one_height Process Plain n m = absurd (m (omega arith))
+one_height Process Process n m = refl
+one_height Process Realtime n m = absurd (n (omega arith))
+one_height Realtime Plain n m = absurd (m (omega arith))
+one_height Realtime Process n m = absurd (m (omega arith))
+one_height Realtime Realtime n m = refl
+
+-- a phenomenon is found at one level
+same_level : (phenomenon : Phenomenon) (ts : List Transaction) (found other : Option Finding) → IsFinding phenomenon ts found → IsFinding phenomenon ts other → level_found found ≡ level_found other
+same_level phenomenon ts None None one two = refl
+same_level phenomenon ts (Some f) (Some g) one two =
+    ap Some (one_height f.level g.level (λ below. two.0.1 f.level below one.0.0) (λ below. one.0.1 g.level below two.0.0))
+same_level phenomenon ts None (Some g) one two = absurd (one.0 g.level two.0.0)
+same_level phenomenon ts (Some f) None one two = absurd (two.0 f.level one.0.0)
+
+-- verdicts on the same events differ in witnesses alone
+same_verdicts : (events : List Operation) (status other : Status) (printed lines : List ℕ) → IsVerdict events status printed → IsVerdict events other lines → DifferInWitnessesAlone printed lines
+same_verdicts events status other printed lines one two = (
+  one.report,
+  two.report,
+  one.text,
+  two.text,
+  record {
+    prefix = one.is_verdict.prefix ∙ sym two.is_verdict.prefix;
+    txns = one.is_verdict.txns ∙ sym two.is_verdict.txns;
+    levels = λ phenomenon.
+        same_level phenomenon (transactions_of events) (finding one.report.findings phenomenon) (finding two.report.findings phenomenon)
+        (one.is_verdict.findings phenomenon) (two.is_verdict.findings phenomenon);
+    g1a = one.is_verdict.g1a ∙ sym two.is_verdict.g1a;
+    g1b = one.is_verdict.g1b ∙ sym two.is_verdict.g1b;
+    stray = one.is_verdict.stray ∙ sym two.is_verdict.stray;
+  },
+)
+
+-- one status, and except for a verdict one output with it
 abbrev IsSame : Command → (status other : Status) → (printed others : List ℕ) → Type 0
 IsSame command status other printed others = (status ≡ other) × (command ≢ the_check → printed ≡ others)
 
@@ -100,7 +147,7 @@ one_report the_check events others status other printed lines same one two =
     (same_status events status other printed lines one (subst (λ (es : List Operation). IsVerdict es other lines) (sym same) two), λ no_check. absurd (no_check refl))
 
 -- a text that has one reading has one answer
-pub one_answer : ((text : List ℕ) → HasOne (Reads text)) → (command : Command) (text : List ℕ) (status other : Status) (printed others : List ℕ) → status ≢ statuses.Memory → other ≢ statuses.Memory
+pub one_answer : ((text : List ℕ) → HasOneReading (Reads text)) → (command : Command) (text : List ℕ) (status other : Status) (printed others : List ℕ) → status ≢ statuses.Memory → other ≢ statuses.Memory
     → IsAnswer command text status printed → IsAnswer command text other others → IsSame command status other printed others
 one_answer one_reading command text status other printed others given too one two = by_kind (judged command text status printed given one) (judged command text other others too two)
   where
@@ -112,3 +159,16 @@ one_answer one_reading command text status other printed others given too one tw
     by_kind (inr r) (inr s) =
         let same = same_refusal text (one_reading text) r.fault s.fault r.refused s.refused in
         (r.by ∙ sym s.by, λ no_check. r.line ∙ (ap refusal_line same ∙ sym s.line))
+
+-- a refused text has one output
+pub one_refusal : ((text : List ℕ) → HasOneReading (Reads text)) → (command : Command) (text : List ℕ) (printed others : List ℕ)
+    → IsAnswer command text statuses.Refused printed → IsAnswer command text statuses.Refused others → printed ≡ others
+one_refusal one_reading command text printed others one two =
+    one.2 ∙ (ap refusal_line (same_refusal text (one_reading text) one.0 two.0 one.1 two.1) ∙ sym two.2)
+
+-- the reports of `check` on a text differ in witnesses alone
+pub one_verdict : ((text : List ℕ) → HasOneReading (Reads text)) → (text : List ℕ) (status other : Status) (printed others : List ℕ)
+    → IsReport the_check text status printed → IsReport the_check text other others → DifferInWitnessesAlone printed others
+one_verdict one_reading text status other printed others r s =
+    let same = same_operations text (one_reading text) r.events s.events r.given.given s.given.given in
+    same_verdicts r.events status other printed others r.reported (subst (λ (es : List Operation). IsVerdict es other others) (sym same) s.reported)

@@ -1,27 +1,47 @@
 -- What is printed, and what runs leave.
 use Rattle.std.proofs.Common.{◌≡◌, ℕ, List, [], Option, Some, None, refl, sym, subst, codes, inl, inr}
 use Rattle.std.proofs.KnownBytes.{Appends-nil}
-use Rattle.std.specs.Prelude.{IfSome}
+use Rattle.std.specs.Prelude.{◌≤◌, ◌⊎◌, IfSome}
+use Rattle.std.specs.Io.KnownBytes.{IsAtEnd}
 use Rattle.std.specs.Fmt.{digits}
 use Rattle.hist_types.specs.Refusals.{memory_fault}
 use Rattle.hist_types.specs.Texts.{refusal_line}
+use Rattle.hist_types.specs.declared.device.Source.{Ghosts as Source}
 use Rattle.hist_types.specs.declared.device.Sink.{Ghosts}
-use Rattle.verdict.specs.Pieces.{HasTaken}
+use Rattle.verdict.specs.Pieces.{HasTaken, HasFailedBehind}
 use Rattle.command_run.specs.Answers.{IsAnswer}
-use Rattle.command_run.specs.Runs.{HasPrinted, HasAnswered}
+use Rattle.command_run.specs.Runs.{HasPrintedMemory, HasAnswered, FailedBy, HasRun}
+use Rattle.command_run.specs.Statuses.{code_of}
 use Rattle.command_run.specs.declared.answer.Status.{Status}
 use Rattle.command_run.specs.declared.answer.Status.TheVariants as statuses
 use Rattle.command_line.specs.declared.types.Command.{Command}
 
 -- the line of a program that is out of memory
-pub memory_line : codes "refused 10 Memory\n" ≡ refusal_line memory_fault
+memory_line : codes "refused 10 Memory\n" ≡ refusal_line memory_fault
 unfolding digits
 memory_line = refl
 
--- what is known of all texts is known of one that a source may tell
-pub of_any : (known : Option (List ℕ)) (P : List ℕ → Type 0) → ((text : List ℕ) → P text) → (text : List ℕ) × IfSome known (λ rest. text ≡ rest) × P text
+-- what is known of all texts is known of one that a source may give
+of_any : (known : Option (List ℕ)) (P : List ℕ → Type 0) → ((text : List ℕ) → P text) → (text : List ℕ) × IfSome known (λ rest. text ≡ rest) × P text
 of_any None P all = ([], tt, all [])
 of_any (Some rest) P all = (rest, refl, all rest)
+
+-- all is printed and the run ends with the status that was wanted, or the sink fails
+abbrev pub HasPrinted : {T : Type 0} → Ghosts T → (wanted status : Status) → (sink sink' : T) → List ℕ → Type 0
+HasPrinted device wanted status sink sink' printed =
+    ((status ≡ wanted) × HasTaken device sink sink' printed) ⊎ ((status ≡ statuses.DeviceFault) × HasFailedBehind device sink sink' printed)
+
+-- the line of a program that is out of memory
+pub memory_printed : {T : Type 0} (device : Ghosts T) (status : Status) (sink sink' : T)
+    → HasPrinted device statuses.Memory status sink sink' (codes "refused 10 Memory\n") → HasPrintedMemory device status sink sink'
+memory_printed {T} device status sink sink' printed = by_end (subst (HasPrinted device statuses.Memory status sink sink') memory_line printed)
+  where
+    P : Status → Type 0
+    P s = HasPrintedMemory device s sink sink'
+
+    by_end : HasPrinted device statuses.Memory status sink sink' (refusal_line memory_fault) → P status
+    by_end (inl (is, taken)) = subst P (sym is) taken
+    by_end (inr (is, stopped)) = subst P (sym is) stopped
 
 module _ {T : Type 0} (device : Ghosts T) (command : Command) (text : List ℕ) (sink sink' : T) (printed : List ℕ) where
   answered_whole : (wanted : Status) → IsAnswer command text wanted printed → HasTaken device sink sink' printed
@@ -42,6 +62,26 @@ module _ {T : Type 0} (device : Ghosts T) (command : Command) (text : List ℕ) 
       let P : Status → Type 0 = λ s. HasAnswered command text s (device.contents sink) (device.contents sink') in
       subst P (sym fault) (wanted, printed, answer, stopped.count, stopped.taken)
 
+-- out of memory is an answer to every text
+pub memory_answered : {T : Type 0} (device : Ghosts T) (command : Command) (status : Status) (sink sink' : T) (text : List ℕ)
+    → HasPrintedMemory device status sink sink' → HasAnswered command text status (device.contents sink) (device.contents sink')
+memory_answered device command statuses.NoPhenomenon sink sink' text none = absurd none
+memory_answered device command statuses.SomePhenomenon sink sink' text none = absurd none
+memory_answered device command statuses.Refused sink sink' text none = absurd none
+memory_answered device command statuses.DeviceFault sink sink' text stopped =
+    (statuses.Memory, refusal_line memory_fault, refl, stopped.count, stopped.taken)
+memory_answered device command statuses.Memory sink sink' text taken = (refusal_line memory_fault, refl, taken.taken)
+
 -- nothing is a beginning of an answer
 pub nothing_printed : (command : Command) (text : List ℕ) (told : Option (List ℕ)) → HasAnswered command text statuses.DeviceFault told told
 nothing_printed command text told = (statuses.Memory, refusal_line memory_fault, refl, 0, Appends-nil told)
+
+-- a run of which the answer is right for every text
+pub run_on_any : {S T : Type 0} (reads : Source S) (prints : Ghosts T) (command : Command) (status : Status) (source source' : S) (sink sink' : T)
+    → ((text : List ℕ) → HasAnswered command text status (prints.contents sink) (prints.contents sink'))
+    → (code_of status ≤ 2 → IsAtEnd (reads.remaining source'))
+    → FailedBy reads prints status source source' sink sink'
+    → HasRun reads prints command status source source' sink sink'
+run_on_any reads prints command status source source' sink sink' answers whole failed =
+    let any = of_any (reads.remaining source) (λ text. HasAnswered command text status (prints.contents sink) (prints.contents sink')) answers in
+    record { text = any.0; text_is = any.1; answered = any.2; whole = whole; failed = failed }

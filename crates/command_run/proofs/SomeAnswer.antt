@@ -1,20 +1,24 @@
 -- A text has an answer.
-use Rattle.std.proofs.Common.{◌≡◌, ℕ, List, [], Bool, true, false, Option, Some, None, inl, inr, refl, ap, sym, ◌∙◌}
+use Rattle.std.proofs.Common.{◌≡◌, ℕ, List, [], length, Bool, true, false, Option, Some, None, inl, inr, refl, ap, sym, ◌∙◌}
 use Rattle.std.specs.Prelude.{◌≢◌, ◌||◌, option_map}
 use Rattle.std.proofs.lemmas.Bool.{false≢true}
 use Rattle.hist_types.specs.Operations.{Operation}
 use Rattle.hist_types.specs.Journal.{first_broken}
 use Rattle.hist_types.specs.Entries.{Entry, operations_of}
-use Rattle.hist_types.specs.Laws.{HasOne}
+use Rattle.reading_laws.specs.Readings.{HasOneReading}
 use Rattle.hist_types.specs.Reading.{Reads}
 use Rattle.hist_types.specs.Refusals.{event_fault}
-use Rattle.hist_types.specs.Texts.{reads_text, edges_text, has_bad_read, IsVerdictText, verdict_lines, refusal_line}
+use Rattle.hist_types.specs.Phenomena.{g1a, g1b, stray}
+use Rattle.hist_types.specs.Reports.{AreFindings, Report, IsVerdictOf}
+use Rattle.hist_types.specs.Texts.{reads_text, edges_text, has_bad_read, verdict_text, refusal_line}
+use Rattle.hist_types.specs.Transactions.{Transaction, transactions_of}
 use Rattle.hist_types.specs.declared.types.Fault.{Fault}
 use Rattle.hist_types.specs.declared.types.Refusal.{Refusal}
 use Rattle.hist_types.specs.declared.types.Phenomenon.TheVariants.{G0, G1c, GSingle, G2Item}
 use Rattle.command_run.proofs.Deciding.{has_finding}
 use Rattle.block_reader.specs.Texts.{GivesOperations}
-use Rattle.command_run.specs.Answers.{GivesEvents, IsRefused, names_cycle, HasAnswer}
+use Rattle.command_run.specs.Answers.{GivesEvents, IsRefused, names_phenomenon, IsVerdict, HasAnswer}
+use Rattle.command_run.specs.Statuses.{status_by}
 use Rattle.command_run.specs.declared.answer.Status.{Status}
 use Rattle.command_run.specs.declared.answer.Status.TheVariants as statuses
 use Rattle.command_line.specs.declared.types.Command.{Command}
@@ -40,30 +44,45 @@ reported the_reads text events given = by_reads (has_bad_read events) refl
         (statuses.NoPhenomenon, reads_text events, not_memory statuses.NoPhenomenon refl, record { events = events; given = given; reported = (rw e refl, refl) })
 reported the_edges text events given =
     (statuses.NoPhenomenon, edges_text events, not_memory statuses.NoPhenomenon refl, record { events = events; given = given; reported = (refl, refl) })
-reported the_check text events given = by_named (names_cycle verdict || has_bad_read events) refl
+reported the_check text events given = by_named (names_phenomenon report) refl
   where
-    printed : List ℕ
-    printed = verdict_lines events (has_finding G0 events).0 (has_finding G1c events).0 (has_finding GSingle events).0 (has_finding G2Item events).0
+    ts : List Transaction
+    ts = transactions_of events
 
-    verdict : IsVerdictText events printed
-    verdict =
+    report : Report
+    report =
         record {
-          g0 = (has_finding G0 events).0;
-          g1c = (has_finding G1c events).0;
-          single = (has_finding GSingle events).0;
-          item = (has_finding G2Item events).0;
-          is_g0 = (has_finding G0 events).1;
-          is_g1c = (has_finding G1c events).1;
-          is_single = (has_finding GSingle events).1;
-          is_item = (has_finding G2Item events).1;
-          lines = refl;
+          prefix = length events;
+          txns = length ts;
+          findings =
+              record {
+                g0 = (has_finding G0 events).0;
+                g1c = (has_finding G1c events).0;
+                single = (has_finding GSingle events).0;
+                item = (has_finding G2Item events).0;
+              };
+          g1a = g1a ts;
+          g1b = g1b ts;
+          stray = stray ts;
         }
 
-    by_named : (named : Bool) → (names_cycle verdict || has_bad_read events) ≡ named → HasAnswer the_check text
+    each : AreFindings ts report.findings
+    each G0 = (has_finding G0 events).1
+    each G1c = (has_finding G1c events).1
+    each GSingle = (has_finding GSingle events).1
+    each G2Item = (has_finding G2Item events).1
+
+    verdict : IsVerdictOf events report
+    verdict = record { prefix = refl; txns = refl; findings = each; g1a = refl; g1b = refl; stray = refl }
+
+    with_status : (status : Status) → status ≡ status_by (names_phenomenon report) → IsVerdict events status (verdict_text report)
+    with_status status is = record { report = report; is_verdict = verdict; text = refl; status_is = is }
+
+    by_named : (named : Bool) → names_phenomenon report ≡ named → HasAnswer the_check text
     by_named true e =
-        (statuses.SomePhenomenon, printed, not_memory statuses.SomePhenomenon refl, record { events = events; given = given; reported = record { text = verdict; status_is = rw e refl } })
+        (statuses.SomePhenomenon, verdict_text report, not_memory statuses.SomePhenomenon refl, record { events = events; given = given; reported = with_status statuses.SomePhenomenon (rw e refl) })
     by_named false e =
-        (statuses.NoPhenomenon, printed, not_memory statuses.NoPhenomenon refl, record { events = events; given = given; reported = record { text = verdict; status_is = rw e refl } })
+        (statuses.NoPhenomenon, verdict_text report, not_memory statuses.NoPhenomenon refl, record { events = events; given = given; reported = with_status statuses.NoPhenomenon (rw e refl) })
 
 judged : (command : Command) (text : List ℕ) (operations : List Operation) → GivesOperations text operations → HasAnswer command text
 judged command text operations given = by_rules (first_broken [] operations) refl
@@ -77,7 +96,7 @@ by_reading command text entries None read = judged command text (operations_of e
 by_reading command text entries (Some fault) read = refused command text fault (inl (record { entries = entries; read = read }))
 
 -- a text that has a reading has an answer
-pub some_answer : ((text : List ℕ) → HasOne (Reads text)) → (command : Command) (text : List ℕ) → HasAnswer command text
+pub some_answer : ((text : List ℕ) → HasOneReading (Reads text)) → (command : Command) (text : List ℕ) → HasAnswer command text
 some_answer one_reading command text =
     let has = (one_reading text).0 in
     by_reading command text has.0 has.1 has.2

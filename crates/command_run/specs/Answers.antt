@@ -1,12 +1,11 @@
 -- What the program answers to a text.
-use Rattle.std.specs.Prelude.{◌≡◌, ◌≢◌, ◌⊎◌, ℕ, List, [], Bool, ◌||◌, Option, Some, None, option_map, is_some}
+use Rattle.std.specs.Prelude.{◌≡◌, ◌≢◌, ◌⊎◌, ℕ, List, [], Bool, ◌||◌, Option, Some, option_map, is_some}
 use Rattle.hist_types.specs.Operations.{Operation}
-use Rattle.hist_types.specs.Journal.{first_broken}
+use Rattle.hist_types.specs.Journal.{first_broken, KeepsRules}
 use Rattle.hist_types.specs.Refusals.{event_fault, memory_fault}
-use Rattle.hist_types.specs.Texts.{reads_text, edges_text, has_bad_read, IsVerdictText, refusal_line}
+use Rattle.hist_types.specs.Reports.{Findings, Report, IsVerdictOf}
+use Rattle.hist_types.specs.Texts.{reads_text, edges_text, has_bad_read, verdict_text, refusal_line}
 use Rattle.hist_types.specs.declared.types.Fault.{Fault}
-use Rattle.op_block.specs.Contents.{Contents}
-use Rattle.block_reader.specs.Blocks.{operations_in}
 use Rattle.block_reader.specs.Texts.{GivesOperations, GivesFault}
 use Rattle.command_run.specs.Statuses.{status_by}
 use Rattle.command_run.specs.declared.answer.Status.{Status}
@@ -18,14 +17,10 @@ use Rattle.command_line.specs.declared.types.Command.TheVariants as commands
 abbrev pub journal_fault : List Operation → Option Fault
 journal_fault operations = option_map event_fault (first_broken [] operations)
 
--- the fault of the first rule that an operation of the blocks breaks
-abbrev pub IsFirstBrokenBy : List Contents → Fault → Type 0
-IsFirstBrokenBy blocks fault = journal_fault (operations_in blocks) ≡ Some fault
-
 -- the text's operations are the events of a journal
 pub record GivesEvents (text : List ℕ) (events : List Operation) : Type 0 where
   pub given : GivesOperations text events
-  pub kept : first_broken [] events ≡ None
+  pub kept : KeepsRules events
 
 -- the text reads as operations, and the fault is that of the first rule that one of them breaks
 abbrev pub BreaksRule : List ℕ → Fault → Type 0
@@ -37,16 +32,21 @@ BreaksRule text fault =
 abbrev pub IsRefused : List ℕ → Fault → Type 0
 IsRefused text fault = GivesFault text fault ⊎ BreaksRule text fault
 
--- whether the text of a verdict names a phenomenon that a cycle shows
-abbrev pub names_cycle :
-    {events : List Operation} {text : List ℕ} → IsVerdictText events text → Bool
-names_cycle verdict =
-    is_some verdict.g0 || is_some verdict.g1c || is_some verdict.single || is_some verdict.item
+-- whether a report names one of the phenomena that cycles show
+abbrev pub names_cycle : Findings → Bool
+names_cycle found =
+    is_some found.g0 || is_some found.g1c || is_some found.single || is_some found.item
 
--- the text of a verdict, with status 1 exactly where it names one of the six phenomena
+-- whether it names one of the six phenomena
+abbrev pub names_phenomenon : Report → Bool
+names_phenomenon r = names_cycle r.findings || (is_some r.g1a || is_some r.g1b)
+
+-- the text of a verdict of the events, with status 1 exactly where it names a phenomenon
 pub record IsVerdict (events : List Operation) (status : Status) (printed : List ℕ) : Type 0 where
-  pub text : IsVerdictText events printed
-  pub status_is : status ≡ status_by (names_cycle text || has_bad_read events)
+  pub report : Report
+  pub is_verdict : IsVerdictOf events report
+  pub text : printed ≡ verdict_text report
+  pub status_is : status ≡ status_by (names_phenomenon report)
 
 -- what a command prints of the events, and the status with it
 abbrev pub Reports : Command → List Operation → Status → List ℕ → Type 0

@@ -2,7 +2,7 @@
 use Rattle.std.specs.Prelude.{◌≡◌, ◌==◌, ℕ, List, ◌++◌, filter, length}
 use Rattle.cycle_show.specs.Lines.{edge_lines}
 use Rattle.hist_types.specs.Edges.{Edge, dependency_edges}
-use Rattle.hist_types.specs.Texts.{in_order}
+use Rattle.hist_types.specs.EdgeOrder.{in_order}
 use Rattle.hist_types.specs.Transactions.{Transaction}
 
 -- those that leave a transaction, in order

@@ -18,23 +18,33 @@ use Rattle.command_line.specs.declared.types.LineFault.{LineFault}
 use Rattle.command_line.specs.declared.types.LineFault.TheVariants as line_faults
 use Rattle.command_line.specs.declared.types.Command.{Command}
 
--- the sink took all that was to be printed and the status is the one that goes with it, or the sink
--- failed
-abbrev pub HasPrinted : {T : Type 0} → Sink T → (wanted status : Status) → (sink sink' : T)
-    → List ℕ → Type 0
-HasPrinted device wanted status sink sink' printed =
-    ((status ≡ wanted) × HasTaken device sink sink' printed)
-    ⊎ ((status ≡ statuses.DeviceFault) × HasFailedBehind device sink sink' printed)
+-- the line that says that the program is out of memory was printed, unless the sink failed
+abbrev pub HasPrintedMemory : {T : Type 0} → Sink T → Status → (sink sink' : T) → Type 0
+HasPrintedMemory device statuses.Memory sink sink' =
+    HasTaken device sink sink' (refusal_line memory_fault)
+HasPrintedMemory device statuses.DeviceFault sink sink' =
+    HasFailedBehind device sink sink' (refusal_line memory_fault)
+HasPrintedMemory device status sink sink' = ⊥
 
 -- ---- the run of a command
 
--- the whole answer was printed, or where a device failed a beginning of one
-abbrev pub HasAnswered : Command → List ℕ → Status → Option (List ℕ) → Option (List ℕ) → Type 0
-HasAnswered command text statuses.DeviceFault before after =
-    (status : Status) × (printed : List ℕ) × IsAnswer command text status printed
-    × (count : ℕ) × Appends before after (take count printed)
-HasAnswered command text status before after =
+-- the command's answer to the text that goes with this status was printed whole
+abbrev pub HasPrintedAll : Command → List ℕ → Status
+    → (before after : Option (List ℕ)) → Type 0
+HasPrintedAll command text status before after =
     (printed : List ℕ) × IsAnswer command text status printed × Appends before after printed
+
+-- a beginning of an answer of the command to the text was printed, or nothing
+abbrev pub HasPrintedABeginning : Command → List ℕ → (before after : Option (List ℕ)) → Type 0
+HasPrintedABeginning command text before after =
+    (wanted : Status) × (printed : List ℕ) × IsAnswer command text wanted printed
+    × (count : ℕ) × Appends before after (take count printed)
+
+-- the text was answered, unless a device failed
+abbrev pub HasAnswered : Command → List ℕ → Status → (before after : Option (List ℕ)) → Type 0
+HasAnswered command text statuses.DeviceFault before after =
+    HasPrintedABeginning command text before after
+HasAnswered command text status before after = HasPrintedAll command text status before after
 
 -- the source failed, and nothing was printed
 pub record SourceFailed {S T : Type 0} (reads : Source S)
@@ -62,8 +72,9 @@ FailedBy reads prints statuses.DeviceFault source source' sink sink' =
 FailedBy reads prints status source source' sink sink' =
     NeitherFailed reads prints source source' sink sink'
 
--- how the run of a command leaves its devices: it answers a text, which is the source's bytes where
--- it tells them
+-- How the run of a command leaves its devices. It answers a text, which is the source's bytes where
+-- they are known; with the statuses 0 to 2 the source was read to its end; and a device fault is
+-- reported exactly where a device failed.
 pub record HasRun {S T : Type 0} (reads : Source S) (prints : Sink T)
     (command : Command) (status : Status)
     (source source' : S) (sink sink' : T) : Type 0 where
@@ -87,7 +98,7 @@ abbrev pub HasRefusedLine : {T : Type 0} → Sink T → LineFault → Status →
 HasRefusedLine prints (line_faults.Usage text) status sink sink' =
     (status ≡ statuses.Refused) × (sink' ≡ sink)
 HasRefusedLine prints line_faults.Memory status sink sink' =
-    HasPrinted prints statuses.Memory status sink sink' (refusal_line memory_fault)
+    HasPrintedMemory prints status sink sink'
 
 -- what is said on standard error
 abbrev pub complaint : Result Asked LineFault → Status → List ℕ

@@ -1,4 +1,4 @@
--- What `reads` and `edges` are told from.
+-- What `reads` and `edges` are made from.
 use Rattle.std.specs.Prelude.{◌≡◌, List}
 use Rattle.hist_types.specs.Operations.{Operation}
 use Rattle.hist_types.specs.Transactions.{transactions_of}

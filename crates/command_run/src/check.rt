@@ -1,12 +1,11 @@
 //! The command `check`.
 
-ghost use Rattle.std.specs.Prelude.{◌≡◌, [], None, IfOk, IfErr};
-ghost use Rattle.hist_types.specs.Journal.{first_broken};
+ghost use Rattle.std.specs.Prelude.{◌≡◌, IfOk, IfErr};
+ghost use Rattle.hist_types.specs.Journal.{KeepsRules};
 ghost use Rattle.hist_types.specs.Refusals.{memory_fault};
 ghost use Rattle.verdict.specs.Lowest.{AreTablesOf};
-ghost use Rattle.command_run.specs.Answers.{Reports};
+ghost use Rattle.command_run.specs.Answers.{names_phenomenon, Reports};
 ghost use Rattle.command_run.specs.Statuses.{status_by};
-ghost use Rattle.command_run.specs.Verdicts.{names_phenomenon};
 ghost use Rattle.command_line.specs.declared.types.Command.TheVariants.{Check};
 
 use crate::answer::{Answer, Status};
@@ -16,7 +15,7 @@ use std::alloc::Global;
 use std::thread::Threads;
 use verdict::tables::Tables;
 use verdict::types::Verdict;
-use verdict::verdict_from;
+use verdict::verdict_from_wide;
 
 fn status_of(verdict: &Verdict<'_>) -> Status
     ensures { result ≡ status_by (names_phenomenon verdict.now) }
@@ -40,13 +39,13 @@ pub fn report<R: Threads + Sync>(
     events: &Events<'_>,
     tables: &Tables<'_>,
 ) -> Result<Answer, Fault>
-    requires kept { first_broken [] events.now ≡ None }
+    requires kept { KeepsRules events.now }
     requires tables { AreTablesOf events.now tables.now }
     ensures ok { IfOk result
         (λ answer. Reports Check events.now answer.status answer.printed.items) }
     ensures err { IfErr result (λ fault. fault ≡ memory_fault) }
 {
-    let verdict = verdict_from(rt, alloc, events, tables)?;
+    let verdict = verdict_from_wide(rt, alloc, events, tables)?;
     Ok(Answer {
         status: status_of(&verdict),
         printed: verdict.into_text(),

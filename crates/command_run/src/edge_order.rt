@@ -3,7 +3,7 @@
 ghost use Rattle.std.specs.Prelude.{◌≡◌};
 ghost use Rattle.std.specs.List.Sorted.{IsPermutation, IsSortedBy};
 ghost use Rattle.std.specs.Ordering.{is_lt};
-ghost use Rattle.hist_types.specs.Texts.{label_rank, label_cmp, edge_cmp};
+ghost use Rattle.hist_types.specs.EdgeOrder.{label_rank, label_cmp, edge_cmp};
 ghost use Rattle.dep_edges.specs.Labels.{label_of};
 
 use dep_edges::types::{Edge, Label};

@@ -1,7 +1,7 @@
 //! The command `edges`.
 
-ghost use Rattle.std.specs.Prelude.{◌≡◌, [], None, length, IfOk, IfErr, OnOk};
-ghost use Rattle.hist_types.specs.Journal.{first_broken};
+ghost use Rattle.std.specs.Prelude.{◌≡◌, length, IfOk, IfErr, OnOk};
+ghost use Rattle.hist_types.specs.Journal.{KeepsRules};
 ghost use Rattle.hist_types.specs.Refusals.{memory_fault};
 ghost use Rattle.dep_edges.specs.Histories.{AreOfHistory};
 ghost use Rattle.dep_edges.specs.Tables.{IsPlace, txn_at};
@@ -60,7 +60,7 @@ fn write_all_edges(
 
 /// What `edges` prints of events that keep the rules. It fails only where it is out of memory.
 pub fn report(alloc: Global, events: &Events<'_>, tables: &Tables<'_>) -> Result<Answer, Fault>
-    requires kept { first_broken [] events.now ≡ None }
+    requires kept { KeepsRules events.now }
     requires tables { AreTablesOf events.now tables.now }
     ensures ok { IfOk result
         (λ answer. Reports Edges events.now answer.status answer.printed.items) }

@@ -1,16 +1,17 @@
 //! Laws of the commands.
 
 ghost use Rattle.std.specs.Prelude.{◌≡◌, ◌≢◌, ℕ, List};
-ghost use Rattle.command_run.specs.Answers.{IsAnswer, HasAnswer};
+ghost use Rattle.command_run.specs.Answers.{IsAnswer, IsReport, HasAnswer};
+ghost use Rattle.command_run.specs.SameAnswers.{DifferInWitnessesAlone};
 ghost use Rattle.command_run.specs.declared.answer.Status.{Status};
-ghost use Rattle.command_run.specs.declared.answer.Status.TheVariants.{Memory};
+ghost use Rattle.command_run.specs.declared.answer.Status.TheVariants.{Refused, Memory};
 ghost use Rattle.command_line.specs.declared.types.Command.{Command};
 ghost use Rattle.command_line.specs.declared.types.Command.TheVariants.{Check};
 
-use hist_types::laws::texts_have_one_reading;
+use reading_laws::texts_have_one_reading;
 
-/// A text has one answer of a command at most, beside the one that is out of memory: one status, and one output with it. Only
-/// the outputs of `check` may differ, in their witnesses.
+/// A text has one answer of a command at most, other than the one that is out of memory: one status, and one output with it.
+/// Only two reports of `check` may differ, in their witnesses alone.
 pub fn one_answer_to_a_text()
     ensures status { (command : Command) (text : List ℕ)
         (status other : Status) (printed others : List ℕ) → status ≢ Memory → other ≢ Memory
@@ -21,6 +22,12 @@ pub fn one_answer_to_a_text()
         → command ≢ Check
         → IsAnswer command text status printed → IsAnswer command text other others
         → printed ≡ others }
+    ensures refused { (command : Command) (text : List ℕ) (printed others : List ℕ)
+        → IsAnswer command text Refused printed → IsAnswer command text Refused others
+        → printed ≡ others }
+    ensures check { (text : List ℕ) (status other : Status) (printed others : List ℕ)
+        → IsReport Check text status printed → IsReport Check text other others
+        → DifferInWitnessesAlone printed others }
 {
     texts_have_one_reading();
 }

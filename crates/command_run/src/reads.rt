@@ -1,7 +1,7 @@
 //! The command `reads`.
 
-ghost use Rattle.std.specs.Prelude.{◌≡◌, [], None, IfOk, IfErr, is_some, ◌||◌};
-ghost use Rattle.hist_types.specs.Journal.{first_broken};
+ghost use Rattle.std.specs.Prelude.{◌≡◌, IfOk, IfErr, is_some, ◌||◌};
+ghost use Rattle.hist_types.specs.Journal.{KeepsRules};
 ghost use Rattle.hist_types.specs.Refusals.{memory_fault};
 ghost use Rattle.command_run.specs.Answers.{Reports};
 ghost use Rattle.command_run.specs.Tables.{AreTablesOf};
@@ -29,7 +29,7 @@ fn status_of(aborted: &Option<BadRead<'_>>, intermediate: &Option<BadRead<'_>>) 
 
 /// What `reads` prints of events that keep the rules. It fails only where it is out of memory.
 pub fn report(alloc: Global, events: &Events<'_>, tables: &Tables<'_>) -> Result<Answer, Fault>
-    requires kept { first_broken [] events.now ≡ None }
+    requires kept { KeepsRules events.now }
     requires tables { AreTablesOf events.now tables.now }
     ensures ok { IfOk result
         (λ answer. Reports Reads events.now answer.status answer.printed.items) }

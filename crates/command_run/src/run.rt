@@ -1,19 +1,18 @@
 //! The run of a command, from a source's bytes to a sink's.
 
-ghost use Rattle.std.specs.Prelude.{◌≡◌, ◌⊎◌, ℕ, ◌≤◌, List, [], None, IfOk, OnOk, IfErr, IfSome};
-ghost use Rattle.std.specs.Io.KnownBytes.{IsAtEnd};
-ghost use Rattle.hist_types.specs.Journal.{first_broken};
+ghost use Rattle.std.specs.Prelude.{◌≡◌, ◌⊎◌, IfOk, OnOk, IfErr};
+ghost use Rattle.hist_types.specs.Journal.{KeepsRules};
 ghost use Rattle.hist_types.specs.Refusals.{memory_fault};
-ghost use Rattle.hist_types.specs.Texts.{refusal_line};
 ghost use Rattle.block_reader.specs.Blocks.{operations_in};
-ghost use Rattle.command_run.specs.Answers.{IsAnswer, IsRefused, IsFirstBrokenBy, Reports};
-ghost use Rattle.command_run.specs.Runs.{HasPrinted, HasAnswered, FailedBy};
-ghost use Rattle.command_run.specs.Statuses.{code_of};
+ghost use Rattle.verdict.specs.Pieces.{HasTaken, HasFailedBehind};
+ghost use Rattle.command_run.specs.Answers.{IsAnswer, IsRefused, Reports};
+ghost use Rattle.command_run.specs.Judged.{IsFirstBrokenBy};
+ghost use Rattle.command_run.specs.Runs.{HasPrintedMemory, HasRun};
 
 use crate::answer::{Answer, Status, refuse};
 use crate::devices::{ReadFault, read_all};
 use crate::inputs::events_of;
-use crate::tables::{judged_for_verdict, judged_tables};
+use crate::tables::{tables_of, verdict_tables_of, while_judging};
 use crate::{check, edges, reads};
 use block_reader::reading::read_blocks;
 use command_line::types::Command;
@@ -25,7 +24,7 @@ use std::alloc::{AllocError, Global};
 use std::thread::Threads;
 use verdict::devices::write_all;
 
-/// What the command prints of the events of the blocks, which are judged beside.
+/// What the command prints of the events of the blocks, which are judged at the same time.
 fn report_on<'a, R: Threads + Sync>(
     rt: &R,
     alloc: Global,
@@ -36,21 +35,26 @@ fn report_on<'a, R: Threads + Sync>(
     requires { events.now ≡ operations_in blocks.now }
     ensures ok { IfOk result
         (λ answer. Reports command events.now answer.status answer.printed.items) }
-    ensures kept { OnOk result (first_broken [] events.now ≡ None) }
+    ensures kept { OnOk result (KeepsRules events.now) }
     ensures err { IfErr result
         (λ fault. (fault ≡ memory_fault) ⊎ IsFirstBrokenBy blocks.now fault) }
 {
     match command {
         Command::Reads => {
-            let tables = judged_tables(rt, alloc, blocks, events)?;
+            let tables = while_judging(rt, alloc, blocks, &mut || tables_of(rt, alloc, events))?;
             reads::report(alloc, events, &tables)
         }
         Command::Edges => {
-            let tables = judged_tables(rt, alloc, blocks, events)?;
+            let tables = while_judging(rt, alloc, blocks, &mut || tables_of(rt, alloc, events))?;
             edges::report(alloc, events, &tables)
         }
         Command::Check => {
-            let tables = judged_for_verdict(rt, alloc, blocks, events)?;
+            let tables = while_judging(
+                rt,
+                alloc,
+                blocks,
+                &mut || verdict_tables_of(rt, alloc, events),
+            )?;
             check::report(rt, alloc, events, &tables)
         }
     }
@@ -93,7 +97,9 @@ fn answer_to<R: Threads + Sync>(
 
 /// Prints the bytes, and returns how the run ended: by the status, unless the sink fails.
 fn print<T: Sink>(sink: &mut T, status: Status, printed: &[u8]) -> Status
-    ensures { HasPrinted T.Sink status result sink.old sink.new printed.now }
+    ensures { ((result ≡ status) × HasTaken T.Sink sink.old sink.new printed.now)
+        ⊎ ((result ≡ Status.DeviceFault)
+        × HasFailedBehind T.Sink sink.old sink.new printed.now) }
 {
     match write_all(sink, printed) {
         Ok(()) => status,
@@ -103,7 +109,7 @@ fn print<T: Sink>(sink: &mut T, status: Status, printed: &[u8]) -> Status
 
 /// Prints that the program is out of memory, which takes none.
 pub fn print_memory<T: Sink>(sink: &mut T) -> Status
-    ensures { HasPrinted T.Sink Status.Memory result sink.old sink.new (refusal_line memory_fault) }
+    ensures { HasPrintedMemory T.Sink result sink.old sink.new }
 {
     print(sink, Status::Memory, b"refused 10 Memory\n")
 }
@@ -116,13 +122,8 @@ pub fn run<R: Threads + Sync, S: Source, T: Sink>(
     source: &mut S,
     sink: &mut T,
 ) -> Status
-    // What is printed is the answer to a text, which is the source's bytes where they are known.
-    ensures answered { (text : List ℕ) × IfSome (S.remaining source.old) (λ rest. text ≡ rest)
-        × HasAnswered command text result (T.contents sink.old) (T.contents sink.new) }
-    // With the statuses 0 to 2 the source was read to its end.
-    ensures whole { code_of result ≤ 2 → IsAtEnd (S.remaining source.new) }
-    // The source failed and nothing is printed, or the sink failed, or no device did.
-    ensures failed { FailedBy S.Source T.Sink result source.old source.new sink.old sink.new }
+    // What is printed answers the source's bytes, and a device fault is reported exactly where a device failed.
+    ensures { HasRun S.Source T.Sink command result source.old source.new sink.old sink.new }
 {
     let text = match read_all(alloc, source) {
         Ok(text) => text,

@@ -5,13 +5,13 @@ use Rattle.std.specs.List.{AllByRecursion, list_all}
 use Rattle.std.proofs.lemmas.Bool.{and_from}
 use Rattle.std.proofs.lemmas.List.Elements.{recursion_from_All, All-cons}
 use Rattle.hist_types.specs.Edges.{Label, ww, wr, rw, process, realtime, Edge}
-use Rattle.hist_types.specs.Phenomena.{Leads}
-use Rattle.hist_types.specs.Thinning.{ShowsOver, is_needed, may_lead_back}
+use Rattle.hist_types.specs.Phenomena.{Leads, Shows}
+use Rattle.history_laws.specs.WaysBack.{is_needed, may_lead_back}
 use Rattle.hist_types.specs.declared.types.Level.{Level}
 use Rattle.hist_types.specs.declared.types.Level.TheVariants.{Plain}
 use Rattle.hist_types.specs.declared.types.Phenomenon.{Phenomenon}
 use Rattle.hist_types.specs.declared.types.Phenomenon.TheVariants.{G0, G1c, GSingle, G2Item}
-use Rattle.hist_types.proofs.ThinningCycles.{closing_makes}
+use Rattle.history_laws.proofs.ThinningCycles.{closing_makes}
 use Rattle.dep_edges.specs.Tables.{txn_at}
 use Rattle.edge_graph.specs.Kinds.{includes, kinds_of}
 use Rattle.edge_graph.specs.Parts.{Parts, edges_in}
@@ -64,7 +64,7 @@ pub shows :
     (task : Task) (from to : ℕ) (e : Edge) (es : List Edge)
     → IsEdgeBetween task.graph (needed_kinds task) from to e
     → AreEdgesBetween task.graph (back_kinds task) to from es
-    → ShowsOver task.phenomenon (edges_in task.graph task.level) (e ∷ es)
+    → Shows task.phenomenon (edges_in task.graph task.level) (e ∷ es)
 shows task from to e es is are =
     let g = task.graph in
     let phenomenon = task.phenomenon in
@@ -84,7 +84,7 @@ pub shows_along :
     → slice_index way (length way - 1) ≡ from
     → IsEdgeBetween task.graph (needed_kinds task) from to e
     → AreEdgesBetween task.graph (back_kinds task) (slice_index way 0) (slice_index way (length way - 1)) es
-    → ShowsOver task.phenomenon (edges_in task.graph task.level) (e ∷ es)
+    → Shows task.phenomenon (edges_in task.graph task.level) (e ∷ es)
 shows_along task from to way e es begins ends is are =
     shows task from to e es is
     (subst (λ n. AreEdgesBetween task.graph (back_kinds task) n from es) begins

@@ -4,14 +4,14 @@ use Rattle.std.specs.List.{AllByRecursion}
 use Rattle.std.proofs.lemmas.Bool.{false≢true}
 use Rattle.std.proofs.lemmas.List.Elements.{All-from_recursion}
 use Rattle.hist_types.specs.Edges.{Label, ww, wr, rw, process, realtime, Edge}
-use Rattle.hist_types.specs.Phenomena.{Leads}
-use Rattle.hist_types.specs.Thinning.{HasOver, HasReturn, LeadsBack, is_needed, may_lead_back}
+use Rattle.hist_types.specs.Phenomena.{Leads, IsShownBy}
+use Rattle.history_laws.specs.WaysBack.{HasWayBack, LeadsBack, is_needed, may_lead_back}
 use Rattle.hist_types.specs.declared.types.Level.{Level}
 use Rattle.hist_types.specs.declared.types.Level.TheVariants.{Plain}
 use Rattle.hist_types.specs.declared.types.Phenomenon.{Phenomenon}
 use Rattle.hist_types.specs.declared.types.Phenomenon.TheVariants.{G0, G1c, GSingle, G2Item}
-use Rattle.hist_types.proofs.ThinningCycles.{closed_by_one}
-use Rattle.hist_types.proofs.ThinningWitnesses.{needed_dependency, passes_list}
+use Rattle.history_laws.proofs.ThinningCycles.{closed_by_one}
+use Rattle.history_laws.proofs.ThinningWitnesses.{needed_dependency, passes_list}
 use Rattle.dep_edges.specs.Histories.{AreOfHistory}
 use Rattle.dep_edges.specs.Tables.{IsPlace, txn_at}
 use Rattle.edge_graph.specs.Kinds.{includes, kinds_of, AreAmong}
@@ -126,7 +126,7 @@ module _ (task : Task) (kept : AreOfHistory task.graph.txns) (by_versions : RwBy
     },
   )
 
-met : (phenomenon : Phenomenon) (graph : Parts) (level : Level) → AreOfHistory graph.txns → RwByVersions graph → HasReturn phenomenon (edges_in graph level)
+met : (phenomenon : Phenomenon) (graph : Parts) (level : Level) → AreOfHistory graph.txns → RwByVersions graph → HasWayBack phenomenon (edges_in graph level)
     → (from by to : ℕ) × IsMet (task_of graph phenomenon level) from by to
 met G0 graph level kept by_versions (e, among, is, walk, back) =
     directly (task_of graph G0 level) kept by_versions Ww e walk refl among is back (arc_of_ww graph level e among is)
@@ -139,7 +139,7 @@ met G2Item graph level kept by_versions (e, among, is, walk, back) =
 
 -- ---- none
 
-pub none_over : (task : Task) → AreOfHistory task.graph.txns → RwByVersions task.graph → ((from : ℕ) → IsPlace task.graph.txns from → NoneFrom task from) → ¬ HasOver task.phenomenon (edges_in task.graph task.level)
+pub none_over : (task : Task) → AreOfHistory task.graph.txns → RwByVersions task.graph → ((from : ℕ) → IsPlace task.graph.txns from → NoneFrom task from) → ¬ IsShownBy task.phenomenon (edges_in task.graph task.level)
 none_over task kept by_versions none over =
     let (from, by, to, is) = met task.phenomenon task.graph task.level kept by_versions ((closed_by_one task.phenomenon (edges_in task.graph task.level)).0 over) in
     none from is.first by is.arc to is.last is.leads is.back

@@ -3,7 +3,7 @@ use Rattle.std.specs.Prelude.{ℕ, List, Option, Some, None, option_map, Vec}
 use Rattle.std.specs.Global.{Global}
 use Rattle.graph_search.specs.Graphs.{IsWalkIfAny}
 use Rattle.hist_types.specs.Edges.{Edge}
-use Rattle.hist_types.specs.Thinning.{ShowsOver}
+use Rattle.hist_types.specs.Phenomena.{Shows}
 use Rattle.hist_types.specs.declared.types.Level.{Level}
 use Rattle.hist_types.specs.declared.types.Level.TheVariants.{Plain}
 use Rattle.hist_types.specs.declared.types.Phenomenon.{Phenomenon}
@@ -52,7 +52,7 @@ IsWayBackIfAny task from to way =
 abbrev pub IsShownOr : Task → Type 0 → Option (List Edge) → Type 0
 IsShownOr task Otherwise None = Otherwise
 IsShownOr task Otherwise (Some walk) =
-    ShowsOver task.phenomenon (edges_in task.graph task.level) walk
+    Shows task.phenomenon (edges_in task.graph task.level) walk
 
 -- ---- arcs of needed edges
 

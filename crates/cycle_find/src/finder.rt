@@ -7,8 +7,7 @@ ghost use Rattle.edge_graph.specs.Vertices.{IsArc};
 ghost use Rattle.cycle_find.specs.Found.{IsFound};
 ghost use Rattle.cycle_find.specs.Prepared.{AreCoarseRanks, AreWholeRanks, AreBackRanks};
 ghost use Rattle.cycle_find.specs.Ranked.{NeverFalls};
-ghost use Rattle.cycle_find.specs.Tasks.{task_of, needed_kinds, whole_kinds, HasReturnBetween};
-ghost use Rattle.cycle_find.specs.Tasks.{IsShownOr, IsWayBackIfAny, NoneBy, NoneFrom};
+ghost use Rattle.cycle_find.specs.Tasks.{task_of, needed_kinds, whole_kinds, HasReturnBetween, IsShownOr, IsWayBackIfAny, NoneBy, NoneFrom};
 
 use crate::kinds::{needed, way_back};
 use crate::ranking::NotAbove;
@@ -34,11 +33,11 @@ pub(crate) struct Finder<'r, 'g, 'v, 'a> {
     needed: GraphArcs<'r>,
     /// The arcs of the way back.
     back: GraphArcs<'r>,
-    /// They don't fall along any arc of a closed walk.
+    /// Component numbers that don't fall along any arc of a closed walk.
     coarse: &'r Ranks,
-    /// Where those are the same, these don't fall along any arc of a closed walk either.
+    /// Finer ones: where `coarse` is the same, these don't fall along any arc of a closed walk either.
     ranks: &'r Ranks,
-    /// Nor these along any arc of a way back; they may be apart where the other ones are not.
+    /// Component numbers of the way back's arcs alone: finer still.
     finer: &'r Ranks,
 }
 
@@ -156,7 +155,7 @@ impl<'r, 'g, 'v, 'a> Finder<'r, 'g, 'v, 'a> {
         let successors = self.needed.successors(version);
         for index in 0..successors.len() {
             let to = successors.at(index);
-            // What a transaction installs behind its own read makes no edge.
+            // What a transaction installs after its own read makes no edge.
             if to != from {
                 let found = self.close(search, from, to)?;
                 if found.is_some() {

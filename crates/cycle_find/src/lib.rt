@@ -1,4 +1,6 @@
 //! Searches for the closed walks of phenomena.
+//!
+//! Only calls whose names end in `_wide` may start threads.
 #![tactic(auto)]
 
 mod finder;

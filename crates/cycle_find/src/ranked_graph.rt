@@ -57,7 +57,7 @@ impl<'r, 'g, 'v, 'a> Model for RankedGraph<'r, 'g, 'v, 'a> {
         × OnTrue r.rules_out_cycles (ShowNothing (edges_in r.graph.now Realtime)) };
 }
 
-/// Whether a single look at each edge settles that no phenomenon is shown at real time. Where it doesn't, that says nothing.
+/// True only if one pass over the edges proves that there is no cycle. False proves nothing.
 fn rules_out_cycles(graph: &Graph<'_, '_, '_>, ranks: &Ranks) -> bool
     requires { AreRanksOver graph.now (kinds_of All Realtime) ranks.now }
     ensures { OnTrue result (ShowNothing (edges_in graph.now Realtime)) }
@@ -65,16 +65,23 @@ fn rules_out_cycles(graph: &Graph<'_, '_, '_>, ranks: &Ranks) -> bool
     RankedEdges::new(graph, ranks).rise()
 }
 
-/// Which vertices share their rank, and whether the ranks rule out cycles: two threads tell, where another can be made.
-fn sharing_and_rise<R: Threads>(
+/// The ranks that all searches share.
+fn ranks_at_realtime(alloc: Global, graph: &Graph<'_, '_, '_>) -> Result<Ranks, AllocError>
+    ensures { IfOk result (AreRanksOver graph.now (kinds_of All Realtime)) }
+{
+    ranks_over(alloc, graph, Dependencies::All, Level::Realtime)
+}
+
+/// Which vertices share their rank, and whether the ranks rule out cycles, found by two threads if another can be started.
+fn sharing_and_rise_wide<R: Threads>(
     rt: &R,
     alloc: Global,
     graph: &Graph<'_, '_, '_>,
     ranks: &Ranks,
 ) -> Result<(Vec<bool>, bool), AllocError>
     requires { AreRanksOver graph.now (kinds_of All Realtime) ranks.now }
-    ensures shared { IfOk result (λ told. AreSharing ranks.now told.0.items) }
-    ensures rise { IfOk result (λ told. OnTrue told.1 (ShowNothing (edges_in graph.now Realtime))) }
+    ensures shared { IfOk result (λ both. AreSharing ranks.now both.0.items) }
+    ensures rise { IfOk result (λ both. OnTrue both.1 (ShowNothing (edges_in graph.now Realtime))) }
 {
     let (shared, rules_out) = join_mut(
         rt,
@@ -86,7 +93,24 @@ fn sharing_and_rise<R: Threads>(
 
 impl<'r, 'g, 'v, 'a> RankedGraph<'r, 'g, 'v, 'a> {
     /// Takes a few numbers for each vertex. Only memory can run out.
-    pub fn new<R: Threads>(
+    pub fn new(alloc: Global, graph: &'r Graph<'g, 'v, 'a>) -> Result<Self, Fault>
+        ensures ok { IfOk result (λ ranked. ranked ≡ graph.now) }
+        ensures err { IfErr result (λ fault. fault ≡ memory_fault) }
+    {
+        let ranks = ranks_at_realtime(alloc, graph)?;
+        let shared = sharing(alloc, &ranks)?;
+        let rules_out_cycles = rules_out_cycles(graph, &ranks);
+        Ok(RankedGraph {
+            alloc,
+            graph,
+            ranks,
+            shared,
+            rules_out_cycles,
+        })
+    }
+
+    /// As `new`, with two threads if another can be started.
+    pub fn new_wide<R: Threads>(
         rt: &R,
         alloc: Global,
         graph: &'r Graph<'g, 'v, 'a>,
@@ -94,8 +118,8 @@ impl<'r, 'g, 'v, 'a> RankedGraph<'r, 'g, 'v, 'a> {
         ensures ok { IfOk result (λ ranked. ranked ≡ graph.now) }
         ensures err { IfErr result (λ fault. fault ≡ memory_fault) }
     {
-        let ranks = ranks_over(alloc, graph, Dependencies::All, Level::Realtime)?;
-        let (shared, rules_out_cycles) = sharing_and_rise(rt, alloc, graph, &ranks)?;
+        let ranks = ranks_at_realtime(alloc, graph)?;
+        let (shared, rules_out_cycles) = sharing_and_rise_wide(rt, alloc, graph, &ranks)?;
         Ok(RankedGraph {
             alloc,
             graph,

@@ -106,7 +106,7 @@ impl<'r, 'g, 'v, 'a> RankedEdges<'r, 'g, 'v, 'a> {
         let successors = self.arcs.successors(version);
         for index in 0..successors.len() {
             let to = successors.at(index);
-            // What a transaction installs behind its own read makes no edge.
+            // What a transaction installs after its own read makes no edge.
             if to != from && self.ranks.rank(to) <= self.ranks.rank(from) {
                 return false;
             }

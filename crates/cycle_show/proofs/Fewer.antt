@@ -5,7 +5,7 @@ use Rattle.std.proofs.lemmas.List.{take-append-drop}
 use Rattle.hist_types.specs.Edges.{Edge}
 use Rattle.hist_types.specs.Phenomena.{is_order}
 use Rattle.hist_types.specs.Witness.{ends_in_order}
-use Rattle.hist_types.proofs.ThinningWalks.{count-cons, count-append, count_no}
+use Rattle.history_laws.proofs.ThinningWalks.{count-cons, count-append, count_no}
 use Rattle.cycle_show.specs.Reductions.{dependencies}
 use Rattle.cycle_show.specs.Paths.{joined, last_joined, path_to, extended, followed, place_behind, short_round}
 use Rattle.cycle_show.proofs.Shortening.{joined_is_order}

@@ -3,14 +3,15 @@ use Rattle.std.proofs.Common.{◌≡◌, inl, inr, ℕ, ◌<◌, List, [], ◌�
 use Rattle.hist_types.specs.Operations.{Operation}
 use Rattle.hist_types.specs.Transactions.{Transaction, nodes, transactions_of}
 use Rattle.hist_types.specs.Edges.{Label, process, realtime, Edge, edge, is_ok_before, same_process, realtime_label, order_labels, dependency_edges, order_edges, edges_at}
-use Rattle.hist_types.specs.Thinning.{order_edges_between, may_lead_back}
+use Rattle.history_laws.specs.Paths.{order_edges_between}
+use Rattle.history_laws.specs.WaysBack.{may_lead_back}
 use Rattle.hist_types.specs.declared.types.Level.{Level}
 use Rattle.hist_types.specs.declared.types.Level.TheVariants.{Plain, Process, Realtime}
 use Rattle.hist_types.specs.declared.types.Phenomenon.{Phenomenon}
 use Rattle.hist_types.proofs.Members.{In, in_back}
-use Rattle.hist_types.proofs.ThinningPaths.{Ordered, ordered_in_time, ended_before, ordered_through, ordered_from_label, edge_between, ends_of, AreNodes, are_nodes, nodes_included}
-use Rattle.hist_types.proofs.ThinningWalks.{Uncounted, uncounted_edge}
-use Rattle.hist_types.proofs.ThinningWitnesses.{order_edge, order_may}
+use Rattle.history_laws.proofs.ThinningPaths.{Ordered, ordered_in_time, ended_before, ordered_through, ordered_from_label, edge_between, ends_of, AreNodes, are_nodes, nodes_included}
+use Rattle.history_laws.proofs.ThinningWalks.{Uncounted, uncounted_edge}
+use Rattle.history_laws.proofs.ThinningWitnesses.{order_edge, order_may}
 use Rattle.cycle_show.specs.Paths.{joined_label, joined}
 use Rattle.cycle_show.proofs.Shortening.{JoinsTwo, joined_is_order}
 

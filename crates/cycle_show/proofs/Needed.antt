@@ -5,11 +5,11 @@ use Rattle.std.specs.Option.{option_or, option_map_or}
 use Rattle.std.proofs.lemmas.Bool.{false≢true, and_parts, cases_Bool, or_from}
 use Rattle.hist_types.specs.Edges.{Edge}
 use Rattle.hist_types.specs.Phenomena.{is_ww, is_wr, is_rw, is_order, makes}
-use Rattle.hist_types.specs.Thinning.{is_needed}
+use Rattle.history_laws.specs.WaysBack.{is_needed}
 use Rattle.hist_types.specs.declared.types.Phenomenon.{Phenomenon}
 use Rattle.hist_types.specs.declared.types.Phenomenon.TheVariants.{G0, G1c, GSingle, G2Item}
-use Rattle.hist_types.proofs.ThinningCycles.{some_needed}
-use Rattle.hist_types.proofs.ThinningWalks.{only_ww-wr, only_ww-rw, no_rw-rw}
+use Rattle.history_laws.proofs.ThinningCycles.{some_needed}
+use Rattle.history_laws.proofs.ThinningWalks.{only_ww-wr, only_ww-rw, no_rw-rw}
 use Rattle.cycle_show.specs.Paths.{needed_place, place_behind}
 
 -- the walk about an edge that passes, which ends before the place

@@ -6,7 +6,7 @@ use Rattle.std.proofs.lemmas.Option.{same_Some}
 use Rattle.hist_types.specs.Edges.{process, Edge}
 use Rattle.hist_types.specs.Phenomena.{is_order}
 use Rattle.hist_types.specs.Witness.{stations, ends_in_order}
-use Rattle.hist_types.proofs.ThinningWitnesses.{IsOff}
+use Rattle.history_laws.proofs.ThinningWitnesses.{IsOff}
 use Rattle.cycle_show.specs.Paths.{joined, last_joined, path_to, HavePlaces}
 
 -- ---- the last edge

@@ -6,8 +6,8 @@ use Rattle.hist_types.specs.Edges.{Label, Edge}
 use Rattle.hist_types.specs.Phenomena.{Leads, is_ww_label, is_wr_label, is_rw_label, is_order}
 use Rattle.hist_types.specs.Witness.{stations, all_different, alternates, ends_in_order}
 use Rattle.hist_types.proofs.Members.{In}
-use Rattle.hist_types.proofs.ThinningPaths.{leads_on, all_of_both}
-use Rattle.hist_types.proofs.ThinningWitnesses.{IsOff, IsSimple, after, ends_after, alternate_both, stations-append}
+use Rattle.history_laws.proofs.ThinningPaths.{leads_on, all_of_both}
+use Rattle.history_laws.proofs.ThinningWitnesses.{IsOff, IsSimple, after, ends_after, alternate_both, stations-append}
 use Rattle.cycle_show.specs.Paths.{joined_label, joined, last_joined, path_to, extended, followed}
 use Rattle.cycle_show.proofs.Places.{path_to_off}
 

@@ -7,15 +7,15 @@ use Rattle.hist_types.specs.Operations.{Operation}
 use Rattle.hist_types.specs.Transactions.{Transaction, transactions_of}
 use Rattle.hist_types.specs.Edges.{Edge, edges_at}
 use Rattle.hist_types.specs.Phenomena.{Leads, Shows, makes}
-use Rattle.hist_types.specs.Thinning.{may_lead_back}
+use Rattle.history_laws.specs.WaysBack.{may_lead_back}
 use Rattle.hist_types.specs.Witness.{stations, IsWitness}
 use Rattle.hist_types.specs.declared.types.Level.{Level}
 use Rattle.hist_types.specs.declared.types.Phenomenon.{Phenomenon}
 use Rattle.hist_types.proofs.Members.{In, Contains_from_in}
-use Rattle.hist_types.proofs.ThinningPaths.{leads_on, all_of_both}
-use Rattle.hist_types.proofs.ThinningWalks.{within_in}
-use Rattle.hist_types.proofs.ThinningCycles.{closed_is_led, leads_apart, all_apart, rest_leads_back}
-use Rattle.hist_types.proofs.ThinningWitnesses.{IsRound, IsSimple, needed_dependency, passes_list, round_of_simple, turned_round, turned_witness}
+use Rattle.history_laws.proofs.ThinningPaths.{leads_on, all_of_both}
+use Rattle.history_laws.proofs.ThinningWalks.{within_in}
+use Rattle.history_laws.proofs.ThinningCycles.{closed_is_led, leads_apart, all_apart, rest_leads_back}
+use Rattle.history_laws.proofs.ThinningWitnesses.{IsRound, IsSimple, needed_dependency, passes_list, round_of_simple, turned_round, turned_witness}
 use Rattle.cycle_show.specs.Paths.{path_to, followed, place_behind, short_round}
 use Rattle.cycle_show.proofs.Places.{station_at}
 use Rattle.cycle_show.proofs.Shortening.{IsShort, Passes, short_all, short_none, simple_before, closed_by}
@@ -42,7 +42,7 @@ told_behind phenomenon es (d ∷ rest) e r = turned_round phenomenon es (e ∷ [
 
 pub round_from_walk :
     (phenomenon : Phenomenon) (level : Level) (events : List Operation) (walk : List Edge)
-    → Shows phenomenon level (transactions_of events) walk
+    → Shows phenomenon (edges_at level (transactions_of events)) walk
     → IsRound phenomenon (edges_at level (transactions_of events)) (short_round walk)
 round_from_walk phenomenon level events walk shows =
     let es : List Edge = edges_at level (transactions_of events) in
@@ -99,7 +99,7 @@ pub tightened :
     → path ≡ short_round walk
     → least ≤ length path - 1
     → ((k : ℕ) → k < length (stations path) → slice_index (stations path) least ≤ slice_index (stations path) k)
-    → Shows phenomenon level (transactions_of events) walk
+    → Shows phenomenon (edges_at level (transactions_of events)) walk
     → IsWitness phenomenon level (transactions_of events) (drop least path ++ take least path)
 tightened phenomenon level events walk [] least is within each shows =
     elim (subst (IsRound phenomenon (edges_at level (transactions_of events))) (sym is) (round_from_walk phenomenon level events walk shows)).closed [ ]

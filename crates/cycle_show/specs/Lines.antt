@@ -4,7 +4,8 @@ use Rattle.std.specs.Prelude.{ℕ, List, ◌++◌, flat_map, codes, Option}
 use Rattle.std.specs.Option.{option_copied}
 use Rattle.hist_types.specs.Atoms.{Atom}
 use Rattle.hist_types.specs.Edges.{Edge}
-use Rattle.hist_types.specs.Texts.{atom_text, value_text, line, indented, edge_text}
+use Rattle.hist_types.specs.CanonicalText.{atom_text, value_text}
+use Rattle.hist_types.specs.Texts.{line, indented, edge_text}
 
 abbrev pub edge_lines : List Edge → List ℕ
 edge_lines es = flat_map (λ (e : Edge). line (edge_text e)) es
@@ -14,7 +15,7 @@ witness_lines es = flat_map (λ (e : Edge). indented (edge_text e)) es
 
 -- ---- how they are written
 
--- behind a word, a key and its value
+-- after a word, a key and its value
 abbrev pub version_after : (word : List ℕ) → Atom → Option (Bor Atom) → List ℕ
 version_after word key value =
     word ++ (atom_text key ++ codes " " ++ value_text (option_copied value))

@@ -1,4 +1,4 @@
--- How a closed walk becomes short: it is followed from behind an edge that it needs, and where it comes back to a transaction,
+-- How a closed walk becomes short: it is followed from after an edge that it needs, and where it comes back to a transaction,
 -- what lies between is left out. Two order edges side by side become one.
 use Rattle.std.specs.Prelude.{◌≡◌, ℕ, ◌+◌, ◌≤◌, List, [], ◌∷◌, ◌++◌, ◌&&◌, ◌==◌, nat_eq, if◌then◌else◌, Option, Some, take, drop, fold, slice_index, EachIndex, ⊤}
 use Rattle.std.specs.HashMap.{HashMap, get}
@@ -61,7 +61,7 @@ needed_place walk =
     option_or (position_from is_rw 0 walk)
     (option_or (position_from is_wr 0 walk) (position_from is_ww 0 walk))
 
--- the place behind it
+-- the place after it
 abbrev pub place_behind : List Edge → ℕ
 place_behind walk = option_map_or (λ place. place + 1) (needed_place walk) 0
 

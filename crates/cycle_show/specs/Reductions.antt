@@ -2,7 +2,7 @@
 use Rattle.std.specs.Prelude.{ℕ, List, not, count_by}
 use Rattle.hist_types.specs.Operations.{Operation}
 use Rattle.hist_types.specs.Transactions.{transactions_of}
-use Rattle.hist_types.specs.Edges.{Edge}
+use Rattle.hist_types.specs.Edges.{Edge, edges_at}
 use Rattle.hist_types.specs.Phenomena.{Shows, is_order}
 use Rattle.hist_types.specs.Witness.{IsWitness}
 use Rattle.hist_types.specs.declared.types.Level.{Level}
@@ -12,7 +12,7 @@ use Rattle.hist_types.specs.declared.types.Phenomenon.{Phenomenon}
 abbrev pub IsWitnessOf : (walk witness : List Edge) → Type 0
 IsWitnessOf walk witness =
     (phenomenon : Phenomenon) (level : Level) (events : List Operation)
-    → Shows phenomenon level (transactions_of events) walk
+    → Shows phenomenon (edges_at level (transactions_of events)) walk
     → IsWitness phenomenon level (transactions_of events) witness
 
 -- how many edges are no order edges

@@ -89,7 +89,7 @@ impl<'a> Path<'a> {
     }
 }
 
-/// The closed walk without what it does twice. It is followed from behind an edge that it cannot do without: what comes
+/// The closed walk without what it does twice. It is followed from after an edge that it cannot do without: what comes
 /// last is never left out.
 pub fn short_round<'a>(alloc: Global, walk: &[Edge<'a>]) -> Result<Vec<Edge<'a>>, AllocError>
     ensures { IfOk result (λ edges. edges.items ≡ short_round walk.now) }

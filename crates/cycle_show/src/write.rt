@@ -2,7 +2,8 @@
 
 ghost use Rattle.std.specs.Option.{option_copied};
 ghost use Rattle.std.specs.Prelude.{◌≡◌, ◌++◌, take, decimal, codes, OnOk, OnErr};
-ghost use Rattle.hist_types.specs.Texts.{atom_text, value_text, label_text, edge_text, bad_read_text, line, indented, number_line, head_lines, bad_read_lines};
+ghost use Rattle.hist_types.specs.CanonicalText.{atom_text, value_text};
+ghost use Rattle.hist_types.specs.Texts.{label_text, edge_text, bad_read_text, line, indented, number_line, head_lines, bad_read_lines};
 ghost use Rattle.edn_ops.specs.SourceTexts.{IsLonger};
 ghost use Rattle.dep_edges.specs.Added.{Gains};
 ghost use Rattle.dep_edges.specs.Labels.{label_of};

@@ -7,7 +7,7 @@ use Rattle.std.proofs.lemmas.List.Elements.{All-contains}
 use Rattle.std.proofs.lemmas.List.Folds.{flat_map-map}
 use Rattle.std.proofs.lemmas.Grind.{flat_map-append}
 use Rattle.hist_types.specs.Edges.{Label, wr, Edge}
-use Rattle.hist_types.specs.Transactions.{Transaction, Version, Open, version_eq, has_version, reads}
+use Rattle.hist_types.specs.Transactions.{Transaction, Version, Open, version_eq, has_version, is_known_to_read}
 use Rattle.hist_types.proofs.Equality.{version_eq-same, version_eq-itself}
 use Rattle.hist_types.proofs.Members.{In, Contains_from_in}
 use Rattle.key_versions.specs.Histories.{installs_behind, readers_of, followers_of}
@@ -35,9 +35,9 @@ pub readers_gathered :
     (ts : List Transaction) (from : ℕ) (v : Version)
     → flat_map (λ place. node_edge ts from (txn_at ts place) (wr v)) (readers_of ts v) ≡ reader_edges ts from v
 readers_gathered ts from v =
-    gathered_by_place (λ place t. if reads t v then place ∷ [] else []) (λ place. node_edge ts from (txn_at ts place) (wr v))
-    (λ u. if reads u v then node_edge ts from u (wr v) else []) 0 ts
-    (λ j u get. by_reading (reads u v) (0 + j) u (at ts j u get))
+    gathered_by_place (λ place t. if is_known_to_read t v then place ∷ [] else []) (λ place. node_edge ts from (txn_at ts place) (wr v))
+    (λ u. if is_known_to_read u v then node_edge ts from u (wr v) else []) 0 ts
+    (λ j u get. by_reading (is_known_to_read u v) (0 + j) u (at ts j u get))
   where
     at : (ts : List Transaction) (j : ℕ) (u : Transaction) → slice_get ts j ≡ Some u → txn_at ts (0 + j) ≡ u
     at ts j u get = let same : 0 + j ≡ j = omega arith in ap (txn_at ts) same ∙ ap (λ o. unwrap_or o (record { process = 0; invocation = 0; completion = None; status = Open; mops = [] })) get

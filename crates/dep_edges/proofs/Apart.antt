@@ -2,8 +2,8 @@
 use Rattle.std.proofs.Common.{◌≡◌, List, [], ◌∷◌, ◌++◌, Bool, true, false, if◌then◌else◌, filter, flat_map, refl, sym, subst, inl, inr}
 use Rattle.hist_types.specs.Edges.{Edge}
 use Rattle.hist_types.proofs.Members.{In, in_from_Contains, in_append, in_some, in_filter}
-use Rattle.hist_types.proofs.WrittenOnce.{AreApart}
-use Rattle.dep_edges.specs.OutEdges.{NoneTwice}
+use Rattle.history_laws.proofs.WrittenOnce.{AreApart}
+use Rattle.hist_types.specs.Lists.{NoneTwice}
 
 pub apart_append : {X : Type 0} (xs ys : List X) → AreApart xs → AreApart ys → ((x : X) → In x xs → In x ys → ⊥) → AreApart (xs ++ ys)
 apart_append [] ys a b none = b

@@ -9,13 +9,13 @@ use Rattle.std.proofs.lemmas.Option.{none-some, same_Some}
 use Rattle.std.proofs.lemmas.Grind.{take_at_read, fold-append}
 use Rattle.hist_types.specs.Journal.{Write, writes_of}
 use Rattle.hist_types.specs.Operations.{Mop, read, write}
-use Rattle.hist_types.specs.Transactions.{Transaction, Version, Open, version_of, has_version, is_ok, is_failed, reads, writes, was_read, is_node}
+use Rattle.hist_types.specs.Transactions.{Transaction, Version, Open, version_of, has_version, is_ok, is_failed, is_known_to_read, writes, was_read, is_node}
 use Rattle.hist_types.proofs.Members.{In, Contains_from_in, in_front, in_back, in_map, in_mapped}
-use Rattle.hist_types.proofs.Processes.{told_apart}
-use Rattle.hist_types.proofs.ThinningPaths.{any_passes}
-use Rattle.hist_types.proofs.VersionMembers.{in_from_has, has_from_in}
-use Rattle.hist_types.proofs.WrittenOnce.{AreApart, one_writer}
-use Rattle.key_versions.specs.Histories.{named_in, from_place, readers_of, writer_of}
+use Rattle.history_laws.proofs.Processes.{told_apart}
+use Rattle.history_laws.proofs.ThinningPaths.{any_passes}
+use Rattle.history_laws.proofs.VersionMembers.{in_from_has, has_from_in}
+use Rattle.history_laws.proofs.WrittenOnce.{AreApart, one_writer}
+use Rattle.key_versions.specs.Histories.{named_in, named_by, from_place, readers_of, writer_of}
 use Rattle.key_versions.specs.Tables.{Table, IsTableOf}
 use Rattle.key_versions.specs.declared.types.Writer.{Writer}
 use Rattle.dep_edges.specs.Histories.{AreOfHistory}
@@ -175,18 +175,19 @@ marked_was_read ts k t v (Some w) is e marks =
     let same : txn_at ts w.txn ≡ t = ap (txn_at ts) (eqb-true w.txn k here) ∙ is in
     let wrote : writes t v ≡ true = subst (λ x. writes x v ≡ true) same (writer_wrote ts v w e).wrote in
     let (p, reader) = one_of (readers_of ts v) was in
-    let (j, u, get, i) = from_some_place (λ place t. if reads t v then place ∷ [] else []) 0 ts p reader in
-    let seen : reads u v ≡ true = one_if (reads u v) (0 + j) p i in
+    let (j, u, get, i) = from_some_place (λ place t. if is_known_to_read t v then place ∷ [] else []) 0 ts p reader in
+    let seen : is_known_to_read u v ≡ true = one_if (is_known_to_read u v) (0 + j) p i in
     let (a, among, made) = in_map version_of v (writes_of t.mops) (in_from_has v (map version_of (writes_of t.mops)) wrote) in
     and_from (not (is_failed t)) (was_read ts t) (subst (λ x. not (is_failed x) ≡ true) same unfailed)
-    (any_passes (λ w. list_any (λ r. reads r (version_of w)) ts) a (writes_of t.mops) among
-    (any_passes (λ r. reads r (version_of a)) u ts (in_at ts j u get) (subst (λ x. reads u x ≡ true) (sym made) seen)))
+    (any_passes (λ w. list_any (λ r. is_known_to_read r (version_of w)) ts) a (writes_of t.mops) among
+    (any_passes (λ r. is_known_to_read r (version_of a)) u ts (in_at ts j u get) (subst (λ x. is_known_to_read u x ≡ true) (sym made) seen)))
 
-named : (mops : List Mop) (w : Write) → In w (writes_of mops) → In (version_of w) (named_in mops)
-named [] w i = elim i [ ]
-named (read key value ∷ mops) w i = inr (inr (named mops w i))
-named (write key value ∷ mops) w (inl e) = inr (inl (ap version_of e))
-named (write key value ∷ mops) w (inr i) = inr (inr (named mops w i))
+named : (ok : Bool) (mops : List Mop) (w : Write) → In w (writes_of mops) → In (version_of w) (named_in ok mops)
+named ok [] w i = elim i [ ]
+named true (read key value ∷ mops) w i = inr (inr (named true mops w i))
+named false (read key value ∷ mops) w i = inr (named false mops w i)
+named ok (write key value ∷ mops) w (inl e) = inr (inl (ap version_of e))
+named ok (write key value ∷ mops) w (inr i) = inr (inr (named ok mops w i))
 
 some_writer : (o : Option Writer) → is_some o ≡ true → (w : Writer) × (o ≡ Some w)
 some_writer None e = elim (false≢true e) [ ]
@@ -202,20 +203,20 @@ read_is_marked :
     → list_any (marks_at ts k) table.versions ≡ true
 read_is_marked ts table of told k t at e =
     let (unfailed, was) = and_parts (not (is_failed t)) (was_read ts t) e in
-    let (a, among, some) = some_passes (λ w. list_any (λ r. reads r (version_of w)) ts) (writes_of t.mops) was in
+    let (a, among, some) = some_passes (λ w. list_any (λ r. is_known_to_read r (version_of w)) ts) (writes_of t.mops) was in
     let v : Version = version_of a in
-    let (u, there, seen) = some_passes (λ r. reads r v) ts some in
+    let (u, there, seen) = some_passes (λ r. is_known_to_read r v) ts some in
     let (j, get) = place_in ts u there in
     let wrote : writes t v ≡ true = has_from_in v (map version_of (writes_of t.mops)) (in_mapped version_of a (writes_of t.mops) among) in
     let i : In t ts = in_at ts k t at in
     let in_table : In v table.versions =
-    in_from_has v table.versions (told.named v ∙ any_passes (λ (x : Transaction). has_version (named_in x.mops) v) t ts i (has_from_in v (named_in t.mops) (named t.mops a among))) in
+    in_from_has v table.versions (told.named v ∙ any_passes (λ (x : Transaction). has_version (named_by x) v) t ts i (has_from_in v (named_by t) (named (is_ok t) t.mops a among))) in
     let (w, is) = some_writer (writer_of ts v) (has_writer ts v ∙ any_passes (λ x. writes x v) t ts i wrote) in
     let by = writer_wrote ts v w is in
     let same : txn_at ts w.txn ≡ t = one ts of (txn_at ts w.txn) t v by.among (Contains_from_in t ts i) by.wrote wrote in
     let here : w.txn ≡ k = one_place ts (apart_of ts of) w.txn k t (by.place ∙ ap Some same) at in
     let was_read : not (length (readers_of ts v) == 0) ≡ true =
-    has_one (readers_of ts v) (0 + j) (to_some_place (λ place x. if reads x v then place ∷ [] else []) 0 ts j u (0 + j) get (in_if (reads u v) (0 + j) seen)) in
+    has_one (readers_of ts v) (0 + j) (to_some_place (λ place x. if is_known_to_read x v then place ∷ [] else []) 0 ts j u (0 + j) get (in_if (is_known_to_read u v) (0 + j) seen)) in
     any_passes (marks_at ts k) v table.versions in_table
     (ap (λ o. marks_place ts o (not (length (readers_of ts v) == 0)) k) is
     ∙ and_from (not (length (readers_of ts v) == 0) && not (is_failed (txn_at ts w.txn))) (w.txn == k)

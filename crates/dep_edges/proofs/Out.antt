@@ -3,19 +3,19 @@ use Rattle.std.proofs.Common.{◌≡◌, ℕ, List, [], ◌∷◌, ◌++◌, Boo
 use Rattle.std.specs.Option.{is_none}
 use Rattle.std.proofs.lemmas.Bool.{false≢true, and_parts, and_from, or_cases, or_left, or_right, eqb-false, false_from_ne_true, not-true}
 use Rattle.hist_types.specs.Atoms.{Value, atom_eq, value_eq}
-use Rattle.hist_types.specs.Dependencies.{Depends}
+use Rattle.history_laws.specs.Dependencies.{Depends}
 use Rattle.hist_types.specs.Edges.{Label, ww, wr, rw, process, realtime, Edge, edge, dependency_edges}
 use Rattle.hist_types.specs.Journal.{Write, writes_of}
 use Rattle.hist_types.specs.Phenomena.{is_rw_label, is_wr_label}
-use Rattle.hist_types.specs.Transactions.{Transaction, Version, version_of, has_version, has_key, last_writes, external_reads, installed_by, reads, installs, writes, is_ok, is_node, nodes, transactions_of}
+use Rattle.hist_types.specs.Transactions.{Transaction, Version, version_of, has_version, has_key, last_writes, external_reads, installed_by, is_known_to_read, installs, writes, is_ok, is_node, nodes, transactions_of}
 use Rattle.hist_types.specs.Versions.{pair, nil_of, is_change, version_pairs}
-use Rattle.hist_types.proofs.DependencyEdges.{edges_by_versions}
+use Rattle.history_laws.proofs.DependencyEdges.{edges_by_versions}
 use Rattle.hist_types.proofs.Equality.{atom_eq-same, atom_eq-itself, value_eq-same, value_eq-itself, same_version}
 use Rattle.hist_types.proofs.Members.{In, in_from_Contains, Contains_from_in, in_front, in_back, in_append, in_each, in_some, in_map, in_filter, in_filtered, passes_filter}
-use Rattle.hist_types.proofs.Processes.{told_apart}
-use Rattle.hist_types.proofs.ThinningTimes.{timed_from}
-use Rattle.hist_types.proofs.VersionMembers.{in_from_has, has_from_in, pairs_by_membership}
-use Rattle.hist_types.proofs.WrittenOnce.{AreApart, all_apart, one_writer, nil_unwritten}
+use Rattle.history_laws.proofs.Processes.{told_apart}
+use Rattle.history_laws.proofs.ThinningTimes.{timed_from}
+use Rattle.history_laws.proofs.VersionMembers.{in_from_has, has_from_in, pairs_by_membership}
+use Rattle.history_laws.proofs.WrittenOnce.{AreApart, all_apart, one_writer, nil_unwritten}
 use Rattle.key_versions.specs.Histories.{read_by, is_followed, installs_behind}
 use Rattle.dep_edges.specs.Histories.{AreOfHistory}
 use Rattle.dep_edges.specs.OutEdges.{AreEdgesFrom, AddsEdgesFrom, edge_to, node_edge, reader_edges, later_edges, written_edges, read_edges, each_once, edges_out, leaving}
@@ -56,11 +56,11 @@ pub behind_makes_pair :
     → In w (installs_behind u v)
     → Contains (version_pairs ts) (pair v w)
 behind_makes_pair ts u v w i node behind =
-    let both = and_parts (is_none v.value || reads u v) (is_change (pair v w)) (passes_filter (is_followed u v) w (installed_by u) behind) in
+    let both = and_parts (is_none v.value || is_known_to_read u v) (is_change (pair v w)) (passes_filter (is_followed u v) w (installed_by u) behind) in
     let change = and_parts (atom_eq v.key w.key) (not (value_eq v.value w.value)) both.1 in
     let key : v.key ≡ w.key = atom_eq-same v.key w.key change.0 in
     let installed = has_from_in w (installed_by u) (in_filter (is_followed u v) w (installed_by u) behind) in
-    (pairs_by_membership ts (pair v w)).1 (elim (or_cases (is_none v.value) (reads u v) both.0) [
+    (pairs_by_membership ts (pair v w)).1 (elim (or_cases (is_none v.value) (is_known_to_read u v) both.0) [
       | inl nil ↦ inl (same_version v (nil_of w.key) key (is_nil v.value nil), u, Contains_from_in u (nodes ts) (in_filtered (is_node ts) u ts i node), installed)
       | inr read ↦ inr (
         key,
@@ -86,14 +86,14 @@ pair_is_behind ts of u v w i installed paired =
       | inl first ↦ (
           let nil : v ≡ nil_of w.key = first.0 in
           let other : ¬ (v ≡ w) = λ same. nil_unwritten u w (installed_written u w among) (sym (ap (λ (x : Version). x.value) same) ∙ ap (λ (x : Version). x.value) nil) in
-          and_from (is_none v.value || reads u v) (is_change (pair v w))
-          (or_left (is_none v.value) (reads u v) (ap (λ (x : Version). is_none x.value) nil))
+          and_from (is_none v.value || is_known_to_read u v) (is_change (pair v w))
+          (or_left (is_none v.value) (is_known_to_read u v) (ap (λ (x : Version). is_none x.value) nil))
           (differ v w (ap (λ (x : Version). x.key) nil) other))
       | inr update ↦ (
           let (key, other, t, there, read, writes) = update in
           let one : t ≡ u = one_that_installs ts of t u w (in_from_Contains t ts there) i (in_from_has w (installed_by t) writes) among in
-          and_from (is_none v.value || reads u v) (is_change (pair v w))
-          (or_right (is_none v.value) (reads u v) (subst (λ x. reads x v ≡ true) one read))
+          and_from (is_none v.value || is_known_to_read u v) (is_change (pair v w))
+          (or_right (is_none v.value) (is_known_to_read u v) (subst (λ x. is_known_to_read x v ≡ true) one read))
           (differ v w key other))
     ])
 
@@ -135,10 +135,10 @@ in_then x test xs e i = subst (λ b. In x (if b then xs else [])) (sym e) i
 pub reader_from :
     (ts : List Transaction) (from : ℕ) (v : Version) (e : Edge)
     → In e (reader_edges ts from v)
-    → (u : Transaction) × (reads u v ≡ true) × LeadsTo ts from u (wr v) e
+    → (u : Transaction) × (is_known_to_read u v ≡ true) × LeadsTo ts from u (wr v) e
 reader_from ts from v e i =
-    let (u, there, j) = in_some (λ (u : Transaction). if reads u v then node_edge ts from u (wr v) else []) e ts i in
-    let (read, k) = in_if e (reads u v) (node_edge ts from u (wr v)) j in
+    let (u, there, j) = in_some (λ (u : Transaction). if is_known_to_read u v then node_edge ts from u (wr v) else []) e ts i in
+    let (read, k) = in_if e (is_known_to_read u v) (node_edge ts from u (wr v)) j in
     (u, read, leads_from ts from u (wr v) e there k)
 
 pub later_from :
@@ -155,11 +155,11 @@ reader_to :
     → In u ts
     → is_node ts u ≡ true
     → (from == u.invocation) ≡ false
-    → reads u v ≡ true
+    → is_known_to_read u v ≡ true
     → In (out from u (wr v)) (reader_edges ts from v)
 reader_to ts from v u i node other read =
-    in_each (λ (u : Transaction). if reads u v then node_edge ts from u (wr v) else []) (out from u (wr v)) u ts i
-    (in_then (out from u (wr v)) (reads u v) (node_edge ts from u (wr v)) read (leads_to ts from u (wr v) node other))
+    in_each (λ (u : Transaction). if is_known_to_read u v then node_edge ts from u (wr v) else []) (out from u (wr v)) u ts i
+    (in_then (out from u (wr v)) (is_known_to_read u v) (node_edge ts from u (wr v)) read (leads_to ts from u (wr v) node other))
 
 later_to :
     (ts : List Transaction) (from : ℕ) (label : Version → Label) (v w : Version) (u : Transaction)
@@ -281,7 +281,7 @@ read_depends :
     (ts : List Transaction) (t : Transaction) (v : Version) (e : Edge)
     → In t ts
     → is_node ts t ≡ true
-    → reads t v ≡ true
+    → is_known_to_read t v ≡ true
     → In e (read_edges ts t.invocation v)
     → Contains (dependency_edges ts) e × (e.from ≡ t.invocation)
 read_depends ts t v e i node read j =
@@ -292,10 +292,10 @@ read_depends ts t v e i node read j =
       has_from_in w (installed_by u) (in_filter (is_followed u v) w (installed_by u) behind),
     )
 
-reads_told : (t : Transaction) (v : Version) → In v (read_by t) → reads t v ≡ true
+reads_told : (t : Transaction) (v : Version) → In v (read_by t) → is_known_to_read t v ≡ true
 reads_told t v i = let (ok, j) = in_if v (is_ok t) (external_reads t) i in and_from (is_ok t) (has_version (external_reads t) v) ok (has_from_in v (external_reads t) j)
 
-told_reads : (t : Transaction) (v : Version) → reads t v ≡ true → In v (read_by t)
+told_reads : (t : Transaction) (v : Version) → is_known_to_read t v ≡ true → In v (read_by t)
 told_reads t v read =
     let (ok, among) = and_parts (is_ok t) (has_version (external_reads t) v) read in
     in_then v (is_ok t) (external_reads t) ok (in_from_has v (external_reads t) among)
@@ -373,12 +373,12 @@ apart_node_edge ts from u label = apart_if (is_node ts u) (edge_to from u label)
 
 apart_readers : (ts : List Transaction) → AreOfHistory ts → (from : ℕ) (v : Version) → AreApart (reader_edges ts from v)
 apart_readers ts of from v =
-    apart_each (λ (u : Transaction). if reads u v then node_edge ts from u (wr v) else []) ts (apart_of ts of)
-    (λ u i. apart_if (reads u v) (node_edge ts from u (wr v)) (apart_node_edge ts from u (wr v)))
+    apart_each (λ (u : Transaction). if is_known_to_read u v then node_edge ts from u (wr v) else []) ts (apart_of ts of)
+    (λ u i. apart_if (is_known_to_read u v) (node_edge ts from u (wr v)) (apart_node_edge ts from u (wr v)))
     (λ u x e i j k l.
     same_to ts of from u x (wr v) (wr v) e
-    (leads_from ts from u (wr v) e i (in_if e (reads u v) (node_edge ts from u (wr v)) k).1)
-    (leads_from ts from x (wr v) e j (in_if e (reads x v) (node_edge ts from x (wr v)) l).1))
+    (leads_from ts from u (wr v) e i (in_if e (is_known_to_read u v) (node_edge ts from u (wr v)) k).1)
+    (leads_from ts from x (wr v) e j (in_if e (is_known_to_read x v) (node_edge ts from x (wr v)) l).1))
 
 apart_later : (ts : List Transaction) → AreOfHistory ts → (from : ℕ) (label : Version → Label) (v : Version) → ((w x : Version) → label w ≡ label x → w ≡ x) → AreApart (later_edges ts from label v)
 apart_later ts of from label v one =

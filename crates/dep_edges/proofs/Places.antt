@@ -4,12 +4,12 @@ use Rattle.std.proofs.lemmas.Bool.{and_parts}
 use Rattle.std.proofs.lemmas.List.Concat.{flat_map-append}
 use Rattle.std.proofs.lemmas.Option.{same_Some, slice_get-get_or}
 use Rattle.hist_types.specs.Atoms.{Value, integer, atom_eq}
-use Rattle.hist_types.specs.Transactions.{Transaction, Version, Open, installed_by, reads, writes, writes_over}
+use Rattle.hist_types.specs.Transactions.{Transaction, Version, Open, installed_by, is_known_to_read, writes, wrote_intermediate}
 use Rattle.hist_types.specs.Versions.{nil_of, pair, is_change}
 use Rattle.hist_types.proofs.Equality.{atom_eq-same}
 use Rattle.hist_types.proofs.Members.{In, in_append, in_mapped, in_map, in_filter, passes_filter}
-use Rattle.hist_types.proofs.VersionMembers.{has_from_in}
-use Rattle.hist_types.proofs.WrittenOnce.{nil_unwritten, installed_or_over}
+use Rattle.history_laws.proofs.VersionMembers.{has_from_in}
+use Rattle.history_laws.proofs.WrittenOnce.{nil_unwritten, installed_or_over}
 use Rattle.key_versions.specs.Histories.{is_followed, installs_behind, from_place, writers_of, writer_of, readers_of, followers_of}
 use Rattle.key_versions.specs.Tables.{Table, IsTableOf, versions_at, followers_at}
 use Rattle.key_versions.specs.declared.types.Writer.{Writer}
@@ -51,8 +51,8 @@ one_if false n m i = elim i [ ]
 
 pub reader_place : (ts : List Transaction) (v : Version) (p : ℕ) → In p (readers_of ts v) → p < length ts
 reader_place ts v p i =
-    let (j, t, get, among) = from_some_place (λ place t. if reads t v then place ∷ [] else []) 0 ts p i in
-    let same : 0 + j ≡ p = one_if (reads t v) (0 + j) p among in
+    let (j, t, get, among) = from_some_place (λ place t. if is_known_to_read t v then place ∷ [] else []) 0 ts p i in
+    let same : 0 + j ≡ p = one_if (is_known_to_read t v) (0 + j) p among in
     let below = within_at ts j t get in
     omega arith
 
@@ -175,9 +175,9 @@ readers_within ts v rs is = all_in (IsPlace ts) rs (λ p i. reader_place ts v p 
 
 writer_place : (ts : List Transaction) (v : Version) (ws : List Writer) (w : Writer) → ws ≡ writers_of ts v → In w ws → w.txn < length ts
 writer_place ts v ws w is i =
-    let (j, t, get, among) = from_some_place (λ place t. if writes t v then record { txn = place; over = writes_over t v } ∷ [] else []) 0 ts w (subst (In w) is i) in
+    let (j, t, get, among) = from_some_place (λ place t. if writes t v then record { txn = place; over = wrote_intermediate t v } ∷ [] else []) 0 ts w (subst (In w) is i) in
     let below = within_at ts j t get in
-    let same : j ≡ w.txn = one_writer_if (writes t v) j (writes_over t v) w among in
+    let same : j ≡ w.txn = one_writer_if (writes t v) j (wrote_intermediate t v) w among in
     omega arith
   where
     one_writer_if : (test : Bool) (n : ℕ) (over : Bool) (w : Writer) → In w (if test then record { txn = 0 + n; over = over } ∷ [] else []) → n ≡ w.txn

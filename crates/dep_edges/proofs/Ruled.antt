@@ -7,11 +7,11 @@ use Rattle.std.proofs.lemmas.List.Elements.{All-more}
 use Rattle.hist_types.specs.Atoms.{Atom, atom_eq}
 use Rattle.hist_types.specs.Operations.{Mop, read, write}
 use Rattle.hist_types.specs.Phenomena.{for_each_read, first_of, bad_read, aborted_writers, intermediate_writers, is_stray, g1a, g1b, stray}
-use Rattle.hist_types.specs.Transactions.{Transaction, Version, is_ok, reads, reads_after, external_reads, has_version}
+use Rattle.hist_types.specs.Transactions.{Transaction, Version, is_ok, is_known_to_read, reads_after, external_reads, has_version}
 use Rattle.hist_types.proofs.Members.{In, in_from_Contains, Contains_from_in}
-use Rattle.hist_types.proofs.ThinningPaths.{any_passes}
-use Rattle.hist_types.proofs.VersionMembers.{in_from_has, has_from_in}
-use Rattle.key_versions.specs.Histories.{named_in, read_by, readers_of}
+use Rattle.history_laws.proofs.ThinningPaths.{any_passes}
+use Rattle.history_laws.proofs.VersionMembers.{in_from_has, has_from_in}
+use Rattle.key_versions.specs.Histories.{named_in, named_by, read_by, readers_of}
 use Rattle.key_versions.specs.Tables.{Table, IsTableOf}
 use Rattle.dep_edges.specs.Possible.{RulesOut, RulesOutReadsOf, RulesOutReads, either}
 use Rattle.dep_edges.specs.Tables.{IsNumber, version_at}
@@ -63,14 +63,14 @@ reads_it false v vs i = elim i [ ]
 pub read_by_some : (ts : List Transaction) (t : Transaction) (v : Version) → Contains ts t → Contains (read_by t) v → not (length (readers_of ts v) == 0) ≡ true
 read_by_some ts t v there seen =
     let (j, get) = place_in ts t (in_from_Contains t ts there) in
-    let does : reads t v ≡ true = reads_it (is_ok t) v (external_reads t) (in_from_Contains v (read_by t) seen) in
-    has_one (readers_of ts v) (0 + j) (to_some_place (λ place x. if reads x v then place ∷ [] else []) 0 ts j t (0 + j) get (in_if (reads t v) (0 + j) does))
+    let does : is_known_to_read t v ≡ true = reads_it (is_ok t) v (external_reads t) (in_from_Contains v (read_by t) seen) in
+    has_one (readers_of ts v) (0 + j) (to_some_place (λ place x. if is_known_to_read x v then place ∷ [] else []) 0 ts j t (0 + j) get (in_if (is_known_to_read t v) (0 + j) does))
 
 unless : (test : Bool) (v w : Version) (vs : List Version) → In v (if test then vs else w ∷ vs) → In v (w ∷ vs)
 unless true v w vs i = inr i
 unless false v w vs i = i
 
-named_read : (v : Version) (written : List Atom) (mops : List Mop) → In v (reads_after written mops) → In v (named_in mops)
+named_read : (v : Version) (written : List Atom) (mops : List Mop) → In v (reads_after written mops) → In v (named_in true mops)
 named_read v written [] i = elim i [ ]
 named_read v written (read key value ∷ mops) i =
     elim (unless (list_any (atom_eq key) written) v (record { key = key; value = value }) (reads_after written mops) i) [
@@ -79,17 +79,17 @@ named_read v written (read key value ∷ mops) i =
     ]
 named_read v written (write key value ∷ mops) i = inr (inr (named_read v (key ∷ written) mops i))
 
-among_external : (ok : Bool) (v : Version) (vs : List Version) → In v (if ok then vs else []) → In v vs
-among_external true v vs i = i
-among_external false v vs i = elim i [ ]
+named_if_ok : (ok : Bool) (v : Version) (mops : List Mop) → In v (if ok then reads_after [] mops else []) → In v (named_in ok mops)
+named_if_ok true v mops i = named_read v [] mops i
+named_if_ok false v mops i = elim i [ ]
 
 among_versions : (ts : List Transaction) (table : Table) → IsTableOf ts table → (t : Transaction) (v : Version) → Contains ts t → Contains (read_by t) v → In v table.versions
 among_versions ts table told t v there seen =
-    let external : In v (external_reads t) = among_external (is_ok t) v (external_reads t) (in_from_Contains v (read_by t) seen) in
+    let named : In v (named_by t) = named_if_ok (is_ok t) v t.mops (in_from_Contains v (read_by t) seen) in
     in_from_has v table.versions
     (told.named v
-    ∙ any_passes (λ (u : Transaction). has_version (named_in u.mops) v) t ts (in_from_Contains t ts there)
-    (has_from_in v (named_in t.mops) (named_read v [] t.mops external)))
+    ∙ any_passes (λ (u : Transaction). has_version (named_by u) v) t ts (in_from_Contains t ts there)
+    (has_from_in v (named_by t) named))
 
 -- all versions were looked at
 pub all_ruled :

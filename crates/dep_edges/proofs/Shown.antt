@@ -2,7 +2,7 @@
 use Rattle.std.proofs.Common.{◌≡◌, ℕ, ◌+◌, ◌<◌, ◌≤◌, List, [], ◌∷◌, ◌++◌, length, get_or, take, Bool, true, if◌then◌else◌, map, flat_map, Some, None, sym, ◌∙◌, ap}
 use Rattle.std.proofs.lemmas.Grind.{get_or_default_zero}
 use Rattle.std.proofs.lemmas.List.{take_all, length-map}
-use Rattle.hist_types.specs.Dependencies.{alone_if}
+use Rattle.history_laws.specs.BadReads.{single_if}
 use Rattle.hist_types.specs.Phenomena.{BadRead, bad_read, first_of, is_stray, stray}
 use Rattle.hist_types.specs.Transactions.{Transaction, Version}
 use Rattle.key_versions.specs.Tables.{Table}
@@ -12,8 +12,8 @@ use Rattle.dep_edges.proofs.Adding.{by_numbers}
 use Rattle.dep_edges.proofs.Found.{first_found, nothing_more, none_first, gathered_more, read_at_place}
 use Rattle.dep_edges.proofs.Writers.{reads_by_transaction}
 
-pub alone_true : (test : Bool) (t : Transaction) → test ≡ true → alone_if test t ≡ t ∷ []
-alone_true test t e = ap (λ b. alone_if b t) e
+pub alone_true : (test : Bool) (t : Transaction) → test ≡ true → single_if test t ≡ t ∷ []
+alone_true test t e = ap (λ b. single_if b t) e
 
 -- a read as the code makes it
 pub same_read : (reader writer : ℕ) (version v : Version) (t x : Transaction) → reader ≡ t.invocation → version ≡ v → writer ≡ x.invocation → record { reader = reader; version = version; writer = writer } ≡ bad_read t v x

@@ -4,12 +4,12 @@ use Rattle.std.specs.List.{list_any}
 use Rattle.std.specs.Option.{is_some, is_none}
 use Rattle.std.proofs.lemmas.Bool.{false≢true, false_from_ne_true}
 use Rattle.std.proofs.lemmas.Option.{none-some, same_Some}
-use Rattle.hist_types.specs.Dependencies.{alone_if, WroteNone}
+use Rattle.history_laws.specs.BadReads.{single_if, NobodyWrote}
 use Rattle.hist_types.specs.Phenomena.{for_each_read, aborted_writers, intermediate_writers, is_stray}
-use Rattle.hist_types.specs.Transactions.{Transaction, Version, Open, is_ok, is_failed, external_reads, writes, writes_over}
-use Rattle.hist_types.proofs.BadReads.{one_aborted, one_intermediate, unwritten_aborted, unwritten_intermediate}
+use Rattle.hist_types.specs.Transactions.{Transaction, Version, Open, is_ok, is_failed, external_reads, writes, wrote_intermediate}
+use Rattle.history_laws.proofs.BadReads.{one_aborted, one_intermediate, unwritten_aborted, unwritten_intermediate}
 use Rattle.hist_types.proofs.Members.{In, Contains_from_in}
-use Rattle.hist_types.proofs.ThinningPaths.{any_passes}
+use Rattle.history_laws.proofs.ThinningPaths.{any_passes}
 use Rattle.key_versions.specs.Histories.{read_by, from_place, writers_of, writer_of}
 use Rattle.key_versions.specs.declared.types.Writer.{Writer}
 use Rattle.dep_edges.specs.Histories.{AreOfHistory}
@@ -31,7 +31,7 @@ pub record WroteAt (ts : List Transaction) (v : Version) (w : Writer) : Type 0 w
   pub place : slice_get ts w.txn ≡ Some (txn_at ts w.txn)
   pub among : Contains ts (txn_at ts w.txn)
   pub wrote : writes (txn_at ts w.txn) v ≡ true
-  pub over : w.over ≡ writes_over (txn_at ts w.txn) v
+  pub over : w.over ≡ wrote_intermediate (txn_at ts w.txn) v
 
 wrote_one : (wrote : Bool) (place : ℕ) (over : Bool) (w : Writer) → In w (writer_if wrote place over) → (wrote ≡ true) × (place ≡ w.txn) × (over ≡ w.over)
 wrote_one true place over w (inl e) = (refl, ap (λ (x : Writer). x.txn) e, ap (λ (x : Writer). x.over) e)
@@ -40,15 +40,15 @@ wrote_one false place over w i = elim i [ ]
 
 pub writer_wrote : (ts : List Transaction) (v : Version) (w : Writer) → writer_of ts v ≡ Some w → WroteAt ts v w
 writer_wrote ts v w e =
-    let (j, t, get, i) = from_some_place (λ place t. writer_if (writes t v) place (writes_over t v)) 0 ts w (in_at (writers_of ts v) 0 w e) in
-    let (wrote, place, over) = wrote_one (writes t v) (0 + j) (writes_over t v) w i in
+    let (j, t, get, i) = from_some_place (λ place t. writer_if (writes t v) place (wrote_intermediate t v)) 0 ts w (in_at (writers_of ts v) 0 w e) in
+    let (wrote, place, over) = wrote_one (writes t v) (0 + j) (wrote_intermediate t v) w i in
     let at : j ≡ w.txn = omega arith in
     let is : t ≡ txn_at ts w.txn = ap (λ o. unwrap_or o t) (sym get) ∙ other_default ts j t get ∙ ap (txn_at ts) at in
     record {
       place = subst (λ n. slice_get ts n ≡ Some (txn_at ts w.txn)) at (get ∙ ap Some is);
       among = subst (Contains ts) is (Contains_from_in t ts (in_at ts j t get));
       wrote = subst (λ u. writes u v ≡ true) is wrote;
-      over = sym over ∙ ap (λ u. writes_over u v) is;
+      over = sym over ∙ ap (λ u. wrote_intermediate u v) is;
     }
   where
     other_default : (ts : List Transaction) (j : ℕ) (t : Transaction) → slice_get ts j ≡ Some t → unwrap_or (slice_get ts j) t ≡ txn_at ts j
@@ -65,11 +65,11 @@ first_or_later false w rest others e = e
 
 any_writer :
     (v : Version) (k : ℕ) (ts : List Transaction)
-    → is_some (slice_get (from_place (λ place t. writer_if (writes t v) place (writes_over t v)) k ts) 0) ≡ list_any (λ t. writes t v) ts
+    → is_some (slice_get (from_place (λ place t. writer_if (writes t v) place (wrote_intermediate t v)) k ts) 0) ≡ list_any (λ t. writes t v) ts
 any_writer v k [] = refl
 any_writer v k (t ∷ ts) =
-    first_or_later (writes t v) (record { txn = k; over = writes_over t v })
-    (from_place (λ place t. writer_if (writes t v) place (writes_over t v)) (k + 1) ts) (list_any (λ t. writes t v) ts) (any_writer v (k + 1) ts)
+    first_or_later (writes t v) (record { txn = k; over = wrote_intermediate t v })
+    (from_place (λ place t. writer_if (writes t v) place (wrote_intermediate t v)) (k + 1) ts) (list_any (λ t. writes t v) ts) (any_writer v (k + 1) ts)
 
 pub has_writer : (ts : List Transaction) (v : Version) → is_some (writer_of ts v) ≡ list_any (λ t. writes t v) ts
 has_writer ts v = any_writer v 0 ts
@@ -84,7 +84,7 @@ stray_by_writer ts v =
 
 -- ---- what a read is, by the writer of its version
 
-nobody_wrote : (ts : List Transaction) (v : Version) → writer_of ts v ≡ None → WroteNone ts v
+nobody_wrote : (ts : List Transaction) (v : Version) → writer_of ts v ≡ None → NobodyWrote ts v
 nobody_wrote ts v e =
     all_in (λ t. IsFalse (writes t v)) ts (λ t i.
     false_from_ne_true (writes t v) (λ wrote.
@@ -98,7 +98,7 @@ aborted_by_writer ts (events, kept, of) v = by_writer (writer_of ts v) refl
     by_writer (Some w) e =
         let at = writer_wrote ts v w e in
         let x : Transaction = txn_at ts w.txn in
-        subst (λ us. aborted_writers us v ≡ alone_if (is_failed x) x) (sym of)
+        subst (λ us. aborted_writers us v ≡ single_if (is_failed x) x) (sym of)
         (one_aborted events kept x v (subst (λ us. Contains us x) of at.among) at.wrote)
 
 pub intermediate_by_writer :
@@ -113,9 +113,9 @@ intermediate_by_writer ts (events, kept, of) reader v = by_writer (writer_of ts 
     by_writer (Some w) e =
         let at = writer_wrote ts v w e in
         let x : Transaction = txn_at ts w.txn in
-        subst (λ us. intermediate_writers us reader v ≡ alone_if (not (x.invocation == reader.invocation) && writes_over x v) x) (sym of)
+        subst (λ us. intermediate_writers us reader v ≡ single_if (not (x.invocation == reader.invocation) && wrote_intermediate x v) x) (sym of)
         (one_intermediate events kept reader x v (subst (λ us. Contains us x) of at.among) at.wrote)
-        ∙ ap (λ b. alone_if (not (x.invocation == reader.invocation) && b) x) (sym at.over)
+        ∙ ap (λ b. single_if (not (x.invocation == reader.invocation) && b) x) (sym at.over)
 
 -- ---- reads, transaction by transaction
 

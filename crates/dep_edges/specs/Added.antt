@@ -9,7 +9,7 @@ use Rattle.dep_edges.specs.OutEdges.{node_edge, reader_edges, later_edges, writt
 use Rattle.dep_edges.specs.Tables.{txn_at, version_at}
 use Rattle.dep_edges.specs.declared.types.Label.{Label}
 
--- the Vec has these items behind those that it had before
+-- the Vec has these items after those that it had before
 abbrev pub Gains : {X A : Type 0} → (before after : Vec X A) → List X → Type 0
 Gains before after items = after.items ≡ before.items ++ items
 
@@ -23,12 +23,12 @@ edge_at h from place label = node_edge h.txns from (txn_at h.txns place) (label_
 abbrev pub wr_edges : History → (from number : ℕ) → List Edge
 wr_edges h from number = reader_edges h.txns from (version_at h.table number)
 
--- the same, to those that install a version behind it
+-- the same, to those that install a version after it
 abbrev pub ww_edges : History → (from number : ℕ) → List Edge
 ww_edges h from number =
     later_edges h.txns from (ww (version_at h.table number)) (version_at h.table number)
 
--- out of a version that the transaction `from` reads, to those that install a version behind it
+-- out of a version that the transaction `from` reads, to those that install a version after it
 abbrev pub rw_edges : History → (from number : ℕ) → List Edge
 rw_edges h from number = read_edges h.txns from (version_at h.table number)
 

@@ -1,17 +1,14 @@
 -- The dependency edges that leave a transaction, found from what it reads and installs itself.
 --
--- A version that it installs leads by wr to those that read it, and by ww to those that install a version behind it; a version that
--- it reads leads by rw to those that install a version behind it.
-use Rattle.std.specs.Prelude.{◌≡◌, ◌↔◌, ℕ, List, [], ◌∷◌, ◌++◌, ◌==◌, if◌then◌else◌, flat_map, Contains, ⊤}
+-- A version that it installs leads by wr to those that read it, and by ww to those that install a version after it; a version that
+-- it reads leads by rw to those that install a version after it.
+use Rattle.std.specs.Prelude.{◌≡◌, ◌↔◌, ℕ, List, [], ◌∷◌, ◌++◌, ◌==◌, if◌then◌else◌, flat_map, Contains}
 use Rattle.hist_types.specs.Edges.{Label, ww, wr, rw, Edge, dependency_edges}
-use Rattle.hist_types.specs.Transactions.{Transaction, Version, has_version, is_node, installed_by, reads}
+use Rattle.hist_types.specs.Lists.{NoneTwice}
+use Rattle.hist_types.specs.Transactions.{Transaction, Version, has_version, is_node, installed_by, is_known_to_read}
 use Rattle.key_versions.specs.Histories.{read_by, installs_behind}
 
 -- ---- what is promised
-
-abbrev pub NoneTwice : List Edge → Type 0
-NoneTwice [] = ⊤
-NoneTwice (e ∷ es) = ¬ Contains es e × NoneTwice es
 
 -- exactly the dependency edges of the history that leave the transaction, none of them twice
 pub record AreEdgesFrom (ts : List Transaction) (t : Transaction) (es : List Edge) : Type 0 where
@@ -20,7 +17,7 @@ pub record AreEdgesFrom (ts : List Transaction) (t : Transaction) (es : List Edg
       → Contains es e ↔ (Contains (dependency_edges ts) e × (e.from ≡ t.invocation))
   pub once : NoneTwice es
 
--- these, behind what was there before
+-- these, after what was there before
 abbrev pub AddsEdgesFrom : List Transaction → Transaction → (before after : List Edge) → Type 0
 AddsEdgesFrom ts t before after = (es : List Edge) × (after ≡ before ++ es) × AreEdgesFrom ts t es
 
@@ -39,9 +36,9 @@ node_edge ts from u label = if is_node ts u then edge_to from u label else []
 -- to each node that reads the version
 abbrev pub reader_edges : List Transaction → ℕ → Version → List Edge
 reader_edges ts from v =
-    flat_map (λ (u : Transaction). if reads u v then node_edge ts from u (wr v) else []) ts
+    flat_map (λ (u : Transaction). if is_known_to_read u v then node_edge ts from u (wr v) else []) ts
 
--- to each node that installs a version behind this one, labelled by that version
+-- to each node that installs a version after this one, labelled by that version
 abbrev pub later_edges : List Transaction → ℕ → (Version → Label) → Version → List Edge
 later_edges ts from label v =
     flat_map
@@ -67,6 +64,6 @@ edges_out ts t =
 abbrev pub leaving : List Transaction → Transaction → List Edge
 leaving ts t = if is_node ts t then edges_out ts t else []
 
--- more edges behind those that were there
+-- more edges after those that were there
 abbrev pub Begins : (before after : List Edge) → Type 0
 Begins before after = (es : List Edge) × (after ≡ before ++ es)

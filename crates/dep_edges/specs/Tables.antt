@@ -45,7 +45,7 @@ IsWriterPlace ts (Some w) = IsPlace ts w.txn
 abbrev pub later_in : Table → Follower → ℕ × Version
 later_in table f = (f.txn, version_at table f.version)
 
--- a transaction installs a version behind this one: of the same key, and not nil
+-- a transaction installs a version after this one: of the same key, and not nil
 pub record IsBehind (ts : List Transaction) (table : Table) (v : Version)
     (f : Follower) : Type 0 where
   pub place : IsPlace ts f.txn

@@ -112,7 +112,7 @@ impl<'v, 'a> History<'v, 'a> {
         self.versions.readers(number)
     }
 
-    /// The transactions that install a version behind this one.
+    /// The transactions that install a version after this one.
     pub fn followers(&self, number: usize) -> &'v [Follower]
         requires { IsNumber self.now.table number }
         ensures value { map (later_in self.now.table) result.now

@@ -10,7 +10,7 @@ use std::marker::Model;
 /// Why one transaction comes before another. Keys and values are borrowed from the journal's blocks.
 #[derive(Drop)]
 pub enum Label<'a> {
-    /// The second transaction installs a version behind one of the first.
+    /// The second transaction installs a version after one of the first.
     Ww {
         key: Atom<'a>,
         earlier: Atom<'a>,
@@ -21,7 +21,7 @@ pub enum Label<'a> {
         key: Atom<'a>,
         value: Atom<'a>,
     },
-    /// The second transaction installs a version behind one that the first reads. None stands for nil.
+    /// The second transaction installs a version after one that the first reads. None is nil.
     Rw {
         key: Atom<'a>,
         earlier: Option<Atom<'a>>,

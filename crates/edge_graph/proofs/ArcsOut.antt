@@ -5,7 +5,7 @@ use Rattle.std.proofs.lemmas.List.{get_or_default}
 use Rattle.std.proofs.lemmas.Option.{slice_get_within, get_or_from_slice_get}
 use Rattle.hist_types.specs.Edges.{Label, ww, wr, rw, process, realtime, edge, dependency_edges}
 use Rattle.hist_types.specs.Phenomena.{is_rw_label}
-use Rattle.hist_types.specs.Transactions.{Transaction, Version, reads, installs, is_node, nodes}
+use Rattle.hist_types.specs.Transactions.{Transaction, Version, is_known_to_read, installs, is_node, nodes}
 use Rattle.hist_types.specs.declared.types.Level.{Level}
 use Rattle.hist_types.proofs.Members.{In, in_from_Contains, Contains_from_in, in_front, in_back, in_append, in_filtered, passes_filter}
 use Rattle.key_versions.specs.Tables.{Table, IsTableOf}
@@ -214,7 +214,7 @@ module _ (deps : List Transaction) (history : History) (order : List Before) (ro
         let k = slice_get_within table.versions number x at' in
         let there =
         vertex_read ts kept table told (txn_at ts v) (row_at rows v).rw (are.txns v h).rw number k
-        (subst (λ u. reads u (version_at table number) ≡ true) (sym (txn_of ts v t at)) (subst (λ y. reads t y ≡ true) (sym (version_of_number table number x at')) read)) in (
+        (subst (λ u. is_known_to_read u (version_at table number) ≡ true) (sym (txn_of ts v t at)) (subst (λ y. is_known_to_read t y ≡ true) (sym (version_of_number table number x at')) read)) in (
           omega (arith, h, are.count),
           subst (λ n. In n (led_to d (row_at rows v) ++ later v)) (sym is)
               (in_front (length ts + number) (led_to d (row_at rows v)) (later v) (led_by_rw d (row_at rows v) (length ts + number) allowed there)),
@@ -278,7 +278,7 @@ module _ (deps : List Transaction) (history : History) (order : List Before) (ro
         let is = dependency_from ts kept t u (rw x y) (in_from_Contains t ts i) (in_from_Contains u ts j) c in
         let (paired, read, installed) = is.depends in
         let (place, h, at) = place_by ts t (in_from_Contains t ts i) in
-        let (number, same, below) = named place h x (subst (λ v. reads v x ≡ true) (sym at) read) in (
+        let (number, same, below) = named place h x (subst (λ v. is_known_to_read v x ≡ true) (sym at) read) in (
           is.other,
           x,
           (number, below, get_or_from_slice_get table.versions number x x (version_there table number below ∙ ap Some same)),
@@ -298,5 +298,5 @@ module _ (deps : List Transaction) (history : History) (order : List Before) (ro
   )
     where
       -- a version that is read has a number
-      named : (place : ℕ) → place < length ts → (x : Version) → reads (txn_at ts place) x ≡ true → (number : ℕ) × (version_at table number ≡ x) × IsNumber table number
+      named : (place : ℕ) → place < length ts → (x : Version) → is_known_to_read (txn_at ts place) x ≡ true → (number : ℕ) × (version_at table number ≡ x) × IsNumber table number
       named place h x read = read_number ts table (txn_at ts place) (row_at rows place).rw (are.txns place h).rw x read

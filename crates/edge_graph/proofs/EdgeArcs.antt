@@ -8,10 +8,10 @@ use Rattle.std.proofs.lemmas.Option.{same_Some, slice_get_within, slice_get-get_
 use Rattle.graph_search.specs.Graphs.{IsWalk}
 use Rattle.hist_types.specs.Edges.{Label, ww, wr, rw, process, realtime, Edge, edge, dependency_edges}
 use Rattle.hist_types.specs.Phenomena.{Leads, is_ww_label, is_wr_label, is_rw_label, is_ww, is_wr, is_rw}
-use Rattle.hist_types.specs.Transactions.{Transaction, Version, is_node, nodes, reads}
+use Rattle.hist_types.specs.Transactions.{Transaction, Version, is_node, nodes, is_known_to_read}
 use Rattle.hist_types.specs.declared.types.Level.{Level}
 use Rattle.hist_types.specs.declared.types.Level.TheVariants.{Plain}
-use Rattle.hist_types.proofs.DependencyEdges.{edges_by_versions}
+use Rattle.history_laws.proofs.DependencyEdges.{edges_by_versions}
 use Rattle.hist_types.proofs.Members.{in_from_Contains, Contains_from_in, in_filter}
 use Rattle.dep_edges.specs.Histories.{AreOfHistory}
 use Rattle.dep_edges.specs.Tables.{IsPlace, txn_at}
@@ -237,9 +237,9 @@ module _ (g : Parts) where
 
   -- what is read, and what follows it
   pub read_at : (kinds : Kinds) (from version' : ℕ) (x y : Vertex) → IsPlace g.txns from → (IsPlace g.txns version' → ⊥) → IsVertex g from x → IsVertex g version' y → LeadsTo g kinds x y
-      → (v : Version) × IsVertex g version' (version v) × (kinds.rw ≡ true) × (reads (txn_at g.txns from) v ≡ true)
+      → (v : Version) × IsVertex g version' (version v) × (kinds.rw ≡ true) × (is_known_to_read (txn_at g.txns from) v ≡ true)
   read_at kinds from vertex (txn t) (version v) h none at at' (allowed, read) =
-      (v, at', allowed, subst (λ x. reads x v ≡ true) (sym (txn_of g.txns from t at)) read)
+      (v, at', allowed, subst (λ x. is_known_to_read x v ≡ true) (sym (txn_of g.txns from t at)) read)
   read_at kinds from vertex (txn t) (txn u) h none at at' leads = absurd (none (slice_get_within g.txns vertex u at'))
   read_at kinds from vertex (version v) y h none at at' leads = absurd (no_place g from v at h)
 
@@ -253,7 +253,7 @@ module _ (g : Parts) where
   module _ (kept : AreOfHistory g.txns) (by_versions : RwByVersions g) (kinds : Kinds) where
     pub by_rw :
         (from to : ℕ) (v : Version) → IsPlace g.txns from → IsPlace g.txns to → (from ≡ to → ⊥) → Contains g.versions v → kinds.rw ≡ true
-        → reads (txn_at g.txns from) v ≡ true → Follows g.txns v (txn_at g.txns to) → HasEdgeBetween g kinds from to
+        → is_known_to_read (txn_at g.txns from) v ≡ true → Follows g.txns v (txn_at g.txns to) → HasEdgeBetween g kinds from to
     by_rw from to v h k other among allowed read follows =
         let t = txn_at g.txns from in
         let u = txn_at g.txns to in

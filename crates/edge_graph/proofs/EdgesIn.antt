@@ -2,17 +2,17 @@
 use Rattle.std.proofs.Common.{◌≡◌, ◌↔◌, ◌∙◌, ◌⊎◌, inl, inr, List, [], ◌∷◌, ◌++◌, ◌==◌, ◌||◌, Bool, true, false, not, filter, Contains, refl, sym, ap, subst}
 use Rattle.std.specs.List.{list_any}
 use Rattle.std.proofs.lemmas.Bool.{false≢true, or_cases, or_left, or_right, eqb-true, eq-eqb}
-use Rattle.hist_types.specs.Dependencies.{Depends}
+use Rattle.history_laws.specs.Dependencies.{Depends}
 use Rattle.hist_types.specs.Edges.{Label, ww, wr, rw, process, realtime, Edge, edge, dependency_edges, order_labels, all_order_edges, order_edges, edges_at}
-use Rattle.hist_types.specs.Frontier.{thinned_labels, all_thinned_edges, thinned_edges}
-use Rattle.hist_types.specs.Laws.{LeadsToOne}
+use Rattle.hist_types.specs.ThinnedOrder.{thinned_labels, all_thinned_edges, thinned_edges}
+use Rattle.history_laws.specs.OrderEdges.{LeadsToOne}
 use Rattle.hist_types.specs.Phenomena.{is_ww_label, is_wr_label, is_rw_label, is_ww, is_wr, is_rw, is_order}
 use Rattle.hist_types.specs.Transactions.{Transaction, is_node, nodes}
 use Rattle.hist_types.specs.declared.types.Level.{Level}
 use Rattle.hist_types.specs.declared.types.Level.TheVariants.{Plain, Process, Realtime}
-use Rattle.hist_types.proofs.DependencyEdges.{edges_by_versions}
+use Rattle.history_laws.proofs.DependencyEdges.{edges_by_versions}
 use Rattle.hist_types.proofs.Members.{In, in_from_Contains, Contains_from_in, in_front, in_back, in_append, in_some, in_map, in_filter, in_filtered, passes_filter}
-use Rattle.hist_types.proofs.OrderEdges.{Comes, comes_from, goes_to, order_edges-all, order_edges-leave, order_edges-lead, order_edges-between, thinned_edges-order, all_thinned_edges-order}
+use Rattle.history_laws.proofs.OrderEdges.{Comes, comes_from, goes_to, order_edges-all, order_edges-leave, order_edges-lead, order_edges-between, thinned_edges-order, all_thinned_edges-order}
 use Rattle.order_frontier.specs.Predecessors.{Before, process_edge, realtime_edge, edges_to, edges_of, HasOrderEdges, HasThinnedEdges}
 use Rattle.dep_edges.specs.Histories.{AreOfHistory}
 use Rattle.dep_edges.proofs.Out.{one_by_invocation}

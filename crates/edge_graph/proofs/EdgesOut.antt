@@ -1,18 +1,18 @@
 -- The edges that leave a transaction: dependency edges of the kinds, and order edges to its successors.
 use Rattle.std.proofs.Common.{◌≡◌, ◌∙◌, ◌<◌, inl, inr, ℕ, List, [], ◌∷◌, ◌++◌, length, filter, Bool, true, Option, Some, None, refl, sym, ap, subst}
 use Rattle.std.specs.Prelude.{⊤}
-use Rattle.hist_types.specs.Dependencies.{Depends}
+use Rattle.history_laws.specs.Dependencies.{Depends}
 use Rattle.hist_types.specs.Edges.{Label, ww, wr, rw, process, realtime, realtime_label, Edge, edge}
 use Rattle.hist_types.specs.Transactions.{Transaction, Version}
 use Rattle.hist_types.specs.declared.types.Level.{Level}
 use Rattle.hist_types.specs.declared.types.Level.TheVariants.{Plain, Process, Realtime}
-use Rattle.hist_types.proofs.DependencyEdges.{edges_by_versions}
+use Rattle.history_laws.proofs.DependencyEdges.{edges_by_versions}
 use Rattle.hist_types.proofs.Members.{In, in_from_Contains, Contains_from_in, in_front, in_back, in_append, in_each, in_some, in_map, in_filter, in_filtered, passes_filter}
-use Rattle.hist_types.proofs.WrittenOnce.{AreApart}
+use Rattle.history_laws.proofs.WrittenOnce.{AreApart}
 use Rattle.order_frontier.specs.Predecessors.{Before}
 use Rattle.dep_edges.specs.Histories.{AreOfHistory}
 use Rattle.dep_edges.specs.OutEdges as out_edges
-use Rattle.dep_edges.specs.OutEdges.{NoneTwice}
+use Rattle.hist_types.specs.Lists.{NoneTwice}
 use Rattle.dep_edges.specs.Tables.{txn_at}
 use Rattle.dep_edges.proofs.Apart.{apart_append, apart_each, apart_filter, none_twice}
 use Rattle.edge_graph.specs.Kinds.{includes}

@@ -2,15 +2,15 @@
 use Rattle.std.proofs.Common.{◌≡◌, ◌∙◌, ◌<◌, ◌+◌, ℕ, List, [], length, filter, Bool, true, false, not, ◌==◌, if◌then◌else◌, Contains, refl, sym, ap, subst}
 use Rattle.std.proofs.lemmas.Bool.{false≢true, and_parts, not-true, eqb-true, eqb-false}
 use Rattle.hist_types.specs.Atoms.{atom_eq, value_eq}
-use Rattle.hist_types.specs.Dependencies.{Depends}
+use Rattle.history_laws.specs.Dependencies.{Depends}
 use Rattle.hist_types.specs.Edges.{Label, ww, wr, Edge, edge, dependency_edges}
-use Rattle.hist_types.specs.Transactions.{Transaction, Version, installed_by, reads, installs, is_node, nodes}
+use Rattle.hist_types.specs.Transactions.{Transaction, Version, installed_by, is_known_to_read, installs, is_node, nodes}
 use Rattle.hist_types.specs.Versions.{pair, is_change, version_pairs}
-use Rattle.hist_types.proofs.DependencyEdges.{edges_by_versions}
+use Rattle.history_laws.proofs.DependencyEdges.{edges_by_versions}
 use Rattle.hist_types.proofs.Equality.{value_eq-itself}
 use Rattle.hist_types.proofs.Members.{In, in_from_Contains, Contains_from_in, in_each, in_some, in_mapped, in_map, in_filter, in_filtered, passes_filter}
-use Rattle.hist_types.proofs.PrintedEdges.{one_installed}
-use Rattle.hist_types.proofs.VersionMembers.{in_from_has, has_from_in}
+use Rattle.history_laws.proofs.PrintedEdges.{one_installed}
+use Rattle.history_laws.proofs.VersionMembers.{in_from_has, has_from_in}
 use Rattle.key_versions.specs.Histories.{read_by, is_followed, installs_behind, readers_of}
 use Rattle.key_versions.specs.Tables.{Table, IsTableOf}
 use Rattle.dep_edges.specs.Histories.{AreOfHistory}
@@ -175,7 +175,7 @@ module _ (ts : List Transaction) (kept : AreOfHistory ts) where
       behind_node ts v w q k (passes_filter (is_node ts) u ts (in_from_Contains u (nodes ts) node)) (pair_is_behind ts kept u v w (txn_in ts q k) installed paired)
 
   module _ (table : Table) (told : IsTableOf ts table) (t : Transaction) (vertices : List ℕ) (are : AreVersionVertices ts table (read_by t) vertices) where
-    pub read_vertex : (w : ℕ) → In w vertices → (number : ℕ) × (w ≡ length ts + number) × IsNumber table number × (reads t (version_at table number) ≡ true)
+    pub read_vertex : (w : ℕ) → In w vertices → (number : ℕ) × (w ≡ length ts + number) × IsNumber table number × (is_known_to_read t (version_at table number) ≡ true)
     read_vertex w i =
         let (numbers, is, versions, within) = are in
         let (k, among, same) = in_map (λ k. length ts + k) w numbers (subst (In w) is i) in
@@ -186,7 +186,7 @@ module _ (ts : List Transaction) (kept : AreOfHistory ts) where
           read_from t (version_at table k) (subst (In (version_at table k)) versions (in_mapped (version_at table) k numbers among)),
         )
 
-    pub vertex_read : (number : ℕ) → IsNumber table number → reads t (version_at table number) ≡ true → In (length ts + number) vertices
+    pub vertex_read : (number : ℕ) → IsNumber table number → is_known_to_read t (version_at table number) ≡ true → In (length ts + number) vertices
     vertex_read number h read =
         let (numbers, is, versions, within) = are in
         let there = subst (In (version_at table number)) (sym versions) (read_to t (version_at table number) read) in
@@ -198,7 +198,7 @@ module _ (ts : List Transaction) (kept : AreOfHistory ts) where
 -- a version that is read has a number
 pub read_number :
     (ts : List Transaction) (table : Table) (t : Transaction) (vertices : List ℕ) → AreVersionVertices ts table (read_by t) vertices
-    → (x : Version) → reads t x ≡ true
+    → (x : Version) → is_known_to_read t x ≡ true
     → (number : ℕ) × (version_at table number ≡ x) × IsNumber table number
 read_number ts table t vertices (numbers, is, versions, within) x read =
     let (k, among, same) = in_map (version_at table) x numbers (subst (In x) (sym versions) (read_to t x read)) in

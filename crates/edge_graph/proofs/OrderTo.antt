@@ -5,7 +5,7 @@ use Rattle.std.proofs.lemmas.Bool.{false≢true, and_parts, and_from, or_cases, 
 use Rattle.std.proofs.lemmas.List.{get_or-map, get_or_past}
 use Rattle.std.proofs.lemmas.Option.{slice_get-get_or, get_or_from_slice_get}
 use Rattle.hist_types.specs.Edges.{Label, process, realtime, Edge, edge, realtime_label, is_ok_before, same_process}
-use Rattle.hist_types.specs.Laws.{LeadsToOne}
+use Rattle.history_laws.specs.OrderEdges.{LeadsToOne}
 use Rattle.hist_types.specs.Transactions.{Transaction, is_node, nodes}
 use Rattle.hist_types.specs.declared.types.Level.{Level}
 use Rattle.hist_types.specs.declared.types.Level.TheVariants.{Plain, Process, Realtime}
@@ -16,7 +16,7 @@ use Rattle.dep_edges.specs.Histories.{AreOfHistory}
 use Rattle.dep_edges.specs.Tables.{txn_at}
 use Rattle.dep_edges.proofs.Apart.{apart_filter}
 use Rattle.dep_edges.proofs.Out.{one_by_invocation}
-use Rattle.hist_types.proofs.WrittenOnce.{AreApart}
+use Rattle.history_laws.proofs.WrittenOnce.{AreApart}
 use Rattle.edge_graph.specs.Made.{order_labels_to, order_edges_to}
 use Rattle.edge_graph.specs.Parts.{IsOrderOf}
 use Rattle.edge_graph.specs.Successors.{predecessors_at, has_invocation, is_successor, Turned, list_at, lists_at, AreSuccessors, AreTurned}

@@ -12,9 +12,9 @@ use Rattle.hist_types.specs.Transactions.{Transaction}
 use Rattle.hist_types.specs.declared.types.Level.{Level}
 use Rattle.hist_types.specs.declared.types.Level.TheVariants.{Plain, Process, Realtime}
 use Rattle.hist_types.proofs.Members.{In, in_from_Contains, Contains_from_in, in_each, in_mapped, in_map}
-use Rattle.hist_types.proofs.OrderEdges.{comes_from}
+use Rattle.history_laws.proofs.OrderEdges.{comes_from}
 use Rattle.flat_groups.specs.Groups.{group, groups_from, IsNumbered}
-use Rattle.order_frontier.specs.Predecessors.{Before, process_edge, realtime_edge, edges_to, edges_of, NoneTwice, name_of}
+use Rattle.order_frontier.specs.Predecessors.{Before, process_edge, realtime_edge, edges_to, edges_of, NoPredecessorTwice, name_of}
 use Rattle.order_frontier.specs.declared.types.Predecessor.{Predecessor}
 use Rattle.order_frontier.proofs.Grouped.{group_at, length-groups}
 use Rattle.dep_edges.specs.Histories.{AreOfHistory}
@@ -92,10 +92,10 @@ module _ (ts : List Transaction) (order : List Before) (kept : AreOfHistory ts) 
       let found = joins Realtime e (in_each (edges_to Realtime) e u order i (in_mapped (realtime_edge u.invocation) p u.in_realtime j)) in
       (found.t, found.first, ap (λ (d : Edge). d.from) found.is)
 
-  once_at : (u : Before) → In u order → NoneTwice u
+  once_at : (u : Before) → In u order → NoPredecessorTwice u
   once_at u i =
       let (k, h, at) = Contains_from_in u order i in
-      subst NoneTwice at (is.once k u h)
+      subst NoPredecessorTwice at (is.once k u h)
 
   predecessors_apart : (level : Level) (u : Before) → In u order → IsDistinct nat_eq (map (λ (p : Predecessor). p.invocation) (predecessors_at level u))
   predecessors_apart Plain u i = none_apart

@@ -5,7 +5,7 @@ use Rattle.std.proofs.lemmas.Bool.{cases_lt}
 use Rattle.std.proofs.lemmas.List.{length-append, take_all, length-replicate, get_or_append_left}
 use Rattle.std.proofs.lemmas.Option.{slice_get_within, slice_get-get_or, get_or_from_slice_get}
 use Rattle.std.proofs.Math.Seq.{get_or-append_seam}
-use Rattle.hist_types.specs.Thinning.{AreInvokedInOrder}
+use Rattle.history_laws.specs.Times.{AreInvokedInOrder}
 use Rattle.hist_types.specs.Transactions.{Transaction}
 use Rattle.edge_graph.specs.Successors.{ArePlaces}
 

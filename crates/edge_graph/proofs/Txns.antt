@@ -1,15 +1,15 @@
 -- Transactions by place and versions by number, and what the places of readers and followers say.
-use Rattle.std.proofs.Common.{◌≡◌, ◌∙◌, ◌<◌, ◌+◌, inl, inr, ℕ, zero, suc, List, [], ◌∷◌, length, get_or, map, Bool, true, false, if◌then◌else◌, Option, Some, None, unwrap_or, refl, sym, ap, subst, arith}
+use Rattle.std.proofs.Common.{◌≡◌, ◌∙◌, ◌<◌, ◌+◌, inl, inr, ℕ, zero, suc, List, [], ◌∷◌, length, get_or, map, Bool, true, false, if◌then◌else◌, Option, Some, None, unwrap_or, refl, sym, ap, subst, arith, pos}
 use Rattle.std.specs.Prelude.{slice_get}
 use Rattle.std.proofs.lemmas.Bool.{cases_lt, and_from, and_parts, or_left}
 use Rattle.std.proofs.lemmas.Option.{none-some, same_Some, slice_get_within, slice_get-get_or, get_or_from_slice_get}
-use Rattle.hist_types.specs.Transactions.{Transaction, Version, is_ok, external_reads, has_version, reads, is_node, Open}
+use Rattle.hist_types.specs.Transactions.{Transaction, Version, is_ok, external_reads, has_version, is_known_to_read, is_node, Open}
 use Rattle.hist_types.specs.Versions.{nil_of}
 use Rattle.hist_types.specs.Atoms.{integer}
 use Rattle.hist_types.proofs.Members.{In, in_from_Contains, Contains_from_in, in_front, in_back, in_mapped, in_map, in_filter, in_filtered, passes_filter}
-use Rattle.hist_types.proofs.ThinningTimes.{invoked_in_order}
-use Rattle.hist_types.proofs.VersionMembers.{in_from_has, has_from_in}
-use Rattle.hist_types.specs.Thinning.{AreInvokedInOrder}
+use Rattle.history_laws.proofs.ThinningTimes.{invoked_in_order}
+use Rattle.history_laws.proofs.VersionMembers.{in_from_has, has_from_in}
+use Rattle.history_laws.specs.Times.{AreInvokedInOrder}
 use Rattle.key_versions.specs.Histories.{read_by, installs_behind, from_place, readers_of, followers_of}
 use Rattle.key_versions.specs.Tables.{Table}
 use Rattle.dep_edges.specs.Histories.{AreOfHistory}
@@ -17,7 +17,6 @@ use Rattle.dep_edges.specs.Tables.{txn_at, version_at}
 use Rattle.dep_edges.proofs.Places.{from_some_place}
 use Rattle.edge_graph.specs.LaidOut.{nodes_behind}
 use Rattle.edge_graph.proofs.Placed.{order_at}
-use Rattle.std.proofs.Common.{pos}
 
 -- ---- by place
 
@@ -96,19 +95,19 @@ in_if false n m i = absurd i
 if_in : (test : Bool) (n : ℕ) → test ≡ true → In n (if test then n ∷ [] else [])
 if_in test n e = subst (λ b. In n (if b then n ∷ [] else [])) (sym e) (inl refl)
 
-pub reader_at : (ts : List Transaction) (v : Version) (place : ℕ) → In place (readers_of ts v) → (place < length ts) × (reads (txn_at ts place) v ≡ true)
+pub reader_at : (ts : List Transaction) (v : Version) (place : ℕ) → In place (readers_of ts v) → (place < length ts) × (is_known_to_read (txn_at ts place) v ≡ true)
 reader_at ts v place i =
-    let (j, t, get, among) = from_some_place (λ place t. if reads t v then place ∷ [] else []) 0 ts place i in
-    let (read, same) = in_if (reads t v) (0 + j) place among in
+    let (j, t, get, among) = from_some_place (λ place t. if is_known_to_read t v then place ∷ [] else []) 0 ts place i in
+    let (read, same) = in_if (is_known_to_read t v) (0 + j) place among in
     let here : j ≡ place = omega (arith, same) in
     let there : slice_get ts place ≡ Some t = ap (slice_get ts) (sym here) ∙ get in
-    (slice_get_within ts place t there, ap (λ x. reads x v) (txn_of ts place t there) ∙ read)
+    (slice_get_within ts place t there, ap (λ x. is_known_to_read x v) (txn_of ts place t there) ∙ read)
 
-pub at_reader : (ts : List Transaction) (v : Version) (place : ℕ) → place < length ts → reads (txn_at ts place) v ≡ true → In place (readers_of ts v)
+pub at_reader : (ts : List Transaction) (v : Version) (place : ℕ) → place < length ts → is_known_to_read (txn_at ts place) v ≡ true → In place (readers_of ts v)
 at_reader ts v place h read =
     let at : 0 + place ≡ place = omega arith in
-    to_place (λ place t. if reads t v then place ∷ [] else []) 0 ts place (txn_at ts place) place (txn_there ts place h)
-    (subst (λ n. In place (if reads (txn_at ts place) v then n ∷ [] else [])) (sym at) (if_in (reads (txn_at ts place) v) place read))
+    to_place (λ place t. if is_known_to_read t v then place ∷ [] else []) 0 ts place (txn_at ts place) place (txn_there ts place h)
+    (subst (λ n. In place (if is_known_to_read (txn_at ts place) v then n ∷ [] else [])) (sym at) (if_in (is_known_to_read (txn_at ts place) v) place read))
 
 abbrev at_place : ℕ × Version → ℕ
 at_place p = p.0
@@ -149,16 +148,16 @@ by_ok : (ok : Bool) (v : Version) (vs : List Version) → In v (if ok then vs el
 by_ok true v vs i = (refl, i)
 by_ok false v vs i = absurd i
 
-pub read_from : (t : Transaction) (v : Version) → In v (read_by t) → reads t v ≡ true
+pub read_from : (t : Transaction) (v : Version) → In v (read_by t) → is_known_to_read t v ≡ true
 read_from t v i =
     let (ok, among) = by_ok (is_ok t) v (external_reads t) i in
     and_from (is_ok t) (has_version (external_reads t) v) ok (has_from_in v (external_reads t) among)
 
-pub read_to : (t : Transaction) (v : Version) → reads t v ≡ true → In v (read_by t)
+pub read_to : (t : Transaction) (v : Version) → is_known_to_read t v ≡ true → In v (read_by t)
 read_to t v read =
     let (ok, has) = and_parts (is_ok t) (has_version (external_reads t) v) read in
     subst (λ b. In v (if b then external_reads t else [])) (sym ok) (in_from_has v (external_reads t) has)
 
 -- a reader is ok, and so a node
-pub reader_is_node : (ts : List Transaction) (t : Transaction) (v : Version) → reads t v ≡ true → is_node ts t ≡ true
+pub reader_is_node : (ts : List Transaction) (t : Transaction) (v : Version) → is_known_to_read t v ≡ true → is_node ts t ≡ true
 reader_is_node ts t v read = or_left (is_ok t) _ (and_parts (is_ok t) (has_version (external_reads t) v) read).0

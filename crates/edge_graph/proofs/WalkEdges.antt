@@ -6,7 +6,7 @@ use Rattle.std.proofs.lemmas.List.Elements.{All-from_recursion, All-append}
 use Rattle.std.proofs.lemmas.Option.{slice_get_within}
 use Rattle.hist_types.specs.Edges.{Edge}
 use Rattle.hist_types.specs.Phenomena.{Leads}
-use Rattle.hist_types.specs.Transactions.{Version, reads}
+use Rattle.hist_types.specs.Transactions.{Version, is_known_to_read}
 use Rattle.dep_edges.specs.Histories.{AreOfHistory}
 use Rattle.dep_edges.specs.Tables.{IsPlace, txn_at}
 use Rattle.edge_graph.specs.Kinds.{includes}
@@ -19,7 +19,7 @@ use Rattle.edge_graph.proofs.EdgeArcs.{no_place, edge_of_arc, read_at, follows_a
 -- the transaction reads the version at the vertex
 abbrev pub ReadsAt : Parts → Kinds → (from vertex : ℕ) → Type 0
 ReadsAt g kinds from vertex =
-    (v : Version) × IsVertex g vertex (version v) × (kinds.rw ≡ true) × (reads (txn_at g.txns from) v ≡ true)
+    (v : Version) × IsVertex g vertex (version v) × (kinds.rw ≡ true) × (is_known_to_read (txn_at g.txns from) v ≡ true)
 
 -- the walk's vertex is the transaction, or a version that it reads
 abbrev pub IsReached : Parts → Kinds → (from vertex : ℕ) → Type 0

@@ -40,7 +40,7 @@ pub record IsSpanIn (items : List ℕ) (s : Span) : Type 0 where
   pub end : s.ww ≤ s.end
   pub within : s.end ≤ length items
 
--- the row stands behind what was there before, where the span says
+-- the row comes after what was there before, where the span says
 pub record IsRowBehind (before after : List ℕ) (s : Span) (row : Row) : Type 0 where
   pub items : after ≡ ((before ++ row.rw) ++ row.wr) ++ row.ww
   pub start : s.start ≡ length before

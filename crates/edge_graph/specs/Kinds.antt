@@ -15,7 +15,7 @@ includes kinds (rw earlier later) = kinds.rw
 includes kinds (process number) = true
 includes kinds (realtime completion invocation) = true
 
--- the same, but for rw
+-- the same, except rw
 abbrev pub includes_directly : Kinds → Label → Bool
 includes_directly kinds label = includes kinds label && not (is_rw_label label)
 

@@ -1,4 +1,4 @@
--- How the arcs of dependencies are laid out: a row for each transaction, and behind them one for each version.
+-- How the arcs of dependencies are laid out: a row for each transaction, and after them one for each version.
 use Rattle.std.specs.Prelude.{◌≡◌, ℕ, ◌+◌, ◌<◌, List, [], ◌++◌, length, not, ◌==◌, if◌then◌else◌, map, filter, flat_map, All}
 use Rattle.hist_types.specs.Transactions.{Transaction, Version, is_node, installed_by}
 use Rattle.key_versions.specs.Histories.{read_by, readers_of, followers_of}
@@ -8,16 +8,16 @@ use Rattle.dep_edges.specs.Tables.{IsNumber, txn_at, version_at}
 use Rattle.edge_graph.specs.FlatRows.{Row, row_at, IsRowBehind}
 use Rattle.edge_graph.specs.declared.rows.Span.{Span}
 
--- the places of the nodes that install a version behind this one
+-- the places of the nodes that install a version after this one
 abbrev pub nodes_behind : List Transaction → Version → List ℕ
 nodes_behind ts v =
     filter (λ place. is_node ts (txn_at ts place)) (map (λ p. p.0) (followers_of ts v))
 
--- the places of the nodes that install a version behind the one with this number
+-- the places of the nodes that install a version after the one with this number
 abbrev pub nodes_of : History → (number : ℕ) → List ℕ
 nodes_of h number = nodes_behind h.txns (version_at h.table number)
 
--- the places but for one
+-- the places except one
 abbrev pub others : List ℕ → (place : ℕ) → List ℕ
 others places place = filter (λ u. not (u == place)) places
 
@@ -26,7 +26,7 @@ abbrev pub readers_behind : List Transaction → ℕ → List ℕ
 readers_behind ts place =
     flat_map (λ v. others (readers_of ts v) place) (installed_by (txn_at ts place))
 
--- the places of the nodes that install a version behind one which this transaction installs
+-- the places of the nodes that install a version after one which this transaction installs
 abbrev pub writers_behind : List Transaction → ℕ → List ℕ
 writers_behind ts place = flat_map (nodes_behind ts) (installed_by (txn_at ts place))
 
@@ -42,29 +42,29 @@ AreVersionVertices ts table vs vertices =
     × (map (version_at table) numbers ≡ vs)
     × All (IsNumber table) numbers
 
--- those of the versions that the transaction at the place reads, behind what was there before
+-- those of the versions that the transaction at the place reads, after what was there before
 abbrev pub AddsReads : History → (place : ℕ) → (before after : List ℕ) → Type 0
 AddsReads h place before after =
     (vertices : List ℕ)
     × (after ≡ before ++ vertices)
     × AreVersionVertices h.txns h.table (read_by (txn_at h.txns place)) vertices
 
--- a transaction leads to the versions that it reads, to who reads what it installs, and to who installs a version behind that
+-- a transaction leads to the versions that it reads, to who reads what it installs, and to who installs a version after that
 pub record IsTxnRow (ts : List Transaction) (table : Table) (place : ℕ) (row : Row) : Type 0 where
   pub rw : AreVersionVertices ts table (read_by (txn_at ts place)) row.rw
   pub wr : row.wr ≡ if_node ts place (readers_behind ts place)
   pub ww : row.ww ≡ if_node ts place (writers_behind ts place)
 
--- such a row, behind what was there before
+-- such a row, after what was there before
 abbrev pub AddsTxnRow : History → (place : ℕ) → (before after : List ℕ) → Span → Type 0
 AddsTxnRow h place before after s =
     (row : Row) × IsTxnRow h.txns h.table place row × IsRowBehind before after s row
 
--- a version leads to who installs a version behind it
+-- a version leads to who installs a version after it
 abbrev pub version_row : List Transaction → Version → Row
 version_row ts v = record { rw = nodes_behind ts v; wr = []; ww = [] }
 
--- such a row, behind what was there before
+-- such a row, after what was there before
 abbrev pub AddsVersionRow : History → (number : ℕ) → (before after : List ℕ) → Span → Type 0
 AddsVersionRow h number before after s =
     IsRowBehind before after s (version_row h.txns (version_at h.table number))
@@ -92,7 +92,7 @@ AreTxnRows h rows = AreFirstTxnRows h.txns h.table (length h.txns) rows
 abbrev pub AreVersionRows : History → (rows : List Row) → Type 0
 AreVersionRows h rows = AreFirstVersionRows h.txns h.table (length h.table.versions) rows
 
--- the rows of the transactions, and behind them of the versions
+-- the rows of the transactions, and after them of the versions
 pub record AreRows (ts : List Transaction) (table : Table) (rows : List Row) : Type 0 where
   pub count : length rows ≡ length ts + length table.versions
   pub txns : (place : ℕ) → place < length ts → IsTxnRow ts table place (row_at rows place)

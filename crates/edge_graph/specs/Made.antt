@@ -32,7 +32,7 @@ parts_of history order =
 
 -- ---- dependency edges
 
--- those of the kinds that leave the transaction at the place, behind what was there before
+-- those of the kinds that leave the transaction at the place, after what was there before
 abbrev pub AddsDependencies : List Transaction → Kinds → (place : ℕ) → (before after : List Edge)
     → Type 0
 AddsDependencies ts kinds place before after =

@@ -3,13 +3,13 @@
 use Rattle.std.specs.Prelude.{◌≡◌, ◌↔◌, ◌⊎◌, ◌==◌, ℕ, Bool, List, ◌++◌, IsTrue, Some, slice_get, map, filter, All, Contains}
 use Rattle.std.specs.List.{list_any}
 use Rattle.hist_types.specs.Edges.{Edge, dependency_edges, all_order_edges}
-use Rattle.hist_types.specs.Laws.{LeadsToOne}
+use Rattle.history_laws.specs.OrderEdges.{LeadsToOne}
 use Rattle.hist_types.specs.Transactions.{Transaction, Version, has_version, nodes}
 use Rattle.hist_types.specs.declared.types.Level.{Level}
 use Rattle.key_versions.specs.Histories.{is_named}
 use Rattle.order_frontier.specs.Predecessors as predecessors
 use Rattle.order_frontier.specs.Predecessors.{Before, edges_of, name_of, names}
-use Rattle.dep_edges.specs.OutEdges.{NoneTwice}
+use Rattle.hist_types.specs.Lists.{NoneTwice}
 use Rattle.edge_graph.specs.Kinds.{includes}
 use Rattle.edge_graph.specs.declared.types.Kinds.{Kinds}
 
@@ -26,7 +26,7 @@ pub record IsOrderOf (ts : List Transaction) (order : List Before) : Type 0 wher
       (level : Level) (e : Edge)
       → Contains (edges_of level order) e
       → Contains (all_order_edges level ts) e
-  pub once : All predecessors.NoneTwice order
+  pub once : All predecessors.NoPredecessorTwice order
 
 pub record IsMadeOf (ts : List Transaction) (before : List Before) (g : Parts) : Type 0 where
   pub txns : g.txns ≡ ts
@@ -62,7 +62,7 @@ pub record AreEdgesFrom (g : Parts) (kinds : Kinds) (place : ℕ) (es : List Edg
       ↔ (HasEdge g kinds.level e × IsTrue (includes kinds e.label) × Leaves g place e)
   pub once : NoneTwice es
 
--- these, behind what was there before
+-- these, after what was there before
 abbrev pub AddsEdgesFrom : Parts → Kinds → (place : ℕ) → (before after : List Edge) → Type 0
 AddsEdgesFrom g kinds place before after =
     (es : List Edge) × (after ≡ before ++ es) × AreEdgesFrom g kinds place es

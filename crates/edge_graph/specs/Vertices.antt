@@ -1,12 +1,12 @@
 -- What searches for cycles go over in place of the edges.
 --
--- A version that many transactions read and many others follow stands for reader times follower rw edges. So each version is a
--- vertex too, behind the transactions: who reads it leads to it, and it leads to the nodes that install a version behind it. All
+-- A version that many transactions read and many others follow has reader times follower rw edges. So each version is a
+-- vertex too, after the transactions: who reads it leads to it, and it leads to the nodes that install a version after it. All
 -- other edges are arcs from transaction to transaction.
 use Rattle.std.specs.Prelude.{◌≡◌, ◌↔◌, ℕ, ◌+◌, List, [], length, IsTrue, Some, slice_get, slice_index_or, Contains}
 use Rattle.graph_search.specs.Graphs.{Graph, HasArc}
 use Rattle.hist_types.specs.Edges.{Label, rw, edge, dependency_edges}
-use Rattle.hist_types.specs.Transactions.{Transaction, Version, nodes, reads, installs}
+use Rattle.hist_types.specs.Transactions.{Transaction, Version, nodes, is_known_to_read, installs}
 use Rattle.hist_types.specs.Versions.{pair, version_pairs}
 use Rattle.edge_graph.specs.Kinds.{includes_directly}
 use Rattle.edge_graph.specs.Parts.{Parts, HasEdge}
@@ -16,13 +16,13 @@ pub data Vertex : Type 0 where
   txn : Transaction → Vertex
   version : Version → Vertex
 
--- the transactions by place, and behind them the versions by number
+-- the transactions by place, and after them the versions by number
 abbrev pub IsVertex : Parts → ℕ → Vertex → Type 0
 IsVertex g vertex (txn t) = slice_get g.txns vertex ≡ Some t
 IsVertex g vertex (version v) =
     (number : ℕ) × (vertex ≡ length g.txns + number) × (slice_get g.versions number ≡ Some v)
 
--- the transaction is a node that installs a version behind this one
+-- the transaction is a node that installs a version after this one
 abbrev pub Follows : List Transaction → Version → Transaction → Type 0
 Follows ts v u =
     Contains (nodes ts) u
@@ -39,7 +39,7 @@ LeadsDirectly g kinds t u =
 
 abbrev pub LeadsTo : Parts → Kinds → Vertex → Vertex → Type 0
 LeadsTo g kinds (txn t) (txn u) = LeadsDirectly g kinds t u
-LeadsTo g kinds (txn t) (version v) = IsTrue kinds.rw × IsTrue (reads t v)
+LeadsTo g kinds (txn t) (version v) = IsTrue kinds.rw × IsTrue (is_known_to_read t v)
 LeadsTo g kinds (version v) (txn u) = IsTrue kinds.rw × Follows g.txns v u
 LeadsTo g kinds (version v) (version w) = ⊥
 
@@ -64,13 +64,13 @@ HasRw ts t u =
     × (later : Version)
     × Contains (dependency_edges ts) (edge t u (rw earlier later))
 
--- the one reads a version and the other one, another transaction, installs one behind it
+-- the one reads a version and the other one, another transaction, installs one after it
 abbrev pub LeadsByVersion : Parts → Transaction → Transaction → Type 0
 LeadsByVersion g t u =
     ¬ (t.invocation ≡ u.invocation)
     × (v : Version)
     × Contains g.versions v
-    × IsTrue (reads t v)
+    × IsTrue (is_known_to_read t v)
     × Follows g.txns v u
 
 -- some rw edge joins two transactions exactly where one of the versions leads from the one to the other

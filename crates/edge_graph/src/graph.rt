@@ -8,7 +8,7 @@ ghost use Rattle.dep_edges.specs.Tables.{IsPlace};
 ghost use Rattle.hist_types.specs.Refusals.{memory_fault};
 ghost use Rattle.edge_graph.specs.Kinds.{kinds_of};
 ghost use Rattle.edge_graph.specs.LaidOut.{AreRows};
-ghost use Rattle.edge_graph.specs.Made.{order_edges_over, order_edges_to, AddsDependencies};
+ghost use Rattle.edge_graph.specs.Made.{order_edges_over, order_edges_to, AddsDependencies, IsMade};
 ghost use Rattle.edge_graph.specs.Parts.{IsOrderOf, IsMadeOf, AddsEdgesFrom};
 ghost use Rattle.edge_graph.specs.Successors.{AreTurned};
 ghost use Rattle.edge_graph.specs.Vertices.{AreArcs, RwByVersions};
@@ -136,8 +136,8 @@ fn add_order_edges<'a>(
     Ok(())
 }
 
-/// The rows of the arcs of dependencies, and the order turned round: threads of their own make them, where others can be made.
-fn rows_and_orders<'v, 'a, R: Threads + Sync>(
+/// The rows of the arcs of dependencies, and the order as successors, each made by threads of its own if others can be started.
+fn rows_and_orders_wide<'v, 'a, R: Threads + Sync>(
     rt: &R,
     alloc: Global,
     deps: &Deps<'v, 'a>,
@@ -151,16 +151,28 @@ fn rows_and_orders<'v, 'a, R: Threads + Sync>(
 {
     try_join(
         rt,
-        &mut || layout::rows(rt, alloc, deps, history),
+        &mut || layout::rows_wide(rt, alloc, deps, history),
         &mut || -> Result<Orders, AllocError>
             requires { IsSync R.row × IsOrderOf deps.now order.now }
-        { Orders::new(rt, alloc, deps, order) },
+        { Orders::new_wide(rt, alloc, deps, order) },
     )
 }
 
 impl<'g, 'v, 'a> Graph<'g, 'v, 'a> {
     /// The graph over the history's dependency edges and an order of its transactions, with all of their pairs or thinned.
-    pub fn new<R: Threads + Sync>(
+    pub fn new(alloc: Global, deps: &'g Deps<'v, 'a>, order: &'g Order) -> Result<Self, Fault>
+        requires { IsOrderOf deps.now order.now }
+        ensures ok { IfOk result (IsMadeOf deps.now order.now) }
+        ensures err { IfErr result (λ fault. fault ≡ memory_fault) }
+    {
+        let history = deps.history();
+        let rows = layout::rows(alloc, deps, history)?;
+        let orders = Orders::new(alloc, deps, order)?;
+        Ok(Graph::of(alloc, deps, history, order, rows, orders))
+    }
+
+    /// As `new`, with a few threads if others can be started.
+    pub fn new_wide<R: Threads + Sync>(
         rt: &R,
         alloc: Global,
         deps: &'g Deps<'v, 'a>,
@@ -171,15 +183,29 @@ impl<'g, 'v, 'a> Graph<'g, 'v, 'a> {
         ensures err { IfErr result (λ fault. fault ≡ memory_fault) }
     {
         let history = deps.history();
-        let (rows, orders) = rows_and_orders(rt, alloc, deps, history, order)?;
-        Ok(Graph {
+        let (rows, orders) = rows_and_orders_wide(rt, alloc, deps, history, order)?;
+        Ok(Graph::of(alloc, deps, history, order, rows, orders))
+    }
+
+    fn of(
+        alloc: Global,
+        deps: &'g Deps<'v, 'a>,
+        history: &'g History<'v, 'a>,
+        order: &'g Order,
+        rows: VertexRows,
+        orders: Orders,
+    ) -> Self
+        requires { IsMade deps.now history.now order.now rows orders }
+        ensures { IsMadeOf deps.now order.now result }
+    {
+        Graph {
             alloc,
             deps,
             history,
             order,
             rows,
             orders,
-        })
+        }
     }
 
     /// How many transactions there are.

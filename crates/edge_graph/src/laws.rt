@@ -2,12 +2,12 @@
 
 ghost use Rattle.std.specs.Prelude.{◌≡◌, ◌++◌, ◌↔◌, ℕ, List, map, All, Contains, IsTrue, IsFalse};
 ghost use Rattle.hist_types.specs.Edges.{Edge, dependency_edges, edges_at};
-ghost use Rattle.hist_types.specs.Frontier.{thinned_edges};
+ghost use Rattle.hist_types.specs.ThinnedOrder.{thinned_edges};
 ghost use Rattle.hist_types.specs.Phenomena.{is_ww, is_wr, is_rw, is_order};
 ghost use Rattle.hist_types.specs.Transactions.{Transaction};
 ghost use Rattle.hist_types.specs.declared.types.Level.{Level};
 ghost use Rattle.hist_types.specs.declared.types.Level.TheVariants.{Plain};
-ghost use Rattle.order_frontier.specs.Predecessors.{Before, HasOrderEdges, HasThinnedEdges, NoneTwice, name_of, names};
+ghost use Rattle.order_frontier.specs.Predecessors.{Before, HasOrderEdges, HasThinnedEdges, NoPredecessorTwice, name_of, names};
 ghost use Rattle.dep_edges.specs.Histories.{AreOfHistory};
 ghost use Rattle.dep_edges.specs.Tables.{IsPlace};
 ghost use Rattle.edge_graph.specs.Kinds.{kinds_of, AreAmong};
@@ -21,9 +21,9 @@ ghost use Rattle.edge_graph.specs.declared.types.Dependencies.TheVariants.{Ww, W
 /// A graph can be made over the order of all pairs and over the thinned one.
 pub fn orders_of_a_history()
     ensures all_pairs { (ts : List Transaction) → (order : List Before) → HasOrderEdges ts order
-        → All NoneTwice order → names order ≡ map name_of ts → IsOrderOf ts order }
+        → All NoPredecessorTwice order → names order ≡ map name_of ts → IsOrderOf ts order }
     ensures thinned { (ts : List Transaction) → (order : List Before) → HasThinnedEdges ts order
-        → All NoneTwice order → names order ≡ map name_of ts → IsOrderOf ts order }
+        → All NoPredecessorTwice order → names order ≡ map name_of ts → IsOrderOf ts order }
 {}
 
 /// The list of a graph's edges has exactly its edges. Those of every level are the dependency edges, and plain has no others.

@@ -2,8 +2,7 @@
 
 ghost use Rattle.std.specs.Prelude.{◌≡◌, ◌++◌, IfOk, OnOk};
 ghost use Rattle.dep_edges.specs.Tables.{IsPlace, IsNumber};
-ghost use Rattle.edge_graph.specs.LaidOut.{others, nodes_of, readers_behind, writers_behind, AreRows};
-ghost use Rattle.edge_graph.specs.LaidOut.{AddsReads, AddsTxnRow, AddsVersionRow, AreTxnRows, AreVersionRows};
+ghost use Rattle.edge_graph.specs.LaidOut.{others, nodes_of, readers_behind, writers_behind, AreRows, AddsReads, AddsTxnRow, AddsVersionRow, AreTxnRows, AreVersionRows};
 
 use crate::rows::{Rows, Span, VertexRows, number};
 use crate::threads::try_join;
@@ -20,7 +19,7 @@ struct Layout<'g, 'v, 'a> {
     ghost of_one: { history.now.txns ≡ deps.now },
 }
 
-/// Adds the places but for one.
+/// Adds the places except one.
 fn push_others(places: &[u32], place: usize, out: &mut Vec<u32>) -> Result<(), AllocError>
     ensures { OnOk result (out.new.items ≡ out.old.items ++ others places.now place) }
 {
@@ -58,7 +57,7 @@ impl<'g, 'v, 'a> Layout<'g, 'v, 'a> {
         Ok(())
     }
 
-    /// Adds the nodes that install a version behind this one.
+    /// Adds the nodes that install a version after this one.
     fn push_nodes_behind(&self, version: usize, out: &mut Vec<u32>) -> Result<(), AllocError>
         requires { IsNumber self.now.history.now.table version }
         ensures { OnOk result
@@ -72,7 +71,7 @@ impl<'g, 'v, 'a> Layout<'g, 'v, 'a> {
         Ok(())
     }
 
-    /// Adds the nodes that install a version behind one which the transaction installs.
+    /// Adds the nodes that install a version after one which the transaction installs.
     fn push_writers(&self, place: usize, out: &mut Vec<u32>) -> Result<(), AllocError>
         requires { IsPlace self.now.history.now.txns place }
         ensures { OnOk result
@@ -84,7 +83,7 @@ impl<'g, 'v, 'a> Layout<'g, 'v, 'a> {
         Ok(())
     }
 
-    /// Adds what the transaction leads to, and answers where that is.
+    /// Adds what the transaction leads to, and returns where that is.
     fn push_txn(&self, place: usize, items: &mut Vec<u32>) -> Result<Span, AllocError>
         requires { IsPlace self.now.history.now.txns place }
         ensures { IfOk result
@@ -108,7 +107,7 @@ impl<'g, 'v, 'a> Layout<'g, 'v, 'a> {
         Ok(Span { start, wr, ww, end })
     }
 
-    /// Adds what the version leads to, and answers where that is.
+    /// Adds what the version leads to, and returns where that is.
     fn push_version(&self, version: usize, items: &mut Vec<u32>) -> Result<Span, AllocError>
         requires { IsNumber self.now.history.now.table version }
         ensures { IfOk result
@@ -151,8 +150,8 @@ impl<'g, 'v, 'a> Layout<'g, 'v, 'a> {
         Ok(Rows::new(spans, items))
     }
 
-    /// The rows of the transactions and those of the versions: two threads make them, where another can be made.
-    fn both<R: Threads>(&self, rt: &R, alloc: Global) -> Result<(Rows, Rows), AllocError>
+    /// The rows of the transactions and those of the versions, made by two threads if another can be started.
+    fn both_wide<R: Threads>(&self, rt: &R, alloc: Global) -> Result<(Rows, Rows), AllocError>
         ensures txns { IfOk result (λ made. AreTxnRows self.now.history.now made.0) }
         ensures versions { IfOk result (λ made. AreVersionRows self.now.history.now made.1) }
     {
@@ -162,10 +161,34 @@ impl<'g, 'v, 'a> Layout<'g, 'v, 'a> {
             &mut || self.version_rows(alloc),
         )
     }
+
+    /// The rows of the transactions, and after them those of the versions.
+    fn joined(&self, txns: Rows, versions: Rows) -> Result<VertexRows, AllocError>
+        requires txns { AreTxnRows self.now.history.now txns }
+        requires versions { AreVersionRows self.now.history.now versions }
+        ensures { IfOk result (AreRows self.now.history.now.txns self.now.history.now.table) }
+    {
+        VertexRows::new(txns, versions)
+    }
 }
 
-/// A row for each transaction, and behind them one for each version.
-pub fn rows<'v, 'a, R: Threads>(
+/// A row for each transaction, and after them one for each version.
+pub fn rows<'v, 'a>(
+    alloc: Global,
+    deps: &Deps<'v, 'a>,
+    history: &History<'v, 'a>,
+) -> Result<VertexRows, AllocError>
+    requires { history.now.txns ≡ deps.now }
+    ensures { IfOk result (AreRows history.now.txns history.now.table) }
+{
+    let layout = Layout { deps, history };
+    let txns = layout.txn_rows(alloc)?;
+    let versions = layout.version_rows(alloc)?;
+    layout.joined(txns, versions)
+}
+
+/// As `rows`, with two threads if another can be started.
+pub fn rows_wide<'v, 'a, R: Threads>(
     rt: &R,
     alloc: Global,
     deps: &Deps<'v, 'a>,
@@ -174,6 +197,7 @@ pub fn rows<'v, 'a, R: Threads>(
     requires { history.now.txns ≡ deps.now }
     ensures { IfOk result (AreRows history.now.txns history.now.table) }
 {
-    let (txns, versions) = Layout { deps, history }.both(rt, alloc)?;
-    VertexRows::new(txns, versions)
+    let layout = Layout { deps, history };
+    let (txns, versions) = layout.both_wide(rt, alloc)?;
+    layout.joined(txns, versions)
 }

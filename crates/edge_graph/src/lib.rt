@@ -1,4 +1,6 @@
 //! The graph of a history's transactions: its edges by kind, and the arcs that searches for cycles go over.
+//!
+//! Only `try_join` and calls whose names end in `_wide` may start threads.
 #![tactic(auto)]
 
 pub mod arcs;

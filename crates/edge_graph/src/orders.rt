@@ -1,13 +1,13 @@
 //! What each transaction comes before.
 
 ghost use Rattle.std.specs.Prelude.{◌≡◌, ◌<◌, length, All, OnOk, IfOk};
-ghost use Rattle.hist_types.specs.Thinning.{AreInvokedInOrder};
+ghost use Rattle.history_laws.specs.Times.{AreInvokedInOrder};
 ghost use Rattle.flat_groups.specs.Groups.{groups_from, IsNumbered};
 ghost use Rattle.dep_edges.specs.Histories.{AreOfHistory};
+ghost use Rattle.hist_types.specs.declared.types.Level.TheVariants.{Process, Realtime};
 ghost use Rattle.order_frontier.specs.Predecessors.{before_at};
 ghost use Rattle.edge_graph.specs.Parts.{IsOrderOf};
-ghost use Rattle.edge_graph.specs.Successors.{ArePlaces, predecessors_at, AreListed, HaveOwnPlaces, AddsPairs};
-ghost use Rattle.edge_graph.specs.Successors.{list_at, lists_at, AreSuccessors, AreTurned, AreFirstPairs};
+ghost use Rattle.edge_graph.specs.Successors.{ArePlaces, predecessors_at, AreListed, HaveOwnPlaces, AddsPairs, list_at, lists_at, AreSuccessors, AreTurned, AreFirstPairs};
 
 use crate::rows::number;
 use crate::threads::try_join;
@@ -39,7 +39,7 @@ impl Model for LaterNodes {
 }
 
 impl LaterNodes {
-    /// Of the places of so many transactions, each with that of a node that it comes before.
+    /// Builds the lists from pairs of places, each of a transaction and of a node that it comes before.
     fn of(alloc: Global, txns: usize, pairs: &[(u32, u32)]) -> Result<Self, AllocError>
         requires { All (IsNumbered txns) pairs.now }
         ensures { IfOk result (λ later. later ≡ groups_from 0 txns pairs.now) }
@@ -48,7 +48,7 @@ impl LaterNodes {
         Ok(LaterNodes { txns, places })
     }
 
-    /// Those of the transaction at the place; behind the transactions, none.
+    /// The successors of the transaction at the place; past the last transaction, none.
     pub fn get(&self, place: usize) -> &[u32]
         ensures { result.now ≡ list_at self.now place }
     {
@@ -61,7 +61,7 @@ impl LaterNodes {
 }
 
 /// The place of each transaction, by the index of its invocation.
-pub fn places(alloc: Global, txns: &[Txn<'_>]) -> Result<Vec<u32>, AllocError>
+fn places(alloc: Global, txns: &[Txn<'_>]) -> Result<Vec<u32>, AllocError>
     requires { AreInvokedInOrder txns.now }
     ensures { IfOk result (λ places. ArePlaces txns.now places.items) }
 {
@@ -73,6 +73,14 @@ pub fn places(alloc: Global, txns: &[Txn<'_>]) -> Result<Vec<u32>, AllocError>
         places.push(place)?;
     }
     Ok(places)
+}
+
+/// The place of each transaction of a history, by the index of its invocation.
+fn places_of(alloc: Global, deps: &Deps<'_, '_>) -> Result<Vec<u32>, AllocError>
+    ensures kept { AreOfHistory deps.now }
+    ensures places { IfOk result (λ places. ArePlaces deps.now places.items) }
+{
+    places(alloc, deps.history().txns())
 }
 
 fn predecessors(order: &Order, place: usize, level: Level) -> &[Predecessor]
@@ -133,7 +141,7 @@ fn pairs(
     Ok(pairs)
 }
 
-/// The order of the level turned round.
+/// The level's order as successors, in place of predecessors.
 fn turned(
     alloc: Global,
     deps: &Deps<'_, '_>,
@@ -148,6 +156,27 @@ fn turned(
 {
     let pairs = pairs(alloc, deps, order, places, level)?;
     LaterNodes::of(alloc, order.len(), &pairs)
+}
+
+/// The order as successors at the two levels, made by two threads if another can be started.
+fn turned_wide<R: Threads + Sync>(
+    rt: &R,
+    alloc: Global,
+    deps: &Deps<'_, '_>,
+    order: &Order,
+    places: &[u32],
+) -> Result<(LaterNodes, LaterNodes), AllocError>
+    requires kept { AreOfHistory deps.now }
+    requires order { IsOrderOf deps.now order.now }
+    requires places { ArePlaces deps.now places.now }
+    ensures process { IfOk result (λ made. AreSuccessors deps.now order.now Process made.0) }
+    ensures realtime { IfOk result (λ made. AreSuccessors deps.now order.now Realtime made.1) }
+{
+    try_join(
+        rt,
+        &mut || turned(alloc, deps, order, places, Level::Process),
+        &mut || turned(alloc, deps, order, places, Level::Realtime),
+    )
 }
 
 /// For each transaction the nodes that it comes before, within its process and in real time.
@@ -170,7 +199,19 @@ impl Model for Orders {
 }
 
 impl Orders {
-    pub fn new<R: Threads + Sync>(
+    /// The order as successors at the two levels.
+    pub fn new(alloc: Global, deps: &Deps<'_, '_>, order: &Order) -> Result<Self, AllocError>
+        requires { IsOrderOf deps.now order.now }
+        ensures { IfOk result (AreTurned deps.now order.now) }
+    {
+        let places = places_of(alloc, deps)?;
+        let in_process = turned(alloc, deps, order, &places, Level::Process)?;
+        let in_realtime = turned(alloc, deps, order, &places, Level::Realtime)?;
+        Orders::of(alloc, in_process, in_realtime)
+    }
+
+    /// As `new`, with two threads if another can be started.
+    pub fn new_wide<R: Threads + Sync>(
         rt: &R,
         alloc: Global,
         deps: &Deps<'_, '_>,
@@ -179,37 +220,27 @@ impl Orders {
         requires { IsOrderOf deps.now order.now }
         ensures { IfOk result (AreTurned deps.now order.now) }
     {
-        let places = places(alloc, deps.history().txns())?;
-        Orders::by_places(rt, alloc, deps, order, &places)
+        let places = places_of(alloc, deps)?;
+        let (in_process, in_realtime) = turned_wide(rt, alloc, deps, order, &places)?;
+        Orders::of(alloc, in_process, in_realtime)
     }
 
-    /// The order turned round at the two levels: two threads do it, where another can be made.
-    fn by_places<R: Threads + Sync>(
-        rt: &R,
+    fn of(
         alloc: Global,
-        deps: &Deps<'_, '_>,
-        order: &Order,
-        places: &[u32],
+        in_process: LaterNodes,
+        in_realtime: LaterNodes,
     ) -> Result<Self, AllocError>
-        requires kept { AreOfHistory deps.now }
-        requires order { IsOrderOf deps.now order.now }
-        requires places { ArePlaces deps.now places.now }
-        ensures { IfOk result (AreTurned deps.now order.now) }
+        ensures { IfOk result (λ orders. orders
+            ≡ record { in_process = in_process; in_realtime = in_realtime }) }
     {
-        let in_plain = LaterNodes::of(alloc, 0, &[])?;
-        let (in_process, in_realtime) = try_join(
-            rt,
-            &mut || turned(alloc, deps, order, places, Level::Process),
-            &mut || turned(alloc, deps, order, places, Level::Realtime),
-        )?;
         Ok(Orders {
-            in_plain,
+            in_plain: LaterNodes::of(alloc, 0, &[])?,
             in_process,
             in_realtime,
         })
     }
 
-    /// The order of the level turned round.
+    /// The level's order as successors, in place of predecessors.
     pub fn at(&self, level: Level) -> &LaterNodes
         ensures { result.now ≡ lists_at level self.now }
     {

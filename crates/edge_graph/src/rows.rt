@@ -73,7 +73,7 @@ impl Rows {
     }
 }
 
-/// A row for each vertex: those of the transactions, and behind them those of the versions.
+/// A row for each vertex: those of the transactions, and after them those of the versions.
 #[derive(Drop)]
 pub(crate) struct VertexRows {
     txns: Rows,

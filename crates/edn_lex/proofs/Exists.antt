@@ -2,8 +2,8 @@
 use Rattle.std.proofs.Common.{◌≡◌, List, [], Bool, true, false, Option, None, refl, sym, ◌∙◌, ap}
 use Rattle.hist_types.specs.declared.types.Fault.{Fault}
 use Rattle.hist_types.specs.Tokens.{Item, tokens_of}
-use Rattle.hist_types.proofs.EachCut.{each_cut}
-use Rattle.hist_types.proofs.OneCut.{one_cut}
+use Rattle.reading_laws.proofs.EachCut.{each_cut}
+use Rattle.reading_laws.proofs.OneCut.{one_cut}
 use Rattle.edn_lex.specs.State.{State, left, RestIf, Rest}
 
 -- a lexer has something to give, or nothing, in one way

@@ -11,7 +11,7 @@ use Rattle.std.proofs.lemmas.List.Folds.{list_all-append}
 use Rattle.std.proofs.lemmas.Slice.Eq.{bytes_eq-Decides}
 use Rattle.hist_types.specs.Tokens.{Keyword, Int, run_kind, is_keyword, is_int, is_sign, without_sign, without_n, first_byte}
 use Rattle.hist_types.specs.Bytes.{colon, zero_digit, letter_n}
-use Rattle.hist_types.proofs.Keywords.{keyword_kind}
+use Rattle.reading_laws.proofs.Keywords.{keyword_kind}
 use Rattle.edn_lex.specs.Kinds.{is_low}
 
 -- a digit and a sign are of ASCII

@@ -14,7 +14,7 @@ use Rattle.edn_lex.specs.declared.types.TokenKind.TheVariants as kinds
 use Rattle.edn_lex.specs.Kinds.{kind_of, item_of}
 use Rattle.edn_lex.specs.State.{State, left, IsCutFrom, RestIf, Rest, GivesToken, GivesFault, GivesEnd, PassesOver, Passes, after_item, Gives, items_given, fault_given}
 use Rattle.edn_lex.proofs.Cuts.{item, IsCut-first}
-use Rattle.hist_types.proofs.OneCut.{one_cut}
+use Rattle.reading_laws.proofs.OneCut.{one_cut}
 
 -- the item that was passed over
 abbrev pub item_at : State → ItemKind → ℕ → Item

@@ -23,7 +23,7 @@ abbrev pub refusal_within : PieceKind → List ℕ → List Collection → Optio
 refusal_within kind bytes open_ones =
     nesting_refusal (kind_of_piece kind) bytes (closers_of open_ones)
 
--- where the old ones are open, the new ones are open behind the item
+-- where the old ones are open, the new ones are open after the item
 abbrev pub Nests : PieceKind → List ℕ → List Collection → List Collection → Type 0
 Nests kind bytes old new =
     closers_of new ≡ open_after (kind_of_piece kind) bytes (closers_of old)

@@ -21,7 +21,7 @@ kind_of kinds.Keyword = Keyword
 kind_of kinds.Symbol = Symbol
 kind_of kinds.Other = Other
 
--- the item of a text that a token stands for
+-- the item of a text that a token is
 abbrev pub item_of : List ℕ → Token → Item
 item_of text token =
     record {

@@ -32,7 +32,7 @@ state_at text offset = record { text = text; offset = offset; closers = []; ende
 abbrev pub state_at_start : List ℕ → State
 state_at_start text = state_at text 0
 
--- a lexer goes on at this offset, behind the innermost open collection
+-- a lexer goes on at this offset, after the innermost open collection
 abbrev pub closed_at : State → ℕ → State
 closed_at s offset = record s { offset = offset; closers = drop 1 s.closers }
 
@@ -40,7 +40,7 @@ closed_at s offset = record s { offset = offset; closers = drop 1 s.closers }
 abbrev pub left : State → List ℕ
 left s = drop s.offset s.text
 
--- what is left is cut into these items, and then it ends or the fault stands
+-- what is left is cut into these items, and then it ends or there is the fault
 abbrev pub IsCutFrom : State → List Item → Option Fault → Type 0
 IsCutFrom s items ending = IsCut (left s) s.offset s.closers items ending
 
@@ -123,7 +123,7 @@ abbrev pub after_item : State → ItemKind → ℕ → State
 after_item s kind len =
     record s { offset = s.offset + len; closers = open_after kind (take len (left s)) s.closers }
 
--- A call passed over one item: it stands at the front of what was left and has no fault there.
+-- A call passed over one item: it is at the front of what was left and has no fault there.
 pub record PassesOver (s : State) (kind : ItemKind) (len : ℕ) (t : State) : Type 0 where
   pub some : 0 < len
   pub fits : s.offset + len ≤ length s.text
@@ -132,7 +132,7 @@ pub record PassesOver (s : State) (kind : ItemKind) (len : ℕ) (t : State) : Ty
   pub after : t ≡ after_item s kind len
 
 -- What a call that looks at one item does: it passes over a comment, or over a token that it gives,
--- or gives the fault that stands there.
+-- or gives the fault there.
 abbrev pub Passes : State → Result (Option Token) Fault → State → Type 0
 Passes s (Ok None) t =
     (kind : ItemKind) × (len : ℕ) × (is_token kind ≡ false) × PassesOver s kind len t

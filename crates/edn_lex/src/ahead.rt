@@ -1,4 +1,4 @@
-//! Tokens by looking ahead, as printers write most of them: runs of ASCII and square brackets, behind blanks alone.
+//! Tokens by looking ahead, as printers write most of them: runs of ASCII and square brackets, after blanks alone.
 
 ghost use Rattle.std.specs.Prelude.{◌≡◌, ◌≤◌, length, IfSome};
 ghost use Rattle.hist_types.specs.Bytes.{open_square, close_square, open_brace, close_brace};

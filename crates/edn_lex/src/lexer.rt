@@ -180,7 +180,7 @@ impl<'a> Lexer<'a> {
         }
     }
 
-    /// The next token, if it is a form by itself that needs no closer look: a run of ASCII behind blanks. Else nothing changes.
+    /// The next token, if it is a form by itself that needs no closer look: a run of ASCII after blanks. Else nothing changes.
     #[inline(always)]
     pub fn next_lone(&mut self) -> Option<Token>
         ensures { NextLone self.old result self.new }
@@ -243,7 +243,7 @@ impl<'a> Lexer<'a> {
         self.offset = offset;
     }
 
-    /// Goes on from this offset, behind the innermost open collection.
+    /// Goes on from this offset, after the innermost open collection.
     #[inline(always)]
     pub fn leave(&mut self, offset: usize)
         requires { offset ≤ length self.old.text }

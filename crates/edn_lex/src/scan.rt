@@ -173,7 +173,7 @@ pub(crate) fn content_len(text: &[u8]) -> Option<usize>
     None
 }
 
-/// How many bytes a character has behind its backslash.
+/// How many bytes a character has after its backslash.
 pub(crate) fn character_len(text: &[u8]) -> usize
     ensures len { result ≡ len_of_character text.now }
     ensures fits { result ≤ length text.now }

@@ -1,11 +1,10 @@
 -- Members and collections in no operation's place, as calls read them.
 use Rattle.std.proofs.Common.{◌≡◌, ◌≢◌, ℕ, suc, ◌+◌, List, [], ◌∷◌, ◌++◌, length, take, drop, Bool, true, false, cond, ◌==◌, inl, inr, ◌⊎◌, not, Option, Some, None, Result, Ok, Err, refl, sym, ◌∙◌, ap, arith, subst}
-use Rattle.std.specs.Prelude.{IsErrAnd}
+use Rattle.std.specs.Prelude.{IsErrAnd, bytes_eq, codes}
 use Rattle.hist_types.specs.Bytes.{is_blank, semicolon, quote, backslash, is_opener, is_closer, hash, open_brace, underscore, line_feed}
 use Rattle.hist_types.specs.Forms.{Form, plain, collection, forms_of, Open, with_form, with_opener}
 use Rattle.hist_types.specs.Reading.{nothing_open}
 use Rattle.hist_types.specs.Tokens.{Item, ItemKind, Blank, Comment, Opener, Closer, Str, Char, Drop, Tag, Nil, True, False, Int, Keyword, Symbol, Other, IsCut, BeginsWith, front, hash_front, run_kind, run_of, run_len, is_int, is_keyword, is_symbol, first_byte, character_len, content_len, open_after}
-use Rattle.std.specs.Prelude.{bytes_eq, codes}
 use Rattle.std.specs.List.{prefix_len}
 use Rattle.std.specs.Option.{option_map}
 use Rattle.std.proofs.lemmas.Bool.{eqb-true, true≢false}

@@ -1,8 +1,8 @@
 -- Marks that wait, and the forms that they leave out.
 use Rattle.std.proofs.Common.{◌≡◌, ℕ, zero, suc, ◌+◌, ◌-◌, ◌<◌, ◌≤◌, List, [], ◌∷◌, length, Bool, true, false, cond, not, ◌&&◌, ◌||◌, Option, Some, None, Ok, refl, sym, ◌∙◌, ap, arith, subst}
 use Rattle.std.specs.Bool.{if◌then◌else◌}
-use Rattle.hist_types.specs.Forms.{Form, plain, collection, tagged, forms_of, OpenCollection, Open, is_drop, leave_out, is_vector_or_list, settled, still_waiting, with_member, with_form, with_mark, with_opener}
-use Rattle.hist_types.specs.Reading.{Reading, step_by, may_open, in_operation_place, fault_at_end, goes_on}
+use Rattle.hist_types.specs.Forms.{Form, plain, collection, tagged, forms_of, OpenCollection, Open, is_drop, has_drop, is_vector_or_list, settled, still_waiting, with_member, with_form, with_mark, with_opener}
+use Rattle.hist_types.specs.Reading.{Reading, step_by, may_open, in_operation_place, fault_at_end, only_opens}
 use Rattle.hist_types.specs.Tokens.{Item, ItemKind, Blank, Comment, Opener, Closer, Str, Char, Drop, Tag, Nil, True, False, Int, Keyword, Symbol, Other, byte_fault, nesting_refusal}
 use Rattle.hist_types.specs.declared.types.Fault.{Fault}
 use Rattle.hist_types.specs.declared.types.Refusal.TheVariants.{DanglingTag}
@@ -20,8 +20,8 @@ use Rattle.edn_ops.proofs.MarksKept.{Waits-drops}
 
 -- ---- a mark more
 
-step-mark : (kind : ItemKind) (i : Item) (o : Open) → is_mark_kind kind ≡ true → step_by kind o i ≡ Ok (goes_on (with_mark i o.marks o.collections))
-step-mark kind i o = elim kind as (λ k. is_mark_kind k ≡ true → step_by k o i ≡ Ok (goes_on (with_mark i o.marks o.collections))) [
+step-mark : (kind : ItemKind) (i : Item) (o : Open) → is_mark_kind kind ≡ true → step_by kind o i ≡ Ok (only_opens (with_mark i o.marks o.collections))
+step-mark kind i o = elim kind as (λ k. is_mark_kind k ≡ true → step_by k o i ≡ Ok (only_opens (with_mark i o.marks o.collections))) [
   | Blank ↦ λ h. cc
   | Comment ↦ λ h. cc
   | Opener ↦ λ h. cc
@@ -51,7 +51,7 @@ Leads-mark s t token marks o g is =
     let i = item_of s.text token in
     let p = with_marks marks o in
     subst (λ (q : Open). Leads s p [] t q) (marked i marks o.marks o.collections)
-    (Leads-step s t token p (goes_on (with_mark i p.marks p.collections)) g (step-mark i.kind i p is))
+    (Leads-step s t token p (only_opens (with_mark i p.marks p.collections)) g (step-mark i.kind i p is))
 
 -- ---- a form that is left out
 
@@ -61,21 +61,21 @@ hidden_last true false = refl
 hidden_last false b = refl
 
 -- where a `#_` waits no operation's place is
-hidden : (marks ms : List Item) (cs : List OpenCollection) → leave_out marks ≡ true → in_operation_place (marks_among marks ms cs) ≡ false
+hidden : (marks ms : List Item) (cs : List OpenCollection) → has_drop marks ≡ true → in_operation_place (marks_among marks ms cs) ≡ false
 hidden marks ms [] h = rw h refl
-hidden marks ms (c ∷ []) h = rw h (hidden_last (is_vector_or_list c.opener) (not (leave_out ms)))
+hidden marks ms (c ∷ []) h = rw h (hidden_last (is_vector_or_list c.opener) (not (has_drop ms)))
 hidden marks ms (c ∷ d ∷ outer) h = refl
 
-settled_none : (marks : List Item) (f : Form) → leave_out marks ≡ true → settled marks f ≡ None
+settled_none : (marks : List Item) (f : Form) → has_drop marks ≡ true → settled marks f ≡ None
 settled_none [] f h = cc
 settled_none (m ∷ marks) f h =
-    elim (is_drop m) as (λ b. (b || leave_out marks) ≡ true → (if b then None else settled marks (tagged m f)) ≡ None) [
+    elim (is_drop m) as (λ b. (b || has_drop marks) ≡ true → (if b then None else settled marks (tagged m f)) ≡ None) [
       | true ↦ λ h. refl
       | false ↦ λ h. settled_none marks (tagged m f) h
     ] h
 
 -- a form settles against marks that leave it out
-left_out : (f : Form) (marks ms : List Item) (cs : List OpenCollection) → leave_out marks ≡ true →
+left_out : (f : Form) (marks ms : List Item) (cs : List OpenCollection) → has_drop marks ≡ true →
     (let o = marks_among marks ms cs in with_form f o.marks o.collections ≡ marks_among (still_waiting marks) ms cs)
 left_out f marks ms [] h = refl
 left_out f marks ms (c ∷ outer) h =
@@ -83,17 +83,17 @@ left_out f marks ms (c ∷ outer) h =
     (settled_none marks f h)
 
 pub Leads-left_out :
-    (s t : State) (token : Token) (marks : List Item) (o : Open) → GivesToken s token t → is_plain_kind (kind_of token.kind) ≡ true → leave_out marks ≡ true →
+    (s t : State) (token : Token) (marks : List Item) (o : Open) → GivesToken s token t → is_plain_kind (kind_of token.kind) ≡ true → has_drop marks ≡ true →
     Leads s (with_marks marks o) [] t (with_marks (still_waiting marks) o)
 Leads-left_out s t token marks o g is h =
     let i = item_of s.text token in
     let p = with_marks marks o in
     subst (λ (q : Open). Leads s p [] t q) (left_out (plain i) marks o.marks o.collections h)
-    (Leads-step s t token p (goes_on (with_form (plain i) p.marks p.collections)) g
+    (Leads-step s t token p (only_opens (with_form (plain i) p.marks p.collections)) g
     (step-plain i.kind i p is (hidden marks o.marks o.collections h)))
 
 pub Leads-left_out_collection :
-    (s t u : State) (token : Token) (marks : List Item) (o : Open) → GivesToken s token t → kind_of token.kind ≡ Opener → leave_out marks ≡ true →
+    (s t u : State) (token : Token) (marks : List Item) (o : Open) → GivesToken s token t → kind_of token.kind ≡ Opener → has_drop marks ≡ true →
     PassesCollection t (item_of t.text token) u →
     Leads s (with_marks marks o) [] u (with_marks (still_waiting marks) o)
 Leads-left_out_collection s t u token marks o g is h passed =
@@ -105,7 +105,7 @@ Leads-left_out_collection s t u token marks o g is h passed =
     let P : Item → Type 0 = λ j. Leads t (with_opener j p) [] u (with_form (collection j passed.closer (forms_of passed.members)) p.marks p.collections) in
     let within = subst P same (passed.leads p out) in
     let may : may_open p i ≡ true = rw out refl in
-    let first = Leads-step s t token p (goes_on (with_opener i p)) g (step-opener i.kind i p is may) in
+    let first = Leads-step s t token p (only_opens (with_opener i p)) g (step-opener i.kind i p is may) in
     subst (λ (q : Open). Leads s p [] u q) (left_out f marks o.marks o.collections h)
     (Leads-then s t u p (with_opener i p) (with_form f p.marks p.collections) [] first within)
 
@@ -191,7 +191,7 @@ Behind-mark s t u first token drops tag drops' tag' b g is more most =
     }
 
 -- a form takes the last `#_`
-taken : (drops : ℕ) (tag : Option ℕ) (marks : List Item) → 0 < drops → Waits drops tag marks → (leave_out marks ≡ true) × Waits (drops - 1) tag (still_waiting marks)
+taken : (drops : ℕ) (tag : Option ℕ) (marks : List Item) → 0 < drops → Waits drops tag marks → (has_drop marks ≡ true) × Waits (drops - 1) tag (still_waiting marks)
 taken zero tag marks some h = absurd (omega arith)
 taken (suc drops) tag marks some h =
     let e : suc drops - 1 ≡ drops = omega arith in
@@ -386,7 +386,7 @@ Stops-left_out s t u first token drops tag b g is some fault stops o =
     let out = hidden b.marks o.marks o.collections (taken drops tag b.marks some b.waits).0 in
     let same : item_of u.text token ≡ i = ap (λ text. item_of text token) g.text in
     let may : may_open p i ≡ true = rw out refl in
-    Leads-stops t u p (with_opener i p) fault (Leads-step t u token p (goes_on (with_opener i p)) g (step-opener i.kind i p is may))
+    Leads-stops t u p (with_opener i p) fault (Leads-step t u token p (only_opens (with_opener i p)) g (step-opener i.kind i p is may))
     (subst (λ (j : Item). Stops u (with_opener j p) fault) same (stops p out))
 
 -- the closer, where no mark waits

@@ -2,8 +2,8 @@
 use Rattle.std.proofs.Common.{◌≡◌, ℕ, ◌<◌, ◌≤◌, List, [], ◌∷◌, ◌++◌, length, Bool, true, false, not, ◌&&◌, ◌||◌, Option, Some, Result, Ok, Err, refl, sym, ◌∙◌, ap, arith, subst, unwrap_or}
 use Rattle.std.specs.Bool.{if◌then◌else◌}
 use Rattle.hist_types.specs.Entries.{Entry, ◌>>=◌}
-use Rattle.hist_types.specs.Forms.{Form, plain, collection, tagged, forms_of, OpenCollection, Open, is_drop, is_map, is_vector_or_list, leave_out, settled, still_waiting, with_member, with_form, with_opener}
-use Rattle.hist_types.specs.Reading.{Step, step, step_by, given_by, may_open, is_place_in, in_operation_place, goes_on}
+use Rattle.hist_types.specs.Forms.{Form, plain, collection, tagged, forms_of, OpenCollection, Open, is_drop, is_map, is_vector_or_list, has_drop, settled, still_waiting, with_member, with_form, with_opener}
+use Rattle.hist_types.specs.Reading.{Step, step, step_by, entries_at_close, may_open, is_operation_place, in_operation_place, only_opens}
 use Rattle.hist_types.specs.Tokens.{Item, ItemKind, Blank, Comment, Opener, Closer, Str, Char, Drop, Tag, Nil, True, False, Int, Keyword, Symbol, Other, byte_fault}
 use Rattle.hist_types.specs.declared.types.Fault.{Fault}
 use Rattle.hist_types.specs.declared.types.Refusal.TheVariants.{Unclosed}
@@ -20,16 +20,16 @@ or_false true b h = (h, cc)
 or_false false b h = (refl, h)
 
 -- a form behind tags is a member, and nothing waits any more
-pub settled_behind : (tags : List Item) (f : Form) → leave_out tags ≡ false → settled tags f ≡ Some (behind tags f)
+pub settled_behind : (tags : List Item) (f : Form) → has_drop tags ≡ false → settled tags f ≡ Some (behind tags f)
 settled_behind [] f h = refl
 settled_behind (tag ∷ tags) f h =
-    let x = or_false (is_drop tag) (leave_out tags) h in
+    let x = or_false (is_drop tag) (has_drop tags) h in
     rw x.0 (settled_behind tags (tagged tag f) x.1)
 
-pub nothing_waits : (tags : List Item) → leave_out tags ≡ false → still_waiting tags ≡ []
+pub nothing_waits : (tags : List Item) → has_drop tags ≡ false → still_waiting tags ≡ []
 nothing_waits [] h = refl
 nothing_waits (tag ∷ tags) h =
-    let x = or_false (is_drop tag) (leave_out tags) h in
+    let x = or_false (is_drop tag) (has_drop tags) h in
     rw x.0 (nothing_waits tags x.1)
 
 -- the outermost tag is the first
@@ -59,7 +59,7 @@ not_vector a b c h = rw h refl
 -- within a map or a set
 pub NoPlaceIn-map : (opener : Item) (marks : List Item) (cs : List OpenCollection) → is_vector_or_list opener ≡ false →
     (let around : Open = record { marks = marks; collections = cs } in NoPlaceIn opener around)
-NoPlaceIn-map opener marks [] h = λ ms ks. not_vector (is_vector_or_list opener) (not (leave_out marks)) (not (leave_out ks)) h
+NoPlaceIn-map opener marks [] h = λ ms ks. not_vector (is_vector_or_list opener) (not (has_drop marks)) (not (has_drop ks)) h
 NoPlaceIn-map opener marks (c ∷ cs) h = λ ms ks. refl
 
 left_out : (b : Bool) → not b ≡ false → b ≡ true
@@ -71,10 +71,10 @@ none_between true b c h = rw h refl
 none_between false b c h = refl
 
 -- within a collection that is in no operation's place
-NoPlaceIn-outside-at : (opener : Item) (marks : List Item) (cs : List OpenCollection) → is_place_in marks cs ≡ false →
+NoPlaceIn-outside-at : (opener : Item) (marks : List Item) (cs : List OpenCollection) → is_operation_place marks cs ≡ false →
     (let around : Open = record { marks = marks; collections = cs } in NoPlaceIn opener around)
 NoPlaceIn-outside-at opener marks [] h =
-    λ ms ks. none_between (is_vector_or_list opener) (leave_out marks) (not (leave_out ks)) (left_out (leave_out marks) h)
+    λ ms ks. none_between (is_vector_or_list opener) (has_drop marks) (not (has_drop ks)) (left_out (has_drop marks) h)
 NoPlaceIn-outside-at opener marks (c ∷ cs) h = λ ms ks. refl
 
 pub NoPlaceIn-outside : (opener : Item) (around : Open) → in_operation_place around ≡ false → NoPlaceIn opener around
@@ -84,7 +84,7 @@ NoPlaceIn-outside opener around h = NoPlaceIn-outside-at opener around.marks aro
 
 -- a form behind tags is one member more
 pub with_form-behind :
-    (opener : Item) (members : List Form) (tags : List Item) (around : Open) (f : Form) → leave_out tags ≡ false →
+    (opener : Item) (members : List Form) (tags : List Item) (around : Open) (f : Form) → has_drop tags ≡ false →
     (let o = inside opener members tags around in with_form f o.marks o.collections ≡ inside opener (members ++ behind tags f ∷ []) [] around)
 with_form-behind opener members tags around f h =
     ap (λ (x : Option Form). inside opener (with_member x members) (still_waiting tags) around) (settled_behind tags f h)
@@ -93,8 +93,8 @@ with_form-behind opener members tags around f h =
 -- a form in no operation's place
 pub step-plain :
     (kind : ItemKind) (i : Item) (o : Open) → is_plain_kind kind ≡ true → in_operation_place o ≡ false →
-    step_by kind o i ≡ Ok (goes_on (with_form (plain i) o.marks o.collections))
-step-plain kind i o = elim kind as (λ k. is_plain_kind k ≡ true → in_operation_place o ≡ false → step_by k o i ≡ Ok (goes_on (with_form (plain i) o.marks o.collections))) [
+    step_by kind o i ≡ Ok (only_opens (with_form (plain i) o.marks o.collections))
+step-plain kind i o = elim kind as (λ k. is_plain_kind k ≡ true → in_operation_place o ≡ false → step_by k o i ≡ Ok (only_opens (with_form (plain i) o.marks o.collections))) [
   | Blank ↦ λ is no. rw no refl
   | Comment ↦ λ is no. rw no refl
   | Opener ↦ λ is no. cc
@@ -112,7 +112,7 @@ step-plain kind i o = elim kind as (λ k. is_plain_kind k ≡ true → in_operat
   | Other ↦ λ is no. rw no refl
 ]
 
-pub step-opener : (kind : ItemKind) (i : Item) (o : Open) → kind ≡ Opener → may_open o i ≡ true → step_by kind o i ≡ Ok (goes_on (with_opener i o))
+pub step-opener : (kind : ItemKind) (i : Item) (o : Open) → kind ≡ Opener → may_open o i ≡ true → step_by kind o i ≡ Ok (only_opens (with_opener i o))
 step-opener kind i o is may = ap (λ k. step_by k o i) is ∙ rw may refl
 
 -- the member's text is the whole text
@@ -129,9 +129,9 @@ Leads-plain s t m h opener members around plain_kind out =
     let o = inside opener members h.tags around in
     let p = with_form (plain i) o.marks o.collections in
     let same : item_of h.before.text m.token ≡ i = ap (λ text. item_of text m.token) (text_before s t m h) in
-    let is : step o i ≡ Ok (goes_on p) = step-plain i.kind i o plain_kind (out members h.tags) in
+    let is : step o i ≡ Ok (only_opens p) = step-plain i.kind i o plain_kind (out members h.tags) in
     let first = h.leads (inside opener members [] around) in
-    let second : Leads h.before o [] t p = Leads-step h.before t m.token o (goes_on p) h.token (ap (step o) same ∙ is) in
+    let second : Leads h.before o [] t p = Leads-step h.before t m.token o (only_opens p) h.token (ap (step o) same ∙ is) in
     subst (λ (q : Open). Leads s (inside opener members [] around) [] t q) (with_form-behind opener members h.tags around (plain i) h.no_drop)
     (Leads-then s h.before t (inside opener members [] around) o p [] first second)
 
@@ -145,9 +145,9 @@ Leads-opener s t m h opener members around is out =
     let o = inside opener members h.tags around in
     let same : item_of h.before.text m.token ≡ i = ap (λ text. item_of text m.token) (text_before s t m h) in
     let may : may_open o i ≡ true = rw (out members h.tags) refl in
-    let goes : step o i ≡ Ok (goes_on (with_opener i o)) = step-opener i.kind i o is may in
+    let goes : step o i ≡ Ok (only_opens (with_opener i o)) = step-opener i.kind i o is may in
     let first = h.leads (inside opener members [] around) in
-    let second : Leads h.before o [] t (with_opener i o) = Leads-step h.before t m.token o (goes_on (with_opener i o)) h.token (ap (step o) same ∙ goes) in
+    let second : Leads h.before o [] t (with_opener i o) = Leads-step h.before t m.token o (only_opens (with_opener i o)) h.token (ap (step o) same ∙ goes) in
     Leads-then s h.before t (inside opener members [] around) o (with_opener i o) [] first second
 
 -- and once it is closed
@@ -182,7 +182,7 @@ Leads-skipped s t u m h opener members around is out p =
 pub Leads-closer :
     (s t : State) (m : Member) (h : GivesMember s m t) (opener : Item) (members : List Form) (around : Open) (given : List Entry) →
     kind_of m.token.kind ≡ Closer →
-    given_by (record { opener = opener; members = members; marks = [] }) (item_of s.text m.token) around.marks around.collections ≡ Ok given →
+    entries_at_close (record { opener = opener; members = members; marks = [] }) (item_of s.text m.token) around.marks around.collections ≡ Ok given →
     Leads s (inside opener members [] around) given t (with_form (collection opener (item_of s.text m.token) (forms_of members)) around.marks around.collections)
 Leads-closer s t m h opener members around given is gives =
     let i = item_of s.text m.token in
@@ -199,7 +199,7 @@ Leads-closer s t m h opener members around given is gives =
 pub Stops-closer :
     (s t : State) (m : Member) (h : GivesMember s m t) (opener : Item) (members : List Form) (around : Open) (fault : Fault) →
     kind_of m.token.kind ≡ Closer →
-    given_by (record { opener = opener; members = members; marks = [] }) (item_of s.text m.token) around.marks around.collections ≡ Err fault →
+    entries_at_close (record { opener = opener; members = members; marks = [] }) (item_of s.text m.token) around.marks around.collections ≡ Err fault →
     Stops s (inside opener members [] around) fault
 Stops-closer s t m h opener members around fault is gives =
     let i = item_of s.text m.token in
@@ -216,8 +216,8 @@ given_none true c given h = rw h refl
 given_none false c given h = refl
 
 -- the closer of a collection that is in no operation's place
-pub given_outside : (c : OpenCollection) (closer : Item) (around : Open) → in_operation_place around ≡ false → given_by c closer around.marks around.collections ≡ Ok []
-given_outside c closer around h = given_none (is_map c.opener) (is_place_in around.marks around.collections) _ h
+pub given_outside : (c : OpenCollection) (closer : Item) (around : Open) → in_operation_place around ≡ false → entries_at_close c closer around.marks around.collections ≡ Ok []
+given_outside c closer around h = given_none (is_map c.opener) (is_operation_place around.marks around.collections) _ h
 
 -- the text ends in a collection
 pub Stops-unclosed :

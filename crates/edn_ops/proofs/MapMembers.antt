@@ -6,7 +6,7 @@ use Rattle.std.proofs.lemmas.Slice.Eq.{bytes_eq-Decides}
 use Rattle.hist_types.specs.Bytes.{open_brace, open_square, open_round}
 use Rattle.hist_types.specs.Entries.{Entry, ◌>>=◌, or_refuse, elements_of, transaction_of, micro_ops_of, entry_of, end_of}
 use Rattle.hist_types.specs.Forms.{Form, Forms, collection, forms_of, place_of, is_map, is_vector_or_list, OpenCollection, Open, with_form, with_opener}
-use Rattle.hist_types.specs.Reading.{in_operation_place, is_place_in, given_by}
+use Rattle.hist_types.specs.Reading.{in_operation_place, is_operation_place, entries_at_close}
 use Rattle.hist_types.specs.Tokens.{Item, Opener, Closer, byte_fault}
 use Rattle.hist_types.specs.declared.types.Fault.{Fault}
 use Rattle.hist_types.specs.declared.types.Refusal.TheVariants.{NotTxn, Unclosed}
@@ -119,9 +119,9 @@ given_in b c x y is place = rw (is, place) refl
 
 -- what the map gives in an operation's place
 map_given : (opener closer : Item) (members : List Form) (o : Open) (entry : Result Entry Fault) → is_map opener ≡ true → in_operation_place o ≡ true → entry_of opener closer members ≡ entry
-    → (let c : OpenCollection = record { opener = opener; members = members; marks = [] } in given_by c closer o.marks o.collections ≡ (entry >>= λ e. Ok (e ∷ [])))
+    → (let c : OpenCollection = record { opener = opener; members = members; marks = [] } in entries_at_close c closer o.marks o.collections ≡ (entry >>= λ e. Ok (e ∷ [])))
 map_given opener closer members o entry is place e =
-    given_in (is_map opener) (is_place_in o.marks o.collections) (entry_of opener closer members >>= λ e. Ok (e ∷ [])) (Ok []) is place ∙ ap (λ (r : Result Entry Fault). r >>= λ e. Ok (e ∷ [])) e
+    given_in (is_map opener) (is_operation_place o.marks o.collections) (entry_of opener closer members >>= λ e. Ok (e ∷ [])) (Ok []) is place ∙ ap (λ (r : Result Entry Fault). r >>= λ e. Ok (e ∷ [])) e
 
 map_ok : (s t u : State) (m : Member) (opener : Item) (members : List Form) (found : Option OpShape) (entry : Entry) → is_map opener ≡ true → ReadsMembers s opener members t → GivesMember t m u → kind_of m.token.kind ≡ Closer
     → entry_of opener (item_of t.text m.token) members ≡ Ok entry → IsEntry (Ok found) (Ok entry) → ReadsMap s opener (Ok found) u

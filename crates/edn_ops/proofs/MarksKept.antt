@@ -4,7 +4,7 @@ use Rattle.std.specs.Bool.{if◌then◌else◌}
 use Rattle.std.specs.Option.{is_some}
 use Rattle.std.proofs.lemmas.Bool.{eqb-true}
 use Rattle.std.proofs.lemmas.Bool.Decides.{nat_tests}
-use Rattle.hist_types.specs.Forms.{is_drop, leave_out, still_waiting}
+use Rattle.hist_types.specs.Forms.{is_drop, has_drop, still_waiting}
 use Rattle.hist_types.specs.Tokens.{Item}
 use Rattle.edn_ops.specs.Leads.{first_place}
 use Rattle.edn_ops.specs.Marks.{Waits, any_mark, drops_among, up_to, FirstAt, LastAt}
@@ -13,21 +13,21 @@ use Rattle.edn_ops.proofs.Levels.{nothing_waits}
 -- ---- how many wait
 
 drops-left_out_if :
-    (b : Bool) (marks : List Item) → (b || leave_out marks) ≡ true → (leave_out marks ≡ true → drops_among marks ≡ suc (drops_among (still_waiting marks))) →
+    (b : Bool) (marks : List Item) → (b || has_drop marks) ≡ true → (has_drop marks ≡ true → drops_among marks ≡ suc (drops_among (still_waiting marks))) →
     (if b then suc (drops_among marks) else drops_among marks) ≡ suc (drops_among (if b then marks else still_waiting marks))
 drops-left_out_if true marks h more = refl
 drops-left_out_if false marks h more = more h
 
-pub drops-left_out : (marks : List Item) → leave_out marks ≡ true → drops_among marks ≡ suc (drops_among (still_waiting marks))
+pub drops-left_out : (marks : List Item) → has_drop marks ≡ true → drops_among marks ≡ suc (drops_among (still_waiting marks))
 drops-left_out [] h = cc
 drops-left_out (m ∷ marks) h = drops-left_out_if (is_drop m) marks h (drops-left_out marks)
 
-drops-none_if : (b : Bool) (marks : List Item) → (b || leave_out marks) ≡ false → (leave_out marks ≡ false → drops_among marks ≡ 0) →
+drops-none_if : (b : Bool) (marks : List Item) → (b || has_drop marks) ≡ false → (has_drop marks ≡ false → drops_among marks ≡ 0) →
     (if b then suc (drops_among marks) else drops_among marks) ≡ 0
 drops-none_if true marks h more = cc
 drops-none_if false marks h more = more h
 
-pub drops-none : (marks : List Item) → leave_out marks ≡ false → drops_among marks ≡ 0
+pub drops-none : (marks : List Item) → has_drop marks ≡ false → drops_among marks ≡ 0
 drops-none [] h = refl
 drops-none (m ∷ marks) h = drops-none_if (is_drop m) marks h (drops-none marks)
 
@@ -79,7 +79,7 @@ FirstAt-none : (marks : List Item) (place : ℕ) → marks ≡ [] → FirstAt ma
 FirstAt-none marks place h = λ m ms e. absurd (let clash : [] ≡ m ∷ ms = sym h ∙ e in cc)
 
 -- when a form has settled against all these, fewer wait
-settled_few : (drops : ℕ) (marks : List Item) (place : ℕ) → drops_among marks ≡ drops → (b : Bool) → leave_out marks ≡ b → LastAt drops (still_waiting marks) place
+settled_few : (drops : ℕ) (marks : List Item) (place : ℕ) → drops_among marks ≡ drops → (b : Bool) → has_drop marks ≡ b → LastAt drops (still_waiting marks) place
 settled_few drops marks place is true h =
     FirstAt-none _ place (up_to-few drops (still_waiting marks) (let e = drops-left_out marks h in omega arith))
 settled_few drops marks place is false h = FirstAt-none _ place (ap (up_to drops) (nothing_waits marks h))
@@ -97,7 +97,7 @@ settled-tag :
     (b : Bool) (drops : ℕ) (m : Item) (marks : List Item) (place : ℕ) → (drops_among marks == drops) ≡ b →
     FirstAt (if b then m ∷ marks else up_to drops marks) place → (LastAt drops marks place → LastAt drops (still_waiting marks) place) →
     LastAt drops (still_waiting marks) place
-settled-tag true drops m marks place is h more = settled_few drops marks place (eqb-true (drops_among marks) drops is) (leave_out marks) refl
+settled-tag true drops m marks place is h more = settled_few drops marks place (eqb-true (drops_among marks) drops is) (has_drop marks) refl
 settled-tag false drops m marks place is h more = more h
 
 pub LastAt-settled : (drops : ℕ) (marks : List Item) (place : ℕ) → LastAt drops marks place → LastAt drops (still_waiting marks) place
@@ -118,7 +118,7 @@ Waits-by_tag zero (Some place) (m ∷ marks) few h = refl
 Waits-by_tag (suc drops) tag marks few h = absurd (omega arith)
 
 -- a settled form leaves one `#_` less, if one waits
-drops-settled_if : (b : Bool) (marks : List Item) → leave_out marks ≡ b → drops_among (still_waiting marks) ≡ drops_among marks - 1
+drops-settled_if : (b : Bool) (marks : List Item) → has_drop marks ≡ b → drops_among (still_waiting marks) ≡ drops_among marks - 1
 drops-settled_if true marks h = let e = drops-left_out marks h in omega arith
 drops-settled_if false marks h =
     let e = drops-none marks h in
@@ -126,4 +126,4 @@ drops-settled_if false marks h =
     omega arith
 
 pub drops-settled : (marks : List Item) → drops_among (still_waiting marks) ≡ drops_among marks - 1
-drops-settled marks = drops-settled_if (leave_out marks) marks refl
+drops-settled marks = drops-settled_if (has_drop marks) marks refl

@@ -5,7 +5,7 @@ use Rattle.std.proofs.lemmas.List.{length-map, map_push}
 use Rattle.hist_types.specs.Atoms.{Atom}
 use Rattle.hist_types.specs.Entries.{PlacedMop, ◌>>=◌, refuse_if, or_refuse, is_write_of, atom_of, elements_of, read_or_write, micro_op_of, micro_ops_of}
 use Rattle.hist_types.specs.Forms.{Form, plain, collection, tagged, place_of, forms_of, list_of, is_vector_or_list}
-use Rattle.hist_types.specs.Tokens.{Item, byte_fault}
+use Rattle.hist_types.specs.Tokens.{Item, byte_fault, Opener}
 use Rattle.hist_types.specs.declared.limits.TheConstants.{MAX_MICRO_OPS}
 use Rattle.hist_types.specs.declared.types.Fault.{Fault}
 use Rattle.hist_types.specs.declared.types.Refusal.TheVariants.{TooManyMicroOps, NotTxn, BadAtom}
@@ -15,7 +15,6 @@ use Rattle.edn_ops.specs.Shapes.{mop_shape_of}
 use Rattle.edn_ops.specs.Fields.{mop_result, mops_result}
 use Rattle.edn_ops.specs.declared.outline.Outline.{Outline}
 use Rattle.std.specs.Prelude.{IsErrAnd}
-use Rattle.hist_types.specs.Tokens.{Opener}
 use Rattle.edn_lex.specs.declared.types.Token.{Token}
 use Rattle.edn_lex.specs.Kinds.{kind_of, item_of}
 use Rattle.edn_lex.specs.State.{State}

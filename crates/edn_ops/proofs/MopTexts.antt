@@ -6,7 +6,7 @@ use Rattle.std.proofs.lemmas.List.{append_assoc, append-nil, take_all}
 use Rattle.std.proofs.lemmas.List.Concat.{flat_map-append}
 use Rattle.hist_types.specs.Atoms.{Atom, Value}
 use Rattle.hist_types.specs.Operations.{Mop, read, write}
-use Rattle.hist_types.specs.Texts.{atom_text, value_text, mop_text}
+use Rattle.hist_types.specs.CanonicalText.{atom_text, value_text, mop_text}
 use Rattle.edn_ops.specs.SourceTexts.{IsAtomText, IsValueText, IsMopText, AreMopTexts, front_of_mop}
 use Rattle.edn_ops.specs.declared.write.MopText.{MopText}
 

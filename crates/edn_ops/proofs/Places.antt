@@ -5,8 +5,8 @@ use Rattle.std.specs.Bool.{if◌then◌else◌}
 use Rattle.std.proofs.lemmas.Slice.Eq.{bytes_eq-Decides}
 use Rattle.hist_types.specs.Bytes.{open_round, open_square, open_brace}
 use Rattle.hist_types.specs.Entries.{Entry, PlacedOperation, operation, skipped}
-use Rattle.hist_types.specs.Forms.{Form, collection, forms_of, Open, is_map, is_vector_or_list, leave_out, with_form, with_opener}
-use Rattle.hist_types.specs.Reading.{step, step_by, may_open, is_place_in, in_operation_place, goes_on, nothing_open}
+use Rattle.hist_types.specs.Forms.{Form, collection, forms_of, Open, is_map, is_vector_or_list, has_drop, with_form, with_opener}
+use Rattle.hist_types.specs.Reading.{step, step_by, may_open, is_operation_place, in_operation_place, only_opens, nothing_open}
 use Rattle.hist_types.specs.Tokens.{Item, Opener, Closer, byte_fault, nesting_refusal}
 use Rattle.hist_types.specs.declared.types.Fault.{Fault}
 use Rattle.hist_types.specs.declared.types.Refusal.TheVariants.{NotAMap, Unclosed}
@@ -28,7 +28,7 @@ use Rattle.edn_ops.proofs.Levels.{nothing_waits, with_form-behind, step-opener, 
 -- ---- what is open
 
 -- where the list is open no mark waits, and the next form is in an operation's place behind tags
-in_place_behind : (text : List ℕ) (list : Option Token) (o : Open) (tags : List Item) → OpenWith text list o → leave_out tags ≡ false →
+in_place_behind : (text : List ℕ) (list : Option Token) (o : Open) (tags : List Item) → OpenWith text list o → has_drop tags ≡ false →
     in_operation_place (with_marks tags o) ≡ true
 in_place_behind text None o tags is out =
     subst (λ (p : Open). in_operation_place (with_marks tags p) ≡ true) (sym is) (rw out refl)
@@ -40,7 +40,7 @@ no_marks text None o is = subst (λ (p : Open). with_marks [] p ≡ p) (sym is) 
 no_marks text (Some opener) o is = subst (λ (p : Open). with_marks [] p ≡ p) (sym is.4) refl
 
 -- behind a form the same is open
-after_form : (text : List ℕ) (list : Option Token) (o : Open) (tags : List Item) (f : Form) → OpenWith text list o → leave_out tags ≡ false →
+after_form : (text : List ℕ) (list : Option Token) (o : Open) (tags : List Item) (f : Form) → OpenWith text list o → has_drop tags ≡ false →
     (let p = with_marks tags o in OpenWith text list (with_form f p.marks p.collections))
 after_form text None o tags f is out =
     let P : Open → Type 0 = λ q. let p = with_marks tags q in with_form f p.marks p.collections ≡ nothing_open in
@@ -86,8 +86,8 @@ map_read s t u m h list o opener closer members entry is kind map same leads =
     let f = collection opener closer (forms_of members) in
     let q = with_form f p.marks p.collections in
     let may : may_open p i ≡ true = rw map (may_map (in_operation_place p) _) in
-    let goes : step p i ≡ Ok (goes_on (with_opener i p)) = step-opener i.kind i p kind may in
-    let first : Leads h.before p [] t (with_opener i p) = Leads-step h.before t m.token p (goes_on (with_opener i p)) h.token (ap (step p) (same_item s t m h) ∙ goes) in
+    let goes : step p i ≡ Ok (only_opens (with_opener i p)) = step-opener i.kind i p kind may in
+    let first : Leads h.before p [] t (with_opener i p) = Leads-step h.before t m.token p (only_opens (with_opener i p)) h.token (ap (step p) (same_item s t m h) ∙ goes) in
     let second : Leads t (with_opener i p) (entry ∷ []) u q =
     subst (λ (j : Item). Leads t (with_opener j p) (entry ∷ []) u q) same (leads p (in_place_behind s.text list o h.tags is h.no_drop)) in (
       q,
@@ -104,8 +104,8 @@ map_stops s t m h list o opener fault is kind map same stops =
     let i = item_of s.text m.token in
     let p = with_marks h.tags o in
     let may : may_open p i ≡ true = rw map (may_map (in_operation_place p) _) in
-    let goes : step p i ≡ Ok (goes_on (with_opener i p)) = step-opener i.kind i p kind may in
-    let first : Leads h.before p [] t (with_opener i p) = Leads-step h.before t m.token p (goes_on (with_opener i p)) h.token (ap (step p) (same_item s t m h) ∙ goes) in
+    let goes : step p i ≡ Ok (only_opens (with_opener i p)) = step-opener i.kind i p kind may in
+    let first : Leads h.before p [] t (with_opener i p) = Leads-step h.before t m.token p (only_opens (with_opener i p)) h.token (ap (step p) (same_item s t m h) ∙ goes) in
     let second : Stops t (with_opener i p) fault =
     subst (λ (j : Item). Stops t (with_opener j p) fault) same (stops p (in_place_behind s.text list o h.tags is h.no_drop)) in
     Leads-stops s h.before o p fault (to_token s t m h list o is) (Leads-stops h.before t p (with_opener i p) fault first second)
@@ -124,8 +124,8 @@ list_opened s t m h o is kind list =
     let i = item_of s.text m.token in
     let p : Open = record { marks = h.tags; collections = [] } in
     let may : may_open p i ≡ true = rw list (may_list (in_operation_place p) (is_map i)) in
-    let goes : step p i ≡ Ok (goes_on (with_opener i p)) = step-opener i.kind i p kind may in
-    let first : Leads h.before p [] t (with_opener i p) = Leads-step h.before t m.token p (goes_on (with_opener i p)) h.token (ap (step p) (same_item s t m h) ∙ goes) in
+    let goes : step p i ≡ Ok (only_opens (with_opener i p)) = step-opener i.kind i p kind may in
+    let first : Leads h.before p [] t (with_opener i p) = Leads-step h.before t m.token p (only_opens (with_opener i p)) h.token (ap (step p) (same_item s t m h) ∙ goes) in
     let start : Leads s o [] h.before p = subst (λ (q : Open). Leads s o [] h.before (with_marks h.tags q)) is (to_token s t m h None o is) in
     (with_opener i p, ([], h.tags, h.no_drop, list, refl), Leads-then s h.before t o p (with_opener i p) [] start first)
 
@@ -154,7 +154,7 @@ list_closed s t m h opener o is kind =
     let i = item_of s.text opener in
     let around : Open = record { marks = is.1; collections = [] } in
     let f = collection i (item_of s.text m.token) (forms_of is.0) in
-    let none = given_vector (is_map i) (is_place_in around.marks around.collections) _ (vector_no_map i.bytes is.3) in
+    let none = given_vector (is_map i) (is_operation_place around.marks around.collections) _ (vector_no_map i.bytes is.3) in
     let e : with_form f is.1 [] ≡ nothing_open = ap (λ (ks : List Item). let x : Open = record { marks = ks; collections = [] } in x) (nothing_waits is.1 is.2) in
     let lead : Leads s (inside i is.0 [] around) [] t (with_form f is.1 []) = Leads-closer s t m h i is.0 around [] kind none in (
       nothing_open,
@@ -185,7 +185,7 @@ refused_plain kind i p none a place may =
     ] none a may
 
 -- at the top level a vector or list may be opened beside a map, and within one only a map
-may_not : (text : List ℕ) (list : Option Token) (o : Open) (tags : List Item) (i : Item) → OpenWith text list o → leave_out tags ≡ false →
+may_not : (text : List ℕ) (list : Option Token) (o : Open) (tags : List Item) (i : Item) → OpenWith text list o → has_drop tags ≡ false →
     is_map i ≡ false → (list ≡ None → is_vector_or_list i ≡ false) → may_open (with_marks tags o) i ≡ false
 may_not text None o tags i is out map vector =
     subst (λ (p : Open). may_open (with_marks tags p) i ≡ false) (sym is) (rw (out, map, vector refl) refl)

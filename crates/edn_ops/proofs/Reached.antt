@@ -7,7 +7,7 @@ use Rattle.hist_types.specs.Forms.{Open}
 use Rattle.hist_types.specs.Reading.{ReadsFrom, reading_from, nothing_open}
 use Rattle.hist_types.specs.Tokens.{Item}
 use Rattle.hist_types.specs.declared.types.Fault.{Fault}
-use Rattle.hist_types.proofs.MapAlone.{read_alone_from}
+use Rattle.reading_laws.proofs.MapAlone.{read_alone_from}
 use Rattle.hist_types.proofs.Members.{Contains_from_in}
 use Rattle.edn_lex.specs.State.{State, Rest, state_at}
 use Rattle.edn_lex.specs.declared.types.Token.{Token}

@@ -3,7 +3,7 @@ use Rattle.std.proofs.Common.{◌≡◌, ℕ, suc, ◌+◌, ◌<◌, List, [], �
 use Rattle.std.specs.Bool.{if◌then◌else◌}
 use Rattle.hist_types.specs.Entries.{Entry, ◌>>=◌, refuse_if}
 use Rattle.hist_types.specs.Forms.{Form, plain, OpenCollection, Open, with_form, with_mark, with_opener, form_of}
-use Rattle.hist_types.specs.Reading.{Reading, Step, step, step_by, close, given_by, refuse_waiting, may_open, in_operation_place, in_front_of, then_read, fault_at_end, reading_from, goes_on}
+use Rattle.hist_types.specs.Reading.{Reading, Step, step, step_by, close, entries_at_close, refuse_waiting, may_open, in_operation_place, after_entries, and_then_read, fault_at_end, reading_from, only_opens}
 use Rattle.hist_types.specs.Tokens.{Item, ItemKind, Blank, Comment, Opener, Closer, Str, Char, Drop, Tag, Nil, True, False, Int, Keyword, Symbol, Other, open_after, nesting_refusal, byte_fault}
 use Rattle.hist_types.specs.declared.types.Fault.{Fault}
 use Rattle.hist_types.specs.declared.types.Refusal.{Refusal}
@@ -20,7 +20,7 @@ Leads-refl s o =
     record { text = refl; forward = omega arith; depth = refl; reads = λ tokens ending rest. (tokens, rest, refl) }
 
 -- what comes in front of what comes in front
-in_front-in_front : (g h : List Entry) (r : Reading) → in_front_of g (in_front_of h r) ≡ in_front_of (g ++ h) r
+in_front-in_front : (g h : List Entry) (r : Reading) → after_entries g (after_entries h r) ≡ after_entries (g ++ h) r
 in_front-in_front g h r = ap (λ es. let x : Reading = record { entries = es; fault = r.fault } in x) (sym (append_assoc g h r.entries))
 
 pub Leads-append : (s t u : State) (o p q : Open) (g h : List Entry) → Leads s o g t p → Leads t p h u q → Leads s o (g ++ h) u q
@@ -36,7 +36,7 @@ Leads-append s t u o p q g h first second =
       reads = λ tokens ending rest.
           let x = first.reads tokens ending rest in
           let y = second.reads x.0 ending x.1 in
-          (y.0, y.1, x.2 ∙ ap (in_front_of g) y.2 ∙ in_front-in_front g h (reading_from q y.0 ending));
+          (y.0, y.1, x.2 ∙ ap (after_entries g) y.2 ∙ in_front-in_front g h (reading_from q y.0 ending));
     }
 
 -- where the first stretch gives nothing
@@ -48,13 +48,13 @@ Leads-stops s t o p fault first stops =
     λ depth tokens ending rest.
     let x = first.reads tokens ending rest in
     let same : SameDepth t p = (let e = first.depth in omega arith) in
-    x.2 ∙ ap (in_front_of []) (stops same x.0 ending x.1)
+    x.2 ∙ ap (after_entries []) (stops same x.0 ending x.1)
 
-pub Leads-reads : (s t : State) (o p : Open) (g : List Entry) (r : Reading) → Leads s o g t p → ReadsAs t p r → ReadsAs s o (in_front_of g r)
+pub Leads-reads : (s t : State) (o p : Open) (g : List Entry) (r : Reading) → Leads s o g t p → ReadsAs t p r → ReadsAs s o (after_entries g r)
 Leads-reads s t o p g r first reads =
     λ tokens ending rest.
     let x = first.reads tokens ending rest in
-    x.2 ∙ ap (in_front_of g) (reads x.0 ending x.1)
+    x.2 ∙ ap (after_entries g) (reads x.0 ending x.1)
 
 pub Leads-depth : (s t : State) (o p : Open) (g : List Entry) → Leads s o g t p → SameDepth s o → SameDepth t p
 Leads-depth s t o p g first same = let e = first.depth in omega arith
@@ -75,11 +75,11 @@ with_mark-depth m marks (c ∷ outer) = refl
 
 -- a step that goes on
 abbrev step_to : Open → Result Step Fault
-step_to p = Ok (goes_on p)
+step_to p = Ok (only_opens p)
 
 -- what two steps that go on leave open
 after_of : (st : Step) (p : Open) → step_to p ≡ Ok st → p ≡ st.after
-after_of st p h = let e : goes_on p ≡ st = cc in ap (λ (x : Step). x.after) e
+after_of st p h = let e : only_opens p ≡ st = cc in ap (λ (x : Step). x.after) e
 
 -- a closer ends a collection that is open for the lexer
 pub closer-depth : (bytes closers : List ℕ) → 0 < length bytes → nesting_refusal Closer bytes closers ≡ None → length closers ≡ suc (length (open_after Closer bytes closers))
@@ -89,12 +89,12 @@ closer-depth (b ∷ bs) (c ∷ cs) some fine = omega (arith, length-drop 1 (c �
 
 -- a step that a check lets go on
 goes_if :
-    (b : Bool) (fault : Fault) (p : Open) (st : Step) → (if b then Ok (goes_on p) else Err fault) ≡ Ok st → p ≡ st.after
+    (b : Bool) (fault : Fault) (p : Open) (st : Step) → (if b then Ok (only_opens p) else Err fault) ≡ Ok st → p ≡ st.after
 goes_if true fault p st h = after_of st p h
 goes_if false fault p st h = cc
 
 goes_unless :
-    (b : Bool) (refusal : Refusal) (offset : ℕ) (p : Open) (st : Step) → (refuse_if b refusal offset >>= λ _. Ok (goes_on p)) ≡ Ok st → p ≡ st.after
+    (b : Bool) (refusal : Refusal) (offset : ℕ) (p : Open) (st : Step) → (refuse_if b refusal offset >>= λ _. Ok (only_opens p)) ≡ Ok st → p ≡ st.after
 goes_unless true refusal offset p st h = cc
 goes_unless false refusal offset p st h = after_of st p h
 
@@ -119,7 +119,7 @@ close-depth :
 close-depth t bytes closers marks [] st some fine h = cc
 close-depth t bytes closers marks (c ∷ outer) st some fine h =
     let one = closer-depth bytes closers some fine in
-    let same = close-waiting c.marks (given_by c t marks outer) (with_form (form_of c t) marks outer) st h in
+    let same = close-waiting c.marks (entries_at_close c t marks outer) (with_form (form_of c t) marks outer) st h in
     let two : length st.after.collections ≡ length outer =
     ap (λ (p : Open). length p.collections) (sym same) ∙ with_form-depth (form_of c t) marks outer in
     omega arith
@@ -127,7 +127,7 @@ close-depth t bytes closers marks (c ∷ outer) st some fine h =
 -- a token that is a form
 plain-depth :
     (t : Item) (n : ℕ) (o : Open) (st : Step) →
-    (refuse_if (in_operation_place o) NotAMap t.start >>= λ _. Ok (goes_on (with_form (plain t) o.marks o.collections))) ≡ Ok st →
+    (refuse_if (in_operation_place o) NotAMap t.start >>= λ _. Ok (only_opens (with_form (plain t) o.marks o.collections))) ≡ Ok st →
     n + length o.collections ≡ n + length st.after.collections
 plain-depth t n o st h =
     let same = goes_unless (in_operation_place o) NotAMap t.start _ st h in
@@ -193,7 +193,7 @@ Leads-step s t token o st g h =
           let x = g.only tokens ending rest in (
             x.0,
             x.2,
-            ap (λ ts. reading_from o ts ending) x.1 ∙ ap (λ r. then_read r (λ after. reading_from after x.0 ending)) h,
+            ap (λ ts. reading_from o ts ending) x.1 ∙ ap (λ r. and_then_read r (λ after. reading_from after x.0 ending)) h,
           );
     }
 
@@ -202,7 +202,7 @@ pub Stops-step :
 Stops-step s t token o fault g h =
     λ depth tokens ending rest.
     let x = g.only tokens ending rest in
-    ap (λ ts. reading_from o ts ending) x.1 ∙ ap (λ r. then_read r (λ after. reading_from after x.0 ending)) h
+    ap (λ ts. reading_from o ts ending) x.1 ∙ ap (λ r. and_then_read r (λ after. reading_from after x.0 ending)) h
 
 pub Stops-fault : (s t : State) (o : Open) (fault : Fault) → GivesFault s fault t → Stops s o fault
 Stops-fault s t o fault g =

@@ -6,7 +6,7 @@ use Rattle.std.proofs.lemmas.List.Concat.{flat_map-append}
 use Rattle.std.proofs.lemmas.Option.{none-some, same_Some}
 use Rattle.hist_types.specs.AtomTokens.{escape_value, decoded, between_quotes}
 use Rattle.hist_types.specs.Bytes.{quote, backslash}
-use Rattle.hist_types.specs.Texts.{written_byte}
+use Rattle.hist_types.specs.CanonicalText.{written_byte}
 use Rattle.hist_types.specs.Tokens.{ItemKind, Str, content_len, front, first_byte, BeginsWith}
 use Rattle.edn_ops.specs.SourceTexts.{source_byte_text}
 use Rattle.edn_ops.proofs.ReadsBack.Lexed.{mapped_some, content_end}

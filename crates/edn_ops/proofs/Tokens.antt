@@ -6,7 +6,7 @@ use Rattle.hist_types.specs.declared.types.Fault.{Fault}
 use Rattle.hist_types.specs.Bytes.{is_blank, is_opener, is_closer, quote, semicolon, backslash, hash, open_brace, underscore}
 use Rattle.hist_types.specs.Tokens.{ItemKind, Str, Item, first_byte, content_len, hash_front, front, BeginsWith, IsCut, is_token, tokens_of}
 use Rattle.edn_lex.proofs.Cuts.{BeginsWith-unique}
-use Rattle.hist_types.specs.Placed.{IsTokenAlone}
+use Rattle.reading_laws.specs.Placed.{IsTokenAlone}
 
 -- ---- items have bytes
 

@@ -7,14 +7,14 @@ use Rattle.std.proofs.lemmas.Bool.{true≢false, and_parts, cases_Bool, eqb-true
 use Rattle.hist_types.specs.Atoms.{Atom, Value, integer, keyword, string, symbol}
 use Rattle.hist_types.specs.AtomTokens.{int_value, is_64_bit, atom_of_token, decoded, between_quotes}
 use Rattle.hist_types.specs.Bytes.{quote, colon, hash, dot}
-use Rattle.hist_types.specs.Placed.{IsTokenAlone}
-use Rattle.hist_types.specs.Texts.{atom_text, value_text}
+use Rattle.reading_laws.specs.Placed.{IsTokenAlone}
+use Rattle.hist_types.specs.CanonicalText.{atom_text, value_text}
 use Rattle.hist_types.specs.Tokens.{ItemKind, Int, Keyword, Symbol, Str, first_byte, second_byte, is_sign, is_symbol, is_int, begins_with_number}
 use Rattle.edn_ops.specs.SourceTexts.{source_byte_text, IsValueText}
 use Rattle.edn_ops.proofs.Tokens.{token_begins}
 use Rattle.edn_ops.proofs.ReadsBack.Lexed.{mapped_some}
 use Rattle.edn_ops.proofs.StringSources.{string_kept}
-use Rattle.hist_types.proofs.Fronts.{word_is, str_begins, int_begins}
+use Rattle.reading_laws.proofs.Fronts.{word_is, str_begins, int_begins}
 
 neither : (a b : Bool) → (a || b) ≡ false → (a ≡ false) × (b ≡ false)
 neither true b h = absurd (true≢false h)

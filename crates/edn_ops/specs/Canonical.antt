@@ -9,11 +9,12 @@ use Rattle.hist_types.specs.Bytes.{backslash, line_feed, is_run_byte}
 use Rattle.hist_types.specs.Atoms.{Atom, integer, keyword, string, symbol, Value}
 use Rattle.hist_types.specs.Entries.{Entry, operation, PlacedOperation, operation_of}
 use Rattle.hist_types.specs.Operations.{Mop, read, write, Operation}
-use Rattle.hist_types.specs.Placed.{IsTextOf}
+use Rattle.reading_laws.specs.Placed.{IsTextOf}
 use Rattle.hist_types.specs.Reading.{Reads}
 use Rattle.hist_types.specs.Tokens.{ItemKind, Keyword, Symbol, run_kind, first_byte}
 use Rattle.hist_types.specs.AtomTokens.{is_64_bit}
-use Rattle.hist_types.specs.Texts.{operation_text, line}
+use Rattle.hist_types.specs.CanonicalText.{operation_text}
+use Rattle.hist_types.specs.Texts.{line}
 use Rattle.hist_types.specs.declared.limits.TheConstants.{MAX_PROCESS, MAX_MICRO_OPS, MAX_OPERATION_BYTES}
 use Rattle.hist_types.specs.declared.types.Fault.{Fault}
 use Rattle.hist_types.specs.declared.types.OpKind.{OpKind}
@@ -93,6 +94,6 @@ ReadsOnlyAs text os =
 abbrev pub operation_lines : List Operation → List ℕ
 operation_lines os = flat_map (λ (o : Operation). line (operation_text o)) os
 
--- one operation to a line; the byte 10 behind the last may be left out
+-- one operation to a line; the byte 10 after the last may be left out
 abbrev pub AreLines : List ℕ → List Operation → Type 0
 AreLines text os = (text ≡ operation_lines os) ⊎ (text ++ line_feed ∷ [] ≡ operation_lines os)

@@ -24,7 +24,7 @@ UnlessMemory fault P = fault ≢ memory_fault → P
 
 -- ---- a member
 
--- From s, in a collection with no operation's place in it, the form is its next member, behind
+-- From s, in a collection with no operation's place in it, the form is its next member, after
 -- which is t.
 pub record ReadsMember (s : State) (form : Form) (t : State) : Type 0 where
   pub text : t.text ≡ s.text
@@ -52,7 +52,7 @@ PassesMember s (Err fault) t = StopsInside s fault
 
 -- ---- a collection
 
--- From s, behind the opener, the members have been read, behind which is t.
+-- From s, after the opener, the members have been read, after which is t.
 pub record ReadsMembers (s : State) (opener : Item) (members : List Form) (t : State) : Type 0 where
   pub text : t.text ≡ s.text
   pub forward : s.offset ≤ t.offset
@@ -60,7 +60,7 @@ pub record ReadsMembers (s : State) (opener : Item) (members : List Form) (t : S
       (o : Open) → NoPlaceIn opener o →
       Leads s (with_opener opener o) [] t (inside opener members [] o)
 
--- From s, behind the opener, the collection has been read, up to behind its closer. It is in no
+-- From s, after the opener, the collection has been read, up to after its closer. It is in no
 -- operation's place.
 pub record ReadsCollection
     (s : State) (opener : Item) (members : List Form) (closer : Item) (t : State) : Type 0 where
@@ -130,7 +130,7 @@ ReadsTransaction s opener (Err fault) t = UnlessMemory fault (StopsBehind s open
 
 -- ---- maps
 
--- a call read the map of an operation, behind whose opener s is
+-- a call read the map of an operation, after whose opener s is
 abbrev pub ReadsMap : State → Item → Result (Option OpShape) Fault → State → Type 0
 ReadsMap s opener (Ok found) t =
     (entry : Entry) × (members : List Form) × (closer : Item) × IsEntry (Ok found) (Ok entry)
@@ -142,7 +142,7 @@ ReadsMap s opener (Err fault) t =
     UnlessMemory fault
     ((o : Open) → in_operation_place o ≡ true → Stops s (with_opener opener o) fault)
 
--- a call gathered the member behind s
+-- a call gathered the member after s
 abbrev pub GathersMember : State → Fields → Result (Unit {0}) Fault → Fields → State → Type 0
 GathersMember s old (Ok done) new t =
     (form : Form) × ReadsMember s form t × AreFieldsIn s.text new

@@ -24,7 +24,7 @@ use Rattle.edn_ops.specs.Fields.{IsEntry, fields_named, members_of, mops_result}
 
 -- ---- members
 
--- From the offset up to the end the form is read, wherever so many more collections may be opened.
+-- From the offset up to the end the form is read, however many more collections may be opened.
 pub record ReadsAhead (text : List ℕ) (deep offset : ℕ) (form : Form) (end : ℕ) : Type 0 where
   pub within : end ≤ length text
   pub reads :
@@ -137,7 +137,7 @@ pub record ReadsFlatMap
   pub end_is : end ≡ closer.end
   pub within : end ≤ length text
 
--- a token of one byte opens a map: the one that is given from the offset on, or the one behind a
+-- a token of one byte opens a map: the one that is given from the offset on, or the one after a
 -- tag
 abbrev pub OpensOperation : List ℕ → ℕ → Token → Type 0
 OpensOperation text offset opener =
@@ -155,7 +155,7 @@ GivesFlatMap text offset (Ok None) fields shapes = Unit {0}
 GivesFlatMap text offset (Ok (Some end)) fields shapes = ReadsFlatMap text offset fields shapes end
 GivesFlatMap text offset (Err fault) fields shapes = fault ≡ memory_fault
 
--- behind its opener a map gives an operation of this shape, which ends behind its closer
+-- after its opener a map gives an operation of this shape, which ends after its closer
 pub record IsFlatShape (text : List ℕ) (opener : Token) (shape : OpShape) : Type 0 where
   pub members : List Form
   pub inner : ℕ

@@ -5,8 +5,8 @@
 -- another place. It composes.
 use Rattle.std.specs.Prelude.{◌≡◌, ℕ, ◌+◌, ◌≤◌, List, [], ◌∷◌, length, Bool, true, false, Option, Some, None, Result, Ok, Err, unwrap_or}
 use Rattle.hist_types.specs.Entries.{Entry}
-use Rattle.hist_types.specs.Forms.{Form, collection, tagged, forms_of, OpenCollection, Open, leave_out, with_form, with_opener}
-use Rattle.hist_types.specs.Reading.{Reading, in_operation_place, in_front_of, fault_at_end, reading_from}
+use Rattle.hist_types.specs.Forms.{Form, collection, tagged, forms_of, OpenCollection, Open, has_drop, with_form, with_opener}
+use Rattle.hist_types.specs.Reading.{Reading, in_operation_place, after_entries, fault_at_end, reading_from}
 use Rattle.hist_types.specs.Tokens.{Item, ItemKind, Opener, Closer, Drop, Tag}
 use Rattle.hist_types.specs.declared.types.Fault.{Fault}
 use Rattle.edn_lex.specs.Kinds.{kind_of}
@@ -29,7 +29,7 @@ pub record Leads (s : State) (o : Open) (given : List Entry) (t : State) (p : Op
   pub reads :
       (tokens : List Item) (ending : Option Fault) → Rest s tokens ending →
       (later : List Item) × Rest t later ending
-      × (reading_from o tokens ending ≡ in_front_of given (reading_from p later ending))
+      × (reading_from o tokens ending ≡ after_entries given (reading_from p later ending))
 
 -- what is left from s, where o is open, reads so
 abbrev pub ReadsAs : State → Open → Reading → Type 0
@@ -103,10 +103,10 @@ is_plain_kind Tag = false
 is_plain_kind kind = true
 
 -- From s, where no mark waits in the innermost open collection, a call passed over tags and over
--- what is left out, and then gave the token of a member or the closer, behind which is t.
+-- what is left out, and then gave the token of a member or the closer, after which is t.
 pub record GivesMember (s : State) (member : Member) (t : State) : Type 0 where
   pub tags : List Item
-  pub no_drop : leave_out tags ≡ false
+  pub no_drop : has_drop tags ≡ false
   pub first : member.tag ≡ first_place tags
   pub before : State
   pub leads : (o : Open) → Leads s (with_marks [] o) [] before (with_marks tags o)
@@ -130,7 +130,7 @@ NextMember s (Ok None) t = GivesNoMember s t
 NextMember s (Ok (Some member)) t = GivesMember s member t
 NextMember s (Err fault) t = (o : Open) → Stops s (with_marks [] o) fault
 
--- behind the opener, a call passed over the collection up to behind its closer
+-- after the opener, a call passed over the collection up to after its closer
 pub record PassesCollection (s : State) (opener : Item) (t : State) : Type 0 where
   pub members : List Form
   pub closer : Item

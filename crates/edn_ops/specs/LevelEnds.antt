@@ -42,7 +42,7 @@ level_end inner marks [] = record { marks = marks; tokens = [] }
 level_end inner marks (t ∷ ts) =
     passed_by (role_of t.kind) inner marks t ts (λ i m. level_end i m ts)
 
--- the same, behind the closer of a collection in these
+-- the same, after the closer of a collection in these
 abbrev pub end_behind : (inner marks : List Item) → List Item → LevelEnd
 end_behind [] marks tokens = level_end [] (still_waiting marks) tokens
 end_behind (i ∷ more) marks tokens = level_end (i ∷ more) marks tokens
@@ -54,7 +54,7 @@ SameLevel s before t marks =
     (later : List Item) × Rest t later ending
     × (level_end [] before tokens ≡ level_end [] marks later)
 
--- s is behind the opener of a collection, and t behind its closer
+-- s is after the opener of a collection, and t after its closer
 abbrev pub LevelEnds : State → State → Type 0
 LevelEnds s t =
     (tokens : List Item) (ending : Option Fault) → Rest s tokens ending →

@@ -1,16 +1,16 @@
 -- What is kept of the marks that wait in a level.
 use Rattle.std.specs.Prelude.{◌≡◌, ℕ, zero, suc, ◌==◌, List, [], ◌∷◌, Bool, true, false, Option, if◌then◌else◌}
-use Rattle.hist_types.specs.Forms.{is_drop, leave_out, still_waiting}
+use Rattle.hist_types.specs.Forms.{is_drop, has_drop, still_waiting}
 use Rattle.hist_types.specs.Tokens.{Item}
 use Rattle.edn_lex.specs.Kinds.{item_of}
 use Rattle.edn_lex.specs.declared.types.Token.{Token}
 use Rattle.edn_ops.specs.declared.marks.LastMark.{LastMark}
 use Rattle.edn_ops.specs.Leads.{first_place}
 
--- These marks have so many `#_`; behind as many forms tags are left, and the first is there.
+-- These marks have n `#_`; after n forms tags are left, and the first is there.
 abbrev pub Waits : ℕ → Option ℕ → List Item → Type 0
-Waits zero tag marks = (leave_out marks ≡ false) × (tag ≡ first_place marks)
-Waits (suc drops) tag marks = (leave_out marks ≡ true) × Waits drops tag (still_waiting marks)
+Waits zero tag marks = (has_drop marks ≡ false) × (tag ≡ first_place marks)
+Waits (suc drops) tag marks = (has_drop marks ≡ true) × Waits drops tag (still_waiting marks)
 
 -- how many of these marks leave a form out
 abbrev pub drops_among : List Item → ℕ
@@ -22,9 +22,9 @@ abbrev pub any_mark : List Item → Bool
 any_mark [] = false
 any_mark (mark ∷ marks) = true
 
--- ---- the last mark behind which so many wait
+-- ---- the last mark after which n wait
 
--- the marks up to the last behind which so many wait
+-- the marks up to the last after which n wait
 abbrev pub up_to : ℕ → List Item → List Item
 up_to drops [] = []
 up_to drops (mark ∷ marks) =

@@ -61,7 +61,7 @@ outline (plain t) = plain t
 outline (collection opener closer members) = collection opener opener no_form
 outline (tagged tag f) = tagged (tag_at tag.start) (plain (tag_at tag.start))
 
--- the outline of the form that a member stands for
+-- the outline of the form that a member is
 abbrev pub outline_of : List ℕ → Outline → Form
 outline_of text (outlines.Plain token) = plain (item_of text token)
 outline_of text (outlines.Collection opener) =

@@ -1,7 +1,7 @@
 -- Readers of operations, and what their calls read.
 use Rattle.std.specs.Prelude.{◌≡◌, ◌≢◌, ◌⊎◌, ◌≤◌, ◌+◌, ℕ, zero, suc, List, [], ◌∷◌, ◌++◌, length, true, false, Option, Some, None, IfSome, Result, Ok, Err}
 use Rattle.hist_types.specs.Entries.{Entry, operation, skipped, PlacedOperation}
-use Rattle.hist_types.specs.Forms.{Form, Open, leave_out, is_vector_or_list}
+use Rattle.hist_types.specs.Forms.{Form, Open, has_drop, is_vector_or_list}
 use Rattle.hist_types.specs.Reading.{nothing_open}
 use Rattle.hist_types.specs.Refusals.{memory_fault}
 use Rattle.hist_types.specs.Tokens.{Item}
@@ -15,12 +15,12 @@ use Rattle.edn_ops.specs.Shapes.{IsShapeOf, IsShapeIn}
 
 -- ---- what is open between two operations
 
--- Nothing is open, or at the top level the vector or list with this opener, perhaps behind tags.
+-- Nothing is open, or at the top level the vector or list with this opener, perhaps after tags.
 -- The members that it has so far don't matter any more.
 abbrev pub OpenWith : List ℕ → Option Token → Open → Type 0
 OpenWith text None o = o ≡ nothing_open
 OpenWith text (Some opener) o =
-    (members : List Form) × (tags : List Item) × (leave_out tags ≡ false)
+    (members : List Form) × (tags : List Item) × (has_drop tags ≡ false)
     × (is_vector_or_list (item_of text opener) ≡ true)
     × (o ≡ inside (item_of text opener) members [] (record { marks = tags; collections = [] }))
 
@@ -30,7 +30,7 @@ AreOpen s list o = OpenWith s.text list o × SameDepth s o
 
 -- ---- what is read
 
--- so many skipped operations
+-- n skipped operations
 abbrev pub skips : ℕ → List Entry
 skips zero = []
 skips (suc n) = skipped ∷ skips n

@@ -2,7 +2,7 @@
 use Rattle.std.specs.Prelude.{◌≡◌, ℕ, List, Bool, true, false, map}
 use Rattle.hist_types.specs.Entries.{PlacedMop, PlacedOperation, end_of}
 use Rattle.hist_types.specs.Operations.{Mop, read, write}
-use Rattle.hist_types.specs.Placed.{IsIn}
+use Rattle.reading_laws.specs.Placed.{IsIn}
 use Rattle.hist_types.specs.Tokens.{Item}
 use Rattle.edn_ops.specs.declared.types.Span.{Span}
 use Rattle.edn_ops.specs.declared.types.MopShape.{MopShape}

@@ -4,8 +4,8 @@ use Rattle.hist_types.specs.Atoms.{Atom, Value}
 use Rattle.hist_types.specs.AtomTokens.{atom_of_token}
 use Rattle.hist_types.specs.Bytes.{plus}
 use Rattle.hist_types.specs.Operations.{Mop, read, write, Operation}
-use Rattle.hist_types.specs.Placed.{IsTokenAlone}
-use Rattle.hist_types.specs.Texts.{operation_text}
+use Rattle.reading_laws.specs.Placed.{IsTokenAlone}
+use Rattle.hist_types.specs.CanonicalText.{operation_text}
 use Rattle.hist_types.specs.Tokens.{ItemKind, first_byte}
 use Rattle.hist_types.specs.declared.types.OpKind.{OpKind}
 use Rattle.edn_ops.specs.declared.write.MopText.{MopText}
@@ -70,6 +70,6 @@ decimal_spelling number =
 abbrev pub front_of_mop : (is_write : Bool) → List ℕ
 front_of_mop is_write = if is_write then codes "[:w " else codes "[:r "
 
--- the list is the other with more behind it
+-- the list is the other with more after it
 abbrev pub IsLonger : List ℕ → List ℕ → Type 0
 IsLonger longer list = (more : List ℕ) × (longer ≡ list ++ more)

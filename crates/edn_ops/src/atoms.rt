@@ -40,7 +40,7 @@ fn is_escape(byte: u8) -> bool
     matches!(byte, b't' | b'r' | b'n' | b'\\' | b'"' | b'b' | b'f')
 }
 
-/// Whether each backslash in a string takes a byte that stands for one.
+/// Whether each backslash in a string takes a byte that means one.
 fn has_known_escapes(content: &[u8]) -> bool
     ensures { result ≡ is_some (decoded false content.now) }
 {
@@ -101,7 +101,7 @@ pub(crate) fn process_of(spelling: &[u8]) -> Option<Process>
     }
 }
 
-/// The same, however it is spelled.
+/// The integer that a token spells, however it is spelled.
 #[inline(never)]
 fn any_process_of(spelling: &[u8]) -> Option<Process>
     requires { is_int spelling.now ≡ true }

@@ -1,4 +1,4 @@
-//! Maps as printers write them, read in one pass over their bytes: keys and values are runs of ASCII, but for one vector of
+//! Maps as printers write them, read in one pass over their bytes: keys and values are runs of ASCII, except for one vector of
 //! vectors of three.
 
 ghost use Rattle.std.specs.Prelude.{◌≡◌, ◌≤◌, [], length, true, false, IfSome};
@@ -327,7 +327,7 @@ fn flat_map(
     }
 }
 
-/// The opener of a map, if it is the next token, or the one behind a tag.
+/// The opener of a map, if it is the next token, or the one after a tag.
 #[inline(always)]
 pub(crate) fn operation_opener(text: &[u8], offset: usize) -> Option<Token>
     requires { offset ≤ length text.now }
@@ -340,7 +340,7 @@ pub(crate) fn operation_opener(text: &[u8], offset: usize) -> Option<Token>
     }
 }
 
-/// The operation that a map gives behind this opener, if it can be read so.
+/// The operation that a map gives after this opener, if it can be read so.
 #[inline(always)]
 pub(crate) fn flat_shape(
     alloc: Global,

@@ -87,7 +87,7 @@ fn member_behind(lexer: &mut Lexer, mark: Token) -> Result<Option<Member>, Fault
     Ok(None)
 }
 
-/// Passes over a collection up to behind its closer, whose opener has just been given. Only its tokens, its nesting and its tags
+/// Passes over a collection up to after its closer, whose opener has just been given. Only its tokens, its nesting and its tags
 /// are looked at. Calls are at most as deep as collections may be.
 #[cycle(forms)]
 pub(crate) fn skip_collection(lexer: &mut Lexer, opener: Token) -> Result<(), Fault>

@@ -5,7 +5,7 @@ ghost use Rattle.hist_types.specs.Atoms.{Atom};
 ghost use Rattle.hist_types.specs.Entries.{Entry, operations_of};
 ghost use Rattle.hist_types.specs.Operations.{Mop, Operation};
 ghost use Rattle.hist_types.specs.Reading.{Reads};
-ghost use Rattle.hist_types.specs.Texts.{atom_text, operation_text};
+ghost use Rattle.hist_types.specs.CanonicalText.{atom_text, operation_text};
 ghost use Rattle.hist_types.specs.declared.types.Fault.{Fault};
 ghost use Rattle.edn_ops.specs.Canonical.{CanBeRead, MopCanBeRead, OperationCanBeRead, CanBeReadIfShort, IsMapOf, ReadsAsOperations, ReadsOnlyAs, AreLines};
 ghost use Rattle.edn_ops.specs.SourceTexts.{IsAtomText, AreMopTexts};

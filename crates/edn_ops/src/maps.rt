@@ -73,7 +73,7 @@ fn gather_ahead(lexer: &mut Lexer, text: &[u8], fields: &mut Fields)
     }
 }
 
-/// Reads the map of an operation, whose opener has just been given, up to behind its closer: the operation, or none where it
+/// Reads the map of an operation, whose opener has just been given, up to after its closer: the operation, or none where it
 /// is skipped.
 pub(crate) fn read_map(
     alloc: Global,
@@ -92,7 +92,7 @@ pub(crate) fn read_map(
     }
 }
 
-/// The same, whatever its members are.
+/// The operation of a map, whatever its members are.
 #[inline(never)]
 fn read_any_map(
     alloc: Global,

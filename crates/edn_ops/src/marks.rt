@@ -13,7 +13,7 @@ use edn_lex::lexer::Lexer;
 use edn_lex::types::{Token, TokenKind};
 use hist_types::types::{At, Fault, Refusal};
 
-/// What is kept of the marks that wait: a form takes the tags behind the last `#_`, and that.
+/// What is kept of the marks that wait: a form takes the tags after the last `#_`, and that.
 #[derive(Clone, Copy)]
 pub(crate) struct Waiting {
     /// How many `#_` wait.
@@ -90,8 +90,8 @@ pub(crate) fn closes(token: Token) -> bool
     matches!(token.kind, TokenKind::Close)
 }
 
-/// The fault of the last mark that waits when this level ends, where so many `#_` wait then. The lexer is behind the first mark
-/// of the level.
+/// The fault of the last mark that waits when this level ends, if `drops` discards are pending then. The lexer is after the first
+/// mark of the level.
 pub(crate) fn dangling(lexer: Lexer, first: Token, drops: usize) -> Fault
     requires mark { is_mark_kind (kind_of first.kind) ≡ true }
     requires behind { first.start < lexer.offset }
@@ -105,7 +105,7 @@ pub(crate) fn dangling(lexer: Lexer, first: Token, drops: usize) -> Fault
     }
 }
 
-/// Where the last mark is behind which so many `#_` wait, up to the end of the level.
+/// The offset of the last mark after which `drops` discards are still pending when this level ends.
 fn last_waiting(mut lexer: Lexer, first: Token, drops: usize) -> usize
     requires mark { is_mark_kind (kind_of first.kind) ≡ true }
     requires behind { first.start < lexer.offset }
@@ -140,7 +140,7 @@ fn last_waiting(mut lexer: Lexer, first: Token, drops: usize) -> usize
     last.place
 }
 
-/// The last mark so far behind which `drops` of `#_` wait.
+/// The last mark so far after which `drops` discards are pending.
 #[derive(Clone, Copy)]
 struct LastMark {
     drops: usize,

@@ -78,7 +78,7 @@ impl<'a> Place<'a> {
         }
     }
 
-    /// The next operation, if it is a map that can be read in one pass, or such a map behind a tag. Else the place stays the same, and out of memory too.
+    /// The next operation, if it is a map that can be read in one pass, or such a map after a tag. Else the place stays the same, and out of memory too.
     fn flat_op(&mut self, alloc: Global) -> Result<Option<OpShape>, Fault>
         requires { self.old.skipped ≤ self.old.lexer.offset }
         ensures { FlatOp self.old result self.new }
@@ -206,7 +206,7 @@ impl<'a> OpReader<'a> {
         }
     }
 
-    /// The same, if it is a map that can be read in one pass. Else the reader stays the same.
+    /// The next operation, if it is a map that can be read in one pass. Else the reader is unchanged.
     fn flat_op(&mut self) -> Result<Option<OpShape>, Fault>
         ensures { FlatNext self.old result self.new }
     {
@@ -216,7 +216,7 @@ impl<'a> OpReader<'a> {
         self.place.flat_op(self.alloc)
     }
 
-    /// The same, whatever it is.
+    /// The next operation, whatever form it has.
     #[inline(never)]
     fn any_op(&mut self) -> Result<Option<OpShape>, Fault>
         ensures again { FailsAgain self.old result self.new }

@@ -22,7 +22,7 @@ pub struct MopShape {
 /// in it without an allocation. A fail and an info have no micro-operations.
 #[derive(Debug, Drop)]
 pub struct OpShape {
-    /// From the map's `{` to behind its `}`.
+    /// From the map's `{` to after its `}`.
     pub span: Span,
     pub kind: OpKind,
     pub process: Process,

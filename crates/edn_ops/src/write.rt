@@ -6,7 +6,7 @@ ghost use Rattle.hist_types.specs.Atoms.{Atom, Value};
 ghost use Rattle.hist_types.specs.AtomTokens.{int_value, is_64_bit};
 ghost use Rattle.hist_types.specs.Bytes.{quote};
 ghost use Rattle.hist_types.specs.Operations.{Mop};
-ghost use Rattle.hist_types.specs.Texts.{atom_text, value_text, mop_text, mops_text, kind_text as text_of_kind, value_field_text};
+ghost use Rattle.hist_types.specs.CanonicalText.{atom_text, value_text, mop_text, mops_text, kind_text as text_of_kind, value_field_text};
 ghost use Rattle.hist_types.specs.Tokens.{is_int, first_byte, begins_with_number, without_n as before_n};
 ghost use Rattle.edn_ops.specs.SourceTexts.{IsAtomText, IsValueText, IsMopText, AreMopTexts, op_text, Writes, front_of_mop, source_byte_text, decimal_spelling, IsLonger};
 

@@ -10,7 +10,7 @@ pub record Graph : Type 0 where
   pub count : ℕ
   pub successors : ℕ → List ℕ
 
--- what one vertex leads to, in a graph with so many vertices
+-- what one vertex leads to, in a graph with n vertices
 pub record Leaving : Type 0 where
   pub count : ℕ
   pub to : List ℕ

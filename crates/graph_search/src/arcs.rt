@@ -5,7 +5,7 @@ ghost use Rattle.graph_search.specs.Graphs.{Graph, Leaving, VertexSet};
 
 use std::marker::Model;
 
-/// What one vertex leads to: two lists of vertices, one behind the other.
+/// What one vertex leads to: two lists of vertices, one after the other.
 #[derive(Drop)]
 pub struct Successors<'a> {
     /// How many vertices the graph has.
@@ -27,7 +27,7 @@ impl<'a> Model for Successors<'a> {
 }
 
 impl<'a> Successors<'a> {
-    /// In a graph with so many vertices.
+    /// In a graph with n vertices.
     pub fn new(vertices: usize, first: &'a [u32], second: &'a [u32]) -> Self
         requires first { All (λ v. v < vertices) first.now }
         requires second { All (λ v. v < vertices) second.now }

@@ -129,7 +129,7 @@ impl Model for Search {
 }
 
 impl Search {
-    /// For graphs with so many vertices.
+    /// For graphs with n vertices.
     pub fn new(alloc: Global, vertices: usize) -> Result<Search, AllocError>
         ensures { IfOk result (λ search. search ≡ vertices) }
     {

@@ -4,7 +4,6 @@ pub mod History
 pub mod Cycles
 pub mod Orders
 pub mod Realtime
-pub mod Thinning
 pub mod Nodes
 pub mod Reads
 pub mod Versions
@@ -16,3 +15,6 @@ pub mod Printed
 pub mod Absence
 pub mod Verdicts
 pub mod Explanations
+pub mod Handed
+pub mod LegalAnswers
+pub mod Interleavings

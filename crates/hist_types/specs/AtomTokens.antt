@@ -19,7 +19,7 @@ abbrev pub is_64_bit : ℤ → Bool
 is_64_bit (pos n) = nat_lt n (2 ^ 63)
 is_64_bit (negsuc n) = nat_lt n (2 ^ 63)
 
--- the byte that an escape stands for
+-- the byte that an escape means
 abbrev pub escape_value : ℕ → Option ℕ
 escape_value b =
     if b == 116 then Some 9
@@ -36,14 +36,14 @@ abbrev pub with_byte : (taken : Bool) → ℕ → Option (List ℕ) → Option (
 with_byte true b content = option_and_then (λ c. option_map (λ cs. c ∷ cs) content) (escape_value b)
 with_byte false b content = if b == backslash then content else option_map (λ cs. b ∷ cs) content
 
--- The content of a string from what stands between its quotes, where all its escapes are among
+-- The content of a string from what is between its quotes, where all its escapes are among
 -- those above. `taken` says that a backslash takes the first byte.
 abbrev pub decoded : (taken : Bool) → List ℕ → Option (List ℕ)
 decoded true [] = None
 decoded false [] = Some []
 decoded taken (b ∷ rest) = with_byte taken b (decoded ((b == backslash) && not taken) rest)
 
--- what stands between the first and the last byte
+-- what is between the first and the last byte
 abbrev pub between_quotes : List ℕ → List ℕ
 between_quotes bytes = take (length bytes - 2) (drop 1 bytes)
 

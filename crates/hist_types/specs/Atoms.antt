@@ -2,7 +2,7 @@
 -- An atom is an integer of 64 bits, a keyword, a string or a symbol. Integers are equal by number,
 -- strings by decoded content, keywords and symbols byte for byte; atoms of different kinds differ.
 -- In order come the integers by number, then the keywords, the strings and the symbols, each by its
--- bytes (strings by their decoded bytes). What a read returns is an atom or nil, and nil stands
+-- bytes (strings by their decoded bytes). What a read returns is an atom or nil, and nil comes
 -- before all atoms.
 use Rattle.std.specs.Prelude.{ℕ, ℤ, List, Bool, false, bytes_eq, Option}
 use Rattle.std.specs.declared.cmp.Ordering.{Ordering}
@@ -14,7 +14,7 @@ pub data Atom : Type 0 where
   integer : (number : ℤ) → Atom
   -- with its colon
   keyword : (spelling : List ℕ) → Atom
-  -- what stands between the quotes, decoded
+  -- what is between the quotes, decoded
   string : (content : List ℕ) → Atom
   symbol : (spelling : List ℕ) → Atom
 

@@ -10,7 +10,7 @@
 -- All pairs of transactions are meant: nothing is thinned, and nothing closed.
 use Rattle.std.specs.Prelude.{ℕ, List, [], ◌∷◌, ◌++◌, Bool, false, ◌&&◌, ◌==◌, nat_lt, if◌then◌else◌, Option, Some, None, filter, map, flat_map}
 use Rattle.std.specs.Option.{option_map_or}
-use Rattle.hist_types.specs.Transactions.{Transaction, Version, is_ok, nodes, installed_by, reads, installs}
+use Rattle.hist_types.specs.Transactions.{Transaction, Version, is_ok, nodes, installed_by, is_known_to_read, installs}
 use Rattle.hist_types.specs.Versions.{VersionPair, version_pairs}
 use Rattle.hist_types.specs.declared.types.Level.{Level}
 use Rattle.hist_types.specs.declared.types.Level.TheVariants.{Plain, Process, Realtime}
@@ -36,7 +36,7 @@ edge t u label = record { from = t.invocation; to = u.invocation; label = label 
 -- ---- dependency edges, from a transaction to another one
 
 abbrev pub wr_labels : Transaction → Transaction → List Label
-wr_labels t u = map wr (filter (reads u) (installed_by t))
+wr_labels t u = map wr (filter (is_known_to_read u) (installed_by t))
 
 -- (nobody installs nil, so it is the earlier version of no ww edge)
 abbrev pub ww_labels : List VersionPair → Transaction → Transaction → List Label
@@ -47,7 +47,7 @@ ww_labels pairs t u =
 abbrev pub rw_labels : List VersionPair → Transaction → Transaction → List Label
 rw_labels pairs t u =
     map (λ (p : VersionPair). rw p.earlier p.later)
-    (filter (λ p. reads t p.earlier && installs u p.later) pairs)
+    (filter (λ p. is_known_to_read t p.earlier && installs u p.later) pairs)
 
 abbrev pub dependency_labels : List VersionPair → Transaction → Transaction → List Label
 dependency_labels pairs t u = ww_labels pairs t u ++ wr_labels t u ++ rw_labels pairs t u

@@ -55,7 +55,7 @@ pub data Entry : Type 0 where
   operation : PlacedOperation → Entry
   skipped : Entry
 
--- the operation, wherever it stands
+-- the operation, wherever it is
 abbrev pub operation_of : PlacedOperation → Operation
 operation_of o =
     record { kind = o.kind; process = o.process; mops = map (λ (m : PlacedMop). m.mop) o.mops }

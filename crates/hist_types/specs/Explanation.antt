@@ -2,7 +2,7 @@
 -- and registers as in Elle).
 --
 -- An explanation is a choice of transactions, all ok ones among them, no failed one, and any of the
--- others, in a total order in which T stands before U wherever T is ok and completed before U's
+-- others, in a total order in which T comes before U wherever T is ok and completed before U's
 -- invocation, and in which each ok transaction's reads are what running the order from nil
 -- registers gives.
 use Rattle.std.specs.Prelude.{◌≡◌, List, [], ◌∷◌, ◌==◌, if◌then◌else◌, IsTrue, IsFalse, Some, None, All, Contains, ⊤}
@@ -44,12 +44,12 @@ Runs registers [] = ⊤
 Runs registers (t ∷ ts) =
     (IsTrue (is_ok t) → AreRead registers t.mops) × Runs (after_mops registers t.mops) ts
 
--- no transaction stands behind one that it completed before
+-- no transaction comes after one that it completed before
 abbrev pub KeepsRealtime : List Transaction → Type 0
 KeepsRealtime [] = ⊤
 KeepsRealtime (t ∷ ts) = All (λ later. IsFalse (is_ok_before later t)) ts × KeepsRealtime ts
 
--- no transaction stands twice
+-- no transaction comes twice
 abbrev pub AreDifferent : List Transaction → Type 0
 AreDifferent [] = ⊤
 AreDifferent (t ∷ ts) =

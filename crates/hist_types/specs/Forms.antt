@@ -1,9 +1,9 @@
 -- Forms (EDN).
 --
--- A form is a token that stands alone, a collection with its members, or a tag with the form behind
--- it. Forms are made from left to right. Each open collection has its members so far, and its
+-- A form is a token by itself, a collection with its members, or a tag with the form after it.
+-- Forms are made from left to right. Each open collection has its members so far, and its
 -- marks: the tags and `#_` that wait in it for a form. A form settles against the marks that wait
--- where it stands, the last first: a tag joins it, and a `#_` leaves it out and is done, so that
+-- where it is, the last first: a tag joins it, and a `#_` leaves it out and is done, so that
 -- `#_ #_ a b` leaves out both a and b. What no `#_` left out is a member.
 use Rattle.std.specs.Prelude.{ℕ, List, [], ◌∷◌, ◌++◌, Bool, true, false, ◌||◌, if◌then◌else◌, bytes_eq, Option, Some, None}
 use Rattle.std.specs.List.{list_any}
@@ -64,10 +64,10 @@ abbrev pub is_drop : Item → Bool
 is_drop mark = is_drop_kind mark.kind
 
 -- a form before one of these marks is left out
-abbrev pub leave_out : List Item → Bool
-leave_out marks = list_any is_drop marks
+abbrev pub has_drop : List Item → Bool
+has_drop marks = list_any is_drop marks
 
--- what becomes of a form behind these marks: the member that it makes, if it makes one
+-- what becomes of a form after these marks: the member that it makes, if it makes one
 abbrev pub settled : List Item → Form → Option Form
 settled [] f = Some f
 settled (mark ∷ marks) f = if is_drop mark then None else settled marks (tagged mark f)
@@ -91,7 +91,7 @@ with_form_in f c =
       marks = still_waiting c.marks;
     }
 
--- a form stands in the innermost open collection, or at the top level
+-- a form in the innermost open collection, or at the top level
 abbrev pub with_form : Form → List Item → List OpenCollection → Open
 with_form f marks [] = record { marks = still_waiting marks; collections = [] }
 with_form f marks (inner ∷ outer) =

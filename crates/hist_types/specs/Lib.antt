@@ -1,25 +1,34 @@
-pub mod Bytes
-pub mod Atoms
-pub mod Tokens
-pub mod AtomTokens
+-- What a history means: begin here.
 pub mod Operations
-pub mod Forms
-pub mod Entries
-pub mod Reading
-pub mod Placed
 pub mod Journal
 pub mod Transactions
 pub mod Versions
 pub mod Edges
-pub mod Frontier
 pub mod Phenomena
 pub mod Witness
+pub mod ThinnedOrder
 pub mod Explanation
+-- What is reported and printed.
+pub mod Reports
 pub mod Refusals
+pub mod CanonicalText
+pub mod EdgeOrder
 pub mod Texts
+-- How a text is read.
+pub mod Bytes
+pub mod Tokens
+pub mod Atoms
+pub mod AtomTokens
+pub mod Forms
+pub mod Entries
+pub mod Reading
+-- What a live journal answers, and what happens where many call it at once.
+pub mod Handed
+pub mod LegalAnswers
+pub mod Interleavings
+-- Where bytes come from and go to.
 pub mod Devices
+-- Words of no subject of their own.
+pub mod Lists
+-- How the logic stores these data, for the types of code that contracts see as such data.
 pub mod Stored
-pub mod Thinning
-pub mod Shown
-pub mod Laws
-pub mod Dependencies

@@ -3,21 +3,20 @@
 -- A closed walk goes along edges, each beginning where the one before it ends, back to where it
 -- began, and has one edge at least. At the level plain it uses dependency edges alone. At process
 -- it may also use process edges. At realtime it may use realtime edges and no process edges: what
--- is ordered within a process is then told as ordered in real time.
+-- is ordered within a process is then reported as ordered in real time.
 --     G0         ww and order edges only, at least one ww
 --     G1c        ww, wr and order edges only, at least one wr
 --     G-single   exactly one rw, any other edges of the level
 --     G2-item    at least one rw
 -- A phenomenon is reported at the lowest level that has such a walk.
 --     G1a        a transaction reads a version that a failed one wrote
---     G1b        a transaction reads a version that another one, of any status, wrote and wrote
---                over in itself
--- These two have no level; each is told by the reader with the least index and its first such read.
--- A stray read is a read of a version that isn't nil and that no transaction wrote. Reads are meant
--- as in Transactions: external ones, of ok transactions.
+--     G1b        a transaction reads an intermediate version of another one, of any status
+-- These two have no level; each is reported by the reader with the least index and its first such
+-- read. A stray read (Elle: garbage read) is a read of a version that isn't nil and that no
+-- transaction wrote. Reads are meant as in Transactions: external ones, of ok transactions.
 use Rattle.std.specs.Prelude.{◌≡◌, ℕ, ◌<◌, List, [], ◌∷◌, length, Bool, true, false, not, ◌&&◌, ◌||◌, ◌==◌, if◌then◌else◌, IsTrue, Option, Some, None, is_some, filter, map, flat_map, Contains, All, count_by}
 use Rattle.std.specs.List.{list_any, list_all}
-use Rattle.hist_types.specs.Transactions.{Transaction, Version, is_ok, is_failed, external_reads, writes, writes_over}
+use Rattle.hist_types.specs.Transactions.{Transaction, Version, is_ok, is_failed, external_reads, writes, wrote_intermediate}
 use Rattle.hist_types.specs.Edges.{Label, ww, wr, rw, Edge, edges_at}
 use Rattle.hist_types.specs.declared.types.Level.{Level}
 use Rattle.hist_types.specs.declared.types.Level.TheVariants.{Plain, Process, Realtime}
@@ -67,16 +66,19 @@ makes G1c walk = list_all (λ e. is_ww e || is_wr e || is_order e) walk && list_
 makes GSingle walk = count_by is_rw walk == 1
 makes G2Item walk = list_any is_rw walk
 
--- the walk shows the phenomenon at the level
-pub record Shows
-    (phenomenon : Phenomenon) (level : Level) (ts : List Transaction) (walk : List Edge)
-    : Type 0 where
+-- the walk goes along these edges only, and shows the phenomenon
+pub record Shows (phenomenon : Phenomenon) (es walk : List Edge) : Type 0 where
   pub closed : IsClosedWalk walk
-  pub within : All (Contains (edges_at level ts)) walk
+  pub within : All (Contains es) walk
   pub kinds : IsTrue (makes phenomenon walk)
 
-abbrev pub Has : Phenomenon → Level → List Transaction → Type 0
-Has phenomenon level ts = (walk : List Edge) × Shows phenomenon level ts walk
+-- some walk along these edges shows it
+abbrev pub IsShownBy : Phenomenon → List Edge → Type 0
+IsShownBy phenomenon es = (walk : List Edge) × Shows phenomenon es walk
+
+-- the phenomenon is there at the level
+abbrev pub IsThere : Phenomenon → Level → List Transaction → Type 0
+IsThere phenomenon level ts = IsShownBy phenomenon (edges_at level ts)
 
 -- plain is the lowest level, and realtime the highest
 abbrev pub height : Level → ℕ
@@ -86,10 +88,10 @@ height Realtime = 2
 
 -- the lowest level at which the phenomenon is there, or none
 abbrev pub IsLowestLevel : Phenomenon → List Transaction → Option Level → Type 0
-IsLowestLevel phenomenon ts None = (level : Level) → ¬ Has phenomenon level ts
+IsLowestLevel phenomenon ts None = (level : Level) → ¬ IsThere phenomenon level ts
 IsLowestLevel phenomenon ts (Some level) =
-    Has phenomenon level ts
-    × ((lower : Level) → height lower < height level → ¬ Has phenomenon lower ts)
+    IsThere phenomenon level ts
+    × ((lower : Level) → height lower < height level → ¬ IsThere phenomenon lower ts)
 
 -- ---- reads of versions that should not have been seen
 
@@ -124,10 +126,12 @@ aborted_reads ts = for_each_read ts (λ reader v. map (bad_read reader v) (abort
 abbrev pub g1a : List Transaction → Option BadRead
 g1a ts = first_of (aborted_reads ts)
 
--- the transactions other than the reader that wrote the version over
+-- the transactions other than the reader of which the version is an intermediate one
 abbrev pub intermediate_writers : List Transaction → Transaction → Version → List Transaction
 intermediate_writers ts reader v =
-    filter (λ writer. not (writer.invocation == reader.invocation) && writes_over writer v) ts
+    filter
+    (λ writer. not (writer.invocation == reader.invocation) && wrote_intermediate writer v)
+    ts
 
 abbrev pub intermediate_reads : List Transaction → List BadRead
 intermediate_reads ts =

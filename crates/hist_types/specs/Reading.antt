@@ -3,20 +3,20 @@
 -- A text is read token by token, from left to right, and what comes first decides. At the top level
 -- each form is a map, which is an operation, or a vector or list of operations (own). In an
 -- operation's place, at the top level or directly in such a vector or list, tags are passed over
--- (own) and a form behind a `#_` is left out, whatever it is. Anything else there is 27 NotAMap at
+-- (own) and a form after a `#_` is left out, whatever it is. Anything else there is 27 NotAMap at
 -- its token as soon as it is met; a set is no map. A map there gives its entry as soon as it is
 -- closed.
 --
--- A closer is 26 DanglingTag where a mark waits directly in the collection that it would end, told
+-- A closer is 26 DanglingTag where a mark waits directly in the collection that it would end, reported
 -- at the last such mark. So is the text's end where a mark waits directly in the innermost open
 -- collection, or at the top level where none is open; a text that otherwise ends in an open
--- collection is 24 Unclosed, told at the innermost one's opener. So `[#a]` and `[#a` are 26 at 1,
+-- collection is 24 Unclosed, reported at the innermost one's opener. So `[#a]` and `[#a` are 26 at 1,
 -- and `#a [` is 24 at 3.
 --
 -- Where the tokens end with a fault of their own, that is the fault of reading too, unless one came
 -- before it.
 use Rattle.std.specs.Prelude.{◌≡◌, ℕ, List, [], ◌∷◌, ◌++◌, Bool, true, false, not, ◌&&◌, ◌||◌, if◌then◌else◌, Option, Some, None, Result, Ok, Err}
-use Rattle.hist_types.specs.Forms.{plain, OpenCollection, Open, is_map, is_vector_or_list, leave_out, with_form, with_mark, with_opener, form_of, waiting}
+use Rattle.hist_types.specs.Forms.{plain, OpenCollection, Open, is_map, is_vector_or_list, has_drop, with_form, with_mark, with_opener, form_of, waiting}
 use Rattle.hist_types.specs.Entries.{Entry, entry_of, ◌>>=◌, refuse_if}
 use Rattle.hist_types.specs.Tokens.{Item, ItemKind, Opener, Closer, Drop, Tag, HasTokens, HasTokensFrom, byte_fault}
 use Rattle.hist_types.specs.declared.types.Fault.{Fault}
@@ -29,15 +29,15 @@ pub record Reading : Type 0 where
 
 -- ---- an operation's place
 
--- whether the next form stands in an operation's place, where these marks wait at the top level
-abbrev pub is_place_in : List Item → List OpenCollection → Bool
-is_place_in marks [] = not (leave_out marks)
-is_place_in marks (c ∷ []) =
-    is_vector_or_list c.opener && not (leave_out marks) && not (leave_out c.marks)
-is_place_in marks (c ∷ outer ∷ more) = false
+-- whether the next form is in an operation's place, where these marks wait at the top level
+abbrev pub is_operation_place : List Item → List OpenCollection → Bool
+is_operation_place marks [] = not (has_drop marks)
+is_operation_place marks (c ∷ []) =
+    is_vector_or_list c.opener && not (has_drop marks) && not (has_drop c.marks)
+is_operation_place marks (c ∷ outer ∷ more) = false
 
 abbrev pub in_operation_place : Open → Bool
-in_operation_place o = is_place_in o.marks o.collections
+in_operation_place o = is_operation_place o.marks o.collections
 
 -- whether a vector or list may hold operations, as it may only at the top level
 abbrev pub at_top : List OpenCollection → Bool
@@ -52,13 +52,13 @@ may_open o opener =
 
 -- ---- one token
 
--- what a token gives, at most one entry, and what is open behind it
+-- what a token gives, at most one entry, and what is open after it
 pub record Step : Type 0 where
   pub entries : List Entry
   pub after : Open
 
-abbrev pub goes_on : Open → Step
-goes_on o = record { entries = []; after = o }
+abbrev pub only_opens : Open → Step
+only_opens o = record { entries = []; after = o }
 
 -- 26 where a mark waits
 abbrev pub refuse_waiting : List Item → Result (Unit {0}) Fault
@@ -66,10 +66,10 @@ refuse_waiting [] = Ok tt
 refuse_waiting (mark ∷ marks) = Err (byte_fault DanglingTag mark.start)
 
 -- what a collection gives when it is closed; around it are these marks and collections
-abbrev pub given_by :
+abbrev pub entries_at_close :
     OpenCollection → Item → List Item → List OpenCollection → Result (List Entry) Fault
-given_by c closer marks outer =
-    if is_map c.opener && is_place_in marks outer
+entries_at_close c closer marks outer =
+    if is_map c.opener && is_operation_place marks outer
     then (entry_of c.opener closer c.members >>= λ entry. Ok (entry ∷ []))
     else Ok []
 
@@ -78,18 +78,18 @@ abbrev pub close : Item → List Item → List OpenCollection → Result Step Fa
 close closer marks [] = Err (byte_fault StrayCloser closer.start)
 close closer marks (c ∷ outer) =
     refuse_waiting c.marks >>= λ _.
-    given_by c closer marks outer >>= λ entries.
+    entries_at_close c closer marks outer >>= λ entries.
     Ok (record { entries = entries; after = with_form (form_of c closer) marks outer })
 
 abbrev pub step_by : ItemKind → Open → Item → Result Step Fault
 step_by Opener o t =
-    if may_open o t then Ok (goes_on (with_opener t o)) else Err (byte_fault NotAMap t.start)
+    if may_open o t then Ok (only_opens (with_opener t o)) else Err (byte_fault NotAMap t.start)
 step_by Closer o t = close t o.marks o.collections
-step_by Tag o t = Ok (goes_on (with_mark t o.marks o.collections))
-step_by Drop o t = Ok (goes_on (with_mark t o.marks o.collections))
+step_by Tag o t = Ok (only_opens (with_mark t o.marks o.collections))
+step_by Drop o t = Ok (only_opens (with_mark t o.marks o.collections))
 step_by kind o t =
     refuse_if (in_operation_place o) NotAMap t.start >>= λ _.
-    Ok (goes_on (with_form (plain t) o.marks o.collections))
+    Ok (only_opens (with_form (plain t) o.marks o.collections))
 
 abbrev pub step : Open → Item → Result Step Fault
 step o t = step_by t.kind o t
@@ -111,22 +111,23 @@ abbrev pub fault_at_end : Open → Option Fault
 fault_at_end o = refuse_unfinished (waiting o.marks o.collections) o.collections
 
 -- the tokens' own fault, or else that of the end
-abbrev pub last_fault : Option Fault → Open → Option Fault
-last_fault None o = fault_at_end o
-last_fault (Some fault) o = Some fault
+abbrev pub ending_fault : Option Fault → Open → Option Fault
+ending_fault None o = fault_at_end o
+ending_fault (Some fault) o = Some fault
 
-abbrev pub in_front_of : List Entry → Reading → Reading
-in_front_of entries reading = record { entries = entries ++ reading.entries; fault = reading.fault }
+abbrev pub after_entries : List Entry → Reading → Reading
+after_entries entries reading =
+    record { entries = entries ++ reading.entries; fault = reading.fault }
 
 -- what a step gives, and then the rest
-abbrev pub then_read : Result Step Fault → (Open → Reading) → Reading
-then_read (Ok s) rest = in_front_of s.entries (rest s.after)
-then_read (Err fault) rest = record { entries = []; fault = Some fault }
+abbrev pub and_then_read : Result Step Fault → (Open → Reading) → Reading
+and_then_read (Ok s) rest = after_entries s.entries (rest s.after)
+and_then_read (Err fault) rest = record { entries = []; fault = Some fault }
 
 -- what tokens give, where these are open, that are followed by the text's end or a fault
 abbrev pub reading_from : Open → List Item → Option Fault → Reading
-reading_from o [] ending = record { entries = []; fault = last_fault ending o }
-reading_from o (t ∷ ts) ending = then_read (step o t) (λ after. reading_from after ts ending)
+reading_from o [] ending = record { entries = []; fault = ending_fault ending o }
+reading_from o (t ∷ ts) ending = and_then_read (step o t) (λ after. reading_from after ts ending)
 
 -- where a text begins
 abbrev pub nothing_open : Open
@@ -135,7 +136,7 @@ nothing_open = record { marks = []; collections = [] }
 abbrev pub reading_of : List Item → Option Fault → Reading
 reading_of tokens ending = reading_from nothing_open tokens ending
 
--- The text reads as these entries, and then it ends or a fault stands.
+-- The text reads as these entries, and then it ends or there is a fault.
 abbrev pub Reads : List ℕ → List Entry → Option Fault → Type 0
 Reads text entries fault =
     (tokens : List Item)
@@ -144,7 +145,7 @@ Reads text entries fault =
     × (reading_of tokens ending ≡ record { entries = entries; fault = fault })
 
 -- From the offset on, as if nothing stood before it, the text reads as these entries, and then it
--- ends or a fault stands.
+-- ends or there is a fault.
 abbrev pub ReadsFrom : ℕ → List ℕ → List Entry → Option Fault → Type 0
 ReadsFrom offset text entries fault =
     (tokens : List Item)

@@ -18,9 +18,9 @@
 -- first.
 --
 -- The items are cut up to the text's end, or up to the first item with a fault:
---     20 BadUtf8          the item's bytes are no UTF-8, told at the first byte that begins no
+--     20 BadUtf8          the item's bytes are not UTF-8, reported at the first byte that begins no
 --                         well-formed sequence
---     21 UnclosedString   a string without its closing quote, told at its opening one
+--     21 UnclosedString   a string without its closing quote, reported at its opening one
 --     22 StrayCloser      a closer where no collection is open or the innermost is of another kind
 --     23 TooDeep          an opener where 64 collections are open
 use Rattle.std.specs.Prelude.{◌≡◌, ◌⊎◌, ℕ, suc, ◌+◌, ◌-◌, List, [], ◌∷◌, length, take, drop, get_or, Bool, true, false, not, ◌&&◌, ◌||◌, ◌==◌, nat_eq, nat_lt, nat_le, if◌then◌else◌, bytes_eq, codes, Option, Some, None, option_map, take_while, filter}
@@ -91,12 +91,12 @@ is_int run = is_whole (without_n (without_sign run))
 abbrev pub is_keyword : List ℕ → Bool
 is_keyword run = (first_byte run == colon) && nat_lt 1 (length run)
 
--- begins with `+`, `-` or `.`, and has a digit behind that
+-- begins with `+`, `-` or `.`, and has a digit after that
 abbrev pub has_digit_second : List ℕ → Bool
 has_digit_second run =
     (is_sign (first_byte run) || (first_byte run == dot)) && is_ascii_digit (second_byte run)
 
--- begins with no digit, `:` or `#`, and has no digit behind a first `+`, `-` or `.` (own)
+-- begins with no digit, `:` or `#`, and has no digit after a first `+`, `-` or `.` (own)
 abbrev pub is_symbol : List ℕ → Bool
 is_symbol run =
     not (is_ascii_digit (first_byte run) || (first_byte run == colon) || (first_byte run == hash))
@@ -186,7 +186,7 @@ item_fault kind offset bytes closers =
 
 -- ---- a whole text
 
--- an item of this kind and with these bytes stands at the front of the text
+-- an item of this kind and with these bytes is at the front of the text
 abbrev pub BeginsWith : List ℕ → ItemKind → List ℕ → Type 0
 BeginsWith [] kind bytes = ⊥
 BeginsWith (b ∷ rest) kind bytes =
@@ -200,7 +200,7 @@ BeginsWithFaulty text offset closers fault =
     × BeginsWith text kind bytes
     × (item_fault kind offset bytes closers ≡ Some fault)
 
--- this fault stands at the front of the text, which begins at the offset
+-- this fault is at the front of the text, which begins at the offset
 abbrev pub BeginsWithFault : List ℕ → ℕ → List ℕ → Fault → Type 0
 BeginsWithFault [] offset closers fault = ⊥
 BeginsWithFault (b ∷ rest) offset closers fault =
@@ -208,7 +208,7 @@ BeginsWithFault (b ∷ rest) offset closers fault =
     ⊎ BeginsWithFaulty (b ∷ rest) offset closers fault
 
 -- The text from an offset on, inside collections that wait for these closers, is cut into the
--- items, and then it ends or a fault stands.
+-- items, and then it ends or there is a fault.
 abbrev pub IsCut : List ℕ → ℕ → List ℕ → List Item → Option Fault → Type 0
 IsCut text offset closers [] None = text ≡ []
 IsCut text offset closers [] (Some fault) = BeginsWithFault text offset closers fault
@@ -228,13 +228,13 @@ is_token kind = true
 abbrev pub tokens_of : List Item → List Item
 tokens_of items = filter (λ item. is_token item.kind) items
 
--- The text has these tokens, and then it ends or a fault stands.
+-- The text has these tokens, and then it ends or there is a fault.
 abbrev pub HasTokens : List ℕ → List Item → Option Fault → Type 0
 HasTokens text tokens ending =
     (items : List Item) × IsCut text 0 [] items ending × (tokens ≡ tokens_of items)
 
--- From the offset on, where nothing is open, the text has these tokens, and then it ends or a fault
--- stands.
+-- From the offset on, where nothing is open, the text has these tokens, and then it ends or there
+-- is a fault.
 abbrev pub HasTokensFrom : ℕ → List ℕ → List Item → Option Fault → Type 0
 HasTokensFrom offset text tokens ending =
     (items : List Item)

@@ -7,10 +7,10 @@
 --
 -- A version of a key is a value that is written to the key, or nil, which the key has at first. An
 -- external read of a transaction at a key is a read of the key with no write of it before; where
--- the transaction is ok, it reads that version. The external write of a key is the last one; a
--- transaction installs that version, and its earlier writes of the key it writes over. The nodes
--- are all ok transactions, and each info or open one that wrote a version which an ok transaction
--- reads.
+-- the transaction is ok, it is known to read that version. The external write of a key is the last
+-- one; a transaction installs that version, and the versions of its earlier writes of the key are
+-- intermediate. The nodes are all ok transactions, and each info or open one that wrote a version
+-- which an ok transaction reads.
 use Rattle.std.specs.Prelude.{ℕ, ◌+◌, List, [], ◌∷◌, Bool, true, false, not, ◌&&◌, ◌||◌, ◌==◌, if◌then◌else◌, Option, Some, None, filter, map}
 use Rattle.std.specs.List.{list_any}
 use Rattle.hist_types.specs.Atoms.{Atom, Value, atom_eq, value_eq}
@@ -140,24 +140,24 @@ abbrev pub last_writes : List Write → List Write
 last_writes [] = []
 last_writes (w ∷ ws) = if has_key w.key ws then last_writes ws else w ∷ last_writes ws
 
-abbrev pub overwritten : List Write → List Write
-overwritten [] = []
-overwritten (w ∷ ws) = if has_key w.key ws then w ∷ overwritten ws else overwritten ws
+abbrev pub earlier_writes : List Write → List Write
+earlier_writes [] = []
+earlier_writes (w ∷ ws) = if has_key w.key ws then w ∷ earlier_writes ws else earlier_writes ws
 
 abbrev pub external_writes : Transaction → List Write
 external_writes t = last_writes (writes_of t.mops)
 
--- what a transaction wrote and wrote over in itself
+-- what a transaction wrote and then replaced itself
 abbrev pub intermediate_writes : Transaction → List Write
-intermediate_writes t = overwritten (writes_of t.mops)
+intermediate_writes t = earlier_writes (writes_of t.mops)
 
 -- the versions that its external writes make
 abbrev pub installed_by : Transaction → List Version
 installed_by t = map version_of (external_writes t)
 
 -- the transaction is ok and reads the version externally; nobody knows what the others read
-abbrev pub reads : Transaction → Version → Bool
-reads t v = is_ok t && has_version (external_reads t) v
+abbrev pub is_known_to_read : Transaction → Version → Bool
+is_known_to_read t v = is_ok t && has_version (external_reads t) v
 
 abbrev pub installs : Transaction → Version → Bool
 installs t v = has_version (installed_by t) v
@@ -166,16 +166,16 @@ installs t v = has_version (installed_by t) v
 abbrev pub writes : Transaction → Version → Bool
 writes t v = has_version (map version_of (writes_of t.mops)) v
 
--- whether it wrote the version and then the key again
-abbrev pub writes_over : Transaction → Version → Bool
-writes_over t v = has_version (map version_of (intermediate_writes t)) v
+-- whether it wrote the version and then the key again, so that the version is an intermediate one
+abbrev pub wrote_intermediate : Transaction → Version → Bool
+wrote_intermediate t v = has_version (map version_of (intermediate_writes t)) v
 
 -- ---- nodes
 
 -- some transaction reads a version that this one wrote
 abbrev pub was_read : List Transaction → Transaction → Bool
 was_read ts t =
-    list_any (λ w. list_any (λ reader. reads reader (version_of w)) ts) (writes_of t.mops)
+    list_any (λ w. list_any (λ reader. is_known_to_read reader (version_of w)) ts) (writes_of t.mops)
 
 abbrev pub is_node : List Transaction → Transaction → Bool
 is_node ts t = is_ok t || (not (is_failed t) && was_read ts t)

@@ -1,12 +1,12 @@
 -- Witnesses (this project's own form, after Elle's explained cycles).
 --
 -- A witness of a phenomenon at a level is a closed walk that shows it there, with no transaction
--- twice and, round the whole cycle, no two order edges side by side, told from its least
+-- twice and, round the whole cycle, no two order edges side by side, written from its least
 -- transaction. Where several fit, any is right.
 use Rattle.std.specs.Prelude.{ℕ, List, [], ◌∷◌, Bool, true, false, not, ◌&&◌, nat_eq, nat_le, IsTrue, Option, IfSome, option_map, map}
 use Rattle.std.specs.List.{list_all, list_any}
 use Rattle.hist_types.specs.Transactions.{Transaction}
-use Rattle.hist_types.specs.Edges.{Edge}
+use Rattle.hist_types.specs.Edges.{Edge, edges_at}
 use Rattle.hist_types.specs.Phenomena.{Shows, is_order, IsLowestLevel}
 use Rattle.hist_types.specs.declared.types.Level.{Level}
 use Rattle.hist_types.specs.declared.types.Phenomenon.{Phenomenon}
@@ -15,7 +15,7 @@ use Rattle.hist_types.specs.declared.types.Phenomenon.{Phenomenon}
 abbrev pub stations : List Edge → List ℕ
 stations walk = map (λ (e : Edge). e.from) walk
 
--- no number stands twice
+-- no number comes twice
 abbrev pub all_different : List ℕ → Bool
 all_different [] = true
 all_different (n ∷ ns) = not (list_any (nat_eq n) ns) && all_different ns
@@ -39,7 +39,7 @@ begins_least (n ∷ ns) = list_all (nat_le n) ns
 pub record IsWitness
     (phenomenon : Phenomenon) (level : Level) (ts : List Transaction) (walk : List Edge)
     : Type 0 where
-  pub shows : Shows phenomenon level ts walk
+  pub shows : Shows phenomenon (edges_at level ts) walk
   pub different : IsTrue (all_different (stations walk))
   pub apart : IsTrue (alternates (ends_in_order walk) walk)
   pub least : IsTrue (begins_least (stations walk))

@@ -51,7 +51,7 @@ pub enum Phenomenon {
 pub enum Refusal {
     #[error("the process has an open invocation")]
     Busy,
-    #[error("the process's last completion is an info, so it is not used again")]
+    #[error("the process is used again after an info")]
     Retired,
     #[error("a value is written to a key a second time")]
     Rewritten,
@@ -69,7 +69,7 @@ pub enum Refusal {
     Memory,
     #[error("a thread could not be started")]
     NoThread,
-    #[error("bytes that are no well-formed UTF-8")]
+    #[error("invalid UTF-8")]
     BadUtf8,
     #[error("a string without its closing quote")]
     UnclosedString,
@@ -87,15 +87,15 @@ pub enum Refusal {
     NotAMap,
     #[error("`:process`, `:type` or a needed `:value` is missing")]
     MissingField,
-    #[error("`:process`, `:type` or a needed `:value` stands twice")]
+    #[error("duplicate `:process`, `:type` or `:value`")]
     DuplicateField,
     #[error("`:type` is none of `:invoke`, `:ok`, `:fail` and `:info`")]
     BadType,
     #[error("the number of the process is out of range")]
     BadProcess,
-    #[error("a value that is no register transaction")]
+    #[error("a value that is not a register transaction")]
     NotTxn,
-    #[error("a key or a value that is no atom")]
+    #[error("a key or a value that is not an atom")]
     BadAtom,
     #[error("nil is written")]
     NilWritten,

@@ -82,7 +82,7 @@ impl Source for Dripping<'_> {
     }
 }
 
-/// A sink that needs no memory: it takes so many bytes a call, and may fail at one of its calls.
+/// A sink that needs no memory: it takes this many bytes a call, and may fail at one of its calls.
 #[derive(Drop)]
 struct Sipping {
     taken: ArrayVec<u8, 512>,

@@ -2,20 +2,20 @@
 use Rattle.std.proofs.Common.{◌≡◌, inl, inr, ℕ, List, [], ◌∷◌, ◌++◌, map, Bool, true, false, cond, Some, refl, sym, ◌∙◌, ap, subst}
 use Rattle.std.specs.Prelude.{slice_get, ◌==◌, ◌||◌}
 use Rattle.std.specs.List.{list_any}
-use Rattle.std.proofs.lemmas.Bool.{cases_Bool, true≢false, false≢true, false_from_ne_true, eqb-true, eq-eqb}
-use Rattle.std.proofs.lemmas.List.{append-nil}
+use Rattle.std.proofs.lemmas.Bool.{cases_Bool, or_cases, true≢false, false≢true, false_from_ne_true, eqb-true, eq-eqb}
+use Rattle.std.proofs.lemmas.List.{append_assoc, append-nil}
 use Rattle.hist_types.specs.Atoms.{Atom, Value, atom_eq}
 use Rattle.hist_types.specs.Operations.{Mop, read, write}
 use Rattle.hist_types.specs.Journal.{writes_of}
-use Rattle.hist_types.specs.Transactions.{Version, version_eq, version_of, reads_after}
+use Rattle.hist_types.specs.Transactions.{Version, version_eq, version_of, has_version, reads_after}
 use Rattle.hist_types.specs.Versions.{nil_of}
-use Rattle.hist_types.proofs.Equality.{atom_eq-same, atom_eq-itself, version_eq-itself}
+use Rattle.hist_types.proofs.Equality.{atom_eq-same, atom_eq-itself, version_eq-same, version_eq-itself}
 use Rattle.atom_index.specs.Numbers.{number_in, with_item, AreNumbered}
 use Rattle.atom_index.proofs.Pushed.{inserted_numbered}
 use Rattle.edn_ops.specs.Shapes.{is_write}
 use Rattle.op_view.specs.Mops.{key_of, value_of}
 use Rattle.key_versions.specs.declared.pending.Access.{Access}
-use Rattle.key_versions.specs.Histories.{version_in, named_in}
+use Rattle.key_versions.specs.Histories.{known_in, named_in}
 use Rattle.key_versions.specs.Numbering.{version_with, with_versions, IsAccess, AreAccesses}
 use Rattle.key_versions.specs.Rows.{has_nil}
 use Rattle.key_versions.proofs.Places.{same_item, slice_get-with_item}
@@ -34,17 +34,26 @@ versions_append : (vs us ws : List Version) → with_versions vs (us ++ ws) ≡ 
 versions_append vs [] ws = refl
 versions_append vs (u ∷ us) ws = versions_append (with_item version_eq vs u) us ws
 
-named-push : (ms : List Mop) (m : Mop) → named_in (ms ++ m ∷ []) ≡ named_in ms ++ nil_of (version_in m).key ∷ version_in m ∷ []
-named-push [] m = refl
-named-push (n ∷ ms) m = ap (λ (vs : List Version). nil_of (version_in n).key ∷ version_in n ∷ vs) (named-push ms m)
+key_alone : (v w : Version) → has_version (w ∷ []) v ≡ true → v.key ≡ w.key
+key_alone v w h = elim (or_cases (version_eq v w) false h) [
+  | inl is ↦ ap (λ (u : Version). u.key) (version_eq-same v w is)
+  | inr none ↦ absurd (false≢true none)
+]
 
-version_is : (m : Mop) → version_with (key_of m) (value_of m) ≡ version_in m
-version_is (read key value) = refl
-version_is (write key value) = refl
+-- what is known of a micro-operation is of its key
+pub known_key : (v : Version) (ok : Bool) (m : Mop) → has_version (known_in ok m) v ≡ true → v.key ≡ key_of m
+known_key v true (read key value) h = key_alone v (version_with key value) h
+known_key v false (read key value) h = absurd (false≢true h)
+known_key v ok (write key value) h = key_alone v (version_with key (Some value)) h
 
-key_same : (m : Mop) → key_of m ≡ (version_in m).key
-key_same (read key value) = refl
-key_same (write key value) = refl
+-- what one micro-operation names
+abbrev pub named_of : Bool → Mop → List Version
+named_of ok m = nil_of (key_of m) ∷ known_in ok m
+
+named-push : (ok : Bool) (ms : List Mop) (m : Mop) → named_in ok (ms ++ m ∷ []) ≡ named_in ok ms ++ named_of ok m
+named-push ok [] m = append-nil (named_of ok m)
+named-push ok (n ∷ ms) m =
+    ap (λ (vs : List Version). named_of ok n ++ vs) (named-push ok ms m) ∙ sym (append_assoc (named_of ok n) (named_in ok ms) (named_of ok m))
 
 -- ---- accesses
 
@@ -142,27 +151,22 @@ reads-read written (write k v ∷ ms) key value =
 
 -- what is known of the micro-operations so far
 pub record AreTaken (base : List Version) (is_ok : Bool) (ms : List Mop) (vs : List Version) (ws rs : List Access) : Type 0 where
-  pub versions : vs ≡ with_versions base (named_in ms)
+  pub versions : vs ≡ with_versions base (named_in is_ok ms)
   pub writes : AreAccesses vs (written_in ms) ws
   pub reads : AreAccesses vs (cond is_ok (reads_after [] ms) []) rs
 
 module _ (base : List Version) (numbered : AreNumbered version_eq base) (is_ok : Bool) (ms : List Mop) (vs us : List Version) (ws rs : List Access) (m : Mop) (a : Access) where
-  taken_versions :
-      vs ≡ with_versions base (named_in ms) → us ≡ with_versions vs (nil_of (key_of m) ∷ version_with (key_of m) (value_of m) ∷ [])
-      → us ≡ with_versions base (named_in (ms ++ m ∷ []))
-  taken_versions old grown =
-      grown ∙ ap (λ v. with_versions vs (nil_of (key_of m) ∷ v ∷ [])) (version_is m) ∙ ap (λ k. with_versions vs (nil_of k ∷ version_in m ∷ [])) (key_same m)
-      ∙ ap (λ (xs : List Version). with_versions xs (nil_of (version_in m).key ∷ version_in m ∷ [])) old
-      ∙ sym (versions_append base (named_in ms) (nil_of (version_in m).key ∷ version_in m ∷ []))
-      ∙ ap (with_versions base) (sym (named-push ms m))
-
-  stays :
-      us ≡ with_versions vs (nil_of (key_of m) ∷ version_with (key_of m) (value_of m) ∷ [])
-      → (n : ℕ) (v : Version) → slice_get vs n ≡ Some v → slice_get us n ≡ Some v
-  stays grown n v h = ap (λ (xs : List Version). slice_get xs n) grown ∙ versions_stay vs (nil_of (key_of m) ∷ version_with (key_of m) (value_of m) ∷ []) n v h
-
   abbrev IsGrown : Type 0
-  IsGrown = us ≡ with_versions vs (nil_of (key_of m) ∷ version_with (key_of m) (value_of m) ∷ [])
+  IsGrown = us ≡ with_versions vs (named_of is_ok m)
+
+  taken_versions : vs ≡ with_versions base (named_in is_ok ms) → IsGrown → us ≡ with_versions base (named_in is_ok (ms ++ m ∷ []))
+  taken_versions old grown =
+      grown ∙ ap (λ (xs : List Version). with_versions xs (named_of is_ok m)) old
+      ∙ sym (versions_append base (named_in is_ok ms) (named_of is_ok m))
+      ∙ ap (with_versions base) (sym (named-push is_ok ms m))
+
+  stays : IsGrown → (n : ℕ) (v : Version) → slice_get vs n ≡ Some v → slice_get us n ≡ Some v
+  stays grown n v h = ap (λ (xs : List Version). slice_get xs n) grown ∙ versions_stay vs (named_of is_ok m) n v h
 
   -- what was read and written is read and written
   still :
@@ -172,17 +176,32 @@ module _ (base : List Version) (numbered : AreNumbered version_eq base) (is_ok :
 
   us_numbered : AreTaken base is_ok ms vs ws rs → IsGrown → AreNumbered version_eq us
   us_numbered old grown =
-      subst (AreNumbered version_eq) (sym (taken_versions old.versions grown)) (versions_numbered base numbered (named_in (ms ++ m ∷ [])))
+      subst (AreNumbered version_eq) (sym (taken_versions old.versions grown)) (versions_numbered base numbered (named_in is_ok (ms ++ m ∷ [])))
 
   own :
       AreTaken base is_ok ms vs ws rs → IsGrown → IsAccess us (version_with (key_of m) (value_of m)) a
       → has_nil a.nil ws ≡ writes_key (key_of m) ms
   own old grown is = has_nil_key us (us_numbered old grown) (version_with (key_of m) (value_of m)) a is (written_in ms) ws (still old grown).0
 
+-- the version of a micro-operation has a number then
+abbrev pub IsAccessed : (vs us : List Version) → Mop → Type 0
+IsAccessed vs us m = us ≡ with_versions vs (nil_of (key_of m) ∷ version_with (key_of m) (value_of m) ∷ [])
+
+pub accessed_by :
+    (vs us : List Version) (m : Mop) (a : Access) (key : Atom) (value : Value) → key ≡ key_of m → value ≡ value_of m
+    → us ≡ with_versions vs (nil_of key ∷ version_with key value ∷ []) → IsAccess us (version_with key value) a
+    → IsAccessed vs us m × IsAccess us (version_with (key_of m) (value_of m)) a
+accessed_by vs us m a key value same_key same_value grown is = (
+  grown
+      ∙ ap (λ (k : Atom). with_versions vs (nil_of k ∷ version_with k value ∷ [])) same_key
+      ∙ ap (λ (v : Value). with_versions vs (nil_of (key_of m) ∷ version_with (key_of m) v ∷ [])) same_value,
+  subst (λ (v : Value). IsAccess us (version_with (key_of m) v) a) same_value (subst (λ (k : Atom). IsAccess us (version_with k value) a) same_key is),
+)
+
 -- a write
 pub taken_write :
     (base : List Version) (numbered : AreNumbered version_eq base) (is_ok : Bool) (ms : List Mop) (vs us : List Version) (ws rs : List Access) (m : Mop) (a : Access)
-    → AreTaken base is_ok ms vs ws rs → IsGrown base numbered is_ok ms vs us ws rs m a → IsAccess us (version_with (key_of m) (value_of m)) a
+    → AreTaken base is_ok ms vs ws rs → IsAccessed vs us m → IsAccess us (version_with (key_of m) (value_of m)) a
     → is_write m ≡ true → AreTaken base is_ok (ms ++ m ∷ []) us (ws ++ a ∷ []) rs
 taken_write base numbered is_ok ms vs us ws rs (read key value) a old grown is writes = absurd (false≢true writes)
 taken_write base numbered is_ok ms vs us ws rs (write key value) a old grown is writes =
@@ -194,56 +213,64 @@ taken_write base numbered is_ok ms vs us ws rs (write key value) a old grown is 
       reads = subst (λ (xs : List Version). AreAccesses us (cond is_ok xs []) rs) (sym (reads-write [] ms key value)) kept.1;
     }
 
+-- a read of an ok transaction
+read_grown : (is_ok : Bool) (vs us : List Version) (key : Atom) (value : Value) → is_ok ≡ true → IsAccessed vs us (read key value) → us ≡ with_versions vs (named_of is_ok (read key value))
+read_grown is_ok vs us key value ok grown = grown ∙ ap (λ b. with_versions vs (named_of b (read key value))) (sym ok)
+
 -- an external read of an ok transaction
 pub taken_read :
     (base : List Version) (numbered : AreNumbered version_eq base) (is_ok : Bool) (ms : List Mop) (vs us : List Version) (ws rs : List Access) (m : Mop) (a : Access)
-    → AreTaken base is_ok ms vs ws rs → IsGrown base numbered is_ok ms vs us ws rs m a → IsAccess us (version_with (key_of m) (value_of m)) a
+    → AreTaken base is_ok ms vs ws rs → IsAccessed vs us m → IsAccess us (version_with (key_of m) (value_of m)) a
     → is_write m ≡ false → is_ok ≡ true → has_nil a.nil ws ≡ false → AreTaken base is_ok (ms ++ m ∷ []) us ws (rs ++ a ∷ [])
 taken_read base numbered is_ok ms vs us ws rs (write key value) a old grown is reads ok external = absurd (true≢false reads)
 taken_read base numbered is_ok ms vs us ws rs (read key value) a old grown is reads ok external =
     let m = read key value in
-    let kept = still base numbered is_ok ms vs us ws rs m a old grown in
-    let first : writes_key key ms ≡ false = sym (own base numbered is_ok ms vs us ws rs m a old grown is) ∙ external in
+    let more = read_grown is_ok vs us key value ok grown in
+    let kept = still base numbered is_ok ms vs us ws rs m a old more in
+    let first : writes_key key ms ≡ false = sym (own base numbered is_ok ms vs us ws rs m a old more is) ∙ external in
     let before : AreAccesses us (reads_after [] ms) rs = subst (λ b. AreAccesses us (cond b (reads_after [] ms) []) rs) ok kept.1 in
     let after : reads_after [] (ms ++ m ∷ []) ≡ reads_after [] ms ++ version_with key value ∷ [] =
     reads-read [] ms key value ∙ ap (λ b. reads_after [] ms ++ cond b [] (version_with key value ∷ [])) first in
     record {
-      versions = taken_versions base numbered is_ok ms vs us ws rs m a old.versions grown;
+      versions = taken_versions base numbered is_ok ms vs us ws rs m a old.versions more;
       writes = subst (λ (xs : List Version). AreAccesses us xs ws) (sym (writes-read ms key value)) kept.0;
       reads = subst (λ b. AreAccesses us (cond b (reads_after [] (ms ++ m ∷ [])) []) (rs ++ a ∷ [])) (sym ok)
           (subst (λ (xs : List Version). AreAccesses us xs (rs ++ a ∷ [])) (sym after) (accesses_push us (reads_after [] ms) rs (version_with key value) a before is));
     }
 
--- a read of what the transaction wrote itself
+-- a read of what an ok transaction wrote itself
 pub taken_own :
     (base : List Version) (numbered : AreNumbered version_eq base) (is_ok : Bool) (ms : List Mop) (vs us : List Version) (ws rs : List Access) (m : Mop) (a : Access)
-    → AreTaken base is_ok ms vs ws rs → IsGrown base numbered is_ok ms vs us ws rs m a → IsAccess us (version_with (key_of m) (value_of m)) a
-    → is_write m ≡ false → has_nil a.nil ws ≡ true → AreTaken base is_ok (ms ++ m ∷ []) us ws rs
-taken_own base numbered is_ok ms vs us ws rs (write key value) a old grown is reads internal = absurd (true≢false reads)
-taken_own base numbered is_ok ms vs us ws rs (read key value) a old grown is reads internal =
+    → AreTaken base is_ok ms vs ws rs → IsAccessed vs us m → IsAccess us (version_with (key_of m) (value_of m)) a
+    → is_write m ≡ false → is_ok ≡ true → has_nil a.nil ws ≡ true → AreTaken base is_ok (ms ++ m ∷ []) us ws rs
+taken_own base numbered is_ok ms vs us ws rs (write key value) a old grown is reads ok internal = absurd (true≢false reads)
+taken_own base numbered is_ok ms vs us ws rs (read key value) a old grown is reads ok internal =
     let m = read key value in
-    let kept = still base numbered is_ok ms vs us ws rs m a old grown in
-    let second : writes_key key ms ≡ true = sym (own base numbered is_ok ms vs us ws rs m a old grown is) ∙ internal in
+    let more = read_grown is_ok vs us key value ok grown in
+    let kept = still base numbered is_ok ms vs us ws rs m a old more in
+    let second : writes_key key ms ≡ true = sym (own base numbered is_ok ms vs us ws rs m a old more is) ∙ internal in
     let after : reads_after [] (ms ++ m ∷ []) ≡ reads_after [] ms =
     reads-read [] ms key value ∙ ap (λ b. reads_after [] ms ++ cond b [] (version_with key value ∷ [])) second ∙ append-nil (reads_after [] ms) in
     record {
-      versions = taken_versions base numbered is_ok ms vs us ws rs m a old.versions grown;
+      versions = taken_versions base numbered is_ok ms vs us ws rs m a old.versions more;
       writes = subst (λ (xs : List Version). AreAccesses us xs ws) (sym (writes-read ms key value)) kept.0;
       reads = subst (λ (xs : List Version). AreAccesses us (cond is_ok xs []) rs) (sym after) kept.1;
     }
 
 -- a read of a transaction that is not ok
 pub taken_unknown :
-    (base : List Version) (numbered : AreNumbered version_eq base) (is_ok : Bool) (ms : List Mop) (vs us : List Version) (ws rs : List Access) (m : Mop) (a : Access)
-    → AreTaken base is_ok ms vs ws rs → IsGrown base numbered is_ok ms vs us ws rs m a → IsAccess us (version_with (key_of m) (value_of m)) a
+    (base : List Version) (numbered : AreNumbered version_eq base) (is_ok : Bool) (ms : List Mop) (vs us : List Version) (ws rs : List Access) (m : Mop)
+    → AreTaken base is_ok ms vs ws rs → us ≡ with_item version_eq vs (nil_of (key_of m))
     → is_write m ≡ false → is_ok ≡ false → AreTaken base is_ok (ms ++ m ∷ []) us ws rs
-taken_unknown base numbered is_ok ms vs us ws rs (write key value) a old grown is reads unknown = absurd (true≢false reads)
-taken_unknown base numbered is_ok ms vs us ws rs (read key value) a old grown is reads unknown =
+taken_unknown base numbered is_ok ms vs us ws rs (write key value) old grown reads unknown = absurd (true≢false reads)
+taken_unknown base numbered is_ok ms vs us ws rs (read key value) old grown reads unknown =
     let m = read key value in
-    let kept = still base numbered is_ok ms vs us ws rs m a old grown in
+    let any : Access = record { nil = 0; version = 0 } in
+    let more : us ≡ with_versions vs (named_of is_ok m) = grown ∙ ap (λ b. with_versions vs (named_of b m)) (sym unknown) in
+    let kept = still base numbered is_ok ms vs us ws rs m any old more in
     let before : AreAccesses us [] rs = subst (λ b. AreAccesses us (cond b (reads_after [] ms) []) rs) unknown kept.1 in
     record {
-      versions = taken_versions base numbered is_ok ms vs us ws rs m a old.versions grown;
+      versions = taken_versions base numbered is_ok ms vs us ws rs m any old.versions more;
       writes = subst (λ (xs : List Version). AreAccesses us xs ws) (sym (writes-read ms key value)) kept.0;
       reads = subst (λ b. AreAccesses us (cond b (reads_after [] (ms ++ m ∷ [])) []) rs) (sym unknown) before;
     }

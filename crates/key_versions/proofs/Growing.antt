@@ -4,8 +4,8 @@ use Rattle.std.specs.Prelude.{slice_get, ◌||◌}
 use Rattle.std.specs.List.{list_any}
 use Rattle.std.specs.Option.{option_or}
 use Rattle.std.proofs.lemmas.List.{append_assoc, append-nil}
-use Rattle.hist_types.specs.Transactions.{Transaction, Version, reads, writes, writes_over, has_version}
-use Rattle.key_versions.specs.Histories.{from_place, named_in, is_named, writer_of, readers_of, followers_of, installs_behind}
+use Rattle.hist_types.specs.Transactions.{Transaction, Version, is_known_to_read, writes, wrote_intermediate, has_version}
+use Rattle.key_versions.specs.Histories.{from_place, named_by, is_named, writer_of, readers_of, followers_of, installs_behind}
 use Rattle.key_versions.specs.declared.types.Writer.{Writer}
 
 from_place-push :
@@ -35,18 +35,18 @@ from_zero n = omega arith
 
 pub writer-push :
     (ts : List Transaction) (t : Transaction) (v : Version)
-    → writer_of (ts ++ t ∷ []) v ≡ option_or (writer_of ts v) (cond (writes t v) (Some (writer_at (length ts) (writes_over t v))) None)
+    → writer_of (ts ++ t ∷ []) v ≡ option_or (writer_of ts v) (cond (writes t v) (Some (writer_at (length ts) (wrote_intermediate t v))) None)
 writer-push ts t v =
-    let f = λ (place : ℕ) (t : Transaction). cond (writes t v) (writer_at place (writes_over t v) ∷ []) [] in
+    let f = λ (place : ℕ) (t : Transaction). cond (writes t v) (writer_at place (wrote_intermediate t v) ∷ []) [] in
     ap (λ (ws : List Writer). slice_get ws 0) (from_place-push f 0 ts t ∙ ap (λ n. from_place f 0 ts ++ f n t) (from_zero (length ts)))
     ∙ first-append (from_place f 0 ts) (f (length ts) t)
-    ∙ ap (option_or (writer_of ts v)) (first_if (writes t v) (writer_at (length ts) (writes_over t v)))
+    ∙ ap (option_or (writer_of ts v)) (first_if (writes t v) (writer_at (length ts) (wrote_intermediate t v)))
 
 pub readers-push :
     (ts : List Transaction) (t : Transaction) (v : Version)
-    → readers_of (ts ++ t ∷ []) v ≡ readers_of ts v ++ cond (reads t v) (length ts ∷ []) []
+    → readers_of (ts ++ t ∷ []) v ≡ readers_of ts v ++ cond (is_known_to_read t v) (length ts ∷ []) []
 readers-push ts t v =
-    let f = λ (place : ℕ) (t : Transaction). cond (reads t v) (place ∷ []) [] in
+    let f = λ (place : ℕ) (t : Transaction). cond (is_known_to_read t v) (place ∷ []) [] in
     from_place-push f 0 ts t ∙ ap (λ n. from_place f 0 ts ++ f n t) (from_zero (length ts))
 
 abbrev pub with_place : ℕ → Version → ℕ × Version
@@ -72,5 +72,5 @@ any-push p (y ∷ xs) x = by (p y) (list_any p (xs ++ x ∷ [])) (list_any p xs)
     by false b c d e = e
 
 pub named-push :
-    (ts : List Transaction) (t : Transaction) (v : Version) → is_named (ts ++ t ∷ []) v ≡ (is_named ts v || has_version (named_in t.mops) v)
-named-push ts t v = any-push (λ (u : Transaction). has_version (named_in u.mops) v) ts t
+    (ts : List Transaction) (t : Transaction) (v : Version) → is_named (ts ++ t ∷ []) v ≡ (is_named ts v || has_version (named_by t) v)
+named-push ts t v = any-push (λ (u : Transaction). has_version (named_by u) v) ts t

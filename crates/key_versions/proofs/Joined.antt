@@ -6,7 +6,7 @@ use Rattle.std.specs.Option.{option_or}
 use Rattle.std.proofs.lemmas.Bool.{cases_Bool, true≢false, false≢true, false_from_ne_true, eqb-true, eq-eqb, and_parts, or_parts}
 use Rattle.hist_types.specs.Atoms.{Atom, atom_eq, value_eq}
 use Rattle.hist_types.specs.Journal.{Write}
-use Rattle.hist_types.specs.Transactions.{Version, version_eq, version_of, has_version, has_key, last_writes, overwritten}
+use Rattle.hist_types.specs.Transactions.{Version, version_eq, version_of, has_version, has_key, last_writes, earlier_writes}
 use Rattle.hist_types.proofs.Equality.{atom_eq-same, version_eq-same, version_eq-itself}
 use Rattle.atom_index.specs.Numbers.{number_in, AreNumbered}
 use Rattle.key_versions.specs.declared.pending.Access.{Access}
@@ -69,16 +69,16 @@ lasts_are vs numbered [] (a ∷ accesses) are = absurd are
 lasts_are vs numbered (w ∷ wr) [] are = absurd are
 
 -- A key that isn't written again is not among those that are written over.
-not_over : (v : Version) (key : Atom) (wr : List Write) → v.key ≡ key → has_key key wr ≡ false → has_version (map version_of (overwritten wr)) v ≡ false
+not_over : (v : Version) (key : Atom) (wr : List Write) → v.key ≡ key → has_key key wr ≡ false → has_version (map version_of (earlier_writes wr)) v ≡ false
 not_over v key [] same none = refl
 not_over v key (w ∷ wr) same none =
     let parts = or_parts (atom_eq key w.key) (has_key key wr) none in
     by (has_key w.key wr) v w wr (ap (λ k. atom_eq k w.key) same ∙ parts.0) (not_over v key wr same parts.1)
   where
     by :
-        (b : Bool) (v : Version) (w : Write) (wr : List Write) → atom_eq v.key w.key ≡ false → has_version (map version_of (overwritten wr)) v ≡ false
-        → has_version (map version_of (cond b (w ∷ overwritten wr) (overwritten wr))) v ≡ false
-    by true v w wr apart behind = ap (λ t. (t && value_eq v.value (Some w.value)) || has_version (map version_of (overwritten wr)) v) apart ∙ behind
+        (b : Bool) (v : Version) (w : Write) (wr : List Write) → atom_eq v.key w.key ≡ false → has_version (map version_of (earlier_writes wr)) v ≡ false
+        → has_version (map version_of (cond b (w ∷ earlier_writes wr) (earlier_writes wr))) v ≡ false
+    by true v w wr apart behind = ap (λ t. (t && value_eq v.value (Some w.value)) || has_version (map version_of (earlier_writes wr)) v) apart ∙ behind
     by false v w wr apart behind = behind
 
 abbrev pub writer_if : ℕ → Bool → Bool → Option Writer
@@ -92,27 +92,27 @@ module _ (vs : List Version) (numbered : AreNumbered version_eq vs) (v : Version
   -- what the first write does, where it is of the version or is not
   first_write :
       (b : Bool) (w : Write) (wr : List Write) (over : Bool) (x : Known) (accesses : List Access) → version_eq v (version_of w) ≡ b → over ≡ has_key w.key wr
-      → ((y : Known) → (written_at place n y accesses).writer ≡ option_or y.writer (writer_if place (has_version (map version_of wr) v) (has_version (map version_of (overwritten wr)) v)))
+      → ((y : Known) → (written_at place n y accesses).writer ≡ option_or y.writer (writer_if place (has_version (map version_of wr) v) (has_version (map version_of (earlier_writes wr)) v)))
       → (written_at place n (cond b (with_writer (writer_by place over) x) x) accesses).writer
-      ≡ option_or x.writer (writer_if place (b || has_version (map version_of wr) v) (has_version (map version_of (cond (has_key w.key wr) (w ∷ overwritten wr) (overwritten wr))) v))
+      ≡ option_or x.writer (writer_if place (b || has_version (map version_of wr) v) (has_version (map version_of (cond (has_key w.key wr) (w ∷ earlier_writes wr) (earlier_writes wr))) v))
   first_write true w wr over x accesses is same behind =
       behind (with_writer (writer_by place over) x)
-      ∙ or_some x.writer (writer_by place over) (writer_if place (has_version (map version_of wr) v) (has_version (map version_of (overwritten wr)) v))
+      ∙ or_some x.writer (writer_by place over) (writer_if place (has_version (map version_of wr) v) (has_version (map version_of (earlier_writes wr)) v))
       ∙ ap (λ b. option_or x.writer (Some (writer_by place b))) (same ∙ by (has_key w.key wr) refl)
     where
-      by : (b : Bool) → has_key w.key wr ≡ b → b ≡ has_version (map version_of (cond b (w ∷ overwritten wr) (overwritten wr))) v
-      by true e = sym (ap (λ t. t || has_version (map version_of (overwritten wr)) v) is)
+      by : (b : Bool) → has_key w.key wr ≡ b → b ≡ has_version (map version_of (cond b (w ∷ earlier_writes wr) (earlier_writes wr))) v
+      by true e = sym (ap (λ t. t || has_version (map version_of (earlier_writes wr)) v) is)
       by false e = sym (not_over v w.key wr (atom_eq-same v.key w.key (and_parts (atom_eq v.key w.key) (value_eq v.value (Some w.value)) is).0) e)
   first_write false w wr over x accesses is same behind =
       behind x ∙ ap (λ b. option_or x.writer (writer_if place (has_version (map version_of wr) v) b)) (by (has_key w.key wr))
     where
-      by : (b : Bool) → has_version (map version_of (overwritten wr)) v ≡ has_version (map version_of (cond b (w ∷ overwritten wr) (overwritten wr))) v
-      by true = sym (ap (λ t. t || has_version (map version_of (overwritten wr)) v) is)
+      by : (b : Bool) → has_version (map version_of (earlier_writes wr)) v ≡ has_version (map version_of (cond b (w ∷ earlier_writes wr) (earlier_writes wr))) v
+      by true = sym (ap (λ t. t || has_version (map version_of (earlier_writes wr)) v) is)
       by false = refl
 
   pub writer_is :
       (wr : List Write) (accesses : List Access) → AreAccesses vs (map version_of wr) accesses → (x : Known)
-      → (written_at place n x accesses).writer ≡ option_or x.writer (writer_if place (has_version (map version_of wr) v) (has_version (map version_of (overwritten wr)) v))
+      → (written_at place n x accesses).writer ≡ option_or x.writer (writer_if place (has_version (map version_of wr) v) (has_version (map version_of (earlier_writes wr)) v))
   writer_is [] [] are x = none x.writer
     where
       none : (o : Option Writer) → o ≡ option_or o None

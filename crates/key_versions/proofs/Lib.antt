@@ -13,3 +13,4 @@ mod Joined
 mod Followed
 mod Told
 pub mod Callers
+mod Pairs

@@ -3,26 +3,28 @@ use Rattle.std.proofs.Common.{◌≡◌, inl, inr, ◌<◌, ◌≤◌, ◌-◌, 
 use Rattle.std.specs.Prelude.{slice_get, filter, ◌&&◌, ◌||◌}
 use Rattle.std.specs.List.{list_any}
 use Rattle.std.specs.Option.{option_or, is_some}
-use Rattle.std.proofs.lemmas.Bool.{cases_Bool, false≢true, false_from_ne_true}
+use Rattle.std.proofs.lemmas.Bool.{cases_Bool, false≢true, false_from_ne_true, or_cases, or_left, or_right}
+use Rattle.std.proofs.lemmas.List.Folds.{list_any-append}
 use Rattle.std.proofs.lemmas.List.{append_assoc, map-append, map_push, length-map, length_push, length-append, length-replicate}
 use Rattle.std.proofs.lemmas.Option.{slice_get_within, slice_get-map}
 use Rattle.hist_types.specs.Atoms.{Atom, Value}
 use Rattle.hist_types.specs.Operations.{Mop}
 use Rattle.hist_types.specs.Journal.{writes_of}
-use Rattle.hist_types.specs.Transactions.{Transaction, Version, version_eq, version_of, has_version, is_ok, external_reads, last_writes, installed_by, reads, writes, writes_over}
+use Rattle.hist_types.specs.Transactions.{Transaction, Version, version_eq, version_of, has_version, is_ok, external_reads, last_writes, installed_by, is_known_to_read, writes, wrote_intermediate}
 use Rattle.hist_types.specs.Versions.{nil_of, pair, is_change}
 use Rattle.hist_types.proofs.Equality.{version_eq-same, version_eq-itself}
+use Rattle.op_view.specs.Mops.{key_of}
 use Rattle.atom_index.specs.Numbers.{number_in, with_item, AreNumbered}
 use Rattle.atom_index.proofs.Pushed.{has_number as number_there}
 use Rattle.key_versions.specs.declared.pending.Access.{Access}
 use Rattle.key_versions.specs.declared.types.Writer.{Writer}
 use Rattle.key_versions.specs.declared.types.Follower.{Follower}
-use Rattle.key_versions.specs.Histories.{version_in, named_in, is_named, read_by, installs_behind, writer_of, readers_of, followers_of}
+use Rattle.key_versions.specs.Histories.{known_in, named_in, named_by, is_named, read_by, installs_behind, writer_of, readers_of, followers_of}
 use Rattle.key_versions.specs.Numbering.{version_with, with_versions, AreAccesses}
 use Rattle.key_versions.specs.Rows.{Known, Accessed, unknown, lasts, follower, is_behind, has_number, IsWithin, numbers_of, accessed, rows_after, grown}
 use Rattle.key_versions.specs.Tables.{IsTableOf, versions_at, followers_at}
 use Rattle.key_versions.specs.Views.{table_by}
-use Rattle.key_versions.proofs.Accessing.{versions_numbered, versions_stay}
+use Rattle.key_versions.proofs.Accessing.{versions_numbered, versions_stay, known_key}
 use Rattle.key_versions.proofs.Changed.{all_cons}
 use Rattle.key_versions.proofs.Followed.{install_at, behind_nil, behind_read, behind_unread}
 use Rattle.key_versions.proofs.Growing.{writer-push, readers-push, followers-push, named-push, with_place}
@@ -75,39 +77,32 @@ longer vs (w ∷ ws) = elim (cases_number version_eq w vs) [
       subst (λ (xs : List Version). length vs ≤ length (with_versions xs ws)) (sym (with_item-new version_eq vs w new)) (omega (arith, length_push vs w)))
 ]
 
+nil_first : (v : Version) (key : Atom) (vs : List Version) → v.key ≡ key → has_version (nil_of key ∷ vs) (nil_of v.key) ≡ true
+nil_first v key vs same =
+    or_left (version_eq (nil_of v.key) (nil_of key)) (has_version vs (nil_of v.key))
+    (ap (λ k. version_eq (nil_of v.key) (nil_of k)) (sym same) ∙ version_eq-itself (nil_of v.key))
+
 -- The nil version of a key is named with each version of the key.
-nil_named : (v : Version) (ms : List Mop) → has_version (named_in ms) v ≡ true → has_version (named_in ms) (nil_of v.key) ≡ true
-nil_named v [] h = h
-nil_named v (m ∷ ms) h = elim (cases_Bool (version_eq v (nil_of (version_in m).key))) [
-  | inl is ↦ (
-      let key : v.key ≡ (version_in m).key = ap (λ (w : Version). w.key) (version_eq-same v (nil_of (version_in m).key) is) in
-      ap (λ b. b || (version_eq (nil_of v.key) (version_in m) || has_version (named_in ms) (nil_of v.key))) (same_nil_of v m key))
-  | inr apart ↦ elim (cases_Bool (version_eq v (version_in m))) [
-    | inl is ↦ (
-        let key : v.key ≡ (version_in m).key = ap (λ (w : Version). w.key) (version_eq-same v (version_in m) is) in
-        ap (λ b. b || (version_eq (nil_of v.key) (version_in m) || has_version (named_in ms) (nil_of v.key))) (same_nil_of v m key))
-    | inr other ↦ (
-        let rest : has_version (named_in ms) v ≡ true = sym (ap (λ b. b || (version_eq v (version_in m) || has_version (named_in ms) v)) apart ∙ ap (λ b. b || has_version (named_in ms) v) other) ∙ h in
-        ap (λ b. version_eq (nil_of v.key) (nil_of (version_in m).key) || (version_eq (nil_of v.key) (version_in m) || b)) (nil_named v ms rest)
-        ∙ ap (λ b. version_eq (nil_of v.key) (nil_of (version_in m).key) || b) (or_true (version_eq (nil_of v.key) (version_in m)))
-        ∙ or_true (version_eq (nil_of v.key) (nil_of (version_in m).key)))
+nil_named : (v : Version) (ok : Bool) (ms : List Mop) → has_version (named_in ok ms) v ≡ true → has_version (named_in ok ms) (nil_of v.key) ≡ true
+nil_named v ok [] h = h
+nil_named v ok (m ∷ ms) h = elim (or_cases (version_eq v (nil_of (key_of m))) (has_version (known_in ok m ++ named_in ok ms) v) h) [
+  | inl is ↦ nil_first v (key_of m) (known_in ok m ++ named_in ok ms) (ap (λ (w : Version). w.key) (version_eq-same v (nil_of (key_of m)) is))
+  | inr other ↦ elim (or_cases (has_version (known_in ok m) v) (has_version (named_in ok ms) v) (sym (list_any-append (version_eq v) (known_in ok m) (named_in ok ms)) ∙ other)) [
+    | inl known ↦ nil_first v (key_of m) (known_in ok m ++ named_in ok ms) (known_key v ok m known)
+    | inr rest ↦
+        or_right (version_eq (nil_of v.key) (nil_of (key_of m))) (has_version (known_in ok m ++ named_in ok ms) (nil_of v.key))
+        (list_any-append (version_eq (nil_of v.key)) (known_in ok m) (named_in ok ms)
+        ∙ or_right (has_version (known_in ok m) (nil_of v.key)) (has_version (named_in ok ms) (nil_of v.key)) (nil_named v ok ms rest))
   ]
 ]
-  where
-    same_nil_of : (v : Version) (m : Mop) → v.key ≡ (version_in m).key → version_eq (nil_of v.key) (nil_of (version_in m).key) ≡ true
-    same_nil_of v m key = ap (λ k. version_eq (nil_of v.key) (nil_of k)) (sym key) ∙ version_eq-itself (nil_of v.key)
-
-    or_true : (b : Bool) → (b || true) ≡ true
-    or_true true = refl
-    or_true false = refl
 
 nil_named_in : (v : Version) (ts : List Transaction) → is_named ts v ≡ true → is_named ts (nil_of v.key) ≡ true
 nil_named_in v [] h = h
-nil_named_in v (t ∷ ts) h = elim (cases_Bool (has_version (named_in t.mops) v)) [
-  | inl is ↦ ap (λ b. b || is_named ts (nil_of v.key)) (nil_named v t.mops is)
+nil_named_in v (t ∷ ts) h = elim (cases_Bool (has_version (named_by t) v)) [
+  | inl is ↦ ap (λ b. b || is_named ts (nil_of v.key)) (nil_named v (is_ok t) t.mops is)
   | inr none ↦ (
       let rest : is_named ts v ≡ true = sym (ap (λ b. b || is_named ts v) none) ∙ h in
-      ap (λ b. has_version (named_in t.mops) (nil_of v.key) || b) (nil_named_in v ts rest) ∙ or_true (has_version (named_in t.mops) (nil_of v.key)))
+      ap (λ b. has_version (named_by t) (nil_of v.key) || b) (nil_named_in v ts rest) ∙ or_true (has_version (named_by t) (nil_of v.key)))
 ]
   where
     or_true : (b : Bool) → (b || true) ≡ true
@@ -238,7 +233,7 @@ map_twice : (place : ℕ) (us : List Version) → map (install_at place) us ≡ 
 map_twice place [] = refl
 map_twice place (u ∷ us) = ap (λ (ps : List (ℕ × Option Version)). install_at place u ∷ ps) (map_twice place us)
 
-read_is : (t : Transaction) (v : Version) → has_version (read_by t) v ≡ reads t v
+read_is : (t : Transaction) (v : Version) → has_version (read_by t) v ≡ is_known_to_read t v
 read_is t v = by (is_ok t)
   where
     by : (b : Bool) → has_version (cond b (external_reads t) []) v ≡ (b && has_version (external_reads t) v)
@@ -268,11 +263,11 @@ module _
 
   added_is :
       (place n nil : ℕ) (key : Atom) (value : Value) → slice_get vs n ≡ Some (version_with key value) → slice_get vs nil ≡ Some (version_with key None)
-      → added place n nil (reads t (version_with key value)) ≡ map (install_at place) (installs_behind t (version_with key value))
+      → added place n nil (is_known_to_read t (version_with key value)) ≡ map (install_at place) (installs_behind t (version_with key value))
   added_is place n nil key None at there =
       behind_nil vs numbered n nil place (last_writes (writes_of t.mops)) (lasts ws) (lasts_are vs numbered (writes_of t.mops) ws wrote) key
-      (reads t (version_with key None)) (reads t (version_with key None)) at there
-  added_is place n nil key (Some x) at there = by (reads t (version_with key (Some x)))
+      (is_known_to_read t (version_with key None)) (is_known_to_read t (version_with key None)) at there
+  added_is place n nil key (Some x) at there = by (is_known_to_read t (version_with key (Some x)))
     where
       by :
           (b : Bool) → added place n nil b ≡ map (install_at place) (filter (λ (u : Version). (false || b) && is_change (pair (version_with key (Some x)) u)) (installed_by t))
@@ -285,13 +280,13 @@ module _
   new_row ts n nil v x at there old =
       let place = length ts in
       let parts = row_parts place n nil x rs ws in
-      let is_read : has_number n rs ≡ reads t v = has_number_version vs numbered v n at (read_by t) rs read ∙ read_is t v in
+      let is_read : has_number n rs ≡ is_known_to_read t v = has_number_version vs numbered v n at (read_by t) rs read ∙ read_is t v in
       record {
         writer =
             parts.0 ∙ writer_is vs numbered v n at place (writes_of t.mops) ws wrote x
-            ∙ ap (λ (o : Option Writer). option_or o (writer_if place (writes t v) (writes_over t v))) old.writer ∙ sym (writer-push ts t v);
+            ∙ ap (λ (o : Option Writer). option_or o (writer_if place (writes t v) (wrote_intermediate t v))) old.writer ∙ sym (writer-push ts t v);
         readers =
-            parts.1 ∙ ap (λ b. x.readers ++ cond b (place ∷ []) []) is_read ∙ ap (λ (ps : List ℕ). ps ++ cond (reads t v) (place ∷ []) []) old.readers
+            parts.1 ∙ ap (λ b. x.readers ++ cond b (place ∷ []) []) is_read ∙ ap (λ (ps : List ℕ). ps ++ cond (is_known_to_read t v) (place ∷ []) []) old.readers
             ∙ sym (readers-push ts t v);
         followers =
             let first = map (follower place) (filter (is_of n) (lasts ws)) in
@@ -341,17 +336,17 @@ grown_enough n rows = omega (arith, length-append rows (replicate (n - length ro
 -- The table of one transaction more tells of it.
 pub told :
     (ts : List Transaction) (t : Transaction) (vs us : List Version) (rows : List Known) (accesses : List Accessed) (rs ws : List Access)
-    → IsTableOf ts (table_by vs rows accesses) → us ≡ with_versions vs (named_in t.mops)
+    → IsTableOf ts (table_by vs rows accesses) → us ≡ with_versions vs (named_by t)
     → AreAccesses us (read_by t) rs → AreAccesses us (map version_of (writes_of t.mops)) ws
     → IsTableOf (ts ++ t ∷ []) (table_by us (rows_after (length accesses) rs ws (grown (length us) rows)) (accesses ++ accessed rs ws ∷ []))
 told ts t vs us rows accesses rs ws is grew read wrote =
-    let numbered : AreNumbered version_eq us = subst (AreNumbered version_eq) (sym grew) (versions_numbered vs is.distinct (named_in t.mops)) in
+    let numbered : AreNumbered version_eq us = subst (AreNumbered version_eq) (sym grew) (versions_numbered vs is.distinct (named_by t)) in
     let place : length accesses ≡ length ts = access_count ts vs rows accesses is in
-    let stay = λ (n : ℕ) (v : Version) (h : slice_get vs n ≡ Some v). ap (λ (xs : List Version). slice_get xs n) grew ∙ versions_stay vs (named_in t.mops) n v h in
-    let more : length rows ≤ length us = subst (λ k. k ≤ length us) (sym (row_count ts vs rows accesses is)) (subst (λ (xs : List Version). length vs ≤ length xs) (sym grew) (longer vs (named_in t.mops))) in
+    let stay = λ (n : ℕ) (v : Version) (h : slice_get vs n ≡ Some v). ap (λ (xs : List Version). slice_get xs n) grew ∙ versions_stay vs (named_by t) n v h in
+    let more : length rows ≤ length us = subst (λ k. k ≤ length us) (sym (row_count ts vs rows accesses is)) (subst (λ (xs : List Version). length vs ≤ length xs) (sym grew) (longer vs (named_by t))) in
     let count : length (rows_after (length accesses) rs ws (grown (length us) rows)) ≡ length us = length-after (length accesses) rs ws (grown (length us) rows) ∙ length-grown (length us) rows more in
     let named : (v : Version) → has_version us v ≡ is_named (ts ++ t ∷ []) v =
-    λ v. ap (λ (xs : List Version). has_version xs v) grew ∙ has_versions vs (named_in t.mops) v ∙ ap (λ b. b || has_version (named_in t.mops) v) (is.named v) ∙ sym (named-push ts t v) in
+    λ v. ap (λ (xs : List Version). has_version xs v) grew ∙ has_versions vs (named_by t) v ∙ ap (λ b. b || has_version (named_by t) v) (is.named v) ∙ sym (named-push ts t v) in
     let rows_now = rows_after (length accesses) rs ws (grown (length us) rows) in
     let each : (n : ℕ) (y : Known) (v : Version) → slice_get rows_now n ≡ Some y → slice_get us n ≡ Some v → IsRowOf (ts ++ t ∷ []) us v y =
     λ n y v row at.
@@ -359,7 +354,7 @@ told ts t vs us rows accesses rs ws is grew read wrote =
     let x = is_at (grown (length us) rows) n below in
     let old : IsRowOf ts us v x.0 =
     subst (λ (xs : List Version). IsRowOf ts xs v x.0) (sym grew)
-    (old_row ts vs (named_in t.mops) rows accesses is (length us) n v x.0 (ap (λ (xs : List Version). slice_get xs n) (sym grew) ∙ at) x.1) in
+    (old_row ts vs (named_by t) rows accesses is (length us) n v x.0 (ap (λ (xs : List Version). slice_get xs n) (sym grew) ∙ at) x.1) in
     let nil = nil_number ts t us v n numbered named at in
     let made = row_is (length accesses) n nil.0 (grown (length us) rows) rs ws x.0 (have_nil t us numbered rs ws read wrote (read_by t) rs read v n nil.0 at nil.1) x.1 in
     let same : row_after (length ts) n nil.0 x.0 rs ws ≡ y = ap (λ p. row_after p n nil.0 x.0 rs ws) (sym place) ∙ same_item _ y (sym made ∙ row) in

@@ -5,3 +5,4 @@ pub mod Spans
 pub mod Numbering
 pub mod Views
 pub mod Pending
+pub mod Pairs

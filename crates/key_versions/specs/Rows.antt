@@ -6,7 +6,7 @@ use Rattle.key_versions.specs.declared.types.Writer.{Writer}
 use Rattle.key_versions.specs.declared.types.Follower.{Follower}
 use Rattle.key_versions.specs.declared.pending.Access.{Access}
 
--- the versions of an access are among so many
+-- the versions of an access are below n
 abbrev pub IsWithin : ℕ → Access → Type 0
 IsWithin n a = (a.nil < n) × (a.version < n)
 
@@ -131,6 +131,6 @@ rows_after place reads writes rows =
     let written = written_rows place rows writes in
     read_rows place installs (installed_rows place written installs) [] reads
 
--- rows for so many versions
+-- rows for n versions
 abbrev pub grown : ℕ → List Known → List Known
 grown n rows = rows ++ replicate (n - length rows) unknown

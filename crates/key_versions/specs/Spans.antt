@@ -4,7 +4,7 @@ use Rattle.flat_groups.specs.Groups.{between}
 use Rattle.key_versions.specs.declared.accesses.Span.{Span}
 use Rattle.key_versions.specs.Rows.{Accessed}
 
--- a span among so many numbers
+-- a span among n numbers
 abbrev pub IsSpan : ℕ → Span → Type 0
 IsSpan n s = (s.reads ≤ s.installs) × (s.installs ≤ s.end) × (s.end ≤ n)
 

@@ -8,7 +8,7 @@ use crate::rows::number_of;
 use std::alloc::{AllocError, Global};
 use std::marker::Model;
 
-/// Where the numbers of a transaction are: those of its reads, and behind them those of its installs.
+/// Where the numbers of a transaction are: those of its reads, and after them those of its installs.
 #[derive(Clone, Copy, Debug, Default, PartialEq, Eq)]
 pub(crate) struct Span {
     reads: u32,
@@ -49,7 +49,7 @@ fn append(numbers: &mut Vec<u32>, accesses: &[Access]) -> Result<(), AllocError>
 }
 
 impl Accesses {
-    /// No transaction yet, with room for so many.
+    /// No transaction yet, with room for n.
     pub fn with_capacity(alloc: Global, transactions: usize) -> Result<Self, AllocError>
         ensures { IfOk result (λ accesses. accesses ≡ []) }
     {

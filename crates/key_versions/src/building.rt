@@ -31,8 +31,8 @@ impl<'a, S: BuildHasher> Model for Building<'a, S> {
 }
 
 impl<'a, S: BuildHasher + Copy> Building<'a, S> {
-    /// No transaction was taken yet, and there is room for so many.
-    pub fn with_capacity(alloc: Global, hasher: S, transactions: usize) -> Result<Self, AllocError>
+    /// No transaction was taken yet, and there is room for n.
+    fn with_capacity(alloc: Global, hasher: S, transactions: usize) -> Result<Self, AllocError>
         ensures { IfOk result (IsTableOf []) }
     {
         let rows = Rows::with_capacity(alloc, transactions)?;
@@ -55,7 +55,7 @@ impl<'a, S: BuildHasher + Copy> Building<'a, S> {
     }
 
     /// Takes all transactions of a history, one after the other.
-    pub fn take_all(&mut self, txns: &[Txn<'a>]) -> Result<(), AllocError>
+    fn take_all(&mut self, txns: &[Txn<'a>]) -> Result<(), AllocError>
         requires { IsTableOf [] self.old }
         ensures { OnOk result (IsTableOf txns.now self.new) }
     {
@@ -65,14 +65,34 @@ impl<'a, S: BuildHasher + Copy> Building<'a, S> {
         Ok(())
     }
 
+    /// The table of a history.
+    pub fn of(alloc: Global, hasher: S, txns: &[Txn<'a>]) -> Result<Self, AllocError>
+        ensures { IfOk result (IsTableOf txns.now) }
+    {
+        let mut building = Building::with_capacity(alloc, hasher, txns.len())?;
+        building.take_all(txns)?;
+        Ok(building)
+    }
+
     /// Puts the table together. The only error is out of memory.
-    pub fn finish<R: Threads>(self, rt: &R, alloc: Global) -> Result<Versions<'a>, AllocError>
+    pub fn finish(self, alloc: Global) -> Result<Versions<'a>, AllocError>
         requires { length self.writers ≡ length self.versions }
         ensures { IfOk result (λ versions. versions ≡ self.entry) }
     {
         let numbered = self.numbering.finish();
         let rows = self.rows;
-        let known = rows.rows.finish(rt, alloc)?;
+        let known = rows.rows.finish(alloc)?;
+        Ok(Versions::new(numbered, known, rows.accesses))
+    }
+
+    /// Puts the table together with two threads, where another can be made. The only error is out of memory.
+    pub fn finish_wide<R: Threads>(self, rt: &R, alloc: Global) -> Result<Versions<'a>, AllocError>
+        requires { length self.writers ≡ length self.versions }
+        ensures { IfOk result (λ versions. versions ≡ self.entry) }
+    {
+        let numbered = self.numbering.finish();
+        let rows = self.rows;
+        let known = rows.rows.finish_wide(rt, alloc)?;
         Ok(Versions::new(numbered, known, rows.accesses))
     }
 }

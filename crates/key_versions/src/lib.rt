@@ -7,6 +7,7 @@ ghost use Rattle.key_versions.specs.Tables.{IsTableOf};
 
 mod accesses;
 mod building;
+pub mod laws;
 mod numbering;
 mod pending;
 mod rows;
@@ -21,12 +22,28 @@ use std::hash::BuildHasher;
 use std::thread::Threads;
 use txn_pairs::types::Txns;
 
-/// The versions that the transactions name, in time for their micro-operations but for the square of the length of one
-/// transaction. They borrow the journal's blocks. No answer depends on the hasher. Two threads group them in the end, where
-/// another can be made.
+/// The versions that the transactions name: the nil version of each key, what is written, and what ok transactions read. What
+/// the reads of other transactions hold is not known, so it is left out. They borrow the journal's blocks. No answer depends on
+/// the hasher.
+///
+/// The time is linear in their micro-operations, except for the square of the length of one transaction. The only error is out
+/// of memory.
+pub fn versions<'a, S: BuildHasher + Copy>(
+    alloc: Global,
+    txns: &Txns<'a>,
+    hasher: S,
+) -> Result<Versions<'a>, Fault>
+    ensures ok { IfOk result (IsTableOf txns.now) }
+    ensures err { IfErr result (λ fault. fault ≡ memory_fault) }
+{
+    let building = Building::of(alloc, hasher, txns.as_slice())?;
+    Ok(building.finish(alloc)?)
+}
+
+/// The table that `versions` makes, put together by two threads, where another can be made.
 ///
 /// The only error is out of memory.
-pub fn versions<'a, R: Threads, S: BuildHasher + Copy>(
+pub fn versions_wide<'a, R: Threads, S: BuildHasher + Copy>(
     rt: &R,
     alloc: Global,
     txns: &Txns<'a>,
@@ -35,7 +52,6 @@ pub fn versions<'a, R: Threads, S: BuildHasher + Copy>(
     ensures ok { IfOk result (IsTableOf txns.now) }
     ensures err { IfErr result (λ fault. fault ≡ memory_fault) }
 {
-    let mut building = Building::with_capacity(alloc, hasher, txns.as_slice().len())?;
-    building.take_all(txns.as_slice())?;
-    building.finish(rt, alloc).map_err(Fault::from)
+    let building = Building::of(alloc, hasher, txns.as_slice())?;
+    Ok(building.finish_wide(rt, alloc)?)
 }

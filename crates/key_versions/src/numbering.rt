@@ -6,7 +6,7 @@ ghost use Rattle.hist_types.specs.Atoms.{atom_eq};
 ghost use Rattle.hist_types.specs.Journal.{writes_of};
 ghost use Rattle.hist_types.specs.Transactions.{Version, version_of, version_eq};
 ghost use Rattle.hist_types.specs.Versions.{nil_of};
-ghost use Rattle.key_versions.specs.Histories.{named_in, read_by};
+ghost use Rattle.key_versions.specs.Histories.{named_by, read_by};
 ghost use Rattle.key_versions.specs.Numbering.{Numbers, key_at, version_with, versions_in, versions_of, AreInRange, with_versions, IsAccess, AreAccesses};
 
 use crate::pending::Access;
@@ -36,7 +36,7 @@ impl Drop for Accessed {
     }
 }
 
-/// Numbers versions in the order in which they are first named, each behind the nil version of its key.
+/// Numbers versions in the order in which they are first named, each after the nil version of its key.
 #[derive(Drop)]
 pub(crate) struct Numbering<'a, S: BuildHasher> {
     alloc: Global,
@@ -128,7 +128,7 @@ impl<'a, S: BuildHasher> Numbering<'a, S> {
         Ok(version)
     }
 
-    /// The version with this key and value, where None stands for nil.
+    /// The version with this key and value, where None is nil.
     fn access(&mut self, key: Atom<'a>, value: Option<Atom<'a>>) -> Result<Access, AllocError>
         ensures versions { OnOk result
             (versions_of self.new
@@ -149,10 +149,10 @@ impl<'a, S: BuildHasher> Numbering<'a, S> {
         })
     }
 
-    /// Numbers the versions that a transaction names.
+    /// Numbers the versions that a transaction names. Of a read of one that is not ok, that is the nil version of the key alone.
     pub fn take(&mut self, txn: &Txn<'a>) -> Result<Accessed, AllocError>
         ensures versions { OnOk result
-            (versions_of self.new ≡ with_versions (versions_of self.old) (named_in txn.now.mops)) }
+            (versions_of self.new ≡ with_versions (versions_of self.old) (named_by txn.now)) }
         ensures reads { IfOk result
             (λ a. AreAccesses (versions_of self.new) (read_by txn.now) a.reads.items) }
         ensures writes { IfOk result
@@ -165,11 +165,16 @@ impl<'a, S: BuildHasher> Numbering<'a, S> {
             writes: SmallVec::new(self.alloc),
         };
         for mop in txn.mops() {
-            let access = self.access(mop.key(), mop.value())?;
             if mop.is_write() {
-                accessed.writes.push(access)?;
-            } else if is_ok && !has_key(accessed.writes.as_slice(), access.nil) {
-                accessed.reads.push(access)?;
+                let write = self.access(mop.key(), mop.value())?;
+                accessed.writes.push(write)?;
+            } else if is_ok {
+                let read = self.access(mop.key(), mop.value())?;
+                if !has_key(accessed.writes.as_slice(), read.nil) {
+                    accessed.reads.push(read)?;
+                }
+            } else {
+                self.key(mop.key())?;
             }
         }
         Ok(accessed)

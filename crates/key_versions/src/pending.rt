@@ -1,11 +1,9 @@
 //! What is known of each version while transactions are taken, and how it is put together.
 
-ghost use Rattle.std.specs.Prelude.{◌≡◌, ◌<◌, ◌++◌, ◌∷◌, [], Some, length, map, All, IfOk, OnOk};
+ghost use Rattle.std.specs.Prelude.{◌≡◌, ◌<◌, ◌++◌, ◌∷◌, [], Some, length, map, IfOk, OnOk};
 ghost use Rattle.std.specs.Option.{option_or};
-ghost use Rattle.flat_groups.specs.Groups.{groups_from, IsNumbered};
 ghost use Rattle.key_versions.specs.Pending.{writer_in};
-ghost use Rattle.key_versions.specs.Rows.{Known, change, is_behind, unknown};
-ghost use Rattle.key_versions.specs.Rows.{with_follower, with_place, with_reader, with_writer};
+ghost use Rattle.key_versions.specs.Rows.{Known, change, is_behind, unknown, with_follower, with_place, with_reader, with_writer};
 
 use crate::types::{Follower, Writer};
 use flat_groups::groups::Groups;
@@ -92,29 +90,8 @@ pub(crate) struct Grouped {
     pub followers: Groups<Follower>,
 }
 
-/// The readers and the followers of each of so many versions: two threads group them, where another can be made.
-fn group_both<R: Threads>(
-    rt: &R,
-    alloc: Global,
-    versions: usize,
-    readers: &[(u32, u32)],
-    followers: &[(u32, Follower)],
-) -> Result<(Groups<u32>, Groups<Follower>), AllocError>
-    requires readers { All (IsNumbered versions) readers.now }
-    requires followers { All (IsNumbered versions) followers.now }
-    ensures readers { IfOk result (λ both. both.0 ≡ groups_from 0 versions readers.now) }
-    ensures followers { IfOk result (λ both. both.1 ≡ groups_from 0 versions followers.now) }
-{
-    let (readers, followers) = join_mut(
-        rt,
-        &mut || Groups::of(alloc, versions, readers),
-        &mut || Groups::of(alloc, versions, followers),
-    );
-    Ok((readers?, followers?))
-}
-
 impl Pending {
-    /// No version yet, with room for what so many transactions mostly do: each writes a version, reads two and installs
+    /// No version yet, with room for what n transactions mostly do: each writes a version, reads two and installs
     /// two.
     pub fn with_capacity(alloc: Global, transactions: usize) -> Result<Self, AllocError>
         ensures { IfOk result (λ pending. pending ≡ []) }
@@ -165,7 +142,7 @@ impl Pending {
         Ok(())
     }
 
-    /// The transaction at the place reads the version. What it installs follows; behind nil that is known already.
+    /// The transaction at the place reads the version. What it installs follows; after nil that is known already.
     pub fn read(&mut self, place: u32, read: Access, installs: &[Access]) -> Result<(), AllocError>
         requires { read.version < length self.old }
         ensures { OnOk result
@@ -186,24 +163,52 @@ impl Pending {
         Ok(())
     }
 
+    /// The readers of each version, by its number.
+    fn group_readers(&self, alloc: Global) -> Result<Groups<u32>, AllocError>
+        ensures { IfOk result (λ readers. readers ≡ map (λ (k : Known). k.readers) self.now) }
+    {
+        Groups::of(alloc, self.writers.len(), self.readers.as_slice())
+    }
+
+    /// The followers of each version, by its number.
+    fn group_followers(&self, alloc: Global) -> Result<Groups<Follower>, AllocError>
+        ensures { IfOk result (λ followers. followers ≡ map (λ (k : Known). k.followers) self.now) }
+    {
+        Groups::of(alloc, self.writers.len(), self.followers.as_slice())
+    }
+
     /// Puts together what is known of each version.
-    pub fn finish<R: Threads>(self, rt: &R, alloc: Global) -> Result<Grouped, AllocError>
+    pub fn finish(self, alloc: Global) -> Result<Grouped, AllocError>
         ensures writers { IfOk result
             (λ g. map writer_in g.writers.items ≡ map (λ (k : Known). k.writer) self) }
         ensures readers { IfOk result (λ g. g.readers ≡ map (λ (k : Known). k.readers) self) }
         ensures followers { IfOk result (λ g. g.followers ≡ map (λ (k : Known). k.followers) self) }
     {
-        let (readers, followers) = group_both(
-            rt,
-            alloc,
-            self.writers.len(),
-            self.readers.as_slice(),
-            self.followers.as_slice(),
-        )?;
+        let readers = self.group_readers(alloc)?;
+        let followers = self.group_followers(alloc)?;
         Ok(Grouped {
             writers: self.writers,
             readers,
             followers,
+        })
+    }
+
+    /// Puts together what is known of each version: two threads group readers and followers, where another can be made.
+    pub fn finish_wide<R: Threads>(self, rt: &R, alloc: Global) -> Result<Grouped, AllocError>
+        ensures writers { IfOk result
+            (λ g. map writer_in g.writers.items ≡ map (λ (k : Known). k.writer) self) }
+        ensures readers { IfOk result (λ g. g.readers ≡ map (λ (k : Known). k.readers) self) }
+        ensures followers { IfOk result (λ g. g.followers ≡ map (λ (k : Known). k.followers) self) }
+    {
+        let (readers, followers) = join_mut(
+            rt,
+            &mut || self.group_readers(alloc),
+            &mut || self.group_followers(alloc),
+        );
+        Ok(Grouped {
+            writers: self.writers,
+            readers: readers?,
+            followers: followers?,
         })
     }
 }

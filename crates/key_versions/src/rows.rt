@@ -51,7 +51,7 @@ fn add_writes(
     Ok(installs)
 }
 
-/// Adds what a transaction installs behind the nil version of each key.
+/// Adds what a transaction installs after the nil version of each key.
 fn add_installs(rows: &mut Pending, place: u32, installs: &[Access]) -> Result<(), AllocError>
     requires { All (IsWithin (length rows.old)) installs.now }
     ensures { OnOk result (rows.new ≡ installed_rows place rows.old installs.now) }
@@ -68,7 +68,7 @@ fn add_installs(rows: &mut Pending, place: u32, installs: &[Access]) -> Result<(
     Ok(())
 }
 
-/// Adds the reads of a transaction, and what it installs behind them.
+/// Adds the reads of a transaction, and what it installs after them.
 fn add_reads(
     rows: &mut Pending,
     place: u32,
@@ -95,7 +95,7 @@ pub(crate) struct Rows {
 }
 
 impl Rows {
-    /// No rows yet, with room for so many transactions.
+    /// No rows yet, with room for n transactions.
     pub fn with_capacity(alloc: Global, transactions: usize) -> Result<Self, AllocError>
         ensures rows { IfOk result (λ r. r.rows ≡ []) }
         ensures accesses { IfOk result (λ r. r.accesses ≡ []) }

@@ -17,7 +17,7 @@ use std::marker::Model;
 pub struct Versions<'a> {
     keys: Vec<Atom<'a>>,
     values: Vec<Atom<'a>>,
-    /// The key and the value of each version, by their numbers. None stands for nil.
+    /// The key and the value of each version, by their numbers. None is nil.
     pairs: Vec<(usize, Option<usize>)>,
     writers: Vec<Written>,
     readers: Groups<u32>,
@@ -121,7 +121,7 @@ impl<'a> Versions<'a> {
         self.readers.get(number)
     }
 
-    /// The transactions that install a version behind this one, in the order of their places.
+    /// The transactions that install a version after this one, in the order of their places.
     pub fn followers(&self, number: usize) -> &[Follower]
         requires { number < length self.now.versions }
         ensures { slice_get self.now.followers number ≡ Some result.now }

@@ -13,7 +13,7 @@ pub struct Writer {
     pub over: bool,
 }
 
-/// A transaction that installs a version behind another one of the same key, by its place in the history.
+/// A transaction that installs a version after another one of the same key, by its place in the history.
 #[derive(Clone, Copy, Debug, Default, PartialEq, Eq)]
 pub struct Follower {
     pub txn: u32,
@@ -49,7 +49,7 @@ impl<'a> VersionRef<'a> {
         self.key.copy()
     }
 
-    /// None stands for nil, which a key has at first.
+    /// None is nil, which a key has at first.
     pub fn value(&self) -> Option<Atom<'a>>
         ensures { result ≡ self.now.value }
     {

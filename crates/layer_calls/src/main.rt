@@ -12,6 +12,7 @@ use hist_types::limits::MAX_EVENTS;
 use hist_types::types::{Fault, OpKind, Refusal};
 use journal_core::journal::Core;
 use journal_core::prefix::Prefix;
+use journal_core::range::EventRange;
 use op_block::block::Block;
 use op_view::mops::Mops;
 use order_frontier::frontier::Frontier;
@@ -35,12 +36,37 @@ fn take_judged<'a>(core: &mut Core<'a>, block: &'a Block) -> Result<(), Fault> {
 }
 
 /// The journal of the blocks.
-fn journal_of<'a>(alloc: Global, blocks: &'a [Block]) -> Result<Prefix<'a>, Fault> {
+fn journal_of<'a>(alloc: Global, blocks: &'a [Block]) -> Result<Core<'a>, Fault> {
     let mut core = Core::new(alloc);
     for block in blocks {
         take_judged(&mut core, block)?;
     }
-    core.prefix()
+    Ok(core)
+}
+
+/// The events from the second to the last but one.
+fn middle<'a>(core: &Core<'a>) -> Result<EventRange<'a>, Fault> {
+    let events = core.events();
+    if events < 2 {
+        return core.events_between(0, 0);
+    }
+    core.events_between(1, events - 1)
+}
+
+/// How many events of the range are of the process of its last one.
+fn of_the_last_process(range: &EventRange<'_>) -> u64 {
+    let len = range.len();
+    if len == 0 {
+        return 0;
+    }
+    let process = range.op(len - 1).process();
+    let mut count: u64 = 0;
+    for op in range.iter() {
+        if op.process() == process {
+            count = count.wrapping_add(1);
+        }
+    }
+    count
 }
 
 /// How many of the blocks have a copy that is equal.
@@ -54,7 +80,7 @@ fn equal_copies(blocks: &[Block]) -> Result<u64, Fault> {
     Ok(count)
 }
 
-/// Appends the canonical text of each key, with a blank behind it.
+/// Appends the canonical text of each key, with a blank after it.
 fn write_keys(out: &mut Vec<u8>, mops: Mops<'_>) -> Result<(), Fault> {
     for mop in mops {
         write_atom(out, mop.key().text())?;
@@ -97,6 +123,7 @@ fn frontier_count(alloc: Global, prefix: &Prefix<'_>) -> Result<u64, Fault> {
 fn txns_of<'a>(alloc: Global, prefix: &Prefix<'a>) -> Result<Txns<'a>, Fault>
     ensures { IfOk result (λ txns. AreOfEvents txns) }
 {
+    // Called for its clause that the events keep the rules, which the proof cites.
     let _rules = prefix.events();
     pair(alloc, prefix.as_events())
 }
@@ -125,34 +152,41 @@ fn write_counts(
     orders: (u64, u64),
     frontier: u64,
     copies: u64,
+    middle: u64,
 ) -> Result<(), AllocError> {
     let (all, thinned) = orders;
     let lines = format!(in alloc;
-        "\nall pairs {all}\nthinned {thinned}\nby the frontier {frontier}\nequal copies {copies}\n{}\n{Failed}\n",
+        "\nall pairs {all}\nthinned {thinned}\nby the frontier {frontier}\nequal copies {copies}\nin the middle {middle}\n{}\n{Failed}\n",
         Refusal::Busy
     )?;
     out.extend_from_slice(lines.as_bytes())
 }
 
 /// The keys of all events, and what is counted of them.
-fn lines(alloc: Global, blocks: &[Block], prefix: &Prefix<'_>) -> Result<Vec<u8>, Fault> {
+fn lines(
+    alloc: Global,
+    blocks: &[Block],
+    core: &Core<'_>,
+    prefix: &Prefix<'_>,
+) -> Result<Vec<u8>, Fault> {
     let orders = order_counts(alloc, prefix)?;
     let frontier = frontier_count(alloc, prefix)?;
     let copies = equal_copies(blocks)?;
+    let middle = of_the_last_process(&middle(core)?);
     let mut lines = keys(alloc, prefix)?;
-    write_counts(alloc, &mut lines, orders, frontier, copies)?;
+    write_counts(alloc, &mut lines, orders, frontier, copies, middle)?;
     Ok(lines)
 }
 
-/// The same, and behind it the text of the verdict.
-fn lines_and_verdict<R: Threads + Sync>(
-    rt: &R,
+/// What the layers say of the history, and after it the text of the verdict.
+fn lines_and_verdict(
     alloc: Global,
     blocks: &[Block],
-    prefix: &Prefix<'_>,
+    core: &Core<'_>,
 ) -> Result<MemorySink, Fault> {
-    let lines = lines(alloc, blocks, prefix)?;
-    let verdict = verdict(rt, alloc, prefix, BuildHasherDefault::<FoldHasher>::new())?;
+    let prefix = core.prefix()?;
+    let lines = lines(alloc, blocks, core, &prefix)?;
+    let verdict = verdict(alloc, &prefix, BuildHasherDefault::<FoldHasher>::new())?;
     let mut sink = MemorySink::new(alloc);
     let _taken = sink.write(&lines);
     let _written = write_verdict(&verdict, &mut sink);
@@ -162,8 +196,8 @@ fn lines_and_verdict<R: Threads + Sync>(
 /// What the layers answer for a text.
 fn answer<R: Threads + Sync>(rt: &R, alloc: Global, text: &[u8]) -> Result<MemorySink, Fault> {
     let blocks = read_blocks(rt, alloc, text)?;
-    let prefix = journal_of(alloc, &blocks)?;
-    lines_and_verdict(rt, alloc, &blocks, &prefix)
+    let core = journal_of(alloc, &blocks)?;
+    lines_and_verdict(alloc, &blocks, &core)
 }
 
 fn main(rt: HostRuntime) -> io::Result<()> {

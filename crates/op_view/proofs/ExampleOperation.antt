@@ -3,7 +3,7 @@ use Rattle.std.proofs.Common.{ℕ, List, [], ◌∷◌, None, pos, codes, true, 
 use Rattle.hist_types.specs.Atoms.{integer, keyword, string}
 use Rattle.hist_types.specs.Entries.{PlacedMop, PlacedOperation}
 use Rattle.hist_types.specs.Operations.{Mop, read, write}
-use Rattle.hist_types.specs.Placed.{IsIn}
+use Rattle.reading_laws.specs.Placed.{IsIn}
 use Rattle.hist_types.specs.Tokens.{Item, ItemKind, Keyword, Nil, Str, Int}
 use Rattle.hist_types.specs.declared.types.OpKind.TheVariants as kinds
 use Rattle.hist_types.proofs.Rows.Cutting.{reads, cutting_texts}

@@ -11,7 +11,7 @@ use Rattle.op_view.specs.AtomTexts.{IsTokenOf}
 use Rattle.op_view.specs.Fronts.{kind_by_front}
 use Rattle.op_view.proofs.Numbers.{digit_range, other_byte}
 use Rattle.op_view.proofs.Tokens.{token_begins}
-use Rattle.hist_types.proofs.Fronts.{word_is, str_begins, int_begins}
+use Rattle.reading_laws.proofs.Fronts.{word_is, str_begins, int_begins}
 
 neither : (a b : Bool) → (a || b) ≡ false → (a ≡ false) × (b ≡ false)
 neither true b h = absurd (true≢false h)

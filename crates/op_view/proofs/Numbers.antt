@@ -8,18 +8,16 @@ use Rattle.std.specs.Prelude.{nat_eq}
 use lib.Pointwise.{pointwise}
 use Rattle.std.specs.Result.{result_ok}
 use Rattle.std.specs.Str.{IsAscii, IsUtf8, all_ascii_digits}
-use Rattle.std.specs.Str.Parse.{IsNumeral, without_leading_sign, signed_digits_value, ParsesSigned}
+use Rattle.std.specs.Str.Parse.{IsNumeral, without_leading_sign, signed_digits_value, ParsesSigned, digits_value}
 use Rattle.std.proofs.lemmas.Bool.{true≢false, false_from_ne_true, and_parts, and_from, cases_Bool, ltb-true, lt-ltb, eqb-true}
 use Rattle.std.proofs.lemmas.Int.{to_z_pos, to_z-of_z}
 use Rattle.std.proofs.lemmas.Int.Digits.{digits_value_more}
 use Rattle.std.proofs.lemmas.List.{take_all}
 use Rattle.std.proofs.lemmas.List.Folds.{list_all_more}
 use Rattle.std.proofs.lemmas.Fmt.{IsAscii-from_digits}
-use Rattle.std.proofs.lemmas.Str.{IsUtf8-from_ascii}
+use Rattle.std.proofs.lemmas.Str.{IsUtf8-from_ascii, digit_value_digit}
 use Rattle.std.proofs.lemmas.Str.Ascii.{IsAscii-cons}
-use Rattle.std.proofs.lemmas.Str.{digit_value_digit}
 use Rattle.std.proofs.lemmas.Str.Parse.{IsNumeralModel, numerals_by_value, tells_all_ascii_digits, digits_value_short}
-use Rattle.std.specs.Str.Parse.{digits_value}
 use Rattle.hist_types.specs.Bytes.{letter_n, plus, minus}
 use Rattle.hist_types.specs.Tokens.{is_int, is_whole, is_sign, without_n}
 use Rattle.hist_types.specs.AtomTokens.{int_value, is_64_bit}

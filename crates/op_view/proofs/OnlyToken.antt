@@ -8,7 +8,7 @@ use Rattle.hist_types.specs.Tokens.{Item, ItemKind, HasTokens}
 use Rattle.edn_lex.specs.declared.types.Token.{Token}
 use Rattle.edn_lex.specs.Kinds.{kind_of, item_of}
 use Rattle.edn_lex.specs.State.{State, state_at_start, Rest, RestIf, Gives, GivesToken, GivesFault, GivesEnd}
-use Rattle.hist_types.specs.Placed.{IsTokenAlone}
+use Rattle.reading_laws.specs.Placed.{IsTokenAlone}
 use Rattle.op_view.specs.AtomTexts.{whole_token}
 
 -- a lexer of the text, before its first call

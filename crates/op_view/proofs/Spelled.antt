@@ -6,7 +6,7 @@ use Rattle.hist_types.specs.AtomTokens.{atom_of_token, int_value, is_64_bit}
 use Rattle.hist_types.specs.Tokens.{ItemKind, Int}
 use Rattle.op_view.specs.declared.spelling.Spelling.{Spelling}
 use Rattle.op_view.specs.declared.spelling.Spelling.TheVariants as spellings
-use Rattle.hist_types.specs.Placed.{IsTokenAlone}
+use Rattle.reading_laws.specs.Placed.{IsTokenAlone}
 use Rattle.edn_ops.specs.SourceTexts.{IsAtomText}
 use Rattle.op_view.specs.AtomTexts.{IsTokenOf, IsNumberOf}
 use Rattle.op_view.specs.Spellings.{IsSpelled, IsSpellingOf, kind_spelled, atom_spelled}

@@ -1,8 +1,7 @@
 -- The micro-operations of an operation are in the places that its shape gives.
 use Rattle.std.proofs.Common.{◌≡◌, inl, inr, ℕ, ◌<◌, pos, List, [], ◌∷◌, length, map, true, false, Option, Some, None, refl, sym, ◌∙◌, ap, subst, arith}
-use Rattle.std.specs.List.{All, AllByRecursion}
+use Rattle.std.specs.List.{All, AllByRecursion, slice_get}
 use Rattle.std.specs.Option.{unwrap_or, IfSome}
-use Rattle.std.specs.List.{slice_get}
 use Rattle.std.proofs.lemmas.Bool.{true≢false}
 use Rattle.std.proofs.lemmas.Option.{none-some, slice_get_cases}
 use Rattle.std.proofs.lemmas.List.Elements.{recursion_from_All}
@@ -10,10 +9,10 @@ use Rattle.hist_types.specs.Atoms.{Atom, Value, integer}
 use Rattle.hist_types.specs.AtomTokens.{atom_of_token}
 use Rattle.hist_types.specs.Entries.{PlacedMop, PlacedOperation, operation as entry, operation_of}
 use Rattle.hist_types.specs.Operations.{Mop, Operation, read, write}
-use Rattle.hist_types.specs.Placed.{IsTextOf, IsTokenIn, IsTokenAlone, Spells, SpellsParts, IsMopIn, IsMopOfTokens}
+use Rattle.reading_laws.specs.Placed.{IsTextOf, IsTokenIn, IsTokenAlone, Spells, SpellsParts, IsMopIn, IsMopOfTokens}
 use Rattle.hist_types.specs.Tokens.{Item, ItemKind, Nil}
-use Rattle.hist_types.proofs.SpelledParts.{parts_spelled}
-use Rattle.hist_types.proofs.SingleTokens.{mops_alone_in}
+use Rattle.reading_laws.proofs.SpelledParts.{parts_spelled}
+use Rattle.reading_laws.proofs.SingleTokens.{mops_alone_in}
 use Rattle.hist_types.specs.declared.types.OpKind.{OpKind}
 use Rattle.op_block.specs.Contents.{BlockOperation}
 use Rattle.op_block.specs.Shapes.{short_span_of, short_mop_of, IsShapeOf}

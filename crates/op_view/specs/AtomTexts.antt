@@ -5,7 +5,7 @@ use Rattle.std.specs.List.{list_all}
 use Rattle.hist_types.specs.Atoms.{Atom, integer}
 use Rattle.hist_types.specs.AtomTokens.{atom_of_token, int_value, is_64_bit}
 use Rattle.hist_types.specs.Tokens.{Item, ItemKind}
-use Rattle.hist_types.specs.Placed.{IsTokenAlone}
+use Rattle.reading_laws.specs.Placed.{IsTokenAlone}
 use Rattle.edn_ops.specs.SourceTexts.{IsAtomText}
 use Rattle.edn_lex.specs.Kinds.{kind_of}
 use Rattle.edn_lex.specs.declared.types.TokenKind.{TokenKind}

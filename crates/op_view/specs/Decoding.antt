@@ -3,15 +3,15 @@ use Rattle.std.specs.Prelude.{◌≡◌, ◌⊎◌, ℕ, List, [], ◌∷◌, �
 use Rattle.std.specs.Option.{unwrap_or}
 use Rattle.hist_types.specs.AtomTokens.{decoded}
 
--- what stands between quotes has a content
+-- what is between quotes has a content
 abbrev pub has_content : List ℕ → Bool
 has_content between = is_some (decoded false between)
 
--- what stands between quotes, decoded; where it has no content, nothing
+-- what is between quotes, decoded; where it has no content, nothing
 abbrev pub content_of : List ℕ → List ℕ
 content_of between = unwrap_or (decoded false between) []
 
--- The content begins with the byte, and the rest of it is the content of what is behind.
+-- The content begins with the byte, and the rest of it is the content of what is after.
 pub record BeginsWithByte (between : List ℕ) (byte : ℕ) (behind : List ℕ) : Type 0 where
   pub shorter : length behind < length between
   pub content : decoded false between ≡ option_map (λ cs. byte ∷ cs) (decoded false behind)

@@ -5,7 +5,7 @@ ghost use Rattle.hist_types.specs.Atoms.{Atom as AnAtom, atom_eq, atom_cmp};
 ghost use Rattle.edn_ops.specs.SourceTexts.{IsAtomText};
 ghost use Rattle.op_view.specs.AtomTexts.{number_of, HasTokenAlone, HasNoTokenAlone, IsNoAtomText};
 ghost use Rattle.std.specs.Cmp.{partial_equiv_from_equiv, po};
-ghost use Rattle.hist_types.proofs.EdgeOrder.{atom_cmp_total};
+ghost use Rattle.hist_types.proofs.AtomOrder.{atom_cmp_total};
 ghost use Rattle.op_view.specs.Hashing.{atom_writes};
 ghost use Rattle.op_view.specs.AtomLaws.{atom_eq_equiv, atom_ties, same_writes};
 

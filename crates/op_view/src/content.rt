@@ -20,7 +20,7 @@ pub(crate) fn between_quotes(text: &[u8]) -> &[u8]
     }
 }
 
-/// The byte that an escape stands for, by the byte behind its backslash.
+/// The byte that an escape means, by the byte after its backslash.
 fn escape_value(escape: u8) -> Option<u8>
     ensures { result ≡ value_of_escape escape }
 {

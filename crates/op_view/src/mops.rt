@@ -45,7 +45,7 @@ impl<'a> Model for Mop<'a> {
     ghost invariant = { λ m. IsMopText m.text (mop_by m.text) };
 }
 
-/// The text of what a read returned. None stands for nil.
+/// The text of what a read returned. None is nil.
 fn value_text<'a>(value: Option<Atom<'a>>) -> &'a [u8]
     ensures { IsValueText result.now value.entry }
 {
@@ -56,7 +56,7 @@ fn value_text<'a>(value: Option<Atom<'a>>) -> &'a [u8]
 }
 
 impl<'a> Mop<'a> {
-    /// A read. None stands for nil.
+    /// A read. None is nil.
     pub fn r(key: Atom<'a>, value: Option<Atom<'a>>) -> Self
         ensures { result ≡ read key.entry value.entry }
     {
@@ -92,7 +92,7 @@ impl<'a> Mop<'a> {
         atom_of(self.text.key)
     }
 
-    /// What was read or is written. None stands for nil, which only a read has.
+    /// What was read or is written. None is nil, which only a read has.
     pub fn value(&self) -> Option<Atom<'a>>
         ensures { result ≡ value_of self.now }
     {

@@ -5,7 +5,7 @@ ghost use Rattle.hist_types.specs.Atoms.{Atom as AnAtom, rank as rank_of_atom};
 ghost use Rattle.hist_types.specs.AtomTokens.{int_value, is_64_bit};
 ghost use Rattle.hist_types.specs.Tokens.{without_n as before_n, is_int, Str, begins_with_number};
 ghost use Rattle.edn_lex.specs.Kinds.{kind_of};
-ghost use Rattle.hist_types.specs.Placed.{IsTokenAlone};
+ghost use Rattle.reading_laws.specs.Placed.{IsTokenAlone};
 ghost use Rattle.edn_ops.specs.SourceTexts.{IsAtomText};
 ghost use Rattle.op_view.specs.AtomTexts.{IsNumberOf};
 ghost use Rattle.op_view.specs.Fronts.{kind_by_front};
@@ -16,7 +16,7 @@ use edn_lex::types::TokenKind;
 use memchr::memchr;
 use std::str;
 
-/// An atom but for its text.
+/// An atom without its text.
 #[derive(Clone, Copy, Debug)]
 pub(crate) enum Spelling {
     /// The number is parsed once, when the atom is made.
@@ -43,7 +43,7 @@ impl Spelling {
     }
 }
 
-/// Each number of so many digits has 64 bits.
+/// Every number with this many digits fits in 64 bits.
 const MOST_DIGITS: usize = 18;
 
 /// An integer may end with an `N`.

@@ -3,7 +3,7 @@ use Rattle.std.proofs.Common.{◌≡◌, inl, ◌↔◌, ◌<◌, nat_lt, Bool, 
 use Rattle.std.proofs.lemmas.Bool.{ltb-true, lt-ltb, eqb-true, eq-eqb, and_parts, and_from, not-true, not_from_false}
 use Rattle.std.proofs.lemmas.List.Elements.{All-from_recursion}
 use Rattle.hist_types.proofs.Members.{In, in_from_Contains, Contains_from_in, in_each, in_some, in_mapped, in_map, in_filter, in_filtered}
-use Rattle.hist_types.proofs.OrderEdges.{Comes, comes_from}
+use Rattle.history_laws.proofs.OrderEdges.{Comes, comes_from}
 use Rattle.hist_types.specs.Transactions.{Transaction}
 use Rattle.hist_types.specs.Edges.{Label, process, realtime, Edge, edge, is_ok_before, same_process, realtime_label, order_labels, all_order_edges}
 use Rattle.hist_types.specs.declared.types.Level.{Level}
@@ -11,7 +11,7 @@ use Rattle.hist_types.specs.declared.types.Level.TheVariants.{Plain, Process, Re
 use Rattle.order_frontier.specs.declared.types.Completed.{Completed}
 use Rattle.order_frontier.specs.Completions.{completed_of, all_completed, predecessor_of, AreApart}
 use Rattle.order_frontier.specs.Pairs.{is_earlier, all_before}
-use Rattle.order_frontier.specs.Predecessors.{process_edge, realtime_edge, edges_to, edges_of, HasEdges, NoneTwice, name_of, names}
+use Rattle.order_frontier.specs.Predecessors.{process_edge, realtime_edge, edges_to, edges_of, HasEdges, NoPredecessorTwice, name_of, names}
 use Rattle.order_frontier.proofs.Lists.{in_if, passes_from_in}
 use Rattle.order_frontier.proofs.Seen.{done-parts, before_from, before_to, goes_to, only_one}
 use Rattle.order_frontier.proofs.Advancing.{completed-to, completed-from, all_from}
@@ -148,11 +148,11 @@ pub names_all : (done : List Completed) (ts : List Transaction) → names (map (
 names_all done [] = refl
 names_all done (t ∷ ts) = ap (λ ns. (t.process, t.invocation) ∷ ns) (names_all done ts)
 
-pub all_distinct : (done : List Completed) (ts : List Transaction) → AreApart done → All NoneTwice (map (all_before done) ts)
+pub all_distinct : (done : List Completed) (ts : List Transaction) → AreApart done → All NoPredecessorTwice (map (all_before done) ts)
 all_distinct done ts apart =
-    All-from_recursion NoneTwice (map (all_before done) ts) (all_from NoneTwice (map (all_before done) ts) (λ b i.
+    All-from_recursion NoPredecessorTwice (map (all_before done) ts) (all_from NoPredecessorTwice (map (all_before done) ts) (λ b i.
     let u = in_map (all_before done) b ts i in
-    subst NoneTwice u.2 (
+    subst NoPredecessorTwice u.2 (
       distinct_passing (λ (d : Completed). is_earlier u.0 d && (d.process == u.0.process)) done (apart_from done apart),
       distinct_passing (is_earlier u.0) done (apart_from done apart),
     )))

@@ -1,5 +1,10 @@
--- The frontier of events: the ok transactions that none has passed.
-use Rattle.std.proofs.Common.{◌≡◌, inl, inr, ℕ, ◌<◌, nat_lt, true, false, not, ◌&&◌, Option, Some, None, option_map, if◌then◌else◌, ◌+◌, List, [], ◌∷◌, filter, Contains, IsTrue, IsFalse, ap, sym, subst, ◌∙◌}
+-- The frontier of events: the ok transactions that none has passed, in the order of their completions.
+use Rattle.std.proofs.Common.{◌≡◌, inl, inr, ℕ, ◌<◌, nat_lt, Bool, true, false, cond, not, ◌&&◌, Option, Some, None, option_map, if◌then◌else◌, ◌+◌, List, [], ◌∷◌, map, filter, Contains, Less, IsTrue, IsFalse, ap, sym, subst, ◌∙◌}
+use Rattle.std.specs.Cmp.{nat_cmp_is}
+use Rattle.std.specs.List.{AllByRecursion}
+use Rattle.std.specs.List.Sorted.{IsStrictlySortedBy}
+use Rattle.std.specs.Ordering.{nat_cmp}
+use Rattle.std.proofs.lemmas.Map.Keys.{IsStrictlyIncreasing-from_sorted}
 use Rattle.std.proofs.lemmas.Bool.{ltb-true, lt-ltb, and_parts, and_from, not-true, not_from_false}
 use Rattle.hist_types.proofs.Members.{In, in_from_Contains, Contains_from_in, in_mapped, in_map, in_filter, in_filtered}
 use Rattle.hist_types.specs.Operations.{Operation}
@@ -9,11 +14,12 @@ use Rattle.order_frontier.specs.declared.types.Predecessor.{Predecessor}
 use Rattle.order_frontier.specs.declared.types.Completed.{Completed}
 use Rattle.order_frontier.specs.Completions.{completed_of, predecessor_of, is_overtaken, frontier_of}
 use Rattle.order_frontier.specs.Events.{state_of}
-use Rattle.order_frontier.specs.Predecessors.{IsAt, is_passed, AreFrontier}
+use Rattle.order_frontier.specs.Predecessors.{IsAt, is_passed, AreCompletedInOrder, AreFrontier}
+use Rattle.order_frontier.proofs.Kept.{AreStrict}
 use Rattle.order_frontier.proofs.Lists.{none_from, none_to, passes_from_in}
 use Rattle.order_frontier.proofs.Seen.{done-parts, before_from, before_to, some_same}
 use Rattle.order_frontier.proofs.Timed.{in-first}
-use Rattle.order_frontier.proofs.States.{state-sound, state-complete}
+use Rattle.order_frontier.proofs.States.{state-good, state-sound, state-complete}
 
 -- ---- an ok transaction of events has completed
 
@@ -32,6 +38,35 @@ done_from : (t : Transaction) (n : ℕ) → is_ok t ≡ true → t.completion �
 done_from t n ok has =
     ap (λ b. if b then option_map (λ c. record { completion = c; invocation = t.invocation; process = t.process }) t.completion else None) ok
     ∙ ap (option_map (λ c. record { completion = c; invocation = t.invocation; process = t.process })) has
+
+-- ---- their completions rise
+
+abbrev times : List Completed → List ℕ
+times done = map (λ (p : Predecessor). p.completion) (map predecessor_of done)
+
+later_one : (n : ℕ) (d : Completed) (passes : Bool) (done : List Completed) → n < d.completion
+    → AllByRecursion (λ m. nat_cmp n m ≡ Less) (times done)
+    → AllByRecursion (λ m. nat_cmp n m ≡ Less) (times (cond passes (d ∷ done) done))
+later_one n d true done up all = (sym (nat_cmp_is n d.completion Less up), all)
+later_one n d false done up all = all
+
+later_all : (test : Completed → Bool) (n : ℕ) (done : List Completed) → AllByRecursion (λ (v : Completed). n < v.completion) done
+    → AllByRecursion (λ m. nat_cmp n m ≡ Less) (times (filter test done))
+later_all test n [] all = tt
+later_all test n (d ∷ done) all = later_one n d (test d) (filter test done) all.0 (later_all test n done all.1)
+
+order_one : (d : Completed) (passes : Bool) (done : List Completed)
+    → AllByRecursion (λ m. nat_cmp d.completion m ≡ Less) (times done)
+    → IsStrictlySortedBy nat_cmp (times done)
+    → IsStrictlySortedBy nat_cmp (times (cond passes (d ∷ done) done))
+unfolding IsStrictlySortedBy
+order_one d true done up all = (up, all)
+order_one d false done up all = all
+
+in_order : (test : Completed → Bool) (done : List Completed) → AreStrict done → IsStrictlySortedBy nat_cmp (times (filter test done))
+unfolding IsStrictlySortedBy
+in_order test [] strict = tt
+in_order test (d ∷ done) strict = order_one d (test d) (filter test done) (later_all test d.completion done strict.0) (in_order test done strict.1)
 
 -- ---- what is kept
 
@@ -80,7 +115,15 @@ module _ (es : List Operation) where
       (in_mapped predecessor_of d (filter (λ d. not (is_overtaken done d)) done) (in_filtered (λ d. not (is_overtaken done d)) d done (state-complete es t d i is) (not_from_false (is_overtaken done d) clear)))
 
   pub are_frontier : (ps : List Predecessor) → ps ≡ frontier_of (state_of es).done → AreFrontier (transactions_of es) ps
-  are_frontier ps same p = (
-    λ c. front_from p (subst (In p) same (in_from_Contains p ps c)),
-    λ c. Contains_from_in p ps (subst (In p) (sym same) (front_to p c.0 (in_from_Contains c.0 (transactions_of es) c.1) c.2 c.3 c.4)),
-  )
+  are_frontier ps same =
+      let done = (state_of es).done in
+      record {
+        members = λ p. (
+          λ c. front_from p (subst (In p) same (in_from_Contains p ps c)),
+          λ c. Contains_from_in p ps (subst (In p) (sym same) (front_to p c.0 (in_from_Contains c.0 (transactions_of es) c.1) c.2 c.3 c.4)),
+        );
+        order =
+            subst AreCompletedInOrder (sym same)
+            (IsStrictlyIncreasing-from_sorted (times (filter (λ d. not (is_overtaken done d)) done))
+            (in_order (λ d. not (is_overtaken done d)) done (state-good es).strict));
+      }

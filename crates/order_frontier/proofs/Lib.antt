@@ -5,6 +5,7 @@ pub mod Timed
 pub mod States
 pub mod Moves
 pub mod Fronts
+pub mod FrontSize
 pub mod Advancing
 pub mod Apart
 pub mod Passes

@@ -9,7 +9,7 @@ use Rattle.order_frontier.specs.declared.types.Predecessor.{Predecessor}
 use Rattle.order_frontier.specs.declared.types.Completed.{Completed}
 use Rattle.order_frontier.specs.Completions.{AreKept}
 use Rattle.order_frontier.specs.Events.{State, done_by, after, state_of, event_of, IsStateOf}
-use Rattle.order_frontier.specs.Predecessors.{Before, HasThinned, NoneTwice}
+use Rattle.order_frontier.specs.Predecessors.{Before, HasThinned, NoPredecessorTwice}
 use Rattle.order_frontier.proofs.Kept.{kept-more, rising_strict}
 use Rattle.order_frontier.proofs.Apart.{apart_strict, none_twice}
 use Rattle.order_frontier.proofs.Seen.{AreSeen, has_thinned}
@@ -53,7 +53,7 @@ module _ (es : List Operation) (process : ℕ) (mops : List Mop) (opened : ℕ �
 
   pub once-invoke : (before : Before)
       → before ≡ record { process = process; invocation = length es; in_process = option_to_list (last process); in_realtime = recent }
-      → NoneTwice before
+      → NoPredecessorTwice before
   once-invoke before same =
       none_twice (state_of es).done before (last process) (apart_strict es (state_of es).done (state-sound es) (state-good es).strict)
       (ap (λ (b : Before). b.in_process) same) (ap (λ (b : Before). b.in_realtime) same ∙ is.kept.frontier)

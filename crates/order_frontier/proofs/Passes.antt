@@ -4,15 +4,15 @@ use Rattle.std.proofs.Math.Seq.{take-add}
 use Rattle.std.proofs.lemmas.List.{take_all, take_more, drop_more, map-append, drop-drop, length-drop}
 use Rattle.std.proofs.lemmas.List.Elements.{All-from_recursion, recursion_from_All}
 use Rattle.hist_types.proofs.Members.{In, in_back, in_append, in_from_Contains, Contains_from_in, in_each, in_some, in_map, in_mapped}
-use Rattle.hist_types.proofs.OrderEdges.{Comes, comes_from}
+use Rattle.history_laws.proofs.OrderEdges.{Comes, comes_from}
 use Rattle.hist_types.specs.Operations.{Operation}
 use Rattle.hist_types.specs.Transactions.{Transaction, transactions_of}
 use Rattle.hist_types.specs.Edges.{Edge, edge}
-use Rattle.hist_types.specs.Frontier.{thinned_labels, all_thinned_edges}
+use Rattle.hist_types.specs.ThinnedOrder.{thinned_labels, all_thinned_edges}
 use Rattle.order_frontier.specs.declared.types.Predecessor.{Predecessor}
 use Rattle.order_frontier.specs.declared.types.Completed.{Completed}
 use Rattle.order_frontier.specs.Completions.{all_completed, AreKept, AreRising, AreTimely}
-use Rattle.order_frontier.specs.Predecessors.{Before, edges_to, edges_of, HasThinned, HasEdges, NoneTwice, name_of, names}
+use Rattle.order_frontier.specs.Predecessors.{Before, edges_to, edges_of, HasThinned, HasEdges, NoPredecessorTwice, name_of, names}
 use Rattle.order_frontier.proofs.Kept.{all_in}
 use Rattle.order_frontier.proofs.Seen.{AreSeen, has_thinned}
 use Rattle.order_frontier.proofs.Timed.{timed}
@@ -76,7 +76,7 @@ pub record IsPart (ts : List Transaction) (done : List Completed) (k taken : ℕ
   pub kept : AreKept (take taken done) recent last
   pub below : (d : Completed) → In d (take taken done) → (u : Transaction) → In u (drop k ts) → d.completion < u.invocation
   pub thinned : (b : Before) → In b order → HasThinned ts b
-  pub once : (b : Before) → In b order → NoneTwice b
+  pub once : (b : Before) → In b order → NoPredecessorTwice b
   pub named : names order ≡ map name_of (take k ts)
 
 -- the first ones that are left were taken, and only these completed before the index
@@ -148,7 +148,7 @@ module _ (es : List Operation) (done : List Completed) (are : AreAll (transactio
         ];
         once = λ b i. elim (in_append b order (before' ∷ []) (subst (In b) put i)) [
           | inl j ↦ part.once b j
-          | inr (inl e) ↦ subst NoneTwice e
+          | inr (inl e) ↦ subst NoPredecessorTwice e
               (none_twice (take (taken + count) done) before' (last' u.process) (apart_take (taken + count) done are.apart)
               (ap (λ (b : Before). b.in_process) made) (ap (λ (b : Before). b.in_realtime) made ∙ kept'.frontier))
           | inr (inr none) ↦ elim none [ ]
@@ -191,5 +191,5 @@ all_thinned ts order thinned = All-from_recursion (HasThinned ts) order (all_fro
 pub thinned_all : (ts : List Transaction) (order : List Before) → All (HasThinned ts) order → (b : Before) → In b order → HasThinned ts b
 thinned_all ts order all b i = all_in (HasThinned ts) b order (recursion_from_All (HasThinned ts) order all) i
 
-pub all_once : (order : List Before) → ((b : Before) → In b order → NoneTwice b) → All NoneTwice order
-all_once order once = All-from_recursion NoneTwice order (all_from NoneTwice order once)
+pub all_once : (order : List Before) → ((b : Before) → In b order → NoPredecessorTwice b) → All NoPredecessorTwice order
+all_once order once = All-from_recursion NoPredecessorTwice order (all_from NoPredecessorTwice order once)

@@ -3,10 +3,10 @@ use Rattle.std.proofs.Common.{◌≡◌, inl, inr, ◌↔◌, ℕ, ◌<◌, ◌�
 use Rattle.std.specs.Option.{option_map_or, option_to_list}
 use Rattle.std.proofs.lemmas.Bool.{false≢true, ltb-true, lt-ltb, eqb-true, eq-eqb, ne_eqb, and_parts, and_from, not-true, not_from_false, cases_order}
 use Rattle.hist_types.proofs.Members.{In, in_from_Contains, Contains_from_in, in_each, in_mapped, in_map, in_filter, in_filtered}
-use Rattle.hist_types.proofs.OrderEdges.{Comes, comes_from}
+use Rattle.history_laws.proofs.OrderEdges.{Comes, comes_from}
 use Rattle.hist_types.specs.Transactions.{Transaction, is_ok}
 use Rattle.hist_types.specs.Edges.{Label, process, realtime, Edge, edge, between_each, is_ok_before, same_process, realtime_label, order_labels}
-use Rattle.hist_types.specs.Frontier.{is_ordered, has_between, thinned_labels, all_thinned_edges}
+use Rattle.hist_types.specs.ThinnedOrder.{is_ordered, has_between, thinned_labels, all_thinned_edges}
 use Rattle.hist_types.specs.declared.types.Level.{Level}
 use Rattle.hist_types.specs.declared.types.Level.TheVariants.{Plain, Process, Realtime}
 use Rattle.order_frontier.specs.declared.types.Predecessor.{Predecessor}

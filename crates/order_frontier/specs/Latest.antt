@@ -22,7 +22,7 @@ before_next moving process invocation =
       in_realtime = moving.recent.items;
     }
 
--- the same, as ranges: of what is listed for processes with the last one of its process behind it, and of those that were
+-- the same, as ranges: of what is listed for processes with the last one of its process after it, and of those that were
 -- taken, as many as none has overtaken
 abbrev pub row_next : Moving → Transaction → (listed taken : ℕ) → Row
 row_next moving t listed taken =

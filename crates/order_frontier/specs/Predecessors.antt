@@ -1,10 +1,11 @@
 -- What comes before each transaction, and the order edges that this gives.
 use Rattle.std.specs.Prelude.{◌≡◌, nat_eq, ℕ, Bool, ◌&&◌, Some, unwrap_or, slice_get, IsTrue, IsFalse, List, [], map, flat_map, Contains, ◌↔◌}
 use Rattle.std.specs.List.{IsDistinct, list_any}
+use Rattle.std.specs.List.Sorted.{IsStrictlyIncreasing}
 use Rattle.hist_types.specs.Operations.{Operation}
 use Rattle.hist_types.specs.Transactions.{Transaction, is_ok, transactions_of}
 use Rattle.hist_types.specs.Edges.{process, realtime, Edge, is_ok_before, all_order_edges}
-use Rattle.hist_types.specs.Frontier.{all_thinned_edges}
+use Rattle.hist_types.specs.ThinnedOrder.{all_thinned_edges}
 use Rattle.hist_types.specs.declared.types.Level.{Level}
 use Rattle.hist_types.specs.declared.types.Level.TheVariants.{Plain, Process, Realtime}
 use Rattle.order_frontier.specs.declared.types.Predecessor.{Predecessor}
@@ -62,8 +63,8 @@ abbrev pub AreDistinct : List Predecessor → Type 0
 AreDistinct ps = IsDistinct nat_eq (map (λ (p : Predecessor). p.invocation) ps)
 
 -- no predecessor is listed twice
-abbrev pub NoneTwice : Before → Type 0
-NoneTwice u = AreDistinct u.in_process × AreDistinct u.in_realtime
+abbrev pub NoPredecessorTwice : Before → Type 0
+NoPredecessorTwice u = AreDistinct u.in_process × AreDistinct u.in_realtime
 
 -- a transaction's process and the index of its invocation
 abbrev pub name_of : Transaction → ℕ × ℕ
@@ -84,9 +85,14 @@ IsAt t p = (t.invocation ≡ p.invocation) × (t.completion ≡ Some p.completio
 abbrev pub is_passed : List Transaction → Transaction → Bool
 is_passed ts t = list_any (λ v. is_ok v && is_ok_before t v) ts
 
--- exactly the ok transactions that none has passed
-abbrev pub AreFrontier : List Transaction → List Predecessor → Type 0
-AreFrontier ts ps =
-    (p : Predecessor)
-    → Contains ps p
-    ↔ ((t : Transaction) × Contains ts t × IsAt t p × IsTrue (is_ok t) × IsFalse (is_passed ts t))
+-- each completed before the next
+abbrev pub AreCompletedInOrder : List Predecessor → Type 0
+AreCompletedInOrder ps = IsStrictlyIncreasing (map (λ (p : Predecessor). p.completion) ps)
+
+-- exactly the ok transactions that none has passed, each once and in the order of their completions
+pub record AreFrontier (ts : List Transaction) (ps : List Predecessor) : Type 0 where
+  pub members :
+      (p : Predecessor)
+      → Contains ps p
+      ↔ ((t : Transaction) × Contains ts t × IsAt t p × IsTrue (is_ok t) × IsFalse (is_passed ts t))
+  pub order : AreCompletedInOrder ps

@@ -4,7 +4,7 @@ use Rattle.order_frontier.specs.declared.types.Predecessor.{Predecessor}
 use Rattle.order_frontier.specs.declared.types.Span.{Span}
 use Rattle.order_frontier.specs.declared.types.Row.{Row}
 use Rattle.hist_types.specs.Transactions.{Transaction}
-use Rattle.order_frontier.specs.Predecessors.{Before, HasThinned, NoneTwice, name_of, names}
+use Rattle.order_frontier.specs.Predecessors.{Before, HasThinned, NoPredecessorTwice, name_of, names}
 
 -- those of a range
 abbrev pub between : List Predecessor → Span → List Predecessor
@@ -32,5 +32,5 @@ pub record AreThinnedRows (ts : List Transaction) (own others : List Predecessor
     (rows : List Row) : Type 0 where
   pub ranges : All (IsRowIn own others) rows
   pub thinned : All (HasThinned ts) (map (before_in own others) rows)
-  pub once : All NoneTwice (map (before_in own others) rows)
+  pub once : All NoPredecessorTwice (map (before_in own others) rows)
   pub names : names (map (before_in own others) rows) ≡ map name_of ts

@@ -7,7 +7,7 @@ use Rattle.hist_types.specs.declared.types.OpKind.{OpKind}
 use Rattle.hist_types.specs.declared.types.OpKind.TheVariants as kinds
 use Rattle.order_frontier.specs.declared.types.Predecessor.{Predecessor}
 use Rattle.order_frontier.specs.Events.{IsStateOf, event_of}
-use Rattle.order_frontier.specs.Predecessors.{Before, HasThinned, NoneTwice, AreFrontier}
+use Rattle.order_frontier.specs.Predecessors.{Before, HasThinned, NoPredecessorTwice, AreFrontier}
 
 pub record Summary : Type 0 where
   -- how many events there were
@@ -35,7 +35,7 @@ IsNext kind process s next =
 abbrev pub IsOfSame : Summary → Summary → Type 0
 IsOfSame s other = (events : List Operation) → IsSummaryOf events s → IsSummaryOf events other
 
--- whatever the events, the ok transactions of these that none has passed
+-- whatever the events, the ok transactions of these that none has passed, in order
 abbrev pub AreFrontierOf : Summary → List Predecessor → Type 0
 AreFrontierOf s ps =
     (events : List Operation) → IsSummaryOf events s → AreFrontier (transactions_of events) ps
@@ -45,4 +45,4 @@ abbrev pub AreThinnedNext : Summary → (process : ℕ) → Before → Type 0
 AreThinnedNext s process before =
     (events : List Operation) (mops : List Mop) → IsSummaryOf events s
     → HasThinned (transactions_of (events ++ event_of kinds.Invoke process mops ∷ [])) before
-    × NoneTwice before
+    × NoPredecessorTwice before

@@ -56,15 +56,15 @@ impl Frontier {
         self.events
     }
 
-    /// The ok transactions after whose completion no ok transaction was both invoked and completed, in the order of
-    /// their completions.
+    /// The ok transactions after whose completion no ok transaction was both invoked and completed, each once, in the
+    /// order of their completions. There are no more of them than transactions were ever open at once.
     pub fn as_slice(&self) -> &[Predecessor]
         ensures { AreFrontierOf self.now result.now }
     {
         self.moving.frontier()
     }
 
-    /// Takes the next event, an invocation of the process, and answers what comes before its transaction in thinned
+    /// Takes the next event, an invocation of the process, and returns what comes before its transaction in thinned
     /// order. Out of memory is reported as that, and the frontier is still one of the same events.
     pub fn invoked(&mut self, alloc: Global, process: Process) -> Result<Predecessors, Fault>
         requires { self.old.events < MAX_EVENTS }

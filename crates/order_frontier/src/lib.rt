@@ -3,10 +3,11 @@
 
 ghost use Rattle.std.specs.Prelude.{◌≡◌, map, All, IfOk, IfErr};
 ghost use Rattle.hist_types.specs.Refusals.{memory_fault};
-ghost use Rattle.order_frontier.specs.Predecessors.{AreOfEvents, HasOrderEdges, HasThinnedEdges, NoneTwice, name_of, names};
+ghost use Rattle.order_frontier.specs.Predecessors.{AreOfEvents, HasOrderEdges, HasThinnedEdges, NoPredecessorTwice, name_of, names};
 
 mod completions;
 pub mod frontier;
+pub mod laws;
 mod moving;
 mod pairs;
 mod thinning;
@@ -23,7 +24,7 @@ use txn_pairs::types::Txns;
 /// Only memory can run out.
 pub fn all_pairs(alloc: Global, txns: &Txns<'_>) -> Result<Order, Fault>
     ensures edges { IfOk result (HasOrderEdges txns.now) }
-    ensures once { AreOfEvents txns.now → IfOk result (λ order. All NoneTwice order) }
+    ensures once { AreOfEvents txns.now → IfOk result (λ order. All NoPredecessorTwice order) }
     ensures transactions { IfOk result (λ order. names order ≡ map name_of txns.now) }
     ensures err { IfErr result (λ fault. fault ≡ memory_fault) }
 {
@@ -37,7 +38,7 @@ pub fn all_pairs(alloc: Global, txns: &Txns<'_>) -> Result<Order, Fault>
 pub fn thin(alloc: Global, txns: &Txns<'_>) -> Result<Order, Fault>
     requires { AreOfEvents txns.now }
     ensures edges { IfOk result (HasThinnedEdges txns.now) }
-    ensures once { IfOk result (λ order. All NoneTwice order) }
+    ensures once { IfOk result (λ order. All NoPredecessorTwice order) }
     ensures transactions { IfOk result (λ order. names order ≡ map name_of txns.now) }
     ensures err { IfErr result (λ fault. fault ≡ memory_fault) }
 {

@@ -1,8 +1,8 @@
 //! All pairs of transactions in order.
 
-ghost use Rattle.std.specs.Prelude.{◌≡◌, ◌++◌, length, map, IfOk, OnOk, All};
+ghost use Rattle.std.specs.Prelude.{◌≡◌, ◌++◌, ◌∷◌, [], length, map, IfOk, OnOk, All};
 ghost use Rattle.order_frontier.specs.Pairs.{all_before, is_earlier};
-ghost use Rattle.order_frontier.specs.Predecessors.{AreOfEvents, HasOrderEdges, NoneTwice, name_of, names};
+ghost use Rattle.order_frontier.specs.Predecessors.{AreOfEvents, HasOrderEdges, NoPredecessorTwice, name_of, names};
 
 use crate::completions::completions;
 use crate::types::{Completed, Order, Predecessor, Row, Span};
@@ -14,6 +14,27 @@ fn is_earlier(ok: &Completed, txn: &Txn<'_>) -> bool
     ensures { result ≡ is_earlier txn.now ok.now }
 {
     ok.completion < txn.invocation() && ok.invocation != txn.invocation()
+}
+
+/// Adds an ok transaction to the lists if it comes before the other.
+fn push_earlier(
+    ok: &Completed,
+    txn: &Txn<'_>,
+    in_process: &mut Vec<Predecessor>,
+    in_realtime: &mut Vec<Predecessor>,
+) -> Result<(), AllocError>
+    ensures in_process { OnOk result (in_process.new.items
+        ≡ in_process.old.items ++ (all_before (ok.now ∷ []) txn.now).in_process) }
+    ensures in_realtime { OnOk result (in_realtime.new.items
+        ≡ in_realtime.old.items ++ (all_before (ok.now ∷ []) txn.now).in_realtime) }
+{
+    if is_earlier(ok, txn) {
+        in_realtime.push(ok.predecessor())?;
+        if ok.process == txn.process() {
+            in_process.push(ok.predecessor())?;
+        }
+    }
+    Ok(())
 }
 
 /// Adds all of the ok transactions that come before one to the lists.
@@ -29,12 +50,7 @@ fn push_before(
         ≡ in_realtime.old.items ++ (all_before done.now txn.now).in_realtime) }
 {
     for ok in done {
-        if is_earlier(ok, txn) {
-            in_realtime.push(ok.predecessor())?;
-            if ok.process == txn.process() {
-                in_process.push(ok.predecessor())?;
-            }
-        }
+        push_earlier(ok, txn, in_process, in_realtime)?;
     }
     Ok(())
 }
@@ -77,7 +93,7 @@ fn row_of(
 /// The predecessors of each transaction: all of them.
 pub fn all(alloc: Global, txns: &[Txn<'_>]) -> Result<Order, AllocError>
     ensures edges { IfOk result (λ order. HasOrderEdges txns.now order) }
-    ensures once { AreOfEvents txns.now → IfOk result (λ order. All NoneTwice order) }
+    ensures once { AreOfEvents txns.now → IfOk result (λ order. All NoPredecessorTwice order) }
     ensures names { IfOk result (λ order. names order ≡ map name_of txns.now) }
 {
     let done = completions(alloc, txns)?;

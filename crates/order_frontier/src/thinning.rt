@@ -4,7 +4,7 @@ ghost use Rattle.std.specs.Prelude.{◌≡◌, ◌<◌, ◌≤◌, ℕ, List, []
 ghost use Rattle.process_map.specs.Values.{value_of};
 ghost use Rattle.std.specs.Option.{option_to_list};
 ghost use Rattle.order_frontier.specs.Completions.{AreKept, AreRising, AreTimely, predecessor_of};
-ghost use Rattle.order_frontier.specs.Predecessors.{AreOfEvents, HasThinned, NoneTwice, name_of, names};
+ghost use Rattle.order_frontier.specs.Predecessors.{AreOfEvents, HasThinned, NoPredecessorTwice, name_of, names};
 ghost use Rattle.order_frontier.specs.Latest.{last_of, row_next};
 ghost use Rattle.order_frontier.specs.Ranges.{AreThinnedRows};
 
@@ -14,7 +14,7 @@ use crate::types::{Completed, Order, Predecessor, Row, Span};
 use std::alloc::{AllocError, Global};
 use txn_pairs::types::Txn;
 
-/// Takes the first of the ok transactions, those that completed before the index, and answers how many these are.
+/// Takes the first of the ok transactions, those that completed before the index, and returns how many these are.
 fn advance(moving: &mut Moving, done: &[Completed], index: u64) -> Result<usize, AllocError>
     ensures kept { IfOk result
         (λ count. (earlier : List _) → AreTimely (earlier ++ done.now)
@@ -70,7 +70,7 @@ fn row_of(
     })
 }
 
-/// Adds the thinned predecessors of each transaction to lists that are empty, and answers the list that ranges in real time
+/// Adds the thinned predecessors of each transaction to lists that are empty, and returns the list that ranges in real time
 /// are of.
 fn push_rows(
     alloc: Global,
@@ -98,7 +98,7 @@ fn push_rows(
 pub fn thinned(alloc: Global, txns: &[Txn<'_>]) -> Result<Order, AllocError>
     requires { AreOfEvents txns.now }
     ensures thinned { IfOk result (λ order. All (HasThinned txns.now) order) }
-    ensures once { IfOk result (λ order. All NoneTwice order) }
+    ensures once { IfOk result (λ order. All NoPredecessorTwice order) }
     ensures names { IfOk result (λ order. names order ≡ map name_of txns.now) }
 {
     let mut rows = Vec::with_capacity(alloc, txns.len())?;

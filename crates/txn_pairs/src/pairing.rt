@@ -62,7 +62,7 @@ impl<'a> Pairing<'a> {
         }
     }
 
-    /// Makes room for so many more transactions. It changes nothing else.
+    /// Makes room for n more transactions. It changes nothing else.
     pub fn reserve(&mut self, transactions: usize) -> Result<(), AllocError>
         ensures { self.new ≡ self.old }
     {

@@ -1,12 +1,11 @@
 -- What searches in the graph of a history over its thinned order say of the history's phenomena.
-use Rattle.std.proofs.Common.{◌≡◌, inl, inr, ◌<◌, ◌≤◌, ◌↔◌, List, ◌++◌, Option, Some, None, sym, subst, arith, Contains}
+use Rattle.std.proofs.Common.{◌≡◌, inl, inr, ◌<◌, ◌≤◌, ◌↔◌, Bool, true, List, ◌++◌, Option, Some, None, sym, subst, arith, Contains}
 use Rattle.std.specs.Bool.{OnTrue}
 use Rattle.std.specs.Option.{is_none}
 use Rattle.std.proofs.lemmas.List.Elements.{All-weaker}
 use Rattle.hist_types.specs.Edges.{Edge, dependency_edges, order_edges, edges_at}
-use Rattle.hist_types.specs.Frontier.{thinned_edges}
-use Rattle.hist_types.specs.Phenomena.{height, Shows, Has}
-use Rattle.hist_types.specs.Thinning.{ShowsOver, HasOver}
+use Rattle.hist_types.specs.ThinnedOrder.{thinned_edges}
+use Rattle.hist_types.specs.Phenomena.{height, Shows, IsThere, IsShownBy}
 use Rattle.hist_types.specs.Transactions.{Transaction, transactions_of}
 use Rattle.hist_types.specs.Witness.{Finding, IsWitness, IsFinding}
 use Rattle.hist_types.specs.declared.types.Level.{Level}
@@ -14,15 +13,18 @@ use Rattle.hist_types.specs.declared.types.Level.TheVariants.{Plain, Process, Re
 use Rattle.hist_types.specs.declared.types.Phenomenon.{Phenomenon}
 use Rattle.hist_types.specs.declared.types.Phenomenon.TheVariants.{G0, G1c, GSingle, G2Item}
 use Rattle.hist_types.proofs.Members.{in_from_Contains, Contains_from_in, in_front, in_back, in_append}
-use Rattle.hist_types.proofs.OrderEdges.{thinned_edges-order}
-use Rattle.hist_types.proofs.ThinningCycles.{has_above}
-use Rattle.hist_types.proofs.ThinningWalks.{has_thinned}
+use Rattle.history_laws.proofs.OrderEdges.{thinned_edges-order}
+use Rattle.history_laws.proofs.ThinningCycles.{has_above}
+use Rattle.history_laws.proofs.ThinningWalks.{has_thinned}
 use Rattle.cycle_find.specs.Found.{IsFound, ShowNothing}
 use Rattle.cycle_show.specs.Reductions.{IsWitnessOf}
-use Rattle.order_frontier.specs.Predecessors.{AreOfEvents}
-use Rattle.edge_graph.specs.Parts.{Parts, edges_in}
-use Rattle.verdict.specs.Lowest.{IsThinned, IsLowest}
-use Rattle.verdict.specs.Verdicts.{AreFindings, no_findings}
+use Rattle.dep_edges.specs.Histories.{AreOfHistory}
+use Rattle.order_frontier.specs.Predecessors.{Before, AreOfEvents}
+use Rattle.edge_graph.specs.Parts.{Parts, IsOrderOf, IsMadeOf, edges_in}
+use Rattle.edge_graph.proofs.EdgesIn.{of_thinned}
+use Rattle.edge_graph.proofs.Orderings.{thinned_order}
+use Rattle.verdict.specs.Lowest.{IsThinned, IsThinnedOrder, IsLowest}
+use Rattle.hist_types.specs.Reports.{Findings, AreFindings, no_findings}
 
 -- ---- one search
 
@@ -43,8 +45,8 @@ thinned_is_edge level ts e c =
 pub shown :
     (g : Parts) (phenomenon : Phenomenon) (level : Level) (walk : List Edge)
     → IsThinned g
-    → ShowsOver phenomenon (edges_in g level) walk
-    → Shows phenomenon level g.txns walk
+    → Shows phenomenon (edges_in g level) walk
+    → Shows phenomenon (edges_at level g.txns) walk
 shown g phenomenon level walk thinned s = record {
   closed = s.closed;
   within = All-weaker (Contains (edges_in g level)) (Contains (edges_at level g.txns)) (λ e c. thinned_is_edge level g.txns e ((thinned.edges level e).0 c)) walk s.within;
@@ -55,13 +57,13 @@ shown g phenomenon level walk thinned s = record {
 pub absent :
     (g : Parts) (phenomenon : Phenomenon) (level : Level)
     → IsThinned g
-    → ¬ HasOver phenomenon (edges_in g level)
-    → ¬ Has phenomenon level g.txns
+    → ¬ IsShownBy phenomenon (edges_in g level)
+    → ¬ IsThere phenomenon level g.txns
 absent g phenomenon level thinned none has =
     let (events, same) = thinned.events in
-    let over : HasOver phenomenon (dependency_edges g.txns ++ thinned_edges level g.txns) =
-    subst (λ ts. HasOver phenomenon (dependency_edges ts ++ thinned_edges level ts)) (sym same)
-    ((has_thinned phenomenon level events).0 (subst (Has phenomenon level) same has)) in
+    let over : IsShownBy phenomenon (dependency_edges g.txns ++ thinned_edges level g.txns) =
+    subst (λ ts. IsShownBy phenomenon (dependency_edges ts ++ thinned_edges level ts)) (sym same)
+    ((has_thinned phenomenon level events).0 (subst (IsThere phenomenon level) same has)) in
     none (
       over.0,
       record {
@@ -82,10 +84,10 @@ highest Realtime = omega arith
 pub absent_everywhere :
     (g : Parts) (phenomenon : Phenomenon)
     → IsThinned g
-    → ¬ HasOver phenomenon (edges_in g Realtime)
+    → ¬ IsShownBy phenomenon (edges_in g Realtime)
     → IsLowest phenomenon g.txns None
-absent_everywhere g phenomenon thinned none level has =
-    absent g phenomenon Realtime thinned none (has_above phenomenon level Realtime g.txns (highest level) has)
+absent_everywhere g phenomenon thinned none =
+    (λ level has. absent g phenomenon Realtime thinned none (has_above phenomenon level Realtime g.txns (highest level) has), tt)
 
 -- what is not found at real time is there at no level
 pub ruled_out :
@@ -99,10 +101,11 @@ ruled_out g phenomenon (Some walk) thinned shown = tt
 pub lowest_at_plain :
     (g : Parts) (phenomenon : Phenomenon) (walk : List Edge)
     → IsThinned g
-    → ShowsOver phenomenon (edges_in g Plain) walk
+    → Shows phenomenon (edges_in g Plain) walk
     → IsLowest phenomenon g.txns (Some (record { level = Plain; walk = walk }))
 lowest_at_plain g phenomenon walk thinned s =
-    (shown g phenomenon Plain walk thinned s, λ lower below has. elim (none_below lower below) [ ])
+    let there = shown g phenomenon Plain walk thinned s in
+    (((walk, there), λ lower below has. elim (none_below lower below) [ ]), there)
   where
     none_below : (lower : Level) → height lower < height Plain → ⊥
     none_below Plain below = omega (arith, below)
@@ -112,18 +115,19 @@ lowest_at_plain g phenomenon walk thinned s =
 pub lowest_at_process :
     (g : Parts) (phenomenon : Phenomenon) (walk : List Edge)
     → IsThinned g
-    → ¬ HasOver phenomenon (edges_in g Plain)
-    → ShowsOver phenomenon (edges_in g Process) walk
+    → ¬ IsShownBy phenomenon (edges_in g Plain)
+    → Shows phenomenon (edges_in g Process) walk
     → IsLowest phenomenon g.txns (Some (record { level = Process; walk = walk }))
 lowest_at_process g phenomenon walk thinned none s =
-    (shown g phenomenon Process walk thinned s, none_below g phenomenon (absent g phenomenon Plain thinned none))
+    let there = shown g phenomenon Process walk thinned s in
+    (((walk, there), none_below g phenomenon (absent g phenomenon Plain thinned none)), there)
   where
     none_below :
         (g : Parts) (phenomenon : Phenomenon)
-        → ¬ Has phenomenon Plain g.txns
+        → ¬ IsThere phenomenon Plain g.txns
         → (lower : Level)
         → height lower < height Process
-        → ¬ Has phenomenon lower g.txns
+        → ¬ IsThere phenomenon lower g.txns
     none_below g phenomenon plain Plain below has = plain has
     none_below g phenomenon plain Process below has = omega (arith, below)
     none_below g phenomenon plain Realtime below has = omega (arith, below)
@@ -131,20 +135,21 @@ lowest_at_process g phenomenon walk thinned none s =
 pub lowest_at_realtime :
     (g : Parts) (phenomenon : Phenomenon) (walk : List Edge)
     → IsThinned g
-    → ¬ HasOver phenomenon (edges_in g Plain)
-    → ¬ HasOver phenomenon (edges_in g Process)
-    → ShowsOver phenomenon (edges_in g Realtime) walk
+    → ¬ IsShownBy phenomenon (edges_in g Plain)
+    → ¬ IsShownBy phenomenon (edges_in g Process)
+    → Shows phenomenon (edges_in g Realtime) walk
     → IsLowest phenomenon g.txns (Some (record { level = Realtime; walk = walk }))
 lowest_at_realtime g phenomenon walk thinned not_plain not_process s =
-    (shown g phenomenon Realtime walk thinned s, none_below g phenomenon (absent g phenomenon Plain thinned not_plain) (absent g phenomenon Process thinned not_process))
+    let there = shown g phenomenon Realtime walk thinned s in
+    (((walk, there), none_below g phenomenon (absent g phenomenon Plain thinned not_plain) (absent g phenomenon Process thinned not_process)), there)
   where
     none_below :
         (g : Parts) (phenomenon : Phenomenon)
-        → ¬ Has phenomenon Plain g.txns
-        → ¬ Has phenomenon Process g.txns
+        → ¬ IsThere phenomenon Plain g.txns
+        → ¬ IsThere phenomenon Process g.txns
         → (lower : Level)
         → height lower < height Realtime
-        → ¬ Has phenomenon lower g.txns
+        → ¬ IsThere phenomenon lower g.txns
     none_below g phenomenon plain process Plain below has = plain has
     none_below g phenomenon plain process Process below has = process has
     none_below g phenomenon plain process Realtime below has = omega (arith, below)
@@ -155,7 +160,7 @@ pub finding_of_none :
     (phenomenon : Phenomenon) (ts : List Transaction)
     → IsLowest phenomenon ts None
     → IsFinding phenomenon ts None
-finding_of_none phenomenon ts none = (none, tt)
+finding_of_none phenomenon ts none = none
 
 -- the walk at the lowest level, reduced to a witness
 pub finding_of_lowest :
@@ -166,11 +171,11 @@ pub finding_of_lowest :
     → IsFinding phenomenon g.txns (Some (record { level = lowest.level; walk = witness }))
 finding_of_lowest g phenomenon lowest witness thinned is reduced =
     let (events, same) = thinned.events in
-    let there : Shows phenomenon lowest.level (transactions_of events) lowest.walk =
-    subst (λ ts. Shows phenomenon lowest.level ts lowest.walk) same is.0 in
+    let there : Shows phenomenon (edges_at lowest.level (transactions_of events)) lowest.walk =
+    subst (λ ts. Shows phenomenon (edges_at lowest.level ts) lowest.walk) same is.1 in
     let told : IsWitness phenomenon lowest.level g.txns witness =
     subst (λ ts. IsWitness phenomenon lowest.level ts witness) (sym same) (reduced phenomenon lowest.level events there) in
-    (((lowest.walk, is.0), is.1), told)
+    (is.0, told)
 
 pub nothing_found : (g : Parts) → IsThinned g → ShowNothing (edges_in g Realtime) → AreFindings g.txns no_findings
 nothing_found g thinned nothing G0 = finding_of_none G0 g.txns (absent_everywhere g G0 thinned (nothing G0))
@@ -178,16 +183,44 @@ nothing_found g thinned nothing G1c = finding_of_none G1c g.txns (absent_everywh
 nothing_found g thinned nothing GSingle = finding_of_none GSingle g.txns (absent_everywhere g GSingle thinned (nothing GSingle))
 nothing_found g thinned nothing G2Item = finding_of_none G2Item g.txns (absent_everywhere g G2Item thinned (nothing G2Item))
 
+-- the ranks of the graph rule out cycles
+pub ruled_out_by_ranks :
+    (g ranked : Parts) (out : Bool) (found : Findings)
+    → IsThinned g
+    → ranked ≡ g
+    → out ≡ true
+    → OnTrue out (ShowNothing (edges_in ranked Realtime))
+    → found ≡ no_findings
+    → AreFindings g.txns found
+ruled_out_by_ranks g ranked out found thinned same is_out settled none =
+    let nothing : ShowNothing (edges_in ranked Realtime) = subst (λ x. OnTrue x (ShowNothing (edges_in ranked Realtime))) is_out settled in
+    subst (AreFindings g.txns) (sym none)
+    (nothing_found g thinned (subst (λ (p : Parts). ShowNothing (edges_in p Realtime)) same nothing))
+
 -- ---- the graph
 
--- the graph that is made over a thinned order
+-- a thinned order is an order of the transactions
+pub order_of :
+    (us ts : List Transaction) (order : List Before)
+    → us ≡ ts
+    → IsThinnedOrder ts order
+    → IsOrderOf us order
+order_of us ts order same is = subst (λ vs. IsOrderOf vs order) (sym same) (thinned_order ts order is.0 is.1 is.2)
+
+-- the graph that is made over it
 pub thinned_graph :
-    (g : Parts) (ts : List Transaction)
-    → g.txns ≡ ts
-    → AreOfEvents ts
-    → ((level : Level) (e : Edge) → Contains (edges_in g level) e ↔ Contains (dependency_edges ts ++ thinned_edges level ts) e)
+    (us ts : List Transaction) (order : List Before) (g : Parts)
+    → us ≡ ts
+    → AreOfHistory ts
+    → IsThinnedOrder ts order
+    → IsMadeOf us order g
     → IsThinned g
-thinned_graph g ts same events edges = record {
-  events = subst AreOfEvents (sym same) events;
-  edges = λ level e. subst (λ us. Contains (edges_in g level) e ↔ Contains (dependency_edges us ++ thinned_edges level us) e) (sym same) (edges level e);
-}
+thinned_graph us ts order g same history is over =
+    let made : IsMadeOf ts order g = subst (λ vs. IsMadeOf vs order g) same over in
+    record {
+      events = subst AreOfEvents (sym made.txns) (history.0, history.2);
+      edges =
+          λ level e.
+          subst (λ vs. Contains (edges_in g level) e ↔ Contains (dependency_edges vs ++ thinned_edges level vs) e) (sym made.txns)
+          (of_thinned ts history level e order g made is.0);
+    }

@@ -1,3 +1,2 @@
-pub mod Verdicts
 pub mod Lowest
 pub mod Pieces

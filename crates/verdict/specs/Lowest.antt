@@ -1,22 +1,22 @@
 -- The lowest level of a phenomenon, searched for in the graph of a history over its thinned order.
-use Rattle.std.specs.Prelude.{◌≡◌, ◌↔◌, ◌<◌, List, ◌++◌, map, All, Contains, Option, Some, None}
-use Rattle.hist_types.specs.Edges.{Edge, dependency_edges}
-use Rattle.hist_types.specs.Frontier.{thinned_edges}
-use Rattle.hist_types.specs.Phenomena.{height, Shows, Has}
+use Rattle.std.specs.Prelude.{◌≡◌, ◌↔◌, List, ◌++◌, map, All, Contains, Option, IfSome, option_map}
+use Rattle.hist_types.specs.Edges.{Edge, dependency_edges, edges_at}
+use Rattle.hist_types.specs.ThinnedOrder.{thinned_edges}
+use Rattle.hist_types.specs.Phenomena.{Shows, IsLowestLevel}
 use Rattle.hist_types.specs.Operations.{Operation}
 use Rattle.hist_types.specs.Transactions.{Transaction, transactions_of}
 use Rattle.hist_types.specs.Witness.{Finding, IsFinding}
 use Rattle.hist_types.specs.declared.types.Level.{Level}
 use Rattle.hist_types.specs.declared.types.Phenomenon.{Phenomenon}
 use Rattle.key_versions.specs.Tables.{IsTableOf}
-use Rattle.order_frontier.specs.Predecessors.{Before, AreOfEvents, HasThinnedEdges, NoneTwice, name_of, names}
+use Rattle.order_frontier.specs.Predecessors.{Before, AreOfEvents, HasThinnedEdges, NoPredecessorTwice, name_of, names}
 use Rattle.edge_graph.specs.Parts.{Parts, edges_in}
 use Rattle.verdict.specs.declared.tables.Tables.{Tables}
 
 -- the thinned order of the transactions, with each predecessor once
 abbrev pub IsThinnedOrder : List Transaction → List Before → Type 0
 IsThinnedOrder ts order =
-    HasThinnedEdges ts order × All NoneTwice order × (names order ≡ map name_of ts)
+    HasThinnedEdges ts order × All NoPredecessorTwice order × (names order ≡ map name_of ts)
 
 -- what a verdict of the events is made from
 pub record AreTablesOf (events : List Operation) (tables : Tables) : Type 0 where
@@ -32,12 +32,12 @@ pub record IsThinned (g : Parts) : Type 0 where
       → Contains (edges_in g level) e
       ↔ Contains (dependency_edges g.txns ++ thinned_edges level g.txns) e
 
--- a closed walk that shows the phenomenon at the lowest level at which it is there, or nothing where it isn't
+-- the lowest level at which the phenomenon is there, with a closed walk that shows it there, or
+-- nothing where it is at no level
 abbrev pub IsLowest : Phenomenon → List Transaction → Option Finding → Type 0
-IsLowest phenomenon ts None = (level : Level) → ¬ Has phenomenon level ts
-IsLowest phenomenon ts (Some lowest) =
-    Shows phenomenon lowest.level ts lowest.walk
-    × ((lower : Level) → height lower < height lowest.level → ¬ Has phenomenon lower ts)
+IsLowest phenomenon ts found =
+    IsLowestLevel phenomenon ts (option_map (λ (f : Finding). f.level) found)
+    × IfSome found (λ f. Shows phenomenon (edges_at f.level ts) f.walk)
 
 -- what is found of two phenomena
 abbrev pub AreFindingsOfTwo : (first second : Phenomenon) → List Transaction

@@ -6,7 +6,7 @@ ghost use Rattle.dep_edges.specs.Histories.{AreOfHistory};
 ghost use Rattle.hist_types.specs.Refusals.{memory_fault};
 ghost use Rattle.hist_types.specs.Witness.{IsFinding};
 ghost use Rattle.verdict.specs.Lowest.{IsThinnedOrder, IsThinned, IsLowest, AreFindingsOfTwo};
-ghost use Rattle.verdict.specs.Verdicts.{AreFindings};
+ghost use Rattle.hist_types.specs.Reports.{AreFindings};
 
 use crate::report::{Finding, Findings};
 use cycle_find::ranked_graph::RankedGraph;
@@ -105,8 +105,22 @@ fn find_phenomenon<'a>(
     }))
 }
 
-/// What is found of two phenomena, each searched for by a thread of its own where one can be made.
-fn find_two<'a, R: Threads>(
+/// What is found of the four phenomena.
+fn find_four<'a>(alloc: Global, graph: &RankedGraph<'_, '_, '_, 'a>) -> Result<Findings<'a>, Fault>
+    requires { IsThinned graph.now }
+    ensures ok { IfOk result (AreFindings graph.now.txns) }
+    ensures err { IfErr result (λ fault. fault ≡ memory_fault) }
+{
+    Ok(Findings {
+        g0: find_phenomenon(alloc, graph, Phenomenon::G0)?,
+        g1c: find_phenomenon(alloc, graph, Phenomenon::G1c)?,
+        single: find_phenomenon(alloc, graph, Phenomenon::GSingle)?,
+        item: find_phenomenon(alloc, graph, Phenomenon::G2Item)?,
+    })
+}
+
+/// What is found of two phenomena, each searched for by a thread of its own if another can be started.
+fn find_two_wide<'a, R: Threads>(
     rt: &R,
     alloc: Global,
     graph: &RankedGraph<'_, '_, '_, 'a>,
@@ -124,8 +138,8 @@ fn find_two<'a, R: Threads>(
     )
 }
 
-/// What is found of the four phenomena.
-fn find_four<'a, R: Threads + Sync>(
+/// As `find_four`, with a thread for each phenomenon if others can be started.
+fn find_four_wide<'a, R: Threads + Sync>(
     rt: &R,
     alloc: Global,
     graph: &RankedGraph<'_, '_, '_, 'a>,
@@ -136,8 +150,8 @@ fn find_four<'a, R: Threads + Sync>(
 {
     let ((g0, g1c), (single, item)) = try_join(
         rt,
-        &mut || find_two(rt, alloc, graph, Phenomenon::G0, Phenomenon::G1c),
-        &mut || find_two(rt, alloc, graph, Phenomenon::GSingle, Phenomenon::G2Item),
+        &mut || find_two_wide(rt, alloc, graph, Phenomenon::G0, Phenomenon::G1c),
+        &mut || find_two_wide(rt, alloc, graph, Phenomenon::GSingle, Phenomenon::G2Item),
     )?;
     Ok(Findings {
         g0,
@@ -148,7 +162,20 @@ fn find_four<'a, R: Threads + Sync>(
 }
 
 /// What is found of each phenomenon.
-fn find_each<'a, R: Threads + Sync>(
+fn find_each<'a>(alloc: Global, graph: &Graph<'_, '_, 'a>) -> Result<Findings<'a>, Fault>
+    requires { IsThinned graph.now }
+    ensures ok { IfOk result (AreFindings graph.now.txns) }
+    ensures err { IfErr result (λ fault. fault ≡ memory_fault) }
+{
+    let graph = RankedGraph::new(alloc, graph)?;
+    if graph.rules_out_cycles() {
+        return Ok(Findings::none());
+    }
+    find_four(alloc, &graph)
+}
+
+/// As `find_each`, with a few threads if others can be started.
+fn find_each_wide<'a, R: Threads + Sync>(
     rt: &R,
     alloc: Global,
     graph: &Graph<'_, '_, 'a>,
@@ -157,15 +184,32 @@ fn find_each<'a, R: Threads + Sync>(
     ensures ok { IfOk result (AreFindings graph.now.txns) }
     ensures err { IfErr result (λ fault. fault ≡ memory_fault) }
 {
-    let graph = RankedGraph::new(rt, alloc, graph)?;
+    let graph = RankedGraph::new_wide(rt, alloc, graph)?;
     if graph.rules_out_cycles() {
         return Ok(Findings::none());
     }
-    find_four(rt, alloc, &graph)
+    find_four_wide(rt, alloc, &graph)
 }
 
 /// The graph of a history over its thinned order, and what is found in it.
-pub fn findings_of<'a, R: Threads + Sync>(
+pub fn findings_of<'a>(
+    alloc: Global,
+    txns: &Txns<'a>,
+    deps: &Deps<'_, 'a>,
+    order: &Order,
+) -> Result<Findings<'a>, Fault>
+    requires history { AreOfHistory txns.now }
+    requires deps { deps.now ≡ txns.now }
+    requires order { IsThinnedOrder txns.now order.now }
+    ensures ok { IfOk result (AreFindings txns.now) }
+    ensures err { IfErr result (λ fault. fault ≡ memory_fault) }
+{
+    let graph = Graph::new(alloc, deps, order)?;
+    find_each(alloc, &graph)
+}
+
+/// As `findings_of`, with a few threads if others can be started.
+pub fn findings_of_wide<'a, R: Threads + Sync>(
     rt: &R,
     alloc: Global,
     txns: &Txns<'a>,
@@ -178,6 +222,6 @@ pub fn findings_of<'a, R: Threads + Sync>(
     ensures ok { IfOk result (AreFindings txns.now) }
     ensures err { IfErr result (λ fault. fault ≡ memory_fault) }
 {
-    let graph = Graph::new(rt, alloc, deps, order)?;
-    find_each(rt, alloc, &graph)
+    let graph = Graph::new_wide(rt, alloc, deps, order)?;
+    find_each_wide(rt, alloc, &graph)
 }

@@ -1,4 +1,6 @@
 //! The verdict of a history: everything that is reported of it, and its text.
+//!
+//! Only calls whose names end in `_wide` may start threads.
 #![tactic(auto)]
 
 ghost use Rattle.std.specs.Prelude.{◌≡◌, IfOk, IfErr, OnOk, OnErr};
@@ -6,21 +8,23 @@ ghost use Rattle.hist_types.specs.Journal.{KeepsRules};
 ghost use Rattle.hist_types.specs.Refusals.{memory_fault};
 ghost use Rattle.verdict.specs.Lowest.{AreTablesOf};
 ghost use Rattle.verdict.specs.Pieces.{HasTaken, HasFailedBehind};
-ghost use Rattle.verdict.specs.Verdicts.{IsVerdictOf, report_lines};
+ghost use Rattle.hist_types.specs.Reports.{AreFindings, IsVerdictOf};
+ghost use Rattle.hist_types.specs.Texts.{verdict_text};
+ghost use Rattle.hist_types.specs.Transactions.{transactions_of};
 
 pub mod devices;
 mod findings;
-pub mod laws;
 mod report;
 pub mod tables;
 mod text;
 pub mod types;
 
 use crate::devices::write_all;
-use crate::findings::findings_of;
-use crate::report::Report;
+use crate::findings::{findings_of, findings_of_wide};
+use crate::report::{Findings, Report};
 use crate::tables::{Tables, tables_of};
 use crate::types::Verdict;
+use dep_edges::deps::Deps;
 use dep_edges::edges;
 use hist_types::device::{Failed, Sink};
 use hist_types::types::Fault;
@@ -29,11 +33,55 @@ use journal_core::prefix::Prefix;
 use std::alloc::Global;
 use std::hash::BuildHasher;
 use std::thread::Threads;
+use txn_pairs::types::Txns;
+
+/// The verdict that reports these findings and what `deps` knows of bad reads.
+fn reported<'a>(
+    alloc: Global,
+    events: &Events<'a>,
+    txns: &Txns<'a>,
+    deps: &Deps<'_, 'a>,
+    findings: Findings<'a>,
+) -> Result<Verdict<'a>, Fault>
+    requires rules { KeepsRules events.now }
+    requires txns { txns.now ≡ transactions_of events.now }
+    requires deps { deps.now ≡ txns.now }
+    requires findings { AreFindings txns.now findings }
+    ensures ok { IfOk result (IsVerdictOf events.now) }
+    ensures err { IfErr result (λ fault. fault ≡ memory_fault) }
+{
+    let report = Report {
+        prefix: events.len(),
+        txns: txns.as_slice().len() as u64,
+        findings,
+        g1a: deps.g1a(),
+        g1b: deps.g1b(),
+        stray: deps.stray(),
+    };
+    Ok(Verdict::new(alloc, report)?)
+}
 
 /// The verdict of events that keep the rules, from what was made of them. It borrows the journal's blocks.
 ///
 /// Only memory can run out.
-pub fn verdict_from<'a, R: Threads + Sync>(
+pub fn verdict_from<'a>(
+    alloc: Global,
+    events: &Events<'a>,
+    tables: &Tables<'a>,
+) -> Result<Verdict<'a>, Fault>
+    requires rules { KeepsRules events.now }
+    requires tables { AreTablesOf events.now tables.now }
+    ensures ok { IfOk result (IsVerdictOf events.now) }
+    ensures err { IfErr result (λ fault. fault ≡ memory_fault) }
+{
+    let txns = &tables.txns;
+    let deps = edges(alloc, txns, &tables.versions)?;
+    let findings = findings_of(alloc, txns, &deps, &tables.order)?;
+    reported(alloc, events, txns, &deps, findings)
+}
+
+/// As `verdict_from`, with a few threads if others can be started.
+pub fn verdict_from_wide<'a, R: Threads + Sync>(
     rt: &R,
     alloc: Global,
     events: &Events<'a>,
@@ -46,22 +94,14 @@ pub fn verdict_from<'a, R: Threads + Sync>(
 {
     let txns = &tables.txns;
     let deps = edges(alloc, txns, &tables.versions)?;
-    let report = Report {
-        prefix: events.len(),
-        txns: txns.as_slice().len() as u64,
-        findings: findings_of(rt, alloc, txns, &deps, &tables.order)?,
-        g1a: deps.g1a(),
-        g1b: deps.g1b(),
-        stray: deps.stray(),
-    };
-    Ok(Verdict::new(alloc, report)?)
+    let findings = findings_of_wide(rt, alloc, txns, &deps, &tables.order)?;
+    reported(alloc, events, txns, &deps, findings)
 }
 
 /// The verdict of the events. It borrows the journal's blocks, and not the prefix. It doesn't depend on the hasher.
 ///
 /// Only memory can run out.
-pub fn verdict<'a, R: Threads + Sync, S: BuildHasher + Copy>(
-    rt: &R,
+pub fn verdict<'a, S: BuildHasher + Copy>(
     alloc: Global,
     prefix: &Prefix<'a>,
     hasher: S,
@@ -70,16 +110,17 @@ pub fn verdict<'a, R: Threads + Sync, S: BuildHasher + Copy>(
     ensures err { IfErr result (λ fault. fault ≡ memory_fault) }
 {
     let events = prefix.as_events();
+    // Called for its clause that the events keep the rules, which the proof cites.
     let _rules = prefix.events();
-    let tables = tables_of(rt, alloc, events, hasher)?;
-    verdict_from(rt, alloc, events, &tables)
+    let tables = tables_of(alloc, events, hasher)?;
+    verdict_from(alloc, events, &tables)
 }
 
 /// Hands the verdict's text to a sink, or a beginning of it where the sink fails. It takes no memory.
 pub fn write_verdict<T: Sink>(verdict: &Verdict<'_>, sink: &mut T) -> Result<(), Failed>
-    ensures ok { OnOk result (HasTaken T.Sink sink.old sink.new (report_lines verdict.now)) }
+    ensures ok { OnOk result (HasTaken T.Sink sink.old sink.new (verdict_text verdict.now)) }
     ensures err { OnErr result
-        (HasFailedBehind T.Sink sink.old sink.new (report_lines verdict.now)) }
+        (HasFailedBehind T.Sink sink.old sink.new (verdict_text verdict.now)) }
 {
     write_all(sink, verdict.text())
 }

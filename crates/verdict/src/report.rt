@@ -1,7 +1,7 @@
 //! What is reported of a history.
 
 ghost use Rattle.std.specs.Prelude.{◌≡◌};
-ghost use Rattle.verdict.specs.Verdicts.{no_findings};
+ghost use Rattle.hist_types.specs.Reports.{no_findings};
 
 use cycle_show::types::Witness;
 use dep_edges::types::BadRead;
@@ -33,7 +33,7 @@ pub(crate) struct Findings<'a> {
 }
 
 impl<'a> Model for Findings<'a> {
-    ghost use Rattle.verdict.specs.Verdicts.{Findings as SomeFindings};
+    ghost use Rattle.hist_types.specs.Reports.{Findings as SomeFindings};
 
     ghost Value = { SomeFindings };
 
@@ -65,7 +65,7 @@ pub(crate) struct Report<'a> {
 }
 
 impl<'a> Model for Report<'a> {
-    ghost use Rattle.verdict.specs.Verdicts.{Report as AReport};
+    ghost use Rattle.hist_types.specs.Reports.{Report as AReport};
 
     ghost Value = { AReport };
 

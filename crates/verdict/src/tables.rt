@@ -10,7 +10,7 @@ use edge_graph::threads::try_join;
 use hist_types::types::Fault;
 use journal_core::events::Events;
 use key_versions::table::Versions;
-use key_versions::versions;
+use key_versions::{versions, versions_wide};
 use order_frontier::thin;
 use order_frontier::types::Order;
 use std::alloc::Global;
@@ -27,8 +27,8 @@ pub struct Tables<'a> {
     pub versions: Versions<'a>,
 }
 
-/// The thinned order of the transactions, and the table of their versions: two threads make them, where another can be made.
-fn order_and_versions<'a, R: Threads + Sync, S: BuildHasher + Copy>(
+/// The thinned order of the transactions, and the table of their versions, made by two threads if another can be started.
+fn order_and_versions_wide<'a, R: Threads + Sync, S: BuildHasher + Copy>(
     rt: &R,
     alloc: Global,
     txns: &Txns<'a>,
@@ -42,14 +42,33 @@ fn order_and_versions<'a, R: Threads + Sync, S: BuildHasher + Copy>(
     try_join(
         rt,
         &mut || thin(alloc, txns),
-        &mut || versions(rt, alloc, txns, hasher),
+        &mut || versions_wide(rt, alloc, txns, hasher),
     )
 }
 
 /// What a verdict of the events is made from, whether or not they keep the rules. It doesn't depend on the hasher.
 ///
 /// Only memory can run out.
-pub fn tables_of<'a, R: Threads + Sync, S: BuildHasher + Copy>(
+pub fn tables_of<'a, S: BuildHasher + Copy>(
+    alloc: Global,
+    events: &Events<'a>,
+    hasher: S,
+) -> Result<Tables<'a>, Fault>
+    ensures ok { IfOk result (AreTablesOf events.now) }
+    ensures err { IfErr result (λ fault. fault ≡ memory_fault) }
+{
+    let txns = pair(alloc, events)?;
+    let order = thin(alloc, &txns)?;
+    let versions = versions(alloc, &txns, hasher)?;
+    Ok(Tables {
+        txns,
+        order,
+        versions,
+    })
+}
+
+/// As `tables_of`, with a few threads if others can be started.
+pub fn tables_of_wide<'a, R: Threads + Sync, S: BuildHasher + Copy>(
     rt: &R,
     alloc: Global,
     events: &Events<'a>,
@@ -59,7 +78,7 @@ pub fn tables_of<'a, R: Threads + Sync, S: BuildHasher + Copy>(
     ensures err { IfErr result (λ fault. fault ≡ memory_fault) }
 {
     let txns = pair(alloc, events)?;
-    let (order, versions) = order_and_versions(rt, alloc, &txns, hasher)?;
+    let (order, versions) = order_and_versions_wide(rt, alloc, &txns, hasher)?;
     Ok(Tables {
         txns,
         order,

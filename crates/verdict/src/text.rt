@@ -2,7 +2,7 @@
 
 ghost use Rattle.std.specs.Prelude.{◌≡◌, ◌++◌, OnOk};
 ghost use Rattle.hist_types.specs.Texts.{level_text, finding_lines};
-ghost use Rattle.verdict.specs.Verdicts.{report_lines};
+ghost use Rattle.hist_types.specs.Texts.{verdict_text};
 
 use crate::report::{Finding, Report};
 use cycle_show::write::{write_bad_read, write_head, write_number};
@@ -39,7 +39,7 @@ fn write_finding(
 
 /// Appends the text.
 pub fn write_report(out: &mut Vec<u8>, report: &Report<'_>) -> Result<(), AllocError>
-    ensures { OnOk result (out.new.items ≡ out.old.items ++ report_lines report.now) }
+    ensures { OnOk result (out.new.items ≡ out.old.items ++ verdict_text report.now) }
 {
     write_head(out, report.prefix, report.txns)?;
     write_finding(out, "G0", &report.findings.g0)?;

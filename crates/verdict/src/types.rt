@@ -3,7 +3,8 @@
 ghost use Rattle.std.specs.Option.{option_copied};
 ghost use Rattle.std.specs.Prelude.{◌≡◌, IfOk, option_map};
 ghost use Rattle.hist_types.specs.Witness.{Finding as AFinding};
-ghost use Rattle.verdict.specs.Verdicts.{finding, report_lines};
+ghost use Rattle.hist_types.specs.Reports.{finding};
+ghost use Rattle.hist_types.specs.Texts.{verdict_text};
 
 use crate::report::{Finding, Report};
 use crate::text::write_report;
@@ -22,13 +23,14 @@ pub struct Verdict<'a> {
 
 impl<'a> Model for Verdict<'a> {
     ghost use Rattle.std.specs.Prelude.{◌≡◌};
-    ghost use Rattle.verdict.specs.Verdicts.{Report as AReport, report_lines};
+    ghost use Rattle.hist_types.specs.Reports.{Report as AReport};
+    ghost use Rattle.hist_types.specs.Texts.{verdict_text};
 
     ghost Value = { AReport };
 
     ghost view = { λ v. v.report };
 
-    ghost invariant = { λ v. v.text.items ≡ report_lines v.report };
+    ghost invariant = { λ v. v.text.items ≡ verdict_text v.report };
 }
 
 impl<'a> Verdict<'a> {
@@ -105,14 +107,14 @@ impl<'a> Verdict<'a> {
 
     /// The text, as `write_verdict` writes it.
     pub fn text(&self) -> &[u8]
-        ensures { result.now ≡ report_lines self.now }
+        ensures { result.now ≡ verdict_text self.now }
     {
         &self.text
     }
 
     /// The same text, for one who needs no more than that.
     pub fn into_text(self) -> Vec<u8>
-        ensures { result.items ≡ report_lines self.entry }
+        ensures { result.items ≡ verdict_text self.entry }
     {
         self.text
     }

@@ -14,10 +14,10 @@ use Rattle.hist_types.specs.Tokens.{Item, ItemKind, Str, Int, Keyword, Symbol, N
 use Rattle.hist_types.specs.AtomTokens.{is_64_bit, int_value, atom_of_token, is_nil_kind, decoded}
 use Rattle.hist_types.specs.Entries.{◌>>=◌, refuse_if}
 use Rattle.hist_types.specs.Forms.{Open, plain, with_form}
-use Rattle.hist_types.specs.Reading.{Step, goes_on, in_operation_place, step_by}
+use Rattle.hist_types.specs.Reading.{Step, only_opens, in_operation_place, step_by}
 use Rattle.hist_types.specs.declared.types.Fault.{Fault}
 use Rattle.hist_types.specs.declared.types.Refusal.TheVariants.{NotAMap}
-use Rattle.hist_types.specs.Texts.{atom_text, value_text, written_byte}
+use Rattle.hist_types.specs.CanonicalText.{atom_text, value_text, written_byte}
 use Rattle.edn_ops.specs.Canonical.{IsSpelling, CanBeRead, ValueCanBeRead}
 use Rattle.edn_ops.proofs.ReadsBack.Chunks.{Chunk, token, text_of, WellCut, Fits, TokenFits, ascii_utf8}
 use Rattle.edn_ops.proofs.ReadsBack.Runs.{decimal_is, decimal_value, negative_value, run_fits, decimal_fits, negative_fits}
@@ -90,7 +90,7 @@ value_fits (Some a) rest closers h e = atom_fits a rest closers h e
 
 -- what a token that stands alone makes of what is open
 abbrev pub step_alone : Open → Item → Result Step Fault
-step_alone o t = refuse_if (in_operation_place o) NotAMap t.start >>= λ _. Ok (goes_on (with_form (plain t) o.marks o.collections))
+step_alone o t = refuse_if (in_operation_place o) NotAMap t.start >>= λ _. Ok (only_opens (with_form (plain t) o.marks o.collections))
 
 -- the token of an atom stands alone
 atom_step : (a : Atom) (o : Open) (t : Item) → step_by (token_kind a) o t ≡ step_alone o t

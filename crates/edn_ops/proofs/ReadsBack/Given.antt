@@ -7,7 +7,7 @@ use Rattle.std.proofs.lemmas.List.Elements.{All-nil, All-cons}
 use Rattle.hist_types.specs.Atoms.{Atom, Value}
 use Rattle.hist_types.specs.Entries.{PlacedMop, PlacedOperation, Entry, operation, skipped, operation_of, operations_of}
 use Rattle.hist_types.specs.Operations.{Mop, read, write}
-use Rattle.hist_types.specs.Placed.{SpellsValue, SpellsParts, FitsKind, from_its_start, mop_from}
+use Rattle.reading_laws.specs.Placed.{SpellsValue, SpellsParts, FitsKind, from_its_start, mop_from}
 use Rattle.hist_types.specs.Reading.{Reads}
 use Rattle.hist_types.specs.Tokens.{Item, IsCut, HasTokens, open_after, is_token}
 use Rattle.hist_types.specs.declared.limits.TheConstants.{MAX_MICRO_OPS}
@@ -17,9 +17,9 @@ use Rattle.hist_types.specs.declared.types.OpKind.TheVariants as kinds
 use Rattle.edn_ops.specs.Canonical.{CanBeRead, ValueCanBeRead, MopCanBeRead, MopsCanBeRead, CanBeReadIfShort}
 use Rattle.edn_ops.specs.SourceTexts.{IsAtomText, IsValueText, IsMopText, AreMopTexts}
 use Rattle.edn_ops.specs.declared.write.MopText.{MopText}
-use Rattle.hist_types.proofs.MapAlone.{read_alone}
+use Rattle.reading_laws.proofs.MapAlone.{read_alone}
 use Rattle.hist_types.proofs.Members.{In, Contains_from_in}
-use Rattle.hist_types.proofs.SpelledParts.{IsSpelled, spelled_by_tokens, limits_kept}
+use Rattle.reading_laws.proofs.SpelledParts.{IsSpelled, spelled_by_tokens, limits_kept}
 use Rattle.edn_ops.proofs.ReadsBack.Lexed.{no_fault_utf8}
 use Rattle.edn_ops.proofs.ReadsBack.Meant.{Means, token_means}
 

@@ -7,12 +7,12 @@ use Rattle.std.proofs.lemmas.List.Elements.{All-head, All-tail}
 use Rattle.hist_types.specs.Atoms.{Atom}
 use Rattle.hist_types.specs.Entries.{Entry, operation, PlacedOperation, operation_of}
 use Rattle.hist_types.specs.Operations.{Operation}
-use Rattle.hist_types.specs.Reading.{reading_from, nothing_open, in_front_of}
-use Rattle.hist_types.specs.Texts.{atom_text, operation_text}
+use Rattle.hist_types.specs.Reading.{reading_from, nothing_open, after_entries}
+use Rattle.hist_types.specs.CanonicalText.{atom_text, operation_text}
 use Rattle.hist_types.specs.Tokens.{HasTokens}
 use Rattle.edn_ops.specs.Canonical.{CanBeRead, OperationCanBeRead, AreOperations, IsMapOf, ReadsAsOperations, ReadsOnlyAs, operation_lines, AreLines}
 use Rattle.edn_ops.specs.SourceTexts.{IsAtomText}
-use Rattle.hist_types.proofs.OneReading.{same_reading}
+use Rattle.reading_laws.proofs.OneReading.{same_reading}
 use Rattle.edn_ops.proofs.ReadsBack.Atoms.{token_kind, atom_cut, atom_back}
 use Rattle.edn_ops.proofs.ReadsBack.Chunks.{Chunk, gap, token, text_of, WellCut, item_at, tokens_at, has_tokens}
 use Rattle.edn_ops.proofs.ReadsBack.Whole.{operation_chunks, operation_written, operation_cut}
@@ -59,7 +59,7 @@ next_made : (o : Operation) (os : List Operation) (chunks : List Chunk) → Oper
 next_made o os chunks h m = record {
   cut = operation_cut o (gap 10 ∷ chunks) h (refl, omega arith, m.cut);
   placed = (λ at. placed_at at o ∷ m.placed (after_operation at o + 1));
-  read = (λ at. operation_read at o (gap 10 ∷ chunks) None h ∙ ap (in_front_of (operation (placed_at at o) ∷ [])) (m.read (after_operation at o + 1)));
+  read = (λ at. operation_read at o (gap 10 ∷ chunks) None h ∙ ap (after_entries (operation (placed_at at o) ∷ [])) (m.read (after_operation at o + 1)));
   back = (λ at. ap (λ (p : Operation). p ∷ map operation_of (m.placed (after_operation at o + 1))) (placed_back at o h) ∙ ap (λ (ps : List Operation). o ∷ ps) (m.back (after_operation at o + 1)));
 }
 

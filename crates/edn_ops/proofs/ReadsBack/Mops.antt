@@ -13,7 +13,7 @@ use Rattle.hist_types.specs.Tokens.{Item, Opener, Closer, Keyword, run_len}
 use Rattle.hist_types.specs.Entries.{PlacedMop, elements_of, micro_op_of, micro_ops_of}
 use Rattle.hist_types.specs.Forms.{Form, plain, collection, forms_of, OpenCollection, Open}
 use Rattle.hist_types.specs.Reading.{reading_from}
-use Rattle.hist_types.specs.Texts.{atom_text, value_text, mop_text}
+use Rattle.hist_types.specs.CanonicalText.{atom_text, value_text, mop_text}
 use Rattle.edn_ops.specs.Canonical.{CanBeRead, ValueCanBeRead, MopCanBeRead}
 use Rattle.edn_ops.proofs.ReadsBack.Chunks.{Chunk, gap, token, text_of, TokenFits, WellCut, item_at, tokens_at, ascii_utf8}
 use Rattle.edn_ops.proofs.ReadsBack.Runs.{run_fits}

@@ -13,8 +13,8 @@ use Rattle.hist_types.specs.Tokens.{Item, Opener, Closer, Keyword, Int}
 use Rattle.hist_types.specs.AtomTokens.{int_value, process_of}
 use Rattle.hist_types.specs.Entries.{Entry, operation, PlacedMop, PlacedOperation, operation_of, pairs_of, entry_of, field, kind_of, mops_of, micro_ops_of, client_operation}
 use Rattle.hist_types.specs.Forms.{Form, plain, collection, forms_of, list_of, Open}
-use Rattle.hist_types.specs.Reading.{reading_from, nothing_open, in_front_of}
-use Rattle.hist_types.specs.Texts.{mop_text, kind_text, value_field_text, operation_text}
+use Rattle.hist_types.specs.Reading.{reading_from, nothing_open, after_entries}
+use Rattle.hist_types.specs.CanonicalText.{mop_text, kind_text, value_field_text, operation_text}
 use Rattle.edn_ops.specs.Canonical.{OperationCanBeRead}
 use Rattle.edn_ops.proofs.ReadsBack.Chunks.{Chunk, token, item_at, tokens_at}
 use Rattle.edn_ops.proofs.ReadsBack.Runs.{decimal_value}
@@ -108,7 +108,7 @@ closed_read :
     (start at : ℕ) (members : List Form) (more : List Chunk) (ending : Option Fault) (entry : Entry)
     → entry_of (item_at start Opener (123 ∷ [])) (item_at at Closer (125 ∷ [])) members ≡ Ok entry
     → reading_from (inside_map (item_at start Opener (123 ∷ [])) members) (tokens_at at (token Closer (125 ∷ []) ∷ more)) ending
-    ≡ in_front_of (entry ∷ []) (reading_from nothing_open (tokens_at (at + 1) more) ending)
+    ≡ after_entries (entry ∷ []) (reading_from nothing_open (tokens_at (at + 1) more) ending)
 closed_read start at members more ending entry e = rw e refl
 
 -- ---- the operation
@@ -198,7 +198,7 @@ entry_back kinds.Info process at mops h =
 pub operation_read :
     (at : ℕ) (o : Operation) (more : List Chunk) (ending : Option Fault) → OperationCanBeRead o
     → reading_from nothing_open (tokens_at at (operation_chunks o more)) ending
-    ≡ in_front_of (operation (placed_at at o) ∷ []) (reading_from nothing_open (tokens_at (after_operation at o) more) ending)
+    ≡ after_entries (operation (placed_at at o) ∷ []) (reading_from nothing_open (tokens_at (after_operation at o) more) ending)
 operation_read at o more ending h =
     value_read o.kind at (after_process at o) o.mops
     (plain (item_at (at + 1) Keyword (codes ":type")))

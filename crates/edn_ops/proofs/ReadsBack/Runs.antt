@@ -1,18 +1,15 @@
 -- Runs: what a run is, is decided by its bytes alone where it stops.
-use Rattle.std.proofs.Common.{◌≡◌, ℕ, suc, ◌+◌, ◌-◌, ◌<◌, ◌≤◌, List, [], ◌∷◌, ◌++◌, length, take, drop, get_or, Bool, true, false, Some, refl, sym, ◌∙◌, ap, subst, arith}
-use Rattle.std.specs.Prelude.{not, ◌||◌, ◌&&◌, ◌==◌}
+use Rattle.std.proofs.Common.{◌≡◌, ℕ, suc, ◌+◌, ◌-◌, ◌<◌, ◌≤◌, List, [], ◌∷◌, ◌++◌, length, take, drop, get_or, Bool, true, false, Some, refl, sym, ◌∙◌, ap, subst, arith, inl, inr, ◌^◌, rules}
+use Rattle.std.specs.Prelude.{not, ◌||◌, ◌&&◌, ◌==◌, nat_eq, decimal, pos, negsuc}
 use Rattle.std.specs.List.{list_all, ends_with}
 use Rattle.std.specs.Char.{is_ascii_digit}
-use Rattle.std.specs.Prelude.{nat_eq, decimal}
 use Rattle.std.specs.Str.Parse.{digits_value, signed_digits_value}
 use lib.IntN.{neg_ℤ}
 use Rattle.std.proofs.lemmas.List.Sums.{AllPass-from_list_all}
 use Rattle.std.proofs.lemmas.Str.Parse.{IsNumeralModel, numerals_by_value}
 use Rattle.std.proofs.lemmas.Fmt.{digits_decimal, digits_value-decimal, decimal_nonempty, first_decimal, decimal_digit}
-use Rattle.std.proofs.Common.{inl, inr, ◌^◌, rules}
 use Rattle.std.proofs.lemmas.Bool.{cases_lt, or_left, eqb-false, and_from, not_from_false, and_parts, or_parts, not-true, ne_eqb, lt-ltb, leb-true, agree_below, agree_below_at}
 use Rattle.std.proofs.lemmas.List.{take_at, drop_more, drop_all}
-use Rattle.std.specs.Prelude.{pos, negsuc}
 use Rattle.edn_ops.proofs.ReadsBack.Chunks.{Fits}
 use Rattle.hist_types.specs.AtomTokens.{int_value}
 use Rattle.hist_types.specs.Bytes.{quote, backslash, semicolon, hash, is_blank, is_opener, is_closer, is_run_byte}

@@ -2,19 +2,17 @@
 use Rattle.std.proofs.Common.{◌≡◌, ◌⊎◌, inl, inr, ℕ, suc, ◌+◌, ◌<◌, ◌≤◌, List, [], ◌∷◌, ◌++◌, length, get_or, true, false, Some, refl, sym, subst, arith}
 use Rattle.std.specs.Prelude.{◌&&◌, ◌==◌}
 use Rattle.std.specs.List.{flat_map}
-use Rattle.std.proofs.lemmas.Bool.{cases_Bool, and_right, eqb-true}
-use Rattle.std.proofs.lemmas.List.{append_assoc, take_at, length-append}
+use Rattle.std.proofs.lemmas.Bool.{cases_Bool, and_right, eqb-true, ne_eqb, cases_lt, and_parts}
+use Rattle.std.proofs.lemmas.List.{append_assoc, take_at, length-append, append-nil}
 use Rattle.std.specs.Str.{IsUtf8}
 use lib.Utf8.{scalar, scalars, encode, encodes}
-use Rattle.std.proofs.lemmas.Bool.{ne_eqb, cases_lt, and_parts}
-use Rattle.std.proofs.lemmas.List.{append-nil}
 use Rattle.std.proofs.lemmas.List.Concat.{flat_map-append}
 use Rattle.std.proofs.lemmas.Str.{IsUtf8-from_ascii, IsUtf8-nil, IsUtf8-append, IsUtf8-encode, inside_one}
 use Rattle.std.proofs.lemmas.Str.Ascii.{IsAscii-cons, IsAscii-nil, encode_ascii}
 use Rattle.hist_types.specs.Bytes.{quote, backslash}
 use Rattle.hist_types.specs.Tokens.{Str, front, content_len}
 use Rattle.hist_types.specs.AtomTokens.{escape_value, decoded, between_quotes}
-use Rattle.hist_types.specs.Texts.{written_byte}
+use Rattle.hist_types.specs.CanonicalText.{written_byte}
 
 -- a byte is written as it stands, or as a backslash and a byte that stands for it
 abbrev IsWritten : ℕ → Type 0

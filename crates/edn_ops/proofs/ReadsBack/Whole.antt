@@ -9,7 +9,7 @@ use Rattle.hist_types.specs.Operations.{Mop, Operation}
 use Rattle.hist_types.specs.declared.types.OpKind.{OpKind}
 use Rattle.hist_types.specs.declared.types.OpKind.TheVariants as kinds
 use Rattle.hist_types.specs.Tokens.{Opener, Closer, Keyword, Int, run_len}
-use Rattle.hist_types.specs.Texts.{mop_text, kind_text, value_field_text, operation_text}
+use Rattle.hist_types.specs.CanonicalText.{mop_text, kind_text, value_field_text, operation_text}
 use Rattle.edn_ops.specs.Canonical.{MopCanBeRead, MopsCanBeRead, OperationCanBeRead}
 use Rattle.edn_ops.proofs.ReadsBack.Chunks.{Chunk, gap, token, text_of, TokenFits, WellCut, ascii_utf8}
 use Rattle.edn_ops.proofs.ReadsBack.Runs.{run_fits, decimal_is, decimal_fits}

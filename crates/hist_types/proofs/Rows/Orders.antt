@@ -6,7 +6,7 @@ use Rattle.hist_types.specs.Journal.{first_broken, events_of}
 use Rattle.hist_types.specs.Transactions.{transactions_of, nodes}
 use Rattle.hist_types.specs.Versions.{version_pairs}
 use Rattle.hist_types.specs.Edges.{Edge, dependency_edges, order_edges, edges_at}
-use Rattle.hist_types.specs.Frontier.{thinned_edges}
+use Rattle.hist_types.specs.ThinnedOrder.{thinned_edges}
 use Rattle.hist_types.specs.Phenomena.{g1a}
 use Rattle.hist_types.specs.Witness.{IsWitness}
 use Rattle.hist_types.specs.Texts.{finding_lines}

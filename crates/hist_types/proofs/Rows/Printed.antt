@@ -4,7 +4,8 @@ use Rattle.std.specs.Fmt.{digits}
 use Rattle.hist_types.specs.Atoms.{Atom, integer, keyword, string, symbol}
 use Rattle.hist_types.specs.Edges.{dependency_edges}
 use Rattle.hist_types.specs.Operations.{read, write, Operation}
-use Rattle.hist_types.specs.Texts.{atom_text, operation_text, edges_text, refusal_line}
+use Rattle.hist_types.specs.CanonicalText.{atom_text, operation_text}
+use Rattle.hist_types.specs.Texts.{edges_text, refusal_line}
 use Rattle.hist_types.specs.Transactions.{transactions_of}
 use Rattle.hist_types.specs.declared.types.At.TheVariants.{Byte, Event, Nowhere}
 use Rattle.hist_types.specs.declared.types.Refusal.TheVariants.{Busy, Full, TooManyEvents, Unclosed}

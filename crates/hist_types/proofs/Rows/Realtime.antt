@@ -6,7 +6,7 @@ use Rattle.hist_types.specs.Journal.{first_broken, events_of}
 use Rattle.hist_types.specs.Transactions.{transactions_of, nodes}
 use Rattle.hist_types.specs.Versions.{version_pairs}
 use Rattle.hist_types.specs.Edges.{Edge, dependency_edges, order_edges, all_order_edges}
-use Rattle.hist_types.specs.Frontier.{thinned_edges, all_thinned_edges}
+use Rattle.hist_types.specs.ThinnedOrder.{thinned_edges, all_thinned_edges}
 use Rattle.hist_types.specs.Phenomena.{makes}
 use Rattle.hist_types.specs.Witness.{IsWitness, alternates, ends_in_order, begins_least, stations}
 use Rattle.hist_types.specs.Texts.{finding_lines}

@@ -1,11 +1,10 @@
 -- Texts and what they read as: tokens, operations, and the fault with its byte.
-use Rattle.std.proofs.Common.{◌≡◌, ℕ, List, [], ◌∷◌, ◌++◌, Some, None, codes, replicate, refl, negsuc, arith, Err}
+use Rattle.std.proofs.Common.{◌≡◌, ℕ, List, [], ◌∷◌, ◌++◌, Some, None, codes, replicate, refl, negsuc, Err}
 use Rattle.hist_types.specs.Atoms.{integer, string, symbol}
 use Rattle.hist_types.specs.Operations.{read, write}
 use Rattle.hist_types.specs.Tokens.{Item, ItemKind, Opener, Closer, Str, Drop, Tag, Nil, Int, Keyword, Other, HasTokens, byte_fault, nesting_refusal}
 use Rattle.hist_types.specs.Entries.{PlacedOperation, operation, micro_ops_of}
 use Rattle.hist_types.specs.Forms.{Form, plain, collection, forms_of}
-use Rattle.hist_types.specs.Placed.{IsTextOf, IsIn, IsMopIn, IsTokenAlone}
 use Rattle.hist_types.specs.Reading.{Reading, reading_of, Reads}
 use Rattle.hist_types.specs.declared.types.OpKind.TheVariants as kinds
 use Rattle.hist_types.specs.declared.types.Refusal.{Refusal}
@@ -14,13 +13,13 @@ use Rattle.hist_types.proofs.Rows.History.{x, number, sets, gets, invoke, ok, fa
 use Rattle.hist_types.proofs.Rows.Cutting.{has_tokens, reads, ReadsAs, reads_as, refused, RefusedAt, cutting_texts}
 
 -- a token by its kind, the offset of its first byte, and its bytes
-abbrev token : ItemKind → ℕ → List ℕ → Item
+abbrev pub token : ItemKind → ℕ → List ℕ → Item
 token kind start bytes = record { kind = kind; start = start; bytes = bytes }
 
 -- ---- lines of a history
 
--- A line as it could be printed by a test, with a tag before it, fields that are not looked at, and a comment behind it.
-abbrev tagged_line : List ℕ
+-- A line as it could be printed by a test, with a tag before it, fields that are not looked at, and a comment after it.
+abbrev pub tagged_line : List ℕ
 tagged_line = codes "#jepsen.history.Op{:type :invoke, :f :txn, :process 0, :value [[:w :x 1]], :error [:odd 0.5 #_ 5 \"a;b\"]} ; first"
 
 -- Its tokens.
@@ -64,7 +63,7 @@ unfolding cutting_texts
 tagged_line-reads = reads_as 112 _ _ None refl
 
 -- The same operation, written plainly.
-abbrev plain_line : List ℕ
+abbrev pub plain_line : List ℕ
 plain_line = codes "{:type :invoke, :process 0, :value [[:w :x 1]]}"
 
 -- Its tokens.
@@ -96,29 +95,8 @@ plain_line-reads : ReadsAs plain_line (Some (invoke 0 (sets x 1 ∷ [])) ∷ [])
 unfolding cutting_texts
 plain_line-reads = reads_as 47 _ _ None refl
 
--- The invocation with its places: the map has all 47 bytes, the key stands at 40 and the value at 43.
-abbrev plain_operation : PlacedOperation
-plain_operation = record {
-  kind = kinds.Invoke;
-  process = 0;
-  mops = record { mop = sets x 1; key = token Keyword 40 (codes ":x"); value = token Int 43 (codes "1") } ∷ [];
-  start = 0;
-  end = 47;
-}
-
-plain_line-places : IsTextOf plain_line plain_operation
-unfolding cutting_texts
-plain_line-places = (refl, refl, reads 47 plain_line (operation plain_operation ∷ []) None refl)
-
--- Its key and its value are tokens of the line, which spell `:x` and 1, and the key alone is a text of one token.
-plain_line-parts :
-    IsMopIn plain_line (record { mop = sets x 1; key = token Keyword 40 (codes ":x"); value = token Int 43 (codes "1") })
-    × IsTokenAlone Keyword (codes ":x")
-unfolding cutting_texts
-plain_line-parts = (((omega arith, refl), (omega arith, refl), (refl, refl)), has_tokens 1 (codes ":x") _ None refl)
-
--- In the tagged line the map begins at 18; it is an operation of that line.
-abbrev tagged_operation : PlacedOperation
+-- In the tagged line the map begins at 18.
+abbrev pub tagged_operation : PlacedOperation
 tagged_operation = record {
   kind = kinds.Invoke;
   process = 0;
@@ -130,10 +108,6 @@ tagged_operation = record {
 tagged_line-places : Reads tagged_line (operation tagged_operation ∷ []) None
 unfolding cutting_texts
 tagged_line-places = reads 112 tagged_line (operation tagged_operation ∷ []) None refl
-
-tagged_operation-in : IsIn tagged_line tagged_operation
-unfolding cutting_texts
-tagged_operation-in = (omega arith, omega arith, (refl, refl, reads 86 _ _ None refl))
 
 -- An operation whose process is no integer is skipped: by keyword, nil, decimal and tag.
 other_process :

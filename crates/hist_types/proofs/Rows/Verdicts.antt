@@ -1,8 +1,12 @@
 -- Whole verdicts, with each phenomenon at its lowest level, and without those that are not there.
-use Rattle.std.proofs.Common.{ℕ, suc, ◌-◌, [], ◌==◌, if◌then◌else◌, Some, None, codes, refl}
+use Rattle.std.proofs.Common.{◌≡◌, ℕ, suc, ◌-◌, List, [], length, ◌==◌, if◌then◌else◌, Some, None, codes, refl}
 use Rattle.std.specs.Fmt.{digits}
-use Rattle.hist_types.specs.Transactions.{transactions_of}
-use Rattle.hist_types.specs.Texts.{IsVerdictText}
+use Rattle.hist_types.specs.Operations.{Operation}
+use Rattle.hist_types.specs.Transactions.{Transaction, transactions_of}
+use Rattle.hist_types.specs.Phenomena.{g1a, g1b, stray}
+use Rattle.hist_types.specs.Witness.{IsFinding}
+use Rattle.hist_types.specs.Reports.{Findings, AreFindings, Report}
+use Rattle.hist_types.specs.Texts.{verdict_text, IsVerdictText}
 use Rattle.hist_types.specs.declared.types.Level.TheVariants.{Plain, Process, Realtime}
 use Rattle.hist_types.specs.declared.types.Phenomenon.TheVariants.{G0, G1c, GSingle, G2Item}
 use Rattle.hist_types.proofs.Rows.Absence.{no_cycle, no_g1c_cycle, no_ww, no_wr, no_rw, no_single_rw, only_rw, at_no_level, at_level, below_plain, below_process, below_realtime}
@@ -17,114 +21,132 @@ seen_last n = if n == 2 then 0 else suc n
 abbrev forth : ℕ → ℕ
 forth n = 9 - n
 
+-- what a verdict reports of these events that has these findings
+abbrev report_of : List Operation → Findings → Report
+report_of events found =
+    let ts = transactions_of events in
+    record {
+      prefix = length events;
+      txns = length ts;
+      findings = found;
+      g1a = g1a ts;
+      g1b = g1b ts;
+      stray = stray ts;
+    }
+
+each :
+    (ts : List Transaction) (found : Findings)
+    → IsFinding G0 ts found.g0
+    → IsFinding G1c ts found.g1c
+    → IsFinding GSingle ts found.single
+    → IsFinding G2Item ts found.item
+    → AreFindings ts found
+each ts found g0 g1c single item G0 = g0
+each ts found g0 g1c single item G1c = g1c
+each ts found g0 g1c single item GSingle = single
+each ts found g0 g1c single item G2Item = item
+
+verdict_by :
+    (events : List Operation) (text : List ℕ) (found : Findings)
+    → IsFinding G0 (transactions_of events) found.g0
+    → IsFinding G1c (transactions_of events) found.g1c
+    → IsFinding GSingle (transactions_of events) found.single
+    → IsFinding G2Item (transactions_of events) found.item
+    → text ≡ verdict_text (report_of events found)
+    → IsVerdictText events text
+verdict_by events text found g0 g1c single item lines = (
+  report_of events found,
+  record {
+    prefix = refl;
+    txns = refl;
+    findings = each (transactions_of events) found g0 g1c single item;
+    g1a = refl;
+    g1b = refl;
+    stray = refl;
+  },
+  lines,
+)
+
 -- An empty history shows nothing.
 no_events-verdict : IsVerdictText [] (codes "prefix 0\ntxns 0\nG0 none\nG1a none\nG1b none\nG1c none\nG-single none\nG2-item none\nstray 0\n")
 unfolding digits
 no_events-verdict =
-    record {
-      g0 = None;
-      g1c = None;
-      single = None;
-      item = None;
-      is_g0 = at_no_level G0 (transactions_of []) (no_ww Plain (transactions_of []) refl) (no_ww Process (transactions_of []) refl) (no_ww Realtime (transactions_of []) refl);
-      is_g1c = at_no_level G1c (transactions_of []) (no_wr Plain (transactions_of []) refl) (no_wr Process (transactions_of []) refl) (no_wr Realtime (transactions_of []) refl);
-      is_single = at_no_level GSingle (transactions_of []) (no_single_rw Plain (transactions_of []) refl) (no_single_rw Process (transactions_of []) refl) (no_single_rw Realtime (transactions_of []) refl);
-      is_item = at_no_level G2Item (transactions_of []) (no_rw Plain (transactions_of []) refl) (no_rw Process (transactions_of []) refl) (no_rw Realtime (transactions_of []) refl);
-      lines = refl;
-    }
+    verdict_by _ _
+    (record { g0 = None; g1c = None; single = None; item = None })
+    (at_no_level G0 (transactions_of []) (no_ww Plain (transactions_of []) refl) (no_ww Process (transactions_of []) refl) (no_ww Realtime (transactions_of []) refl))
+    (at_no_level G1c (transactions_of []) (no_wr Plain (transactions_of []) refl) (no_wr Process (transactions_of []) refl) (no_wr Realtime (transactions_of []) refl))
+    (at_no_level GSingle (transactions_of []) (no_single_rw Plain (transactions_of []) refl) (no_single_rw Process (transactions_of []) refl) (no_single_rw Realtime (transactions_of []) refl))
+    (at_no_level G2Item (transactions_of []) (no_rw Plain (transactions_of []) refl) (no_rw Process (transactions_of []) refl) (no_rw Realtime (transactions_of []) refl))
+    refl
 
 -- Reads that cross are a G1c, and nothing else.
 crossed_reads-verdict : IsVerdictText crossed_reads (codes "prefix 4\ntxns 2\nG0 none\nG1a none\nG1b none\nG1c plain\n  T0 -wr :x 1-> T1\n  T1 -wr :y 1-> T0\nG-single none\nG2-item none\nstray 0\n")
 unfolding digits
 crossed_reads-verdict =
-    record {
-      g0 = None;
-      g1c = Some (record { level = Plain; walk = crossed_reads_walk });
-      single = None;
-      item = None;
-      is_g0 = at_no_level G0 (transactions_of crossed_reads) (no_ww Plain (transactions_of crossed_reads) refl) (no_ww Process (transactions_of crossed_reads) refl) (no_ww Realtime (transactions_of crossed_reads) refl);
-      is_g1c = at_level G1c (transactions_of crossed_reads) (record { level = Plain; walk = crossed_reads_walk }) crossed_reads-witness (below_plain G1c (transactions_of crossed_reads));
-      is_single = at_no_level GSingle (transactions_of crossed_reads) (no_single_rw Plain (transactions_of crossed_reads) refl) (no_single_rw Process (transactions_of crossed_reads) refl) (no_single_rw Realtime (transactions_of crossed_reads) refl);
-      is_item = at_no_level G2Item (transactions_of crossed_reads) (no_rw Plain (transactions_of crossed_reads) refl) (no_rw Process (transactions_of crossed_reads) refl) (no_rw Realtime (transactions_of crossed_reads) refl);
-      lines = refl;
-    }
+    verdict_by _ _
+    (record { g0 = None; g1c = Some (record { level = Plain; walk = crossed_reads_walk }); single = None; item = None })
+    (at_no_level G0 (transactions_of crossed_reads) (no_ww Plain (transactions_of crossed_reads) refl) (no_ww Process (transactions_of crossed_reads) refl) (no_ww Realtime (transactions_of crossed_reads) refl))
+    (at_level G1c (transactions_of crossed_reads) (record { level = Plain; walk = crossed_reads_walk }) crossed_reads-witness (below_plain G1c (transactions_of crossed_reads)))
+    (at_no_level GSingle (transactions_of crossed_reads) (no_single_rw Plain (transactions_of crossed_reads) refl) (no_single_rw Process (transactions_of crossed_reads) refl) (no_single_rw Realtime (transactions_of crossed_reads) refl))
+    (at_no_level G2Item (transactions_of crossed_reads) (no_rw Plain (transactions_of crossed_reads) refl) (no_rw Process (transactions_of crossed_reads) refl) (no_rw Realtime (transactions_of crossed_reads) refl))
+    refl
 
 -- Two updates of nil are a G2-item and no G-single: a walk over their edges has two rw edges at least.
 updates_of_nil-verdict : IsVerdictText updates_of_nil (codes "prefix 4\ntxns 2\nG0 none\nG1a none\nG1b none\nG1c none\nG-single none\nG2-item plain\n  T0 -rw :x nil 2-> T1\n  T1 -rw :x nil 1-> T0\nstray 0\n")
 unfolding digits
 updates_of_nil-verdict =
-    record {
-      g0 = None;
-      g1c = None;
-      single = None;
-      item = Some (record { level = Plain; walk = updates_of_nil_walk });
-      is_g0 = at_no_level G0 (transactions_of updates_of_nil) (no_ww Plain (transactions_of updates_of_nil) refl) (no_ww Process (transactions_of updates_of_nil) refl) (no_ww Realtime (transactions_of updates_of_nil) refl);
-      is_g1c = at_no_level G1c (transactions_of updates_of_nil) (no_wr Plain (transactions_of updates_of_nil) refl) (no_wr Process (transactions_of updates_of_nil) refl) (no_wr Realtime (transactions_of updates_of_nil) refl);
-      is_single = at_no_level GSingle (transactions_of updates_of_nil) (only_rw Plain (transactions_of updates_of_nil) refl) (only_rw Process (transactions_of updates_of_nil) refl) (only_rw Realtime (transactions_of updates_of_nil) refl);
-      is_item = at_level G2Item (transactions_of updates_of_nil) (record { level = Plain; walk = updates_of_nil_walk }) updates_of_nil-witness (below_plain G2Item (transactions_of updates_of_nil));
-      lines = refl;
-    }
+    verdict_by _ _
+    (record { g0 = None; g1c = None; single = None; item = Some (record { level = Plain; walk = updates_of_nil_walk }) })
+    (at_no_level G0 (transactions_of updates_of_nil) (no_ww Plain (transactions_of updates_of_nil) refl) (no_ww Process (transactions_of updates_of_nil) refl) (no_ww Realtime (transactions_of updates_of_nil) refl))
+    (at_no_level G1c (transactions_of updates_of_nil) (no_wr Plain (transactions_of updates_of_nil) refl) (no_wr Process (transactions_of updates_of_nil) refl) (no_wr Realtime (transactions_of updates_of_nil) refl))
+    (at_no_level GSingle (transactions_of updates_of_nil) (only_rw Plain (transactions_of updates_of_nil) refl) (only_rw Process (transactions_of updates_of_nil) refl) (only_rw Realtime (transactions_of updates_of_nil) refl))
+    (at_level G2Item (transactions_of updates_of_nil) (record { level = Plain; walk = updates_of_nil_walk }) updates_of_nil-witness (below_plain G2Item (transactions_of updates_of_nil)))
+    refl
 
 -- Updates that cross are a G0 and a G1c.
 crossed_updates-verdict : IsVerdictText crossed_updates (codes "prefix 4\ntxns 2\nG0 plain\n  T0 -ww :x 1 2-> T1\n  T1 -ww :y 1 2-> T0\nG1a none\nG1b none\nG1c plain\n  T0 -ww :x 1 2-> T1\n  T1 -wr :y 1-> T0\nG-single none\nG2-item none\nstray 0\n")
 unfolding digits
 crossed_updates-verdict =
-    record {
-      g0 = Some (record { level = Plain; walk = ww_walk });
-      g1c = Some (record { level = Plain; walk = read_back_walk });
-      single = None;
-      item = None;
-      is_g0 = at_level G0 (transactions_of crossed_updates) (record { level = Plain; walk = ww_walk }) crossed_updates-g0 (below_plain G0 (transactions_of crossed_updates));
-      is_g1c = at_level G1c (transactions_of crossed_updates) (record { level = Plain; walk = read_back_walk }) crossed_updates-read_back (below_plain G1c (transactions_of crossed_updates));
-      is_single = at_no_level GSingle (transactions_of crossed_updates) (no_single_rw Plain (transactions_of crossed_updates) refl) (no_single_rw Process (transactions_of crossed_updates) refl) (no_single_rw Realtime (transactions_of crossed_updates) refl);
-      is_item = at_no_level G2Item (transactions_of crossed_updates) (no_rw Plain (transactions_of crossed_updates) refl) (no_rw Process (transactions_of crossed_updates) refl) (no_rw Realtime (transactions_of crossed_updates) refl);
-      lines = refl;
-    }
+    verdict_by _ _
+    (record { g0 = Some (record { level = Plain; walk = ww_walk }); g1c = Some (record { level = Plain; walk = read_back_walk }); single = None; item = None })
+    (at_level G0 (transactions_of crossed_updates) (record { level = Plain; walk = ww_walk }) crossed_updates-g0 (below_plain G0 (transactions_of crossed_updates)))
+    (at_level G1c (transactions_of crossed_updates) (record { level = Plain; walk = read_back_walk }) crossed_updates-read_back (below_plain G1c (transactions_of crossed_updates)))
+    (at_no_level GSingle (transactions_of crossed_updates) (no_single_rw Plain (transactions_of crossed_updates) refl) (no_single_rw Process (transactions_of crossed_updates) refl) (no_single_rw Realtime (transactions_of crossed_updates) refl))
+    (at_no_level G2Item (transactions_of crossed_updates) (no_rw Plain (transactions_of crossed_updates) refl) (no_rw Process (transactions_of crossed_updates) refl) (no_rw Realtime (transactions_of crossed_updates) refl))
+    refl
 
 -- A stale read is a G-single and a G2-item, and neither at a lower level than realtime.
 stale_read-verdict : IsVerdictText stale_read (codes "prefix 4\ntxns 2\nG0 none\nG1a none\nG1b none\nG1c none\nG-single realtime\n  T0 -realtime 1 2-> T2\n  T2 -rw :x nil 1-> T0\nG2-item realtime\n  T0 -realtime 1 2-> T2\n  T2 -rw :x nil 1-> T0\nstray 0\n")
 unfolding digits
 stale_read-verdict =
-    record {
-      g0 = None;
-      g1c = None;
-      single = Some (record { level = Realtime; walk = stale_read_walk });
-      item = Some (record { level = Realtime; walk = stale_read_walk });
-      is_g0 = at_no_level G0 (transactions_of stale_read) (no_ww Plain (transactions_of stale_read) refl) (no_ww Process (transactions_of stale_read) refl) (no_ww Realtime (transactions_of stale_read) refl);
-      is_g1c = at_no_level G1c (transactions_of stale_read) (no_wr Plain (transactions_of stale_read) refl) (no_wr Process (transactions_of stale_read) refl) (no_wr Realtime (transactions_of stale_read) refl);
-      is_single = at_level GSingle (transactions_of stale_read) (record { level = Realtime; walk = stale_read_walk }) stale_read-witness.0 (below_realtime GSingle (transactions_of stale_read) (no_cycle GSingle Plain (transactions_of stale_read) (λ n. n) refl) (no_cycle GSingle Process (transactions_of stale_read) (λ n. n) refl));
-      is_item = at_level G2Item (transactions_of stale_read) (record { level = Realtime; walk = stale_read_walk }) stale_read-witness.1 (below_realtime G2Item (transactions_of stale_read) (no_cycle G2Item Plain (transactions_of stale_read) (λ n. n) refl) (no_cycle G2Item Process (transactions_of stale_read) (λ n. n) refl));
-      lines = refl;
-    }
+    verdict_by _ _
+    (record { g0 = None; g1c = None; single = Some (record { level = Realtime; walk = stale_read_walk }); item = Some (record { level = Realtime; walk = stale_read_walk }) })
+    (at_no_level G0 (transactions_of stale_read) (no_ww Plain (transactions_of stale_read) refl) (no_ww Process (transactions_of stale_read) refl) (no_ww Realtime (transactions_of stale_read) refl))
+    (at_no_level G1c (transactions_of stale_read) (no_wr Plain (transactions_of stale_read) refl) (no_wr Process (transactions_of stale_read) refl) (no_wr Realtime (transactions_of stale_read) refl))
+    (at_level GSingle (transactions_of stale_read) (record { level = Realtime; walk = stale_read_walk }) stale_read-witness.0 (below_realtime GSingle (transactions_of stale_read) (no_cycle GSingle Plain (transactions_of stale_read) (λ n. n) refl) (no_cycle GSingle Process (transactions_of stale_read) (λ n. n) refl)))
+    (at_level G2Item (transactions_of stale_read) (record { level = Realtime; walk = stale_read_walk }) stale_read-witness.1 (below_realtime G2Item (transactions_of stale_read) (no_cycle G2Item Plain (transactions_of stale_read) (λ n. n) refl) (no_cycle G2Item Process (transactions_of stale_read) (λ n. n) refl)))
+    refl
 
 -- Within one process the level is process.
 own_stale_read-verdict : IsVerdictText own_stale_read (codes "prefix 4\ntxns 2\nG0 none\nG1a none\nG1b none\nG1c none\nG-single process\n  T0 -process 0-> T2\n  T2 -rw :x nil 1-> T0\nG2-item process\n  T0 -process 0-> T2\n  T2 -rw :x nil 1-> T0\nstray 0\n")
 unfolding digits
 own_stale_read-verdict =
-    record {
-      g0 = None;
-      g1c = None;
-      single = Some (record { level = Process; walk = own_stale_read_walk });
-      item = Some (record { level = Process; walk = own_stale_read_walk });
-      is_g0 = at_no_level G0 (transactions_of own_stale_read) (no_ww Plain (transactions_of own_stale_read) refl) (no_ww Process (transactions_of own_stale_read) refl) (no_ww Realtime (transactions_of own_stale_read) refl);
-      is_g1c = at_no_level G1c (transactions_of own_stale_read) (no_wr Plain (transactions_of own_stale_read) refl) (no_wr Process (transactions_of own_stale_read) refl) (no_wr Realtime (transactions_of own_stale_read) refl);
-      is_single = at_level GSingle (transactions_of own_stale_read) (record { level = Process; walk = own_stale_read_walk }) own_stale_read-witness.0 (below_process GSingle (transactions_of own_stale_read) (no_cycle GSingle Plain (transactions_of own_stale_read) (λ n. n) refl));
-      is_item = at_level G2Item (transactions_of own_stale_read) (record { level = Process; walk = own_stale_read_walk }) own_stale_read-witness.1 (below_process G2Item (transactions_of own_stale_read) (no_cycle G2Item Plain (transactions_of own_stale_read) (λ n. n) refl));
-      lines = refl;
-    }
+    verdict_by _ _
+    (record { g0 = None; g1c = None; single = Some (record { level = Process; walk = own_stale_read_walk }); item = Some (record { level = Process; walk = own_stale_read_walk }) })
+    (at_no_level G0 (transactions_of own_stale_read) (no_ww Plain (transactions_of own_stale_read) refl) (no_ww Process (transactions_of own_stale_read) refl) (no_ww Realtime (transactions_of own_stale_read) refl))
+    (at_no_level G1c (transactions_of own_stale_read) (no_wr Plain (transactions_of own_stale_read) refl) (no_wr Process (transactions_of own_stale_read) refl) (no_wr Realtime (transactions_of own_stale_read) refl))
+    (at_level GSingle (transactions_of own_stale_read) (record { level = Process; walk = own_stale_read_walk }) own_stale_read-witness.0 (below_process GSingle (transactions_of own_stale_read) (no_cycle GSingle Plain (transactions_of own_stale_read) (λ n. n) refl)))
+    (at_level G2Item (transactions_of own_stale_read) (record { level = Process; walk = own_stale_read_walk }) own_stale_read-witness.1 (below_process G2Item (transactions_of own_stale_read) (no_cycle G2Item Plain (transactions_of own_stale_read) (λ n. n) refl)))
+    refl
 
 -- An unknown write that was read and then missed is alike.
 unknown_write-verdict : IsVerdictText unknown_write (codes "prefix 6\ntxns 3\nG0 none\nG1a none\nG1b none\nG1c none\nG-single process\n  T0 -wr :x 1-> T2\n  T2 -process 1-> T4\n  T4 -rw :x nil 1-> T0\nG2-item process\n  T0 -wr :x 1-> T2\n  T2 -process 1-> T4\n  T4 -rw :x nil 1-> T0\nstray 0\n")
 unfolding digits
 unknown_write-verdict =
-    record {
-      g0 = None;
-      g1c = None;
-      single = Some (record { level = Process; walk = unknown_write_walk });
-      item = Some (record { level = Process; walk = unknown_write_walk });
-      is_g0 = at_no_level G0 (transactions_of unknown_write) (no_ww Plain (transactions_of unknown_write) refl) (no_ww Process (transactions_of unknown_write) refl) (no_ww Realtime (transactions_of unknown_write) refl);
-      is_g1c = at_no_level G1c (transactions_of unknown_write) (no_g1c_cycle Plain (transactions_of unknown_write) forth refl) (no_g1c_cycle Process (transactions_of unknown_write) forth refl) (no_g1c_cycle Realtime (transactions_of unknown_write) forth refl);
-      is_single = at_level GSingle (transactions_of unknown_write) (record { level = Process; walk = unknown_write_walk }) unknown_write-witness.0 (below_process GSingle (transactions_of unknown_write) (no_cycle GSingle Plain (transactions_of unknown_write) seen_last refl));
-      is_item = at_level G2Item (transactions_of unknown_write) (record { level = Process; walk = unknown_write_walk }) unknown_write-witness.1 (below_process G2Item (transactions_of unknown_write) (no_cycle G2Item Plain (transactions_of unknown_write) seen_last refl));
-      lines = refl;
-    }
+    verdict_by _ _
+    (record { g0 = None; g1c = None; single = Some (record { level = Process; walk = unknown_write_walk }); item = Some (record { level = Process; walk = unknown_write_walk }) })
+    (at_no_level G0 (transactions_of unknown_write) (no_ww Plain (transactions_of unknown_write) refl) (no_ww Process (transactions_of unknown_write) refl) (no_ww Realtime (transactions_of unknown_write) refl))
+    (at_no_level G1c (transactions_of unknown_write) (no_g1c_cycle Plain (transactions_of unknown_write) forth refl) (no_g1c_cycle Process (transactions_of unknown_write) forth refl) (no_g1c_cycle Realtime (transactions_of unknown_write) forth refl))
+    (at_level GSingle (transactions_of unknown_write) (record { level = Process; walk = unknown_write_walk }) unknown_write-witness.0 (below_process GSingle (transactions_of unknown_write) (no_cycle GSingle Plain (transactions_of unknown_write) seen_last refl)))
+    (at_level G2Item (transactions_of unknown_write) (record { level = Process; walk = unknown_write_walk }) unknown_write-witness.1 (below_process G2Item (transactions_of unknown_write) (no_cycle G2Item Plain (transactions_of unknown_write) seen_last refl)))
+    refl

@@ -2,7 +2,7 @@
 use Rattle.std.proofs.Common.{◌≡◌, List, [], ◌∷◌, true, false, Some, None, map, refl}
 use Rattle.hist_types.specs.Operations.{Mop, Operation}
 use Rattle.hist_types.specs.Journal.{first_broken, events_of}
-use Rattle.hist_types.specs.Transactions.{Transaction, transactions_of, installed_by, reads, installs, writes, writes_over}
+use Rattle.hist_types.specs.Transactions.{Transaction, transactions_of, installed_by, is_known_to_read, installs, writes, wrote_intermediate}
 use Rattle.hist_types.specs.Versions.{nil_of, update_pairs, version_pairs}
 use Rattle.hist_types.specs.Edges.{dependency_edges}
 use Rattle.hist_types.specs.Phenomena.{g1a, g1b, stray_reads, stray}
@@ -18,7 +18,7 @@ abbrev ended_ok : Transaction
 ended_ok = committed 0 0 1 reads_and_writes
 
 -- It reads what it found, and not what it wrote itself.
-reads-of_ok : map (reads ended_ok) (nil_of x ∷ version y 5 ∷ version x 2 ∷ nil_of y ∷ []) ≡ true ∷ true ∷ false ∷ false ∷ []
+reads-of_ok : map (is_known_to_read ended_ok) (nil_of x ∷ version y 5 ∷ version x 2 ∷ nil_of y ∷ []) ≡ true ∷ true ∷ false ∷ false ∷ []
 reads-of_ok = refl
 
 -- It installs its last write of the key, and never nil; a version is of its key.
@@ -28,7 +28,7 @@ installs-of_ok = refl
 -- It writes both, and writes the first one over.
 writes-of_ok :
     (map (writes ended_ok) (version x 1 ∷ version x 2 ∷ version y 5 ∷ nil_of x ∷ []) ≡ true ∷ true ∷ false ∷ false ∷ [])
-    × (map (writes_over ended_ok) (version x 1 ∷ version x 2 ∷ []) ≡ true ∷ false ∷ [])
+    × (map (wrote_intermediate ended_ok) (version x 1 ∷ version x 2 ∷ []) ≡ true ∷ false ∷ [])
 writes-of_ok = (refl, refl)
 
 -- What it read of the key comes before what it installs there; the other key's version is in no pair.
@@ -40,7 +40,7 @@ abbrev ended_unknown : Transaction
 ended_unknown = unknown 0 0 1 reads_and_writes
 
 reads_nothing-of_unknown :
-    (map (reads ended_unknown) (nil_of x ∷ version y 5 ∷ []) ≡ false ∷ false ∷ [])
+    (map (is_known_to_read ended_unknown) (nil_of x ∷ version y 5 ∷ []) ≡ false ∷ false ∷ [])
     × (installed_by ended_unknown ≡ version x 2 ∷ [])
 reads_nothing-of_unknown = (refl, refl)
 

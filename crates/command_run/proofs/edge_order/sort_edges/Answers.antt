@@ -3,8 +3,8 @@ use Rattle.std.specs.Ordering.{is_lt}
 use Rattle.std.proofs.lemmas.Fn.{always_returns_same}
 use Rattle.std.proofs.lemmas.List.MinMax.{ranks_by}
 use Rattle.hist_types.specs.Edges.{Edge}
-use Rattle.hist_types.specs.Texts.{edge_cmp}
-use Rattle.hist_types.proofs.EdgeOrder.{edge_cmp_total}
+use Rattle.hist_types.specs.EdgeOrder.{edge_cmp}
+use Rattle.history_laws.proofs.EdgeOrder.{edge_cmp_total}
 use Rattle.command_run.proofs.edge_order.sort_edges.Goals as goal
 
 pub returns-clause-sorted : goal.returns-clause-sorted

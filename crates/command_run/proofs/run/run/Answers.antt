@@ -1,17 +1,25 @@
-use Rattle.std.proofs.Common.{refl}
-use Rattle.command_run.proofs.Outcomes.{of_any, nothing_printed, printed_answer}
+use Rattle.std.proofs.Common.{rules}
+use Rattle.command_run.proofs.Outcomes.{run_on_any, nothing_printed, memory_answered, printed_answer}
 use Rattle.command_run.proofs.run.run.Goals as goal
 
-pub returns-in-Err-Device-clause-answered : goal.returns-in-Err-Device-clause-answered
-returns-in-Err-Device-clause-answered g c = of_any _ _ (λ text. nothing_printed c.args.command text _)
+pub returns-in-Err-Device : goal.returns-in-Err-Device
+returns-in-Err-Device g c = run_on_any g.S.Source g.T.Sink _ _ _ _ _ _ (λ text. nothing_printed c.args.command text _) (search rules) (search rules)
 
-pub returns-in-Err-Memory-clause-answered : goal.returns-in-Err-Memory-clause-answered
-returns-in-Err-Memory-clause-answered g c = of_any _ _ (λ text. printed_answer g.T.Sink c.args.command text _ _ _ _ _ refl c.print_memory.ensures)
+pub returns-in-Err-Memory : goal.returns-in-Err-Memory
+returns-in-Err-Memory g c =
+    run_on_any g.S.Source g.T.Sink _ _ _ _ _ _ (λ text. memory_answered g.T.Sink c.args.command _ _ _ text c.print_memory.ensures) (search rules) (search rules)
 
-pub returns-in-Ok-answer_to-clause-answered : goal.returns-in-Ok-answer_to-clause-answered
-returns-in-Ok-answer_to-clause-answered g c =
+pub returns-in-Ok-answer_to : goal.returns-in-Ok-answer_to
+returns-in-Ok-answer_to g c =
     let printed = rw c.deref.ensures.value at c.print.ensures in
-    (c.in-Ok.text.items, c.in-Ok.ensures.all, printed_answer g.T.Sink c.args.command _ _ _ _ _ _ c.in-Ok-answer_to.ensures printed)
+    record {
+      text = c.in-Ok.text.items;
+      text_is = c.in-Ok.ensures.all;
+      answered = printed_answer g.T.Sink c.args.command _ _ _ _ _ _ c.in-Ok-answer_to.ensures printed;
+      whole = search rules;
+      failed = search rules;
+    }
 
-pub returns-in-Err-clause-answered : goal.returns-in-Err-clause-answered
-returns-in-Err-clause-answered g c = of_any _ _ (λ text. printed_answer g.T.Sink c.args.command text _ _ _ _ _ refl c.print_memory-in-Err.ensures)
+pub returns-in-Err : goal.returns-in-Err
+returns-in-Err g c =
+    run_on_any g.S.Source g.T.Sink _ _ _ _ _ _ (λ text. memory_answered g.T.Sink c.args.command _ _ _ text c.print_memory-in-Err.ensures) (search rules) (search rules)

@@ -2,7 +2,7 @@ use Rattle.std.proofs.Common.{◌≡◌, ◌∙◌, ap, sym, not, ◌&&◌, ◌=
 use Rattle.std.proofs.lemmas.Bool.{and_from}
 use Rattle.hist_types.specs.Phenomena.{intermediate_writers}
 use Rattle.hist_types.specs.Transactions.{Transaction, Version}
-use Rattle.hist_types.proofs.Processes.{told_apart}
+use Rattle.history_laws.proofs.Processes.{told_apart}
 use Rattle.key_versions.specs.Histories.{read_by}
 use Rattle.dep_edges.specs.Tables.{txn_at, version_at}
 use Rattle.dep_edges.proofs.Shown.{alone_true, same_read, read_found, no_read_found}

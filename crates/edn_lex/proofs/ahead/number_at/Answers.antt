@@ -1,7 +1,6 @@
 use Rattle.std.proofs.Common.{◌≡◌, ◌+◌, ◌-◌, ◌<◌, ℕ, length, length-take-le, drop, take, ap, ◌∙◌, sym, refl, arith}
 use Rattle.std.proofs.lemmas.List.{take_rest}
-use Rattle.hist_types.specs.Tokens.{run_len}
-use Rattle.hist_types.specs.Tokens.{Int}
+use Rattle.hist_types.specs.Tokens.{run_len, Int}
 use Rattle.edn_lex.specs.declared.types.TokenKind.TheVariants as kinds
 use Rattle.edn_lex.proofs.LookAhead.{word_begins, number_word}
 use Rattle.edn_lex.proofs.ahead.number_at.Goals as goal

@@ -1,4 +1,4 @@
-use Rattle.hist_types.proofs.EachCut.{each_row_of_tokens}
+use Rattle.reading_laws.proofs.EachCut.{each_row_of_tokens}
 use Rattle.edn_lex.proofs.laws.tokens_exist.Goals as goal
 
 pub returns : goal.returns

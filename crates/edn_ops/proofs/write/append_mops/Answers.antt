@@ -2,7 +2,7 @@ use Rattle.std.proofs.Common.{◌∙◌, ◌++◌, take, [], false, sym, ap}
 use Rattle.std.specs.Prelude.{codes}
 use Rattle.std.specs.List.{join_by}
 use Rattle.std.proofs.lemmas.List.{append_assoc}
-use Rattle.hist_types.specs.Texts.{mop_text}
+use Rattle.hist_types.specs.CanonicalText.{mop_text}
 use Rattle.edn_ops.proofs.Appended.{then_extended}
 use Rattle.edn_ops.proofs.MopTexts.{mop_at, all_taken, gap_next, appended_one_more, gap_before}
 use Rattle.edn_ops.proofs.write.append_mops.Goals as goal

@@ -2,7 +2,7 @@ use Rattle.std.proofs.Common.{◌≡◌, ◌++◌, List, take}
 use Rattle.std.specs.Prelude.{codes}
 use Rattle.std.specs.List.{join_by}
 use Rattle.hist_types.specs.Operations.{Mop}
-use Rattle.hist_types.specs.Texts.{mop_text}
+use Rattle.hist_types.specs.CanonicalText.{mop_text}
 use Rattle.edn_ops.specs.SourceTexts.{AreMopTexts}
 use Rattle.edn_ops.proofs.MopTexts.{gap_before}
 use Rattle.edn_ops.proofs.write.append_mops.Given as goal

@@ -2,7 +2,7 @@ use Rattle.std.proofs.Common.{◌≡◌, ◌∙◌, ℤ, Some, sym, subst}
 use Rattle.hist_types.specs.AtomTokens.{atom_of_token}
 use Rattle.hist_types.specs.Tokens.{ItemKind}
 use Rattle.edn_lex.specs.Kinds.{kind_of}
-use Rattle.hist_types.specs.Placed.{IsTokenAlone}
+use Rattle.reading_laws.specs.Placed.{IsTokenAlone}
 use Rattle.op_view.specs.Spellings.{IsSpelled}
 use Rattle.op_view.specs.declared.spelling.Spelling.TheVariants as spellings
 use Rattle.op_view.proofs.Numbers.{number_kept}

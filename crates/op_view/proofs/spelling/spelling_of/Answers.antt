@@ -2,9 +2,9 @@ use Rattle.std.proofs.Common.{refl, subst}
 use Rattle.hist_types.specs.Tokens.{Int}
 use Rattle.edn_lex.specs.Kinds.{kind_of}
 use Rattle.edn_lex.specs.declared.types.TokenKind.{TokenKind}
-use Rattle.hist_types.specs.Placed.{IsTokenAlone}
+use Rattle.reading_laws.specs.Placed.{IsTokenAlone}
 use Rattle.op_view.proofs.Tokens.{token_begins}
-use Rattle.hist_types.proofs.Fronts.{word_is}
+use Rattle.reading_laws.proofs.Fronts.{word_is}
 use Rattle.op_view.proofs.spelling.spelling_of.Goals as goal
 
 pub number_of-requires : goal.number_of-requires

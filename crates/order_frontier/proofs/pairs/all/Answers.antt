@@ -3,7 +3,7 @@ use Rattle.std.proofs.lemmas.List.{take_all, take_more, map-append}
 use Rattle.hist_types.specs.Edges.{all_order_edges}
 use Rattle.hist_types.specs.Transactions.{Transaction}
 use Rattle.order_frontier.specs.Pairs.{all_before}
-use Rattle.order_frontier.specs.Predecessors.{Before, HasEdges, NoneTwice, names}
+use Rattle.order_frontier.specs.Predecessors.{Before, HasEdges, NoPredecessorTwice, names}
 use Rattle.order_frontier.proofs.AllPairs.{has_all, names_all, all_distinct}
 use Rattle.order_frontier.proofs.Ranges.{pushed}
 use Rattle.order_frontier.proofs.pairs.all.Goals as goal
@@ -46,4 +46,4 @@ returns-clause-names c = ap names (whole c) ∙ names_all c.in_ok-done.done.item
 
 pub returns-clause-once : goal.returns-clause-once
 returns-clause-once c =
-    λ of. subst (All NoneTwice) (sym (whole c)) (all_distinct c.in_ok-done.done.items c.args.txns.now (c.in_ok-done.ensures.once of))
+    λ of. subst (All NoPredecessorTwice) (sym (whole c)) (all_distinct c.in_ok-done.done.items c.args.txns.now (c.in_ok-done.ensures.once of))

@@ -1,7 +1,7 @@
 use Rattle.std.proofs.Common.{◌≡◌, ◌∙◌, ◌∷◌, [], ◌++◌, List, ℕ, option_map, sym, ap, subst}
 use Rattle.graph_search.specs.Graphs.{IsWalk, IsWalkIfAny}
 use Rattle.hist_types.specs.Edges.{Edge}
-use Rattle.hist_types.specs.Thinning.{ShowsOver}
+use Rattle.hist_types.specs.Phenomena.{Shows}
 use Rattle.hist_types.specs.declared.types.Level.TheVariants.{Plain}
 use Rattle.edge_graph.specs.Kinds.{kinds_of}
 use Rattle.edge_graph.specs.Parts.{edges_in}
@@ -42,5 +42,5 @@ returns-clause-found c =
     let items : c.new.result ≡ edge ∷ rest =
     c.new.ensures ∙ c.in_ok-append.ensures.items
     ∙ ap (λ (es : List Edge). es ++ rest) (c.in_ok-push.ensures.items ∙ ap (λ (es : List Edge). es ++ edge ∷ []) c.new-edges.ensures.items) in
-    subst (λ (task : Task). ShowsOver task.phenomenon (edges_in task.graph task.level) c.new.result) c.self.view_is
-    (subst (ShowsOver a.phenomenon (edges_in g a.level)) (sym items) (shows_along task c.args.from c.args.to way edge rest walk.begins walk.ends is are))
+    subst (λ (task : Task). Shows task.phenomenon (edges_in task.graph task.level) c.new.result) c.self.view_is
+    (subst (Shows a.phenomenon (edges_in g a.level)) (sym items) (shows_along task c.args.from c.args.to way edge rest walk.begins walk.ends is are))

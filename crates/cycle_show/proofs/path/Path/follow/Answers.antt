@@ -3,7 +3,7 @@ use Rattle.std.specs.HashMap.{get}
 use Rattle.std.proofs.lemmas.Bool.{ne_eqb}
 use Rattle.hist_types.specs.Edges.{Edge}
 use Rattle.hist_types.specs.Witness.{stations}
-use Rattle.hist_types.proofs.ThinningWitnesses.{IsOff}
+use Rattle.history_laws.proofs.ThinningWitnesses.{IsOff}
 use Rattle.cycle_show.specs.Paths.{HavePlaces}
 use Rattle.cycle_show.proofs.Places.{places_joined, places_pushed, places_alike, path_to_off}
 use Rattle.cycle_show.proofs.path.Path.follow.Goals as goal

@@ -1,8 +1,0 @@
-use Rattle.hist_types.proofs.Externals.{external_reads-first, external_writes-last}
-use Rattle.hist_types.proofs.laws.external_reads_and_writes.Goals as goal
-
-pub returns-clause-reads : goal.returns-clause-reads
-returns-clause-reads c = external_reads-first
-
-pub returns-clause-writes : goal.returns-clause-writes
-returns-clause-writes c = external_writes-last

@@ -1,8 +1,0 @@
-use Rattle.hist_types.proofs.ThinningCycles.{carried_up, has_above}
-use Rattle.hist_types.proofs.laws.levels_rise.Goals as goal
-
-pub returns-clause-walks : goal.returns-clause-walks
-returns-clause-walks c lower higher up ns others = carried_up lower higher ns others up
-
-pub returns-clause-phenomena : goal.returns-clause-phenomena
-returns-clause-phenomena c lower higher up phenomenon ts = has_above phenomenon lower higher ts up

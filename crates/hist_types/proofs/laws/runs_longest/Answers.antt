@@ -1,8 +1,0 @@
-use Rattle.hist_types.proofs.Runs.{run_of-all, run_of-ends}
-use Rattle.hist_types.proofs.laws.runs_longest.Goals as goal
-
-pub returns-clause-bytes : goal.returns-clause-bytes
-returns-clause-bytes c = run_of-all
-
-pub returns-clause-end : goal.returns-clause-end
-returns-clause-end c = run_of-ends

@@ -1,0 +1,13 @@
+pub mod Events
+pub mod ReadsAndWrites
+pub mod Times
+pub mod OrderEdges
+pub mod Paths
+pub mod Walks
+pub mod OpenAtOnce
+pub mod Shown
+pub mod WaysBack
+pub mod Dependencies
+pub mod Writers
+pub mod BadReads
+pub mod EdgesInOrder

@@ -1,0 +1,74 @@
+-- What shows a phenomenon, and at which levels: the words of the laws about that.
+use Rattle.std.specs.Prelude.{◌↔◌, List, ◌++◌, IsTrue}
+use Rattle.hist_types.specs.Operations.{Operation}
+use Rattle.hist_types.specs.Transactions.{Transaction, transactions_of}
+use Rattle.hist_types.specs.Edges.{Edge, dependency_edges}
+use Rattle.hist_types.specs.declared.types.Level.{Level}
+use Rattle.hist_types.specs.Phenomena.{makes, IsThere, IsShownBy}
+use Rattle.hist_types.specs.Witness.{IsWitness}
+use Rattle.hist_types.specs.declared.types.Phenomenon.{Phenomenon}
+use Rattle.hist_types.specs.ThinnedOrder.{thinned_edges}
+use Rattle.history_laws.specs.Paths.{IncludesAllOk, order_edges_between, thinned_edges_between}
+use Rattle.history_laws.specs.Walks.{SameCounts}
+use Rattle.history_laws.specs.WaysBack.{HasWayBack}
+
+abbrev pub HasWitness : Phenomenon → Level → List Transaction → Type 0
+HasWitness phenomenon level ts = (walk : List Edge) × IsWitness phenomenon level ts walk
+
+-- this is true of the transactions of any events
+abbrev pub InEachHistory : (List Transaction → Type 0) → Type 0
+InEachHistory IsSo = (events : List Operation) → IsSo (transactions_of events)
+
+-- the edges that a cycle at the level may use, but of order edges only the thinned ones
+abbrev pub thinned_edges_at : Level → List Transaction → List Edge
+thinned_edges_at level ts = dependency_edges ts ++ thinned_edges level ts
+
+-- whether a walk makes the phenomenon depends only on how many ww, wr and rw edges it has
+abbrev pub IsMadeByCounts : Phenomenon → Type 0
+IsMadeByCounts phenomenon =
+    (walk other : List Edge)
+    → SameCounts walk other
+    → IsTrue (makes phenomenon walk)
+    → IsTrue (makes phenomenon other)
+
+-- the first edges show the phenomenon exactly where the second do, with any other edges beside both
+abbrev pub ShowAlikeBeside : Phenomenon → List Edge → List Edge → Type 0
+ShowAlikeBeside phenomenon es more =
+    (others : List Edge) → IsShownBy phenomenon (others ++ es) ↔ IsShownBy phenomenon (others ++ more)
+
+-- order edges between nodes with all ok transactions of a history show it where thinned ones do
+abbrev pub ThinningKeepsIt : Phenomenon → Level → Type 0
+ThinningKeepsIt phenomenon level =
+    (events : List Operation) (ns : List Transaction) →
+    let ts = transactions_of events in
+    IncludesAllOk ts ns
+    → ShowAlikeBeside phenomenon (order_edges_between level ns) (thinned_edges_between level ts ns)
+
+-- a history has the phenomenon at the level exactly where its edges with thinned order show it
+abbrev pub ThinnedEdgesShowIt : Phenomenon → Level → Type 0
+ThinnedEdgesShowIt phenomenon level =
+    InEachHistory
+    (λ ts. IsThere phenomenon level ts ↔ IsShownBy phenomenon (thinned_edges_at level ts))
+
+-- edges show the phenomenon exactly where one of them has a way back
+abbrev pub AnyEdgesShowItByAWayBack : Phenomenon → Type 0
+AnyEdgesShowItByAWayBack phenomenon =
+    (es : List Edge) → IsShownBy phenomenon es ↔ HasWayBack phenomenon es
+
+-- a history has it there exactly where one of its edges with thinned order has a way back
+abbrev pub ThinnedEdgesHaveAWayBack : Phenomenon → Level → Type 0
+ThinnedEdgesHaveAWayBack phenomenon level =
+    InEachHistory
+    (λ ts. IsThere phenomenon level ts ↔ HasWayBack phenomenon (thinned_edges_at level ts))
+
+-- a history has the phenomenon at the level exactly where it has a witness of it there
+abbrev pub IsThereWithAWitness : Phenomenon → Level → Type 0
+IsThereWithAWitness phenomenon level =
+    InEachHistory (λ ts. IsThere phenomenon level ts ↔ HasWitness phenomenon level ts)
+
+-- a phenomenon that is there at the lower level is there at the higher one
+abbrev pub PhenomenaRise : (lower higher : Level) → Type 0
+PhenomenaRise lower higher =
+    (phenomenon : Phenomenon) (ts : List Transaction)
+    → IsThere phenomenon lower ts
+    → IsThere phenomenon higher ts

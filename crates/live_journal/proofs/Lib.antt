@@ -1,0 +1,9 @@
+pub mod Lists
+pub mod Agreed
+pub mod Positions
+pub mod Stamps
+pub mod Added
+pub mod Runs
+pub mod Ordered
+pub mod Counting
+pub mod AnsweringSteps

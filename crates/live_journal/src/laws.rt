@@ -1,0 +1,62 @@
+//! Laws of a row and its seats: the contracts of functions that do nothing.
+
+ghost use Rattle.std.specs.Prelude.{◌≡◌, ◌<◌, ◌≤◌, ℕ, List, [], ◌∷◌, ◌++◌, length, Result, Ok};
+ghost use mathlib.Core.List.{IsPrefix};
+ghost use Rattle.hist_types.specs.Handed.{HandsOver};
+ghost use Rattle.hist_types.specs.Interleavings.{World, at_first, Step, IsOutcomeOf, AreAgreed, HaveRisingCalls, AreOthersAfterSeen, FindsNoOwnBlock, AllCount, AreJudged, IsOneHistory};
+ghost use Rattle.hist_types.specs.LegalAnswers.{StampedBlock, row_events, counting_blocks, View, next_block, Request, write, Answer, accepted, IsLegal};
+ghost use Rattle.live_journal.specs.Steps.{AddsNoBlock, IsAnsweredBySteps};
+ghost use Rattle.hist_types.specs.Operations.{Operation};
+ghost use Rattle.hist_types.specs.declared.types.Fault.{Fault};
+
+/// Whatever steps seats take, each has seen a beginning of the row, each position of the row is an own one of exactly one seat, and
+/// no two blocks of a seat have the same stamp. Where what fills a cell counted after what its seat had seen, all blocks count, and
+/// the answers, by how many blocks their seats had seen, are those of one sequential journal, each seat's in its own order.
+pub fn interleavings()
+    ensures agreed { (cells : ℕ) (steps : List Step) (w : World)
+        → IsOutcomeOf cells at_first steps w → AreAgreed w }
+    ensures room { (cells : ℕ) (steps : List Step) (w : World)
+        → IsOutcomeOf cells at_first steps w → length w.row ≤ cells }
+    ensures stamps { (cells : ℕ) (steps : List Step) (w : World)
+        → IsOutcomeOf cells at_first steps w → HaveRisingCalls w.row }
+    ensures history { (cells : ℕ) (steps : List Step) (w : World)
+        → IsOutcomeOf cells at_first steps w → AreJudged cells at_first steps
+        → IsOneHistory cells w }
+{}
+
+/// After what a seat has seen no block is its own. So where a call finds its own block in the next cell, this call has put it there.
+pub fn found_blocks_are_anothers()
+    ensures others { (cells : ℕ) (steps : List Step) (w : World)
+        → IsOutcomeOf cells at_first steps w → AreOthersAfterSeen w }
+    ensures next { (cells : ℕ) (steps : List Step) (w : World)
+        → IsOutcomeOf cells at_first steps w → FindsNoOwnBlock w }
+{}
+
+/// A seat gives each legal answer by steps of its own: it looks until it has seen the blocks of others that it has then seen, and then
+/// replies, or fills a cell. So it is where what it has then seen begins the row, or, if it fills a cell, is the whole row and its own
+/// block.
+pub fn legal_answers_are_steps()
+    ensures reply { (cells seat : ℕ) (request : Request) (answer : Answer) (w : World) (new : View)
+        → IsLegal cells seat request answer (w.views seat) new
+        → AddsNoBlock answer → IsPrefix new.seen w.row
+        → IsAnsweredBySteps cells w seat request answer new w.row }
+    ensures fill { (cells seat : ℕ) (os : List Operation) (index : ℕ) (w : World) (new : View)
+        → IsLegal cells seat (write (Ok os)) (accepted index) (w.views seat) new
+        → new.seen ≡ w.row ++ next_block seat (w.views seat) os ∷ [] → length w.row < cells
+        → IsAnsweredBySteps cells w seat (write (Ok os)) (accepted index) new new.seen }
+{}
+
+/// The blocks of a row that count have all of its events, and each of them counts after those before it.
+pub fn counting_blocks_have_all_events()
+    ensures events { (blocks : List StampedBlock)
+        → row_events (counting_blocks blocks) ≡ row_events blocks }
+    ensures count { (blocks : List StampedBlock) → AllCount [] (counting_blocks blocks) }
+{}
+
+/// An import of a text hands over one thing: operations or a fault.
+pub fn texts_hand_over_one_thing()
+    ensures some { (text : List ℕ)
+        → (handed : Result (List Operation) Fault) × HandsOver text handed }
+    ensures one { (text : List ℕ) (handed other : Result (List Operation) Fault)
+        → HandsOver text handed → HandsOver text other → handed ≡ other }
+{}

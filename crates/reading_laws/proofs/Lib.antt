@@ -1,0 +1,16 @@
+pub mod Rows
+pub mod Runs
+pub mod OneCut
+pub mod EachCut
+pub mod Fronts
+pub mod OneReading
+pub mod PartCuts
+pub mod Checks
+pub mod MovedForms
+pub mod MovedReading
+pub mod MapAlone
+pub mod SpelledParts
+pub mod SingleTokens
+pub mod Keywords
+pub mod Nesting
+pub mod FormEntries
