@@ -1,2 +1,4 @@
 pub mod Moved
 pub mod Readings
+pub mod OneBlock
+pub mod CallTexts

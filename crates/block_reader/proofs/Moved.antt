@@ -17,7 +17,7 @@ mops_moved offset (m ∷ ms) = ap (λ (rest : List Mop). m.mop ∷ rest) (mops_m
 pub operation_moved : (o : PlacedOperation) → operation_of (from_its_start o) ≡ operation_of o
 operation_moved o = ap (λ (ms : List Mop). record { kind = o.kind; process = o.process; mops = ms }) (mops_moved o.start o.mops)
 
-length_between : (text : List ℕ) (start end : ℕ) → end ≤ length text → length (between text start end) ≡ end - start
+pub length_between : (text : List ℕ) (start end : ℕ) → end ≤ length text → length (between text start end) ≡ end - start
 length_between text start end fits = omega (arith, length-take (end - start) (drop start text), length-drop start text)
 
 -- one operation more behind those of a block that is being built

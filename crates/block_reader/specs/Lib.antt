@@ -1,3 +1,4 @@
 pub mod Blocks
 pub mod Texts
 pub mod Parts
+pub mod OneBlock

@@ -1,15 +1,13 @@
 -- What the parse takes.
-use Rattle.std.proofs.Common.{◌≡◌, ◌∙◌, ℕ, List, [], ◌∷◌, Option, Some, None, option_map, refl, sym, ap, subst, codes, true, ◌⊎◌, inl, inr}
+use Rattle.std.proofs.Common.{◌≡◌, ℕ, List, [], ◌∷◌, refl, sym, subst, codes, true, ◌⊎◌, inl, inr}
 use Rattle.std.specs.Prelude.{◌≢◌}
 use Rattle.clap.specs.Words.{App, is_simple, is_simple_and_free, subcommand_rows_of, HasMatchesOf, HasKind, IsAmong, Kinds, fault_of, kind_of}
-use Rattle.clap.specs.Matches.{subcommand_name_of}
 use Rattle.clap.specs.declared.error.Error.{Error}
 use Rattle.clap.specs.declared.error.kind.ErrorKind.{ErrorKind}
 use Rattle.clap.specs.declared.error.kind.ErrorKind.TheVariants.{OutOfMemory, DisplayHelp}
 use Rattle.clap.specs.declared.parser.matches.ArgMatches.{ArgMatches}
-use Rattle.clap.specs.declared.parser.matches.ArgMatches.TheViews.{out-ArgMatches}
 use Rattle.clap.proofs.OnLiterals.{clap_on_literals}
-use Rattle.command_line.specs.Lines.{word_of, program_app, NameSubcommand, AskFor, AskForHelp, MayAskForHelp}
+use Rattle.command_line.specs.Lines.{word_of, program_app, IsAskedBy, AskToServe, AskFor, AskForHelp, MayAskForHelp}
 use Rattle.command_line.specs.declared.types.Asked.{Asked}
 use Rattle.command_line.specs.declared.types.Asked.TheVariants.{Run}
 use Rattle.command_line.specs.declared.types.Command.{Command}
@@ -24,19 +22,25 @@ program_is_free : is_simple_and_free program_app ≡ true
 unfolding clap_on_literals
 program_is_free = refl
 
--- the command that is asked for
-abbrev pub command_in : Asked → Command
-command_in (Run command) = command
-
-pub asked_names : (asked : Asked) (words : List (List ℕ)) → AskFor asked words → NameSubcommand (word_of (command_in asked)) words
-asked_names (Run command) words asks = asks
-
 -- a name and a command's word ask for the command
-pub command_is_asked : (command : Command) (name : List ℕ) → NameSubcommand (word_of command) (name ∷ word_of command ∷ [])
+pub command_is_asked : (command : Command) (name : List ℕ) → AskFor (Run command) (name ∷ word_of command ∷ [])
 unfolding clap_on_literals
-command_is_asked Reads name = record { no_fault = refl; named = refl }
-command_is_asked Edges name = record { no_fault = refl; named = refl }
-command_is_asked Check name = record { no_fault = refl; named = refl }
+command_is_asked Reads name = (refl, refl)
+command_is_asked Edges name = (refl, refl)
+command_is_asked Check name = (refl, refl)
+
+-- a name, `serve` and two paths ask for a session, at a journal of so many cells as are asked for
+pub sessions_are_asked :
+    (name : List ℕ)
+    → AskToServe 65536 (codes "in" ∷ codes "out" ∷ []) (name ∷ codes "serve" ∷ codes "in" ∷ codes "out" ∷ [])
+    × AskToServe 4 (codes "in" ∷ codes "out" ∷ []) (name ∷ codes "serve" ∷ codes "--cells" ∷ codes "4" ∷ codes "in" ∷ codes "out" ∷ [])
+    × AskToServe 1048576 (codes "a" ∷ codes "b" ∷ codes "c" ∷ codes "d" ∷ []) (name ∷ codes "serve" ∷ codes "a" ∷ codes "b" ∷ codes "c" ∷ codes "d" ∷ codes "--cells=1048576" ∷ [])
+unfolding clap_on_literals
+sessions_are_asked name = (
+  (refl, (refl, record { cells_are = refl; paths_are = refl; pairs = refl })),
+  (refl, (refl, record { cells_are = refl; paths_are = refl; pairs = refl })),
+  (refl, (refl, record { cells_are = refl; paths_are = refl; pairs = refl })),
+)
 
 -- a name and `--help` ask for help
 pub help_is_asked : (name : List ℕ) → AskForHelp (name ∷ codes "--help" ∷ [])
@@ -50,51 +54,42 @@ help_with_a_command Reads name = refl
 help_with_a_command Edges name = refl
 help_with_a_command Check name = refl
 
--- words that were not taken for a command name none
-pub no_command : (command : Command) (word : List ℕ) → word ≢ codes "reads" → word ≢ codes "edges" → word ≢ codes "check" → word ≡ word_of command → ⊥
-no_command Reads word reads edges check e = reads e
-no_command Edges word reads edges check e = edges e
-no_command Check word reads edges check e = check e
-
-pub some_command : (command : Command) → Some (word_of command) ≡ None → ⊥
-some_command Reads e = absurd cc
-some_command Edges e = absurd cc
-some_command Check e = absurd cc
-
--- the firsts of pairs that may be there
-firsts : {A B C : Type 0} (f : A → B) (g : A → C) (o : Option A) → option_map (λ (p : B × C). p.0) (option_map (λ (x : A). (f x, g x)) o) ≡ option_map f o
-firsts f g None = refl
-firsts f g (Some x) = refl
-
-name_of_rows : (m : ArgMatches) → option_map (λ subcommand. subcommand.0) (subcommand_rows_of m) ≡ subcommand_name_of m
-name_of_rows m = firsts _ _ (out-ArgMatches m).subcommand
-
--- matches with a subcommand come of words that name it
-pub names_subcommand : (app : App) (words : List (List ℕ)) (m : ArgMatches) (name : List ℕ) → app ≡ program_app → HasMatchesOf app words m
-    → (is_simple_and_free app ≡ true → fault_of app words ≡ []) → subcommand_name_of m ≡ Some name → NameSubcommand name words
-names_subcommand app words m name e matches no_fault named =
+-- what the matches hold of a subcommand is what the words ask for
+pub asked_in_matches :
+    (asked : Asked) (app : App) (words : List (List ℕ)) (m : ArgMatches)
+    → app ≡ program_app
+    → HasMatchesOf app words m
+    → (is_simple_and_free app ≡ true → fault_of app words ≡ [])
+    → IsAskedBy asked (subcommand_rows_of m)
+    → AskFor asked words
+asked_in_matches asked app words m e matches no_fault by =
     let has : HasMatchesOf program_app words m = subst (λ (a : App). HasMatchesOf a words m) e matches in
     let faultless : is_simple_and_free program_app ≡ true → fault_of program_app words ≡ [] =
     subst (λ (a : App). is_simple_and_free a ≡ true → fault_of a words ≡ []) e no_fault in
-    record {
-      no_fault = faultless program_is_free;
-      named = ap (option_map (λ subcommand. subcommand.0)) (sym (has program_is_simple).1) ∙ (name_of_rows m ∙ named);
-    }
+    (faultless program_is_free, subst (IsAskedBy asked) (has program_is_simple).1 by)
 
--- matches of words that name a subcommand have it
-pub meets_subcommand : (app : App) (words : List (List ℕ)) (m : ArgMatches) (name : List ℕ) → app ≡ program_app → HasMatchesOf app words m → NameSubcommand name words
-    → subcommand_name_of m ≡ Some name
-meets_subcommand app words m name e matches asked =
+-- and the other way round
+pub matches_of_asked :
+    (asked : Asked) (app : App) (words : List (List ℕ)) (m : ArgMatches)
+    → app ≡ program_app
+    → HasMatchesOf app words m
+    → AskFor asked words
+    → IsAskedBy asked (subcommand_rows_of m)
+matches_of_asked asked app words m e matches asks =
     let has : HasMatchesOf program_app words m = subst (λ (a : App). HasMatchesOf a words m) e matches in
-    sym (name_of_rows m) ∙ (ap (option_map (λ subcommand. subcommand.0)) (has program_is_simple).1 ∙ asked.named)
+    subst (IsAskedBy asked) (sym (has program_is_simple).1) asks.1
 
--- words that name a subcommand fail only for want of memory
-pub fails_for_memory : (app : App) (words : List (List ℕ)) (error : Error) (name : List ℕ) → app ≡ program_app
-    → (is_simple_and_free app ≡ true → HasKind (fault_of app words) error) → NameSubcommand name words → kind_of error ≡ OutOfMemory
-fails_for_memory app words error name e fails asked =
+-- words that ask for something fail only for want of memory
+pub fails_for_memory :
+    (asked : Asked) (app : App) (words : List (List ℕ)) (error : Error)
+    → app ≡ program_app
+    → (is_simple_and_free app ≡ true → HasKind (fault_of app words) error)
+    → AskFor asked words
+    → kind_of error ≡ OutOfMemory
+fails_for_memory asked app words error e fails asks =
     let has : is_simple_and_free program_app ≡ true → HasKind (fault_of program_app words) error =
     subst (λ (a : App). is_simple_and_free a ≡ true → HasKind (fault_of a words) error) e fails in
-    memory_alone _ asked.no_fault (has program_is_free)
+    memory_alone _ asks.0 (has program_is_free)
   where
     memory_alone : (kinds : Kinds) → kinds ≡ [] → HasKind kinds error → kind_of error ≡ OutOfMemory
     memory_alone [] e (inl memory) = memory

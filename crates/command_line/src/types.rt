@@ -14,9 +14,12 @@ pub enum Command {
 }
 
 /// What a command line asks for.
-#[derive(Clone, Copy, Debug, PartialEq, Eq)]
+#[derive(Debug, Drop)]
 pub enum Asked {
     Run(Command),
+    /// A session for each pair of paths, all at a journal of so many cells. Of a pair the first path is read from, and the
+    /// second one is written to.
+    Serve { cells: usize, paths: Vec<String> },
 }
 
 /// Why a command line asks for nothing that can be done.

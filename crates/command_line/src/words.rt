@@ -1,14 +1,17 @@
 //! What the words of a command line ask for.
 
-ghost use Rattle.std.specs.Prelude.{◌≡◌, ◌≢◌, ◌⊎◌, map, IfErr, IfOk, string_bytes};
+ghost use Rattle.std.specs.Prelude.{◌≡◌, ◌≢◌, ◌⊎◌, ℕ, List, map, codes, false, option_and_then, IfErr, IfOk, string_bytes};
+ghost use Rattle.std.specs.Char.{is_ascii_digit};
 ghost use Rattle.std.specs.IoError.{error_kind};
+ghost use Rattle.std.specs.List.{list_all};
 ghost use Rattle.std.specs.declared.io.ErrorKind.TheVariants.{OutOfMemory};
-ghost use Rattle.clap.specs.Words.{app_of, kind_of};
-ghost use Rattle.command_line.specs.Lines.{program_app, first_line, AskFor, AskForHelp, MayAskForHelp, IsComplaint, Helps, SaysWhatIsWrong};
+ghost use Rattle.clap.specs.Words.{app_of, first_of, found_of, kind_of, rows_of, rule_of, subcommand_rows_of};
+ghost use Rattle.command_line.specs.Lines.{cells_rule, paths_rule, program_app, cells_in, come_in_pairs, AreForSessions, AsksForSessions, IsAskedBy, first_line, AskFor, AskForHelp, MayAskForHelp, IsComplaint, Helps, SaysWhatIsWrong};
 ghost use Rattle.command_line.specs.declared.types.Asked.{Asked};
 
 use crate::types::{Asked, Command, LineFault};
 use clap::error::ErrorKind;
+use hist_types::limits::MAX_CELLS;
 use std::alloc::{AllocError, Global};
 use std::io;
 
@@ -17,6 +20,7 @@ const HELP: &str = "\
 jepcheck 0.1.0: reports where a run of a Jepsen test broke strict serializability.
 
 Usage: jepcheck COMMAND < HISTORY
+       jepcheck serve [--cells N] IN OUT [IN OUT ...]
 
 Commands:
   check    print which of the phenomena G0, G1a, G1b, G1c, G-single and G2-item the history has, each with the
@@ -27,17 +31,21 @@ Commands:
            that nobody wrote
   edges    print the dependency edges between transactions: which of them wrote after another one wrote (ww),
            read what it wrote (wr), or wrote after it read (rw)
+  serve    check a run while it goes on: of each pair of files or named pipes read IN line by line, and write a
+           reply to each line to OUT. A line is operations, `read FROM TO`, `verdict` or `quit`. All pairs share one
+           journal of N cells, 65536 if not given and 1048576 at most, and each line of operations takes one
 
 The history is read from standard input, to its end. It is the file history.edn that Jepsen leaves in the
 folder of a test whose operations are transactions over registers: `:f :txn`, with reads [:r key value] and
 writes [:w key value].
 
 Exit status:
-  0    nothing was found (`edges`, which looks for nothing: the edges were printed)
+  0    nothing was found (`edges`, which looks for nothing: the edges were printed; `serve`: each IN was read to
+       its end or to `quit`)
   1    something was found
   2    the history was refused, or the command line was, or help was asked for
   3    a device failed
-  4    out of memory
+  4    out of memory, or a thread could not be started
 
 Example:
   jepcheck check < store/NAME/TIME/history.edn
@@ -49,15 +57,45 @@ Verdicts and refusals are explained in docs/GUIDE.md.
 const SEE_HELP: &str = "The history is read from standard input: jepcheck check < FILE. \
                         For more, try 'jepcheck --help'.\n";
 
+/// There are fewer pairs of paths than this: each has a number of 32 bits.
+const MAX_PAIRS: usize = 4_294_967_296;
+
+/// How many cells the journal of `serve` has, from 1 to the most that a row may have.
+fn cells_option<'a>(alloc: Global) -> clap::Arg<'a>
+    ensures rule { rule_of result ≡ cells_rule }
+    ensures local { result.global ≡ false }
+{
+    clap::Arg::new(alloc, "cells")
+        .long("cells")
+        .value_name("N")
+        .value_parser(clap::value_parser!(usize).range(1..=MAX_CELLS as i64))
+        .default_value("65536")
+}
+
+/// The paths of `serve`, two at least.
+fn paths_argument<'a>(alloc: Global) -> clap::Arg<'a>
+    ensures rule { rule_of result ≡ paths_rule }
+    ensures local { result.global ≡ false }
+{
+    clap::Arg::new(alloc, "paths")
+        .value_name("PATH")
+        .num_args(2..)
+        .required(true)
+}
+
 /// The lines that there are.
 fn program<'a>(alloc: Global) -> Result<clap::Command<'a>, AllocError>
     ensures { IfOk result (λ program. app_of program ≡ program_app) }
 {
+    let serve = clap::Command::new(alloc, "serve")
+        .arg(cells_option(alloc))?
+        .arg(paths_argument(alloc))?;
     clap::Command::new(alloc, "jepcheck")
         .subcommand_required(true)
         .subcommand(clap::Command::new(alloc, "reads"))?
         .subcommand(clap::Command::new(alloc, "edges"))?
-        .subcommand(clap::Command::new(alloc, "check"))
+        .subcommand(clap::Command::new(alloc, "check"))?
+        .subcommand(serve)
 }
 
 /// The text up to its first line feed.
@@ -128,8 +166,98 @@ pub fn unread_line(alloc: Global, error: &io::Error) -> LineFault
     }
 }
 
+fn all_digits(text: &[u8]) -> bool
+    ensures { result ≡ list_all is_ascii_digit text.now }
+{
+    text.iter().all(|b| b.is_ascii_digit())
+}
+
+/// The number of cells that digits write, if a row may have so many.
+fn cells_in(text: &str) -> Option<usize>
+    ensures { result ≡ cells_in text.now }
+{
+    if !all_digits(text.as_bytes()) {
+        return None;
+    }
+    match text.parse::<usize>() {
+        Ok(cells) if 0 < cells && cells <= MAX_CELLS => Some(cells),
+        _ => None,
+    }
+}
+
+/// Whether paths come in pairs, of which there is one at least, and no more than seats can be numbered.
+fn come_in_pairs(paths: &[&str]) -> bool
+    ensures { result ≡ come_in_pairs (map (λ path. path.now) paths.now) }
+{
+    paths.len().is_multiple_of(2) && !paths.is_empty() && paths.len() / 2 < MAX_PAIRS
+}
+
+/// A copy of each path.
+fn copies(alloc: Global, paths: &[&str]) -> Result<Vec<String>, AllocError>
+    ensures { IfOk result
+        (λ copies. map string_bytes copies.items ≡ map (λ path. path.now) paths.now) }
+{
+    let mut copies = Vec::new(alloc);
+    for path in paths {
+        copies.push(String::from_str(alloc, path)?)?;
+    }
+    Ok(copies)
+}
+
+/// How many cells are asked for, where `serve` was met with these arguments.
+fn cells_found(serve: &clap::ArgMatches<'_>) -> Option<usize>
+    ensures { result ≡ option_and_then cells_in
+        (first_of (codes "cells") (rows_of (found_of serve.now))) }
+{
+    cells_in(serve.get_str("cells")?)
+}
+
+/// What is asked for where `serve` was met with these arguments.
+fn sessions_asked(alloc: Global, serve: &clap::ArgMatches<'_>) -> Result<Asked, LineFault>
+    ensures only { IfOk result (λ asked. AsksForSessions asked (rows_of (found_of serve.now))) }
+    ensures asked { (cells : ℕ) (paths : List (List ℕ))
+        → AreForSessions cells paths (rows_of (found_of serve.now))
+        → IfErr result (λ fault. fault ≡ LineFault.Memory) }
+    ensures wrong { IfErr result SaysWhatIsWrong }
+{
+    let Some(cells) = cells_found(serve) else {
+        return Err(wrong(
+            alloc,
+            "error: the value of '--cells <N>' is not written in digits",
+        ));
+    };
+    match serve.get_raw("paths") {
+        Some(paths) if come_in_pairs(paths) => Ok(Asked::Serve {
+            cells,
+            paths: copies(alloc, paths)?,
+        }),
+        _ => Err(wrong(
+            alloc,
+            "error: the paths do not come in pairs, each of one to read and one to write",
+        )),
+    }
+}
+
+/// What is asked for by the subcommand that was met.
+fn asked_by(alloc: Global, matches: &clap::ArgMatches<'_>) -> Result<Asked, LineFault>
+    ensures only { IfOk result (λ asked. IsAskedBy asked (subcommand_rows_of matches.now)) }
+    ensures asked { (asked : Asked) → IsAskedBy asked (subcommand_rows_of matches.now)
+        → IfErr result (λ fault. fault ≡ LineFault.Memory) }
+    ensures wrong { IfErr result SaysWhatIsWrong }
+{
+    if let Some(serve) = matches.subcommand_matches("serve") {
+        return sessions_asked(alloc, serve);
+    }
+    match matches.subcommand_name() {
+        Some("reads") => Ok(Asked::Run(Command::Reads)),
+        Some("edges") => Ok(Asked::Run(Command::Edges)),
+        Some("check") => Ok(Asked::Run(Command::Check)),
+        _ => Err(wrong(alloc, "error: no command is named")),
+    }
+}
+
 /// What the words ask for, of which the first is the program's name.
-pub fn asked_for<'a>(alloc: Global, words: &'a [String]) -> Result<Asked, LineFault>
+pub fn asked_for(alloc: Global, words: &[String]) -> Result<Asked, LineFault>
     // The answer is what the words ask for, and where they ask for something only memory can be missing.
     ensures only { IfOk result (λ asked. AskFor asked (map string_bytes words.entry.now)) }
     ensures asked { (asked : Asked) → AskFor asked (map string_bytes words.entry.now)
@@ -141,14 +269,8 @@ pub fn asked_for<'a>(alloc: Global, words: &'a [String]) -> Result<Asked, LineFa
     // Whatever is wrong with a line, its text is the help, or one line on what is wrong and the closing line.
     ensures either { IfErr result (λ fault. Helps fault ⊎ SaysWhatIsWrong fault) }
 {
-    let matches = match program(alloc)?.try_get_matches_from(words) {
-        Ok(matches) => matches,
-        Err(error) => return Err(line_fault(alloc, &error)),
-    };
-    match matches.subcommand_name() {
-        Some("reads") => Ok(Asked::Run(Command::Reads)),
-        Some("edges") => Ok(Asked::Run(Command::Edges)),
-        Some("check") => Ok(Asked::Run(Command::Check)),
-        _ => Err(wrong(alloc, "error: no command is named")),
+    match program(alloc)?.try_get_matches_from(words) {
+        Ok(matches) => asked_by(alloc, &matches),
+        Err(error) => Err(line_fault(alloc, &error)),
     }
 }

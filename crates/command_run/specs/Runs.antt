@@ -12,8 +12,6 @@ use Rattle.command_run.specs.Answers.{IsAnswer}
 use Rattle.command_run.specs.Statuses.{code_of}
 use Rattle.command_run.specs.declared.answer.Status.{Status}
 use Rattle.command_run.specs.declared.answer.Status.TheVariants as statuses
-use Rattle.command_line.specs.declared.types.Asked.{Asked}
-use Rattle.command_line.specs.declared.types.Asked.TheVariants.{Run}
 use Rattle.command_line.specs.declared.types.LineFault.{LineFault}
 use Rattle.command_line.specs.declared.types.LineFault.TheVariants as line_faults
 use Rattle.command_line.specs.declared.types.Command.{Command}
@@ -86,12 +84,6 @@ pub record HasRun {S T : Type 0} (reads : Source S) (prints : Sink T)
 
 -- ---- what was asked
 
--- what was asked is done
-abbrev pub HasDone : {S T : Type 0} → Source S → Sink T → Asked → Status
-    → (source source' : S) → (sink sink' : T) → Type 0
-HasDone reads prints (Run command) status source source' sink sink' =
-    HasRun reads prints command status source source' sink sink'
-
 -- a command line that asks for nothing gives status 2 and no output, and where memory ran out for
 -- it the line that says so
 abbrev pub HasRefusedLine : {T : Type 0} → Sink T → LineFault → Status → (sink sink' : T) → Type 0
@@ -101,7 +93,7 @@ HasRefusedLine prints line_faults.Memory status sink sink' =
     HasPrintedMemory prints status sink sink'
 
 -- what is said on standard error
-abbrev pub complaint : Result Asked LineFault → Status → List ℕ
+abbrev pub complaint : Result Command LineFault → Status → List ℕ
 complaint (Err (line_faults.Usage text)) status = string_bytes text
-complaint asked statuses.DeviceFault = codes "device fault\n"
-complaint asked status = []
+complaint command statuses.DeviceFault = codes "device fault\n"
+complaint command status = []

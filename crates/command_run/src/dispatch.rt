@@ -2,50 +2,49 @@
 
 ghost use Rattle.std.specs.Prelude.{◌≡◌, IfOk, IfErr, OnErr};
 ghost use Rattle.command_run.specs.Pieces.{HasTakenUnlessFailed};
-ghost use Rattle.command_run.specs.Runs.{HasDone, HasRefusedLine, complaint};
+ghost use Rattle.command_run.specs.Runs.{HasRun, HasRefusedLine, complaint};
 
 use crate::answer::Status;
 use crate::run::{print_memory, run};
-use command_line::types::{Asked, LineFault};
+use command_line::types::{Command, LineFault};
 use hist_types::device::{Sink, Source};
 use std::alloc::Global;
 use std::thread::Threads;
 use verdict::devices::write_all;
 
 /// What is said on standard error: the help, what is wrong with the command line, or that a device failed.
-fn complaint(asked: &Result<Asked, LineFault>, status: Status) -> &[u8]
-    ensures { result.now ≡ complaint asked.now status }
+fn complaint(command: &Result<Command, LineFault>, status: Status) -> &[u8]
+    ensures { result.now ≡ complaint command.now status }
 {
-    match (asked, status) {
+    match (command, status) {
         (Err(LineFault::Usage(text)), _) => text.as_bytes(),
         (_, Status::DeviceFault) => b"device fault\n",
         _ => b"",
     }
 }
 
-/// Does what the command line asks for, and returns how that ended. A sink for errors that fails changes nothing.
+/// Runs the command that the command line asks for, and returns how that ended. A sink for errors that fails changes nothing.
 pub fn dispatch<R: Threads + Sync, S: Source, T: Sink, E: Sink>(
     rt: &R,
     alloc: Global,
-    asked: Result<Asked, LineFault>,
+    command: Result<Command, LineFault>,
     source: &mut S,
     sink: &mut T,
     errors: &mut E,
 ) -> Status
-    // What was asked is done; today that is a run.
-    ensures done { IfOk asked
-        (λ what. HasDone S.Source T.Sink what result source.old source.new sink.old sink.new) }
+    ensures run { IfOk command
+        (λ what. HasRun S.Source T.Sink what result source.old source.new sink.old sink.new) }
     // A fault of the command line is refused, and the source is left alone.
-    ensures refused { IfErr asked (λ fault. HasRefusedLine T.Sink fault result sink.old sink.new) }
-    ensures unread { OnErr asked (source.new ≡ source.old) }
+    ensures refused { IfErr command (λ fault. HasRefusedLine T.Sink fault result sink.old sink.new) }
+    ensures unread { OnErr command (source.new ≡ source.old) }
     // The sink for errors gets the help, what is wrong with the command line, or that a device failed.
-    ensures errors { HasTakenUnlessFailed E.Sink errors.old errors.new (complaint asked result) }
+    ensures errors { HasTakenUnlessFailed E.Sink errors.old errors.new (complaint command result) }
 {
-    let status = match &asked {
-        Ok(Asked::Run(command)) => run(rt, alloc, *command, source, sink),
+    let status = match &command {
+        Ok(command) => run(rt, alloc, *command, source, sink),
         Err(LineFault::Usage(_)) => Status::Refused,
         Err(LineFault::Memory) => print_memory(sink),
     };
-    let _ = write_all(errors, complaint(&asked, status));
+    let _ = write_all(errors, complaint(&command, status));
     status
 }

@@ -26,7 +26,8 @@ pub(crate) fn ranks_over(
     Ranks::of(alloc, &graph.arcs(dependencies, level))
 }
 
-/// Ranks that don't fall along any such arc between two vertices of one coarse rank. Only vertices that share theirs are searched.
+/// Ranks that don't fall along any such arc between two vertices of one coarse rank. Only vertices that share theirs are
+/// searched.
 pub(crate) fn ranks_within(
     alloc: Global,
     graph: &Graph<'_, '_, '_>,

@@ -10,15 +10,10 @@ use Rattle.hist_types.specs.declared.types.Level.TheVariants.{Plain, Process, Re
 use Rattle.hist_types.specs.declared.types.Phenomenon.{Phenomenon}
 use Rattle.hist_types.proofs.Members.{In, in_back}
 use Rattle.history_laws.proofs.ThinningPaths.{Ordered, ordered_in_time, ended_before, ordered_through, ordered_from_label, edge_between, ends_of, AreNodes, are_nodes, nodes_included}
-use Rattle.history_laws.proofs.ThinningWalks.{Uncounted, uncounted_edge}
+use Rattle.history_laws.proofs.ThinningWalks.{Uncounted, uncounted_edge, label_of_one}
 use Rattle.history_laws.proofs.ThinningWitnesses.{order_edge, order_may}
 use Rattle.cycle_show.specs.Paths.{joined_label, joined}
 use Rattle.cycle_show.proofs.Shortening.{JoinsTwo, joined_is_order}
-
-only_label : (holds : Bool) (l label : Label) → In label (if holds then l ∷ [] else []) → l ≡ label
-only_label true l label (inl e) = e
-only_label true l label (inr i) = elim i [ ]
-only_label false l label i = elim i [ ]
 
 realtime_of :
     (holds : Bool) (completion : Option ℕ) (n : ℕ) (label : Label)
@@ -37,7 +32,7 @@ labels_joined :
     → In (joined_label label label') (order_labels level t w)
 labels_joined Plain t u v w label label' i j ordered = elim i [ ]
 labels_joined Process t u v w label label' i j ordered =
-    subst (λ l. In (joined_label l label') (order_labels Process t w)) (only_label (is_ok_before t u && same_process t u) (process t.process) label i)
+    subst (λ l. In (joined_label l label') (order_labels Process t w)) (label_of_one (is_ok_before t u && same_process t u) (process t.process) label i)
     (subst (λ b. In (process t.process) (if b then process t.process ∷ [] else [])) (sym ordered) (inl refl))
 labels_joined Realtime t u v w label label' i j ordered =
     let (c, ended, is) = realtime_of (is_ok_before t u) t.completion u.invocation label i in

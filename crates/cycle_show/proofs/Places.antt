@@ -1,7 +1,7 @@
 -- The places of a path's transactions, as it goes back and on.
-use Rattle.std.proofs.Common.{◌≡◌, inl, inr, ℕ, zero, suc, ◌+◌, ◌-◌, ◌<◌, ◌≤◌, List, [], ◌∷◌, ◌++◌, length, get_or, slice_index, take, true, ◌==◌, nat_eq, if◌then◌else◌, Option, Some, None, refl, sym, ◌∙◌, ap, subst, below_more, arith}
-use Rattle.std.specs.List.{list_any, slice_set}
-use Rattle.std.proofs.lemmas.Bool.{false≢true, cases_Bool, eqb-false, eq-eqb, ne_eqb, or_from, or_parts}
+use Rattle.std.proofs.Common.{◌≡◌, inl, inr, ℕ, zero, suc, ◌+◌, ◌-◌, ◌<◌, ◌≤◌, List, [], ◌∷◌, ◌++◌, length, get_or, slice_index, take, true, ◌==◌, if◌then◌else◌, Option, Some, None, refl, sym, ◌∙◌, ap, subst, below_more, arith}
+use Rattle.std.specs.List.{slice_set}
+use Rattle.std.proofs.lemmas.Bool.{false≢true, cases_Bool, eqb-false, eq-eqb, ne_eqb}
 use Rattle.std.proofs.lemmas.Option.{same_Some}
 use Rattle.hist_types.specs.Edges.{process, Edge}
 use Rattle.hist_types.specs.Phenomena.{is_order}
@@ -41,12 +41,12 @@ some_edge (f ∷ path) e = omega arith
 -- ---- back to a transaction
 
 pub path_to_off : (t : ℕ) (path : List Edge) → IsOff t (stations (path_to t path))
-path_to_off t [] = refl
+path_to_off t [] = tt
 path_to_off t (e ∷ path) = elim (cases_Bool (e.from == t)) [
-  | inl there ↦ rw there refl
+  | inl there ↦ rw there tt
   | inr further ↦
       subst (λ b. IsOff t (stations (if b then [] else e ∷ path_to t path))) (sym further)
-      (or_from (t == e.from) (list_any (nat_eq t) (stations (path_to t path))) (ne_eqb t e.from (λ same. eqb-false e.from t further (sym same))) (path_to_off t path))
+      (ne_eqb t e.from (λ same. eqb-false e.from t further (sym same)), path_to_off t path)
 ]
 
 pub place_at :
@@ -154,10 +154,9 @@ places_pushed before after n [] next have off at others =
     let same : n + 0 ≡ n = omega arith in
     (at ∙ ap Some same, tt)
 places_pushed before after n (e ∷ path) next have off at others =
-    let parts = or_parts (next.from == e.from) (list_any (nat_eq next.from) (stations path)) off in
     let further : n + length (e ∷ path) ≡ (n + 1) + length path = omega arith in (
-      others e.from (λ same. eqb-false next.from e.from parts.0 (sym same)) ∙ have.0,
-      places_pushed before after (n + 1) path next have.1 parts.1 (at ∙ ap Some further) others,
+      others e.from (λ same. eqb-false next.from e.from off.0 (sym same)) ∙ have.0,
+      places_pushed before after (n + 1) path next have.1 off.1 (at ∙ ap Some further) others,
     )
 
 pub places_alike :

@@ -1,10 +1,12 @@
 -- A closed walk that is followed from behind an edge that it needs, without what it does twice, shows what it showed.
 use Rattle.std.proofs.Common.{◌≡◌, inl, inr, ℕ, List, [], ◌∷◌, ◌++◌, fold, Bool, true, false, not, ◌&&◌, ◌||◌, ◌==◌, nat_eq, if◌then◌else◌, refl, sym, ◌∙◌, ap, subst}
-use Rattle.std.specs.List.{AllByRecursion, list_any}
-use Rattle.std.proofs.lemmas.Bool.{false≢true, and_parts, and_from, cases_Bool, eqb-true, eqb-false, ne_eqb, or_from, or_parts, not-true, not_from_false}
+use Rattle.std.specs.List.{AllByRecursion, IsDistinct, list_any}
+use Rattle.std.proofs.lemmas.Bool.{false≢true, and_parts, and_from, cases_Bool, eqb-true, or_from}
+use Rattle.std.proofs.lemmas.Cmp.{nat_eq_equiv}
+use Rattle.std.proofs.lemmas.Map.Keys.{IsDistinct-push}
 use Rattle.hist_types.specs.Edges.{Label, Edge}
 use Rattle.hist_types.specs.Phenomena.{Leads, is_ww_label, is_wr_label, is_rw_label, is_order}
-use Rattle.hist_types.specs.Witness.{stations, all_different, alternates, ends_in_order}
+use Rattle.hist_types.specs.Witness.{stations, alternates, ends_in_order}
 use Rattle.hist_types.proofs.Members.{In}
 use Rattle.history_laws.proofs.ThinningPaths.{leads_on, all_of_both}
 use Rattle.history_laws.proofs.ThinningWitnesses.{IsOff, IsSimple, after, ends_after, alternate_both, stations-append}
@@ -49,30 +51,27 @@ Passes es p e = In e es × (p e ≡ true)
 pub record IsShort (es : List Edge) (p : Edge → Bool) (from at : ℕ) (path : List Edge) : Type 0 where
   pub leads : Leads from path at
   pub passes : AllByRecursion (Passes es p) path
-  pub different : all_different (stations path) ≡ true
+  pub different : IsDistinct nat_eq (stations path)
   pub apart : alternates false path ≡ true
 
 -- ---- back to a transaction
 
 off_before : (n t : ℕ) (path : List Edge) → IsOff n (stations path) → IsOff n (stations (path_to t path))
-off_before n t [] off = refl
+off_before n t [] off = tt
 off_before n t (e ∷ path) off = elim (cases_Bool (e.from == t)) [
-  | inl there ↦ rw there refl
+  | inl there ↦ rw there tt
   | inr further ↦
-      let parts = or_parts (n == e.from) (list_any (nat_eq n) (stations path)) off in
-      subst (λ b. IsOff n (stations (if b then [] else e ∷ path_to t path))) (sym further)
-      (or_from (n == e.from) (list_any (nat_eq n) (stations (path_to t path))) parts.0 (off_before n t path parts.1))
+      subst (λ b. IsOff n (stations (if b then [] else e ∷ path_to t path))) (sym further) (off.0, off_before n t path off.1)
 ]
 
-different_before : (t : ℕ) (path : List Edge) → all_different (stations path) ≡ true → all_different (stations (path_to t path)) ≡ true
-different_before t [] d = refl
+different_before : (t : ℕ) (path : List Edge) → IsDistinct nat_eq (stations path) → IsDistinct nat_eq (stations (path_to t path))
+unfolding IsDistinct
+different_before t [] d = tt
 different_before t (e ∷ path) d = elim (cases_Bool (e.from == t)) [
-  | inl there ↦ rw there refl
+  | inl there ↦ rw there tt
   | inr further ↦
-      let parts = and_parts (not (list_any (nat_eq e.from) (stations path))) (all_different (stations path)) d in
-      let off = off_before e.from t path (not-true (list_any (nat_eq e.from) (stations path)) parts.0) in
-      subst (λ b. all_different (stations (if b then [] else e ∷ path_to t path)) ≡ true) (sym further)
-      (and_from (not (list_any (nat_eq e.from) (stations (path_to t path)))) (all_different (stations (path_to t path))) (not_from_false (list_any (nat_eq e.from) (stations (path_to t path))) off) (different_before t path parts.1))
+      subst (λ b. IsDistinct nat_eq (stations (if b then [] else e ∷ path_to t path))) (sym further)
+      (off_before e.from t path d.0, different_before t path d.1)
 ]
 
 apart_before : (before : Bool) (t : ℕ) (path : List Edge) → alternates before path ≡ true → alternates before (path_to t path) ≡ true
@@ -156,20 +155,9 @@ joined_apart before (e ∷ d ∷ path) f ends a =
     let parts = and_parts (not (before && is_order e)) (alternates (is_order e) (d ∷ path)) a in
     and_from (not (before && is_order e)) (alternates (is_order e) (last_joined (d ∷ path) f)) parts.0 (joined_apart (is_order e) (d ∷ path) f ends parts.1)
 
-different_pushed : (ns : List ℕ) (n : ℕ) → all_different ns ≡ true → IsOff n ns → all_different (ns ++ n ∷ []) ≡ true
-different_pushed [] n d off = refl
-different_pushed (m ∷ ns) n d off =
-    let parts = and_parts (not (list_any (nat_eq m) ns)) (all_different ns) d in
-    let away = or_parts (n == m) (list_any (nat_eq n) ns) off in
-    let other : (m == n) ≡ false = ne_eqb m n (λ same. eqb-false n m away.0 (sym same)) in
-    and_from (not (list_any (nat_eq m) (ns ++ n ∷ []))) (all_different (ns ++ n ∷ [])) (not_from_false (list_any (nat_eq m) (ns ++ n ∷ [])) (off_pushed m ns n (not-true (list_any (nat_eq m) ns) parts.0) other))
-    (different_pushed ns n parts.1 away.1)
-  where
-    off_pushed : (m : ℕ) (ns : List ℕ) (n : ℕ) → IsOff m ns → (m == n) ≡ false → IsOff m (ns ++ n ∷ [])
-    off_pushed m [] n off other = or_from (m == n) false other refl
-    off_pushed m (k ∷ ns) n off other =
-        let parts = or_parts (m == k) (list_any (nat_eq m) ns) off in
-        or_from (m == k) (list_any (nat_eq m) (ns ++ n ∷ [])) parts.0 (off_pushed m ns n parts.1 other)
+none_from_off : (n : ℕ) (ns : List ℕ) → IsOff n ns → list_any (nat_eq n) ns ≡ false
+none_from_off n [] off = refl
+none_from_off n (m ∷ ns) off = or_from (nat_eq n m) (list_any (nat_eq n) ns) off.0 (none_from_off n ns off.1)
 
 after_path : (path : List Edge) → after false path ≡ ends_in_order path
 after_path [] = refl
@@ -203,14 +191,14 @@ short_extended es p from path f joins pass off s = elim (cases_Bool (is_order f 
       subst (λ b. IsShort es p from f.to (if b then last_joined path f else path ++ f ∷ [])) (sym both) (record {
         leads = joined_leads from path f orders.1 s.leads;
         passes = joined_passes es p from path f joins pass.0 orders.0 orders.1 s.leads s.passes;
-        different = subst (λ ns. all_different ns ≡ true) (sym (joined_stations path f)) s.different;
+        different = subst (IsDistinct nat_eq) (sym (joined_stations path f)) s.different;
         apart = joined_apart false path f orders.1 s.apart;
       })
   | inr other ↦
       subst (λ b. IsShort es p from f.to (if b then last_joined path f else path ++ f ∷ [])) (sym other) (record {
         leads = leads_on from f.from f.to path (f ∷ []) s.leads (refl, refl);
         passes = all_of_both (Passes es p) path (f ∷ []) s.passes (pass, tt);
-        different = subst (λ ns. all_different ns ≡ true) (sym (stations-append path (f ∷ []))) (different_pushed (stations path) f.from s.different off);
+        different = subst (IsDistinct nat_eq) (sym (stations-append path (f ∷ []))) (IsDistinct-push nat_eq_equiv (stations path) f.from s.different (none_from_off f.from (stations path) off));
         apart = apart_pushed path f other s.apart;
       })
 ]
@@ -237,7 +225,8 @@ short_all es p from at to path (f ∷ walk) joins leads all s =
     (short_followed es p from path f joins all.0 (subst (λ n. IsShort es p from n path) (sym leads.0) s))
 
 pub short_none : (es : List Edge) (p : Edge → Bool) (from : ℕ) → IsShort es p from from []
-short_none es p from = record { leads = refl; passes = tt; different = refl; apart = refl }
+unfolding IsDistinct
+short_none es p from = record { leads = refl; passes = tt; different = tt; apart = refl }
 
 -- ---- closed by its last edge
 

@@ -1,16 +1,7 @@
 -- Lists in which nothing is twice.
-use Rattle.std.proofs.Common.{◌≡◌, List, [], ◌∷◌, ◌++◌, Bool, true, false, if◌then◌else◌, filter, flat_map, refl, sym, subst, inl, inr}
-use Rattle.hist_types.specs.Edges.{Edge}
-use Rattle.hist_types.proofs.Members.{In, in_from_Contains, in_append, in_some, in_filter}
-use Rattle.history_laws.proofs.WrittenOnce.{AreApart}
-use Rattle.hist_types.specs.Lists.{NoneTwice}
-
-pub apart_append : {X : Type 0} (xs ys : List X) → AreApart xs → AreApart ys → ((x : X) → In x xs → In x ys → ⊥) → AreApart (xs ++ ys)
-apart_append [] ys a b none = b
-apart_append (x ∷ xs) ys a b none = (
-  λ i. elim (in_append x xs ys i) [ inl j ↦ a.0 j | inr j ↦ none x (inl refl) j ],
-  apart_append xs ys a.1 b (λ z i j. none z (inr i) j),
-)
+use Rattle.std.proofs.Common.{◌≡◌, List, [], ◌∷◌, Bool, true, false, if◌then◌else◌, filter, flat_map, refl, sym, subst, inl, inr}
+use Rattle.hist_types.proofs.Members.{In, in_some, in_filter}
+use Rattle.history_laws.proofs.WrittenOnce.{AreApart, apart_append}
 
 -- where each of the lists is apart, and no two of them have a member in common
 pub apart_each :
@@ -33,10 +24,6 @@ kept_apart false x ys xs new among a = a
 pub apart_filter : {X : Type 0} (p : X → Bool) (xs : List X) → AreApart xs → AreApart (filter p xs)
 apart_filter p [] a = tt
 apart_filter p (x ∷ xs) a = kept_apart (p x) x (filter p xs) xs a.0 (λ z i. in_filter p z xs i) (apart_filter p xs a.1)
-
-pub none_twice : (es : List Edge) → AreApart es → NoneTwice es
-none_twice [] a = tt
-none_twice (e ∷ es) a = (λ c. a.0 (in_from_Contains e es c), none_twice es a.1)
 
 pub apart_if : {X : Type 0} (test : Bool) (xs : List X) → AreApart xs → AreApart (if test then xs else [])
 apart_if true xs a = a

@@ -11,16 +11,16 @@ use Rattle.hist_types.specs.Transactions.{Transaction, Version, version_of, has_
 use Rattle.hist_types.specs.Versions.{pair, nil_of, is_change, version_pairs}
 use Rattle.history_laws.proofs.DependencyEdges.{edges_by_versions}
 use Rattle.hist_types.proofs.Equality.{atom_eq-same, atom_eq-itself, value_eq-same, value_eq-itself, same_version}
-use Rattle.hist_types.proofs.Members.{In, in_from_Contains, Contains_from_in, in_front, in_back, in_append, in_each, in_some, in_map, in_filter, in_filtered, passes_filter}
+use Rattle.hist_types.proofs.Members.{In, in_from_Contains, Contains_from_in, in_front, in_back, in_append, in_each, in_some, in_map, in_filter, in_filtered, in_if, passes_filter}
 use Rattle.history_laws.proofs.Processes.{told_apart}
 use Rattle.history_laws.proofs.ThinningTimes.{timed_from}
 use Rattle.history_laws.proofs.VersionMembers.{in_from_has, has_from_in, pairs_by_membership}
-use Rattle.history_laws.proofs.WrittenOnce.{AreApart, all_apart, one_writer, nil_unwritten}
+use Rattle.history_laws.proofs.WrittenOnce.{AreApart, apart_append, none_twice, all_apart, one_writer, nil_unwritten}
 use Rattle.key_versions.specs.Histories.{read_by, is_followed, installs_behind}
 use Rattle.dep_edges.specs.Histories.{AreOfHistory}
 use Rattle.dep_edges.specs.OutEdges.{AreEdgesFrom, AddsEdgesFrom, edge_to, node_edge, reader_edges, later_edges, written_edges, read_edges, each_once, edges_out, leaving}
 use Rattle.dep_edges.specs.Tables.{txn_at}
-use Rattle.dep_edges.proofs.Apart.{apart_append, apart_each, apart_filter, apart_if, apart_unless, none_twice}
+use Rattle.dep_edges.proofs.Apart.{apart_each, apart_filter, apart_if, apart_unless}
 use Rattle.dep_edges.proofs.Places.{installed_written}
 
 -- ---- one transaction by its invocation, and by what it writes
@@ -124,10 +124,6 @@ leads_to : (ts : List Transaction) (from : ℕ) (u : Transaction) (label : Label
 leads_to ts from u label node other =
     subst (λ b. In (out from u label) (if b then edge_to from u label else [])) (sym node)
     (subst (λ b. In (out from u label) (if b then [] else out from u label ∷ [])) (sym other) (inl refl))
-
-in_if : {X : Type 0} (x : X) (test : Bool) (xs : List X) → In x (if test then xs else []) → (test ≡ true) × In x xs
-in_if x true xs i = (refl, i)
-in_if x false xs i = elim i [ ]
 
 in_then : {X : Type 0} (x : X) (test : Bool) (xs : List X) → test ≡ true → In x xs → In x (if test then xs else [])
 in_then x test xs e i = subst (λ b. In x (if b then xs else [])) (sym e) i

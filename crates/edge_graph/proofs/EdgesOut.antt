@@ -8,13 +8,13 @@ use Rattle.hist_types.specs.declared.types.Level.{Level}
 use Rattle.hist_types.specs.declared.types.Level.TheVariants.{Plain, Process, Realtime}
 use Rattle.history_laws.proofs.DependencyEdges.{edges_by_versions}
 use Rattle.hist_types.proofs.Members.{In, in_from_Contains, Contains_from_in, in_front, in_back, in_append, in_each, in_some, in_map, in_filter, in_filtered, passes_filter}
-use Rattle.history_laws.proofs.WrittenOnce.{AreApart}
+use Rattle.history_laws.proofs.WrittenOnce.{AreApart, apart_append, none_twice}
 use Rattle.order_frontier.specs.Predecessors.{Before}
 use Rattle.dep_edges.specs.Histories.{AreOfHistory}
 use Rattle.dep_edges.specs.OutEdges as out_edges
 use Rattle.hist_types.specs.Lists.{NoneTwice}
 use Rattle.dep_edges.specs.Tables.{txn_at}
-use Rattle.dep_edges.proofs.Apart.{apart_append, apart_each, apart_filter, none_twice}
+use Rattle.dep_edges.proofs.Apart.{apart_each, apart_filter}
 use Rattle.edge_graph.specs.Kinds.{includes}
 use Rattle.edge_graph.specs.Made.{order_labels_to, order_edges_to, order_edges_over}
 use Rattle.edge_graph.specs.Parts.{Parts, IsOrderOf, HasEdge, AreEdgesFrom}

@@ -289,7 +289,8 @@ impl<'g, 'v, 'a> Graph<'g, 'v, 'a> {
         Ok(None)
     }
 
-    /// The edges of a walk over the arcs of these dependencies and of the order of the level, from a transaction to a transaction.
+    /// The edges of a walk over the arcs of these dependencies and of the order of the level, from a transaction to a
+    /// transaction.
     pub fn edges_along(
         &self,
         walk: &[usize],

@@ -206,8 +206,8 @@ impl<'a> Lexer<'a> {
         Some(triple)
     }
 
-    /// The offset from which tokens can be looked for ahead: none after a fault, or where fewer than three more collections may be
-    /// opened.
+    /// The offset from which tokens can be looked for ahead: none after a fault, or where fewer than three more collections may
+    /// be opened.
     #[inline(always)]
     pub fn ahead(&self) -> Option<usize>
         ensures { IfSome result (LooksAhead self.now) }

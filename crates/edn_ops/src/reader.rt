@@ -78,7 +78,8 @@ impl<'a> Place<'a> {
         }
     }
 
-    /// The next operation, if it is a map that can be read in one pass, or such a map after a tag. Else the place stays the same, and out of memory too.
+    /// The next operation, if it is a map that can be read in one pass, or such a map after a tag. Else the place stays the same,
+    /// and out of memory too.
     fn flat_op(&mut self, alloc: Global) -> Result<Option<OpShape>, Fault>
         requires { self.old.skipped ≤ self.old.lexer.offset }
         ensures { FlatOp self.old result self.new }
@@ -133,8 +134,8 @@ impl<'a> Place<'a> {
 
 /// Reads the operations of a text in EDN as Jepsen prints it: maps at the top level, or directly in a vector or list there.
 ///
-/// It keeps nothing of the text but the micro-operations of the operation that it is at. Operations whose process is no integer are
-/// skipped.
+/// It keeps nothing of the text but the micro-operations of the operation that it is at. Operations whose process is no integer
+/// are skipped.
 #[derive(Drop)]
 pub struct OpReader<'a> {
     alloc: Global,

@@ -1,4 +1,4 @@
--- Members of lists, by recursion: of what is appended, filtered, mapped and joined.
+-- Members of lists, by recursion: of what is appended, filtered, mapped, joined, or there on a condition.
 use Rattle.std.proofs.Common.{◌≡◌, ◌⊎◌, inl, inr, ℕ, zero, suc, ◌<◌, List, [], ◌∷◌, ◌++◌, length, get_or, Bool, true, false, filter, map, flat_map, if◌then◌else◌, ap, refl, sym, ◌∙◌, subst, arith}
 use Rattle.std.specs.List.{Contains}
 
@@ -57,6 +57,15 @@ pub in_map : {X Y : Type 0} (f : X → Y) (y : Y) (xs : List X) → In y (map f 
 in_map f y [] i = elim i [ ]
 in_map f y (z ∷ xs) (inl e) = (z, inl refl, e)
 in_map f y (z ∷ xs) (inr i) = let found = in_map f y xs i in (found.0, inr found.1, found.2)
+
+-- a member of a list that is there only where the test says so, or only where it doesn't
+pub in_if : {X : Type 0} (x : X) (test : Bool) (xs : List X) → In x (if test then xs else []) → (test ≡ true) × In x xs
+in_if x true xs i = (refl, i)
+in_if x false xs i = elim i [ ]
+
+pub in_unless : {X : Type 0} (x : X) (test : Bool) (xs : List X) → In x (if test then [] else xs) → (test ≡ false) × In x xs
+in_unless x true xs i = elim i [ ]
+in_unless x false xs i = (refl, i)
 
 kept : {X : Type 0} (x z : X) (passes : Bool) (rest xs : List X) → In x (if passes then z ∷ rest else rest) → (In x rest → In x xs) → In x (z ∷ xs)
 kept x z true rest xs (inl e) further = inl e

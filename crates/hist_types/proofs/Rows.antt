@@ -18,3 +18,4 @@ pub mod Explanations
 pub mod Handed
 pub mod LegalAnswers
 pub mod Interleavings
+pub mod Sessions

@@ -5,7 +5,8 @@
 -- others, in a total order in which T comes before U wherever T is ok and completed before U's
 -- invocation, and in which each ok transaction's reads are what running the order from nil
 -- registers gives.
-use Rattle.std.specs.Prelude.{◌≡◌, List, [], ◌∷◌, ◌==◌, if◌then◌else◌, IsTrue, IsFalse, Some, None, All, Contains, ⊤}
+use Rattle.std.specs.Prelude.{◌≡◌, List, [], ◌∷◌, nat_eq, if◌then◌else◌, IsTrue, IsFalse, Some, None, map, All, Contains, ⊤}
+use Rattle.std.specs.List.{IsDistinct}
 use Rattle.hist_types.specs.Atoms.{Atom, Value, atom_eq}
 use Rattle.hist_types.specs.Operations.{Mop, read, write}
 use Rattle.hist_types.specs.Transactions.{Transaction, is_ok, is_failed}
@@ -49,15 +50,9 @@ abbrev pub KeepsRealtime : List Transaction → Type 0
 KeepsRealtime [] = ⊤
 KeepsRealtime (t ∷ ts) = All (λ later. IsFalse (is_ok_before later t)) ts × KeepsRealtime ts
 
--- no transaction comes twice
-abbrev pub AreDifferent : List Transaction → Type 0
-AreDifferent [] = ⊤
-AreDifferent (t ∷ ts) =
-    All (λ later. IsFalse (later.invocation == t.invocation)) ts × AreDifferent ts
-
 pub record Explains (ts : List Transaction) (order : List Transaction) : Type 0 where
   pub chosen : All (λ t. Contains ts t × IsFalse (is_failed t)) order
   pub all_ok : (t : Transaction) → Contains ts t → IsTrue (is_ok t) → Contains order t
-  pub different : AreDifferent order
+  pub different : IsDistinct nat_eq (map (λ (t : Transaction). t.invocation) order)
   pub realtime : KeepsRealtime order
   pub runs : Runs all_nil order

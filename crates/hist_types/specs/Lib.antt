@@ -26,6 +26,8 @@ pub mod Reading
 pub mod Handed
 pub mod LegalAnswers
 pub mod Interleavings
+-- What a client of a live journal writes, line by line, and what it reads in reply.
+pub mod Sessions
 -- Where bytes come from and go to.
 pub mod Devices
 -- Words of no subject of their own.

@@ -175,7 +175,8 @@ wrote_intermediate t v = has_version (map version_of (intermediate_writes t)) v
 -- some transaction reads a version that this one wrote
 abbrev pub was_read : List Transaction → Transaction → Bool
 was_read ts t =
-    list_any (λ w. list_any (λ reader. is_known_to_read reader (version_of w)) ts) (writes_of t.mops)
+    list_any (λ w. list_any (λ reader. is_known_to_read reader (version_of w)) ts)
+    (writes_of t.mops)
 
 abbrev pub is_node : List Transaction → Transaction → Bool
 is_node ts t = is_ok t || (not (is_failed t) && was_read ts t)

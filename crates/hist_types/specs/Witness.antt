@@ -4,7 +4,7 @@
 -- twice and, round the whole cycle, no two order edges side by side, written from its least
 -- transaction. Where several fit, any is right.
 use Rattle.std.specs.Prelude.{ℕ, List, [], ◌∷◌, Bool, true, false, not, ◌&&◌, nat_eq, nat_le, IsTrue, Option, IfSome, option_map, map}
-use Rattle.std.specs.List.{list_all, list_any}
+use Rattle.std.specs.List.{list_all, IsDistinct}
 use Rattle.hist_types.specs.Transactions.{Transaction}
 use Rattle.hist_types.specs.Edges.{Edge, edges_at}
 use Rattle.hist_types.specs.Phenomena.{Shows, is_order, IsLowestLevel}
@@ -14,11 +14,6 @@ use Rattle.hist_types.specs.declared.types.Phenomenon.{Phenomenon}
 -- the transactions of a closed walk, in order
 abbrev pub stations : List Edge → List ℕ
 stations walk = map (λ (e : Edge). e.from) walk
-
--- no number comes twice
-abbrev pub all_different : List ℕ → Bool
-all_different [] = true
-all_different (n ∷ ns) = not (list_any (nat_eq n) ns) && all_different ns
 
 -- no two order edges side by side, and not after an order edge where `after` says so
 abbrev pub alternates : (after : Bool) → List Edge → Bool
@@ -40,7 +35,7 @@ pub record IsWitness
     (phenomenon : Phenomenon) (level : Level) (ts : List Transaction) (walk : List Edge)
     : Type 0 where
   pub shows : Shows phenomenon (edges_at level ts) walk
-  pub different : IsTrue (all_different (stations walk))
+  pub different : IsDistinct nat_eq (stations walk)
   pub apart : IsTrue (alternates (ends_in_order walk) walk)
   pub least : IsTrue (begins_least (stations walk))
 

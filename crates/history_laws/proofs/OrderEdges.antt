@@ -8,7 +8,7 @@ use Rattle.hist_types.specs.ThinnedOrder.{has_between, thinned_labels, all_thinn
 use Rattle.history_laws.specs.OrderEdges.{LeavesOne, LeadsToOne, HasRealtimeTwin}
 use Rattle.hist_types.specs.declared.types.Level.{Level}
 use Rattle.hist_types.specs.declared.types.Level.TheVariants.{Plain, Process, Realtime}
-use Rattle.hist_types.proofs.Members.{In, in_from_Contains, Contains_from_in, in_each, in_some, in_mapped, in_map, in_filter, in_filtered}
+use Rattle.hist_types.proofs.Members.{In, in_from_Contains, Contains_from_in, in_each, in_some, in_mapped, in_map, in_filter, in_filtered, in_unless}
 
 abbrev pub Labels : Type 0
 Labels = Transaction → Transaction → List Label
@@ -91,21 +91,17 @@ order_edges-lead level ts e c =
 
 -- ---- thinned edges
 
-some_labels : (between : Bool) (ls : List Label) (label : Label) → In label (if between then [] else ls) → In label ls
-some_labels true ls label i = elim i [ ]
-some_labels false ls label i = i
-
 pub thinned_edges-order : (level : Level) (ts : List Transaction) (e : Edge) → Contains (thinned_edges level ts) e → Contains (order_edges level ts) e
 thinned_edges-order level ts e c =
     Contains_from_in e (order_edges level ts)
     (between_each-fewer (nodes ts) (nodes ts) (thinned_labels level ts) (order_labels level) (λ t i. i)
-    (λ t u label i. some_labels (has_between level ts t u) (order_labels level t u) label i) e (in_from_Contains e (thinned_edges level ts) c))
+    (λ t u label i. (in_unless label (has_between level ts t u) (order_labels level t u) i).1) e (in_from_Contains e (thinned_edges level ts) c))
 
 pub all_thinned_edges-order : (level : Level) (ts : List Transaction) (e : Edge) → Contains (all_thinned_edges level ts) e → Contains (all_order_edges level ts) e
 all_thinned_edges-order level ts e c =
     Contains_from_in e (all_order_edges level ts)
     (between_each-fewer ts ts (thinned_labels level ts) (order_labels level) (λ t i. i)
-    (λ t u label i. some_labels (has_between level ts t u) (order_labels level t u) label i) e (in_from_Contains e (all_thinned_edges level ts) c))
+    (λ t u label i. (in_unless label (has_between level ts t u) (order_labels level t u) i).1) e (in_from_Contains e (all_thinned_edges level ts) c))
 
 -- ---- first ends are ok, and so are nodes
 

@@ -14,7 +14,7 @@ use Rattle.history_laws.specs.Paths.{thinned_edges_between}
 use Rattle.history_laws.specs.OpenAtOnce.{is_open_at, open_at, greatest, most_open, predecessors}
 use Rattle.hist_types.specs.declared.types.Level.{Level}
 use Rattle.hist_types.specs.declared.types.Level.TheVariants.{Plain, Process, Realtime}
-use Rattle.hist_types.proofs.Members.{In, in_mapped, in_map, in_some, in_filter}
+use Rattle.hist_types.proofs.Members.{In, in_mapped, in_map, in_some, in_filter, in_unless}
 use Rattle.history_laws.proofs.ThinningTimes.{AreTimed, AreSequential, timed_from, invocation_by, transactions_timed, transactions_sequential}
 use Rattle.history_laws.proofs.ThinningPaths.{any_passes, some_passes, Ordered, ended_before, before_from_ended, ordered_from_label}
 use Rattle.history_laws.proofs.ThinningWalks.{one_if, count-cons, count-append, count_yes, count_no, count_none}
@@ -200,15 +200,11 @@ leads_to to e = e.to == to
 abbrev AreSingle : List Transaction → Type 0
 AreSingle ns = (n : ℕ) → count_by (λ (t : Transaction). t.invocation == n) ns ≤ 1
 
-unless_same : (same : Bool) (es : List Edge) (e : Edge) → In e (if same then [] else es) → In e es
-unless_same true es e i = elim i [ ]
-unless_same false es e i = i
-
 ends_of_edge :
     (f : Transaction → Transaction → List Label) (t u : Transaction) (e : Edge)
     → In e (edges_from_to f t u)
     → (label : Label) × In label (f t u) × (edge t u label ≡ e)
-ends_of_edge f t u e i = in_map (edge t u) e (f t u) (unless_same (t.invocation == u.invocation) (map (edge t u) (f t u)) e i)
+ends_of_edge f t u e i = in_map (edge t u) e (f t u) (in_unless e (t.invocation == u.invocation) (map (edge t u) (f t u)) i).1
 
 -- an edge of t that leads there has a node at its end
 record LeadsThere (f : Transaction → Transaction → List Label) (ns : List Transaction) (to : ℕ) (t u : Transaction) (label : Label) : Type 0 where
@@ -322,13 +318,6 @@ single_from index (event ∷ events) n = by (is_invoke event.kind) (single_from 
 
 -- ---- what is thinned
 
-unless :
-    {X : Type 0} (between : Bool) (xs : List X) (x : X)
-    → In x (if between then [] else xs)
-    → (between ≡ false) × In x xs
-unless true xs x i = elim i [ ]
-unless false xs x i = (refl, i)
-
 one_thinned_label : (level : Level) (ts : List Transaction) → HasOneLabel (thinned_labels level ts)
 one_thinned_label level ts t u = left (has_between level ts t u) (one level)
   where
@@ -362,7 +351,7 @@ thinned_from_label :
     → In label (thinned_labels level ts t u)
     → IsThinned level ts t u
 thinned_from_label level ts t u label i =
-    let kept = unless (has_between level ts t u) (order_labels level t u) label i in
+    let kept = in_unless label (has_between level ts t u) (order_labels level t u) i in
     record {
       ordered = ordered_from_label level t u label kept.1;
       alone = λ v j first second.

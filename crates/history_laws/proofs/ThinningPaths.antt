@@ -13,7 +13,7 @@ use Rattle.hist_types.specs.Phenomena.{Leads}
 use Rattle.history_laws.specs.Paths.{IncludesAllOk, order_edges_between, thinned_edges_between, HasEdge, IsPath, HasPath}
 use Rattle.hist_types.specs.declared.types.Level.{Level}
 use Rattle.hist_types.specs.declared.types.Level.TheVariants.{Plain, Process, Realtime}
-use Rattle.hist_types.proofs.Members.{In, in_from_Contains, Contains_from_in, in_each, in_mapped, in_map, in_filter, in_filtered}
+use Rattle.hist_types.proofs.Members.{In, in_from_Contains, Contains_from_in, in_each, in_mapped, in_map, in_filter, in_filtered, in_unless}
 use Rattle.history_laws.proofs.OrderEdges.{Labels, Comes, comes_from}
 use Rattle.history_laws.proofs.ThinningTimes.{AreTimed, transactions_timed}
 
@@ -158,10 +158,6 @@ pub edge_from_ends :
 edge_from_ends ns f e t u label ends =
     subst (λ d. In d (between_each ns f)) (sym ends.is) (edge_between ns f t u label ends.first ends.second ends.other ends.labelled)
 
-kept_label : (between : Bool) (ls : List Label) (label : Label) → In label (if between then [] else ls) → In label ls
-kept_label true ls label i = elim i [ ]
-kept_label false ls label i = i
-
 pub thinned_in_order :
     (level : Level) (ts ns : List Transaction) (e : Edge)
     → In e (thinned_edges_between level ts ns)
@@ -173,7 +169,7 @@ thinned_in_order level ts ns e i =
       second = ends.second;
       other = ends.other;
       is = ends.is;
-      labelled = kept_label (has_between level ts t u) (order_labels level t u) label ends.labelled;
+      labelled = (in_unless label (has_between level ts t u) (order_labels level t u) ends.labelled).1;
     })
 
 -- ---- ways along edges

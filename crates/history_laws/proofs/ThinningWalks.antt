@@ -291,7 +291,7 @@ pub record Uncounted (l : Label) : Type 0 where
   pub no_wr : is_wr_label l ≡ false
   pub no_rw : is_rw_label l ≡ false
 
-label_of_one : (holds : Bool) (l label : Label) → In label (if holds then l ∷ [] else []) → l ≡ label
+pub label_of_one : (holds : Bool) (l label : Label) → In label (if holds then l ∷ [] else []) → l ≡ label
 label_of_one true l label (inl e) = e
 label_of_one true l label (inr i) = elim i [ ]
 label_of_one false l label i = elim i [ ]

@@ -1,9 +1,12 @@
 -- What is shown has a witness: a way back is made simple, order edges side by side become one, and the walk is turned to begin at
 -- its least transaction.
 use Rattle.std.proofs.Common.{◌≡◌, ◌↔◌, inl, inr, ℕ, ◌≤◌, List, [], ◌∷◌, ◌++◌, Bool, true, false, not, ◌&&◌, ◌||◌, ◌==◌, nat_eq, nat_le, count_by, filter, refl, sym, ◌∙◌, ap, subst, arith}
-use Rattle.std.specs.List.{AllByRecursion, list_any, list_all}
-use Rattle.std.proofs.lemmas.Bool.{false≢true, and_parts, and_from, or_cases, or_right, or_parts, or_from, and_right, cases_Bool, cases_lt, eqb-true, eqb-false, ne_eqb, le-leb, not-true, not_from_false, not_from_true}
+use Rattle.std.specs.List.{AllByRecursion, IsDistinct, list_any, list_all}
+use Rattle.std.proofs.lemmas.Bool.{false≢true, and_parts, and_from, or_cases, or_right, or_parts, and_right, cases_Bool, cases_lt, eqb-true, eqb-false, ne_eqb, le-leb, not_from_false, not_from_true}
+use Rattle.std.proofs.lemmas.Cmp.{nat_eq_equiv}
 use Rattle.std.proofs.lemmas.List.{map-append}
+use Rattle.std.proofs.lemmas.List.Sorted.{IsPermutation-append_comm}
+use Rattle.std.proofs.lemmas.Map.Keys.{IsDistinct-IsPermutation}
 use Rattle.hist_types.specs.Operations.{Operation}
 use Rattle.hist_types.specs.Transactions.{Transaction, nodes, transactions_of, installed_by, is_known_to_read, installs}
 use Rattle.hist_types.specs.Versions.{VersionPair, version_pairs}
@@ -13,7 +16,7 @@ use Rattle.history_laws.specs.Paths.{order_edges_between}
 use Rattle.history_laws.specs.Walks.{SameCounts}
 use Rattle.history_laws.specs.WaysBack.{is_needed, may_lead_back, HasWayBack}
 use Rattle.history_laws.specs.Shown.{HasWitness}
-use Rattle.hist_types.specs.Witness.{stations, all_different, alternates, ends_in_order, IsWitness}
+use Rattle.hist_types.specs.Witness.{stations, alternates, ends_in_order, IsWitness}
 use Rattle.hist_types.specs.declared.types.Level.{Level}
 use Rattle.hist_types.specs.declared.types.Phenomenon.{Phenomenon}
 use Rattle.hist_types.specs.declared.types.Phenomenon.TheVariants.{G0, G1c, GSingle, G2Item}
@@ -26,7 +29,11 @@ use Rattle.history_laws.proofs.ThinningCycles.{closing_makes, closed_is_led, all
 
 -- the number is none of the stations
 abbrev pub IsOff : ℕ → List ℕ → Type 0
-IsOff n ns = list_any (nat_eq n) ns ≡ false
+IsOff n ns = AllByRecursion (λ m. nat_eq n m ≡ false) ns
+
+pub off_from_none : (n : ℕ) (ns : List ℕ) → list_any (nat_eq n) ns ≡ false → IsOff n ns
+off_from_none n [] none = tt
+off_from_none n (m ∷ ns) none = let parts = or_parts (nat_eq n m) (list_any (nat_eq n) ns) none in (parts.0, off_from_none n ns parts.1)
 
 -- From one transaction to another, along edges of the list that all pass: no station twice, the last one none of them, and no
 -- two order edges side by side.
@@ -34,7 +41,7 @@ pub record IsSimple (es : List Edge) (p : Edge → Bool) (from to : ℕ) (walk :
   pub leads : Leads from walk to
   pub within : AllByRecursion (λ e. In e es) walk
   pub passes : AllByRecursion (λ e. p e ≡ true) walk
-  pub different : all_different (stations walk) ≡ true
+  pub different : IsDistinct nat_eq (stations walk)
   pub off_end : IsOff to (stations walk)
   pub apart : alternates false walk ≡ true
 
@@ -47,7 +54,8 @@ alternates_less after [] e = refl
 alternates_less after (f ∷ walk) e = (and_parts (not (after && is_order f)) (alternates (is_order f) walk) e).1
 
 none_here : (es : List Edge) (p : Edge → Bool) (from to : ℕ) → from ≡ to → IsSimple es p from to []
-none_here es p from to e = record { leads = e; within = tt; passes = tt; different = refl; off_end = refl; apart = refl }
+unfolding IsDistinct
+none_here es p from to e = record { leads = e; within = tt; passes = tt; different = tt; off_end = tt; apart = refl }
 
 -- the part of a simple way from one of its stations on
 from_station :
@@ -55,10 +63,9 @@ from_station :
     → IsSimple es p from to walk
     → list_any (nat_eq a) (stations walk) ≡ true
     → (rest : List Edge) × IsSimple es p a to rest
+unfolding IsDistinct
 from_station es p a from to [] s on = elim (false≢true on) [ ]
 from_station es p a from to (e ∷ walk) s on =
-    let parts = and_parts (not (list_any (nat_eq e.from) (stations walk))) (all_different (stations walk)) s.different in
-    let off = or_parts (to == e.from) (list_any (nat_eq to) (stations walk)) s.off_end in
     elim (or_cases (a == e.from) (list_any (nat_eq a) (stations walk)) on) [
       | inl here ↦ (
         e ∷ walk,
@@ -76,8 +83,8 @@ from_station es p a from to (e ∷ walk) s on =
             leads = s.leads.1;
             within = s.within.1;
             passes = s.passes.1;
-            different = parts.1;
-            off_end = off.1;
+            different = s.different.1;
+            off_end = s.off_end.1;
             apart = alternates_less (is_order e) walk (and_parts (not (false && is_order e)) (alternates (is_order e) walk) s.apart).1;
           }) later
     ]
@@ -92,14 +99,15 @@ one_more :
     → IsOff e.from (stations walk)
     → IsSimple es p e.to to walk
     → (longer : List Edge) × IsSimple es p e.from to longer
+unfolding IsDistinct
 one_more es p e to [] joins i pass other off s = (
   e ∷ [],
   record {
     leads = (refl, s.leads);
     within = (i, tt);
     passes = (pass, tt);
-    different = refl;
-    off_end = or_from (to == e.from) false (ne_eqb to e.from (λ same. other (sym same))) refl;
+    different = (tt, tt);
+    off_end = (ne_eqb to e.from (λ same. other (sym same)), tt);
     apart = refl;
   },
 )
@@ -107,18 +115,15 @@ one_more es p e to (f ∷ walk) joins i pass other off s = elim (cases_Bool (is_
   | inl both ↦
       let orders = and_parts (is_order e) (is_order f) both in
       let (d, j, from, end, order, passes) = joins e f i s.within.0 orders.0 orders.1 s.leads.0 in
-      let rest = and_parts (not (list_any (nat_eq f.from) (stations walk))) (all_different (stations walk)) s.different in
-      let gone = or_parts (e.from == f.from) (list_any (nat_eq e.from) (stations walk)) off in
-      let last = or_parts (to == f.from) (list_any (nat_eq to) (stations walk)) s.off_end in
-      let away : IsOff d.from (stations walk) = subst (λ n. IsOff n (stations walk)) (sym from) gone.1 in
+      let away : IsOff d.from (stations walk) = subst (λ n. IsOff n (stations walk)) (sym from) off.1 in
       let apart : alternates (is_order d) walk ≡ true = subst (λ b. alternates b walk ≡ true) (orders.1 ∙ sym order) s.apart in (
         d ∷ walk,
         record {
           leads = (from, subst (λ n. Leads n walk to) (sym end) s.leads.1);
           within = (j, s.within.1);
           passes = (passes, s.passes.1);
-          different = and_from (not (list_any (nat_eq d.from) (stations walk))) (all_different (stations walk)) (not_from_false (list_any (nat_eq d.from) (stations walk)) away) rest.1;
-          off_end = or_from (to == d.from) (list_any (nat_eq to) (stations walk)) (ne_eqb to d.from (λ same. other (sym (same ∙ from)))) last.1;
+          different = (away, s.different.1);
+          off_end = (ne_eqb to d.from (λ same. other (sym (same ∙ from))), s.off_end.1);
           apart = apart;
         },
       )
@@ -128,8 +133,8 @@ one_more es p e to (f ∷ walk) joins i pass other off s = elim (cases_Bool (is_
       leads = (refl, s.leads);
       within = (i, s.within);
       passes = (pass, s.passes);
-      different = and_from (not (list_any (nat_eq e.from) (stations (f ∷ walk)))) (all_different (stations (f ∷ walk))) (not_from_false (list_any (nat_eq e.from) (stations (f ∷ walk))) off) s.different;
-      off_end = or_from (to == e.from) (list_any (nat_eq to) (stations (f ∷ walk))) (ne_eqb to e.from (λ same. other (sym same))) s.off_end;
+      different = (off, s.different);
+      off_end = (ne_eqb to e.from (λ same. other (sym same)), s.off_end);
       apart = and_from (not (is_order e && is_order f)) (alternates (is_order f) walk) (not_from_false (is_order e && is_order f) apart) s.apart;
     },
   )
@@ -151,7 +156,7 @@ simple_way es p from to (e ∷ walk) joins leads within passes =
       | inl there ↦ ([], none_here es p e.from to (eqb-true e.from to there))
       | inr further ↦ elim (cases_Bool (list_any (nat_eq e.from) (stations rest.0))) [
         | inl again ↦ from_station es p e.from e.to to rest.0 rest.1 again
-        | inr fresh ↦ one_more es p e to rest.0 joins within.0 passes.0 (eqb-false e.from to further) fresh rest.1
+        | inr fresh ↦ one_more es p e to rest.0 joins within.0 passes.0 (eqb-false e.from to further) (off_from_none e.from (stations rest.0) fresh) rest.1
       ]
     ]
 
@@ -230,7 +235,7 @@ pub record IsRound (phenomenon : Phenomenon) (es walk : List Edge) : Type 0 wher
   pub closed : IsClosedWalk walk
   pub within : AllByRecursion (λ e. In e es) walk
   pub kinds : makes phenomenon walk ≡ true
-  pub different : all_different (stations walk) ≡ true
+  pub different : IsDistinct nat_eq (stations walk)
   pub apart : alternates (ends_in_order walk) walk ≡ true
 
 pub needed_dependency : (phenomenon : Phenomenon) (e : Edge) → is_needed phenomenon e ≡ true → is_order e ≡ false
@@ -263,13 +268,14 @@ pub round_of_simple :
     → is_needed phenomenon e ≡ true
     → IsSimple es (may_lead_back phenomenon) e.to e.from walk
     → IsRound phenomenon es (e ∷ walk)
+unfolding IsDistinct
 round_of_simple phenomenon es e walk i needed s =
     let itself : is_order e ≡ false = needed_dependency phenomenon e needed in
     let last : Bool = ends_in_order (e ∷ walk) in record {
       closed = s.leads;
       within = (i, s.within);
       kinds = closing_makes phenomenon e walk needed (list_passes (may_lead_back phenomenon) walk s.passes);
-      different = and_from (not (list_any (nat_eq e.from) (stations walk))) (all_different (stations walk)) (not_from_false (list_any (nat_eq e.from) (stations walk)) s.off_end) s.different;
+      different = (s.off_end, s.different);
       apart = and_from (not (last && is_order e)) (alternates (is_order e) walk) (not_from_false (last && is_order e) (and_right last (is_order e) itself)) (subst (λ b. alternates b walk ≡ true) (sym itself) s.apart);
     }
 
@@ -284,50 +290,6 @@ round_walk phenomenon level events r =
     (e ∷ walk, round_of_simple phenomenon es e walk (in_from_Contains e es r.1) r.2 s)
 
 -- ---- turned to begin at the least
-
-pub off_not_in : (n : ℕ) (ns : List ℕ) → IsOff n ns → ¬ In n ns
-off_not_in n [] off i = i
-off_not_in n (m ∷ ns) off (inl same) = eqb-false n m (or_parts (n == m) (list_any (nat_eq n) ns) off).0 (sym same)
-off_not_in n (m ∷ ns) off (inr i) = off_not_in n ns (or_parts (n == m) (list_any (nat_eq n) ns) off).1 i
-
-pub off_from : (n : ℕ) (ns : List ℕ) → ¬ In n ns → IsOff n ns
-off_from n [] out = refl
-off_from n (m ∷ ns) out =
-    or_from (n == m) (list_any (nat_eq n) ns) (ne_eqb n m (λ same. out (inl (sym same)))) (off_from n ns (λ i. out (inr i)))
-
--- neither list has a number twice, and the two have none in common
-record AreApart (ms ns : List ℕ) : Type 0 where
-  front : all_different ms ≡ true
-  back : all_different ns ≡ true
-  across : (n : ℕ) → In n ms → ¬ In n ns
-
-apart_from : (ms ns : List ℕ) → all_different (ms ++ ns) ≡ true → AreApart ms ns
-apart_from [] ns e = record { front = refl; back = e; across = λ n i. elim i [ ] }
-apart_from (m ∷ ms) ns e =
-    let parts = and_parts (not (list_any (nat_eq m) (ms ++ ns))) (all_different (ms ++ ns)) e in
-    let rest = apart_from ms ns parts.1 in
-    let out = off_not_in m (ms ++ ns) (not-true (list_any (nat_eq m) (ms ++ ns)) parts.0) in
-    record {
-      front = and_from (not (list_any (nat_eq m) ms)) (all_different ms) (not_from_false (list_any (nat_eq m) ms) (off_from m ms (λ i. out (in_front m ms ns i)))) rest.front;
-      back = rest.back;
-      across = λ n i j. elim i [ inl same ↦ out (in_back m ms ns (subst (λ k. In k ns) (sym same) j)) | inr k ↦ rest.across n k j ];
-    }
-
-apart_both : (ms ns : List ℕ) → AreApart ms ns → all_different (ms ++ ns) ≡ true
-apart_both [] ns a = a.back
-apart_both (m ∷ ms) ns a =
-    let parts = and_parts (not (list_any (nat_eq m) ms)) (all_different ms) a.front in
-    let out : ¬ In m (ms ++ ns) = λ i. elim (in_append m ms ns i) [
-      | inl j ↦ off_not_in m ms (not-true (list_any (nat_eq m) ms) parts.0) j
-      | inr j ↦ a.across m (inl refl) j
-    ] in
-    and_from (not (list_any (nat_eq m) (ms ++ ns))) (all_different (ms ++ ns)) (not_from_false (list_any (nat_eq m) (ms ++ ns)) (off_from m (ms ++ ns) out))
-    (apart_both ms ns (record { front = parts.1; back = a.back; across = λ n i. a.across n (inr i) }))
-
-different_turned : (ms ns : List ℕ) → all_different (ms ++ ns) ≡ true → all_different (ns ++ ms) ≡ true
-different_turned ms ns e =
-    let a = apart_from ms ns e in
-    apart_both ns ms (record { front = a.back; back = a.front; across = λ n i j. a.across n j i })
 
 -- whether the last edge is an order edge, or what was before them where there is none
 abbrev pub after : Bool → List Edge → Bool
@@ -409,12 +371,13 @@ turned_round phenomenon es front e back r =
       wr = counts_turned is_wr front (e ∷ back);
       rw = counts_turned is_rw front (e ∷ back);
     } in
-    let different = different_turned (stations front) (stations (e ∷ back)) (subst (λ ns. all_different ns ≡ true) (stations-append front (e ∷ back)) r.different) in
+    let different = IsDistinct-IsPermutation nat_eq nat_eq_equiv.symm (stations front ++ stations (e ∷ back)) (stations (e ∷ back) ++ stations front) (IsPermutation-append_comm (stations front) (stations (e ∷ back)))
+    (subst (IsDistinct nat_eq) (stations-append front (e ∷ back)) r.different) in
     record {
       closed = closed_from mid (e ∷ back ++ front) (λ empty. cc) (leads_on mid from mid (e ∷ back) front second first);
       within = all_of_both (λ (d : Edge). In d es) (e ∷ back) front within.1 within.0;
       kinds = makes_alike phenomenon (front ++ e ∷ back) (e ∷ back ++ front) same r.kinds;
-      different = subst (λ ns. all_different ns ≡ true) (sym (stations-append (e ∷ back) front)) different;
+      different = subst (IsDistinct nat_eq) (sym (stations-append (e ∷ back) front)) different;
       apart = alternate_turned front e back r.apart;
     }
 

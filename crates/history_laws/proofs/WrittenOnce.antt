@@ -44,7 +44,7 @@ apart_both [] ys a x i j = i
 apart_both (z ∷ xs) ys a x (inl e) j = a.0 (in_back z xs ys (subst (λ u. In u ys) (sym e) j))
 apart_both (z ∷ xs) ys a x (inr i) j = apart_both xs ys a.1 x i j
 
-apart_append : {X : Type 0} (xs ys : List X) → AreApart xs → AreApart ys → ((x : X) → In x xs → In x ys → ⊥) → AreApart (xs ++ ys)
+pub apart_append : {X : Type 0} (xs ys : List X) → AreApart xs → AreApart ys → ((x : X) → In x xs → In x ys → ⊥) → AreApart (xs ++ ys)
 apart_append [] ys a b none = b
 apart_append (x ∷ xs) ys a b none = (
   λ i. elim (in_append x xs ys i) [ inl j ↦ a.0 j | inr j ↦ none x (inl refl) j ],
@@ -317,9 +317,9 @@ one_writer events kept t u i j v e d =
     one_of_each (λ (t : Transaction). writes_of t.mops) ts (all_writes_apart events kept) t u first.0
     (in_from_Contains t ts i) (in_from_Contains u ts j) first.1 (subst (λ w. In w (writes_of u.mops)) one second.1)
 
-none_twice : (ws : List Write) → AreApart ws → NoneTwice ws
+pub none_twice : {X : Type 0} (xs : List X) → AreApart xs → NoneTwice xs
 none_twice [] a = tt
-none_twice (w ∷ ws) a = (λ c. a.0 (in_from_Contains w ws c), none_twice ws a.1)
+none_twice (x ∷ xs) a = (λ c. a.0 (in_from_Contains x xs c), none_twice xs a.1)
 
 pub written_once : (events : List Operation) → KeepsRules events → NoneTwice (writes_of_all (transactions_of events))
 written_once events kept = none_twice (writes_of_all (transactions_of events)) (all_writes_apart events kept)

@@ -34,7 +34,8 @@ IsMadeByCounts phenomenon =
 -- the first edges show the phenomenon exactly where the second do, with any other edges beside both
 abbrev pub ShowAlikeBeside : Phenomenon → List Edge → List Edge → Type 0
 ShowAlikeBeside phenomenon es more =
-    (others : List Edge) → IsShownBy phenomenon (others ++ es) ↔ IsShownBy phenomenon (others ++ more)
+    (others : List Edge)
+    → IsShownBy phenomenon (others ++ es) ↔ IsShownBy phenomenon (others ++ more)
 
 -- order edges between nodes with all ok transactions of a history show it where thinned ones do
 abbrev pub ThinningKeepsIt : Phenomenon → Level → Type 0

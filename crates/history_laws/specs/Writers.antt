@@ -32,7 +32,7 @@ NoneBothInstalledAndIntermediate events =
     → IsTrue (wrote_intermediate t v)
     → IsFalse (installs t v)
 
--- the versions that the transaction writes are those that it installs or writes over
+-- the versions that the transaction writes are those that it installs and the intermediate ones
 abbrev pub InstallsOrWroteIntermediate : Transaction → Type 0
 InstallsOrWroteIntermediate t =
     (v : Version) → IsTrue (writes t v) ↔ (IsTrue (installs t v) ⊎ IsTrue (wrote_intermediate t v))

@@ -1,5 +1,5 @@
-//! Laws of histories: what follows from the definitions of the journal, transactions, versions, edges and phenomena. Each is the contract
-//! of a function that does nothing; the layers from transactions to the verdict cite them.
+//! Laws of histories: what follows from the definitions of the journal, transactions, versions, edges and phenomena. Each is the
+//! contract of a function that does nothing; the layers from transactions to the verdict cite them.
 #![tactic(auto)]
 
 ghost use Rattle.std.specs.Prelude.{◌≡◌, ◌≤◌, ℕ, List, [], IsTrue, IsFalse, None, is_some, All, Contains};
@@ -84,18 +84,19 @@ pub fn order_edges_are_thinned_paths()
     ensures all { (ts : List Transaction) → IncludesAllOk ts ts }
 {}
 
-/// A walk over order edges and any other edges can be replaced by one with thinned edges instead, and back, with the same counts of
-/// ww, wr and rw edges. So dependency edges with thinned edges show exactly the phenomena that they show with all order edges.
+/// A walk over order edges and any other edges can be replaced by one with thinned edges instead, and back, with the same counts
+/// of ww, wr and rw edges. So dependency edges with thinned edges show exactly the phenomena that they show with all order edges.
 pub fn thinning_keeps_phenomena()
     ensures thinned { (level : Level) (events : List Operation) → WalksCarryToThinned level events }
     ensures order { (level : Level) (ts : List Transaction) → WalksCarryToOrder level ts }
     ensures counts { (phenomenon : Phenomenon) → IsMadeByCounts phenomenon }
     ensures nodes { (phenomenon : Phenomenon) (level : Level) → ThinningKeepsIt phenomenon level }
-    ensures history { (phenomenon : Phenomenon) (level : Level) → ThinnedEdgesShowIt phenomenon level }
+    ensures history { (phenomenon : Phenomenon) (level : Level)
+        → ThinnedEdgesShowIt phenomenon level }
 {}
 
-/// No transaction has more thinned predecessors in real time than transactions were ever open at once, or more than one within its
-/// process.
+/// No transaction has more thinned predecessors in real time than transactions were ever open at once, or more than one within
+/// its process.
 pub fn thinning_leaves_few()
     ensures most { (ts : List Transaction) → (index : ℕ) → open_at index ts ≤ most_open ts }
     ensures realtime { LimitsPredecessors most_open (thinned_edges Realtime) }
@@ -116,7 +117,8 @@ pub fn levels_rise()
 /// edges that the phenomenon allows.
 pub fn cycles_by_one_edge()
     ensures edges { (phenomenon : Phenomenon) → AnyEdgesShowItByAWayBack phenomenon }
-    ensures thinned { (phenomenon : Phenomenon) (level : Level) → ThinnedEdgesHaveAWayBack phenomenon level }
+    ensures thinned { (phenomenon : Phenomenon) (level : Level)
+        → ThinnedEdgesHaveAWayBack phenomenon level }
 {}
 
 /// A phenomenon that is there at a level has a witness there, and a phenomenon with a witness is there.
@@ -132,26 +134,28 @@ pub fn edges_in_order()
     ensures dependencies { (events : List Operation) → HasAllDependenciesInOrder events }
 {}
 
-/// A pair of versions is known exactly where the earlier version is nil and a node installs the later one, or where one transaction
-/// reads the one and installs the other.
+/// A pair of versions is known exactly where the earlier version is nil and a node installs the later one, or where one
+/// transaction reads the one and installs the other.
 pub fn versions_by_membership()
     ensures { (ts : List Transaction) → HasExactly (version_pairs ts) (IsVersionPair ts) }
 {}
 
-/// A dependency edge joins two different nodes exactly where they install and read the versions of its label: for a ww or an rw, a
-/// pair that is known.
+/// A dependency edge joins two different nodes exactly where they install and read the versions of its label: for a ww or an rw,
+/// a pair that is known.
 pub fn edges_by_versions()
     ensures labels { (ts : List Transaction) → LabelsAreDependencies ts }
     ensures edges { (ts : List Transaction) → HasExactly (dependency_edges ts) (IsDependency ts) }
 {}
 
 /// Where the rules are kept, no version of a key is written twice, by two transactions or by one. A transaction installs each
-/// version that it writes, or writes it over, and not both; of each key it installs one version, and never nil.
+/// version that it writes, or else writes the key again later, and the version is an intermediate one; of each key it installs
+/// one version, and never nil.
 pub fn versions_written_once()
     ensures once { (events : List Operation) → KeepsRules events → WriteNoneTwice events }
     ensures one_writer { (events : List Operation) → KeepsRules events → HaveOneWriterEach events }
-    ensures installed_or_over { (t : Transaction) → InstallsOrWroteIntermediate t }
-    ensures not_both { (events : List Operation) → KeepsRules events → NoneBothInstalledAndIntermediate events }
+    ensures installed_or_intermediate { (t : Transaction) → InstallsOrWroteIntermediate t }
+    ensures not_both { (events : List Operation)
+        → KeepsRules events → NoneBothInstalledAndIntermediate events }
     ensures one_of_a_key { (t : Transaction) → InstallsOneOfAKey t }
     ensures not_nil { (t : Transaction) → (v : Version) → IsTrue (writes t v) → ¬ (v.value ≡ None) }
 {}
@@ -164,8 +168,8 @@ pub fn bad_reads_by_writer()
     ensures stray { (ts : List Transaction) → HasExactly (stray_reads ts) (IsStrayRead ts) }
 {}
 
-/// Where the rules are kept, the one transaction that wrote a version decides what a read of it is; where nobody wrote it, the read
-/// is stray, unless it returned nil.
+/// Where the rules are kept, the one transaction that wrote a version decides what a read of it is; where nobody wrote it, the
+/// read is stray, unless it returned nil.
 pub fn writer_decides()
     ensures aborted { (events : List Operation) → KeepsRules events → WriterDecidesG1a events }
     ensures intermediate { (events : List Operation) → KeepsRules events → WriterDecidesG1b events }

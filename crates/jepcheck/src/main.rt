@@ -4,10 +4,14 @@
 #[cfg(test)]
 mod graphs;
 #[cfg(test)]
+mod layers;
+#[cfg(test)]
 mod rows;
 #[cfg(test)]
 mod runs;
+mod serve;
 
+use crate::serve::{open_pairs, serve};
 use command_line::types::{Asked, LineFault};
 use command_line::words::{asked_for, unread_line};
 use command_run::dispatch::dispatch;
@@ -28,13 +32,21 @@ fn main(rt: HostRuntime) -> ExitCode {
     let mut source = StreamSource::new(rt.stdin());
     let mut sink = StreamSink::new(rt.stdout());
     let mut errors = StreamSink::new(rt.stderr());
-    let status = dispatch(
-        &rt,
-        rt.alloc(),
-        asked(&rt),
-        &mut source,
-        &mut sink,
-        &mut errors,
-    );
+    let alloc = rt.alloc();
+    let status = match asked(&rt) {
+        Ok(Asked::Serve { cells, paths }) => {
+            let opened = open_pairs(&rt, alloc, &paths);
+            serve(&rt, alloc, cells, opened, &mut sink, &mut errors)
+        }
+        Ok(Asked::Run(command)) => dispatch(
+            &rt,
+            alloc,
+            Ok(command),
+            &mut source,
+            &mut sink,
+            &mut errors,
+        ),
+        Err(fault) => dispatch(&rt, alloc, Err(fault), &mut source, &mut sink, &mut errors),
+    };
     ExitCode::from(status.code())
 }

@@ -3,7 +3,7 @@
 ghost use Rattle.std.specs.Prelude.{None};
 
 use arrayvec::ArrayVec;
-use command_line::types::{Asked, Command, LineFault};
+use command_line::types::{Command, LineFault};
 use command_run::answer::Status;
 use command_run::dispatch::dispatch;
 use command_run::run::run;
@@ -163,17 +163,17 @@ fn a_sink_of_one_byte_a_call(rt: HostRuntime) -> Result<(), Fail> {
 /// a run is out of memory it says so, and a second one has the answer.
 fn does<R: Abort + AllocGlobal + Threads + Sync>(
     rt: &R,
-    asked: Result<Asked, LineFault>,
+    command: Result<Command, LineFault>,
     reads_before_failure: u64,
     (status, printed, said): (u8, &[u8], &[u8]),
 ) {
     let mut source = Dripping::new(CLEAN, reads_before_failure);
     let mut sink = Sipping::new(512, 512);
     let mut errors = Sipping::new(1, 512);
-    let mut ended = dispatch(rt, rt.alloc(), asked, &mut source, &mut sink, &mut errors).code();
+    let mut ended = dispatch(rt, rt.alloc(), command, &mut source, &mut sink, &mut errors).code();
     if ended == 4 && status != 4 {
         assert_eq!(rt; sink.taken.as_slice(), MEMORY_LINE);
-        let again = Ok(Asked::Run(Command::Reads));
+        let again = Ok(Command::Reads);
         source = Dripping::new(CLEAN, reads_before_failure);
         sink = Sipping::new(512, 512);
         ended = dispatch(rt, rt.alloc(), again, &mut source, &mut sink, &mut errors).code();
@@ -190,7 +190,7 @@ fn what_was_asked_is_done(rt: HostRuntime) -> Result<(), Fail> {
     let usage = Err(LineFault::Usage(text));
     does(&rt, usage, 0, (2, b"", b"Usage: jepcheck\n"));
     does(&rt, Err(LineFault::Memory), 0, (4, MEMORY_LINE, b""));
-    let reads = Asked::Run(Command::Reads);
+    let reads = Command::Reads;
     does(&rt, Ok(reads), 9, (3, b"", b"device fault\n"));
     does(&rt, Ok(reads), 512, (0, CLEAN_OUT, b""));
     Ok(())

@@ -7,3 +7,9 @@ pub mod Runs
 pub mod Ordered
 pub mod Counting
 pub mod AnsweringSteps
+pub mod Judging
+pub mod Knowing
+pub mod SeenMore
+pub mod Found
+pub mod Calls
+pub mod Owners

@@ -1,4 +1,11 @@
-//! The live journal: what holds of it whatever its seats do, and in whatever order.
+//! The live journal: a row of cells that many seats write to and read from, where no call waits for another.
 #![tactic(auto)]
 
+mod cells;
+pub mod journal;
 pub mod laws;
+pub mod seat;
+mod seen;
+pub mod snapshot;
+#[cfg(test)]
+mod tests;

@@ -2,7 +2,7 @@
 use Rattle.std.proofs.Common.{◌≡◌, inl, ◌↔◌, ◌<◌, nat_lt, Bool, true, false, not, ◌&&◌, ◌==◌, if◌then◌else◌, Some, List, [], ◌∷◌, map, filter, All, Contains, refl, ap, sym, subst, ◌∙◌}
 use Rattle.std.proofs.lemmas.Bool.{ltb-true, lt-ltb, eqb-true, eq-eqb, and_parts, and_from, not-true, not_from_false}
 use Rattle.std.proofs.lemmas.List.Elements.{All-from_recursion}
-use Rattle.hist_types.proofs.Members.{In, in_from_Contains, Contains_from_in, in_each, in_some, in_mapped, in_map, in_filter, in_filtered}
+use Rattle.hist_types.proofs.Members.{In, in_from_Contains, Contains_from_in, in_each, in_some, in_mapped, in_map, in_filter, in_filtered, passes_filter, in_if}
 use Rattle.history_laws.proofs.OrderEdges.{Comes, comes_from}
 use Rattle.hist_types.specs.Transactions.{Transaction}
 use Rattle.hist_types.specs.Edges.{Label, process, realtime, Edge, edge, is_ok_before, same_process, realtime_label, order_labels, all_order_edges}
@@ -12,7 +12,6 @@ use Rattle.order_frontier.specs.declared.types.Completed.{Completed}
 use Rattle.order_frontier.specs.Completions.{completed_of, all_completed, predecessor_of, AreApart}
 use Rattle.order_frontier.specs.Pairs.{is_earlier, all_before}
 use Rattle.order_frontier.specs.Predecessors.{process_edge, realtime_edge, edges_to, edges_of, HasEdges, NoPredecessorTwice, name_of, names}
-use Rattle.order_frontier.proofs.Lists.{in_if, passes_from_in}
 use Rattle.order_frontier.proofs.Seen.{done-parts, before_from, before_to, goes_to, only_one}
 use Rattle.order_frontier.proofs.Advancing.{completed-to, completed-from, all_from}
 use Rattle.order_frontier.proofs.Apart.{apart_from, distinct_passing}
@@ -53,7 +52,7 @@ module _ (ts : List Transaction) (done : List Completed) (are : (d : Completed) 
       let to = in_map (realtime_edge u.invocation) e (map predecessor_of (filter (is_earlier u) done)) i in
       let one = in_map predecessor_of to.0 (filter (is_earlier u) done) to.1 in
       let d : Completed = one.0 in
-      let leaves = leaves_from u d (in_filter (is_earlier u) d done one.1) (passes_from_in (is_earlier u) d done one.1) in
+      let leaves = leaves_from u d (in_filter (is_earlier u) d done one.1) (passes_filter (is_earlier u) d done one.1) in
       let t = leaves.t in
       let parts = done-parts t d leaves.done in
       let label = realtime d.completion u.invocation in
@@ -70,7 +69,7 @@ module _ (ts : List Transaction) (done : List Completed) (are : (d : Completed) 
       let to = in_map (process_edge u.process u.invocation) e (map predecessor_of (filter test done)) i in
       let one = in_map predecessor_of to.0 (filter test done) to.1 in
       let d : Completed = one.0 in
-      let both = and_parts (is_earlier u d) (d.process == u.process) (passes_from_in test d done one.1) in
+      let both = and_parts (is_earlier u d) (d.process == u.process) (passes_filter test d done one.1) in
       let leaves = leaves_from u d (in_filter test d done one.1) both.0 in
       let t = leaves.t in
       let parts = done-parts t d leaves.done in

@@ -10,7 +10,7 @@ use Rattle.hist_types.specs.Transactions.{Transaction, completion_in, transactio
 use Rattle.hist_types.specs.Journal.{is_invoke}
 use Rattle.order_frontier.specs.declared.types.Predecessor.{Predecessor}
 use Rattle.order_frontier.specs.declared.types.Completed.{Completed}
-use Rattle.order_frontier.specs.Completions.{completed_of, all_completed, predecessor_of, frontier_of, is_overtaken, AreApart}
+use Rattle.order_frontier.specs.Completions.{completed_of, all_completed, predecessor_of, frontier_of, is_passed, AreApart}
 use Rattle.order_frontier.specs.Predecessors.{Before, NoPredecessorTwice}
 use Rattle.order_frontier.proofs.Kept.{all_in, AreStrict}
 use Rattle.order_frontier.proofs.Seen.{done-parts, some_same}
@@ -92,7 +92,7 @@ distinct_option (Some p) = (tt, tt)
 pub none_twice : (done : List Completed) (before : Before) (o : Option Predecessor) → Apart done → before.in_process ≡ option_to_list o → before.in_realtime ≡ frontier_of done → NoPredecessorTwice before
 none_twice done before o apart process realtime = (
   subst (λ ps. IsDistinct nat_eq (map (λ (p : Predecessor). p.invocation) ps)) (sym process) (distinct_option o),
-  subst (λ ps. IsDistinct nat_eq (map (λ (p : Predecessor). p.invocation) ps)) (sym realtime) (distinct_passing (λ d. not (is_overtaken done d)) done apart),
+  subst (λ ps. IsDistinct nat_eq (map (λ (p : Predecessor). p.invocation) ps)) (sym realtime) (distinct_passing (λ d. not (is_passed done d)) done apart),
 )
 
 -- ---- transactions in the order of their invocations

@@ -1,43 +1,23 @@
 -- The frontier of events: the ok transactions that none has passed, in the order of their completions.
-use Rattle.std.proofs.Common.{◌≡◌, inl, inr, ℕ, ◌<◌, nat_lt, Bool, true, false, cond, not, ◌&&◌, Option, Some, None, option_map, if◌then◌else◌, ◌+◌, List, [], ◌∷◌, map, filter, Contains, Less, IsTrue, IsFalse, ap, sym, subst, ◌∙◌}
+use Rattle.std.proofs.Common.{◌≡◌, ℕ, ◌<◌, nat_lt, Bool, true, false, cond, not, List, [], ◌∷◌, map, filter, Less, sym, subst}
 use Rattle.std.specs.Cmp.{nat_cmp_is}
 use Rattle.std.specs.List.{AllByRecursion}
 use Rattle.std.specs.List.Sorted.{IsStrictlySortedBy}
 use Rattle.std.specs.Ordering.{nat_cmp}
 use Rattle.std.proofs.lemmas.Map.Keys.{IsStrictlyIncreasing-from_sorted}
-use Rattle.std.proofs.lemmas.Bool.{ltb-true, lt-ltb, and_parts, and_from, not-true, not_from_false}
-use Rattle.hist_types.proofs.Members.{In, in_from_Contains, Contains_from_in, in_mapped, in_map, in_filter, in_filtered}
+use Rattle.std.proofs.lemmas.Bool.{not-true, not_from_false}
+use Rattle.hist_types.proofs.Members.{In, in_from_Contains, Contains_from_in, in_mapped, in_map, in_filter, in_filtered, passes_filter}
 use Rattle.hist_types.specs.Operations.{Operation}
-use Rattle.hist_types.specs.Transactions.{Transaction, Indexed, is_ok, completion_in, transaction_by, transactions_from, transactions_of}
-use Rattle.hist_types.specs.Edges.{is_ok_before}
+use Rattle.hist_types.specs.Transactions.{transactions_of}
 use Rattle.order_frontier.specs.declared.types.Predecessor.{Predecessor}
 use Rattle.order_frontier.specs.declared.types.Completed.{Completed}
-use Rattle.order_frontier.specs.Completions.{completed_of, predecessor_of, is_overtaken, frontier_of}
+use Rattle.order_frontier.specs.Completions.{all_completed, predecessor_of, is_passed, frontier_of}
 use Rattle.order_frontier.specs.Events.{state_of}
-use Rattle.order_frontier.specs.Predecessors.{IsAt, is_passed, AreCompletedInOrder, AreFrontier}
+use Rattle.order_frontier.specs.Predecessors.{AreCompletedInOrder, AreFrontier}
 use Rattle.order_frontier.proofs.Kept.{AreStrict}
-use Rattle.order_frontier.proofs.Lists.{none_from, none_to, passes_from_in}
-use Rattle.order_frontier.proofs.Seen.{done-parts, before_from, before_to, some_same}
-use Rattle.order_frontier.proofs.Timed.{in-first}
+use Rattle.order_frontier.proofs.Advancing.{completed-to, completed-from}
+use Rattle.order_frontier.proofs.Lists.{none_from, none_to}
 use Rattle.order_frontier.proofs.States.{state-good, state-sound, state-complete}
-
--- ---- an ok transaction of events has completed
-
-by_event : (index : ℕ) (e : Operation) (c : Option Indexed) (t : Transaction) → transaction_by index e c ≡ t → is_ok t ≡ true → (x : Indexed) × (t.completion ≡ Some x.index)
-by_event index e None t is ok = let h : false ≡ true = ap is_ok is ∙ ok in cc
-by_event index e (Some x) t is ok = (x, ap (λ (t : Transaction). t.completion) (sym is))
-
-has_completed : (t : Transaction) (index : ℕ) (es : List Operation) → In t (transactions_from index es) → is_ok t ≡ true → (n : ℕ) × (t.completion ≡ Some n)
-has_completed t index [] i ok = elim i [ ]
-has_completed t index (e ∷ es) i ok = elim (in-first t index e es i) [
-  | inl first ↦ (let x = by_event index e (completion_in e.process (index + 1) es) t first.1 ok in (x.0.index, x.1))
-  | inr later ↦ has_completed t (index + 1) es later ok
-]
-
-done_from : (t : Transaction) (n : ℕ) → is_ok t ≡ true → t.completion ≡ Some n → completed_of t ≡ Some (record { completion = n; invocation = t.invocation; process = t.process })
-done_from t n ok has =
-    ap (λ b. if b then option_map (λ c. record { completion = c; invocation = t.invocation; process = t.process }) t.completion else None) ok
-    ∙ ap (option_map (λ c. record { completion = c; invocation = t.invocation; process = t.process })) has
 
 -- ---- their completions rise
 
@@ -70,60 +50,38 @@ in_order test (d ∷ done) strict = order_one d (test d) (filter test done) (lat
 
 -- ---- what is kept
 
-module _ (es : List Operation) where
-  front_from : (p : Predecessor) → In p (frontier_of (state_of es).done)
-      → (t : Transaction) × Contains (transactions_of es) t × IsAt t p × IsTrue (is_ok t) × IsFalse (is_passed (transactions_of es) t)
-  front_from p i =
-      let ts = transactions_of es in
-      let done = (state_of es).done in
-      let found = in_map predecessor_of p (filter (λ d. not (is_overtaken done d)) done) i in
-      let d : Completed = found.0 in
-      let clear : is_overtaken done d ≡ false = not-true (is_overtaken done d) (passes_from_in (λ d. not (is_overtaken done d)) d done found.1) in
-      let from = state-sound es d (in_filter (λ d. not (is_overtaken done d)) d done found.1) in
-      let t : Transaction = from.0 in
-      let parts = done-parts t d from.2 in
-      let none : is_passed ts t ≡ false =
-      none_from (λ v. is_ok v && is_ok_before t v) ts (λ v j both.
-      let ok = and_parts (is_ok v) (is_ok_before t v) both in
-      let over = has_completed v 0 es j ok.0 in
-      let l : Completed = record { completion = over.0; invocation = v.invocation; process = v.process } in
-      let after = before_to t v ok.1 in
-      let same : after.0 ≡ d = some_same t after.0 d after.1 from.2 in
-      let later : d.completion < v.invocation = subst (λ (x : Completed). x.completion < v.invocation) same after.2 in
-      none_to (λ (v : Completed). nat_lt d.completion v.invocation) done clear l (state-complete es v l j (done_from v over.0 ok.0 over.1)) (lt-ltb d.completion v.invocation later)) in (
-        t,
-        Contains_from_in t ts from.1,
-        (parts.invocation ∙ ap (λ (p : Predecessor). p.invocation) found.2, parts.completion ∙ ap (λ (p : Predecessor). Some p.completion) found.2),
-        parts.ok,
-        none,
-      )
+-- lists with the same members have the same frontier
+module _ (xs ys : List Completed) (into : (d : Completed) → In d xs → In d ys) (back : (d : Completed) → In d ys → In d xs) where
+  same_front : (p : Predecessor) → In p (frontier_of xs) → In p (frontier_of ys)
+  same_front p i =
+      let (d, inside, is) = in_map predecessor_of p (filter (λ d. not (is_passed xs d)) xs) i in
+      let later : Completed → Bool = λ v. nat_lt d.completion v.invocation in
+      let clear : is_passed xs d ≡ false = not-true (is_passed xs d) (passes_filter (λ d. not (is_passed xs d)) d xs inside) in
+      let still : is_passed ys d ≡ false = none_from later ys (λ v j. none_to later xs clear v (back v j)) in
+      subst (λ p. In p (frontier_of ys)) is
+      (in_mapped predecessor_of d (filter (λ d. not (is_passed ys d)) ys)
+      (in_filtered (λ d. not (is_passed ys d)) d ys (into d (in_filter (λ d. not (is_passed xs d)) d xs inside)) (not_from_false (is_passed ys d) still)))
 
-  front_to : (p : Predecessor) (t : Transaction) → In t (transactions_of es) → IsAt t p → is_ok t ≡ true → is_passed (transactions_of es) t ≡ false → In p (frontier_of (state_of es).done)
-  front_to p t i at ok none =
-      let ts = transactions_of es in
-      let done = (state_of es).done in
-      let d : Completed = record { completion = p.completion; invocation = t.invocation; process = t.process } in
-      let is = done_from t p.completion ok at.1 in
-      let clear : is_overtaken done d ≡ false =
-      none_from (λ (v : Completed). nat_lt d.completion v.invocation) done (λ l j later.
-      let from = state-sound es l j in
-      let v : Transaction = from.0 in
-      let parts = done-parts v l from.2 in
-      let below : d.completion < v.invocation = subst (λ n. d.completion < n) (sym parts.invocation) (ltb-true d.completion l.invocation later) in
-      none_to (λ v. is_ok v && is_ok_before t v) ts none v from.1 (and_from (is_ok v) (is_ok_before t v) parts.ok (before_from t v d is below))) in
-      subst (λ p. In p (frontier_of done)) (ap (λ n. record { invocation = n; completion = p.completion }) at.0)
-      (in_mapped predecessor_of d (filter (λ d. not (is_overtaken done d)) done) (in_filtered (λ d. not (is_overtaken done d)) d done (state-complete es t d i is) (not_from_false (is_overtaken done d) clear)))
+module _ (es : List Operation) where
+  abbrev all : List Completed
+  all = all_completed (transactions_of es)
+
+  in_all : (d : Completed) → In d (state_of es).done → In d all
+  in_all d i = let (t, j, is) = state-sound es d i in completed-from (transactions_of es) t d j is
+
+  in_done : (d : Completed) → In d all → In d (state_of es).done
+  in_done d i = let (t, j, is) = completed-to (transactions_of es) d i in state-complete es t d j is
 
   pub are_frontier : (ps : List Predecessor) → ps ≡ frontier_of (state_of es).done → AreFrontier (transactions_of es) ps
   are_frontier ps same =
       let done = (state_of es).done in
       record {
         members = λ p. (
-          λ c. front_from p (subst (In p) same (in_from_Contains p ps c)),
-          λ c. Contains_from_in p ps (subst (In p) (sym same) (front_to p c.0 (in_from_Contains c.0 (transactions_of es) c.1) c.2 c.3 c.4)),
+          λ c. Contains_from_in p (frontier_of all) (same_front done all in_all in_done p (subst (In p) same (in_from_Contains p ps c))),
+          λ c. Contains_from_in p ps (subst (In p) (sym same) (same_front all done in_done in_all p (in_from_Contains p (frontier_of all) c))),
         );
         order =
             subst AreCompletedInOrder (sym same)
-            (IsStrictlyIncreasing-from_sorted (times (filter (λ d. not (is_overtaken done d)) done))
-            (in_order (λ d. not (is_overtaken done d)) done (state-good es).strict));
+            (IsStrictlyIncreasing-from_sorted (times (filter (λ d. not (is_passed done d)) done))
+            (in_order (λ d. not (is_passed done d)) done (state-good es).strict));
       }

@@ -8,7 +8,7 @@ use Rattle.std.proofs.lemmas.List.Folds.{list_any-append}
 use Rattle.hist_types.proofs.Members.{In}
 use Rattle.order_frontier.specs.declared.types.Predecessor.{Predecessor}
 use Rattle.order_frontier.specs.declared.types.Completed.{Completed}
-use Rattle.order_frontier.specs.Completions.{predecessor_of, is_overtaken, frontier_of, last_of, AreKept, AreRising}
+use Rattle.order_frontier.specs.Completions.{predecessor_of, is_passed, frontier_of, last_of, AreKept, AreRising}
 use Rattle.order_frontier.proofs.Lists.{none_from}
 
 -- ---- the frontier
@@ -17,9 +17,9 @@ use Rattle.order_frontier.proofs.Lists.{none_from}
 abbrev pub stays_at : Completed → Predecessor → Bool
 stays_at d p = not (nat_lt p.completion d.invocation)
 
--- the frontier of these, as far as these ones overtake
+-- those of the second list that none of the first has passed
 abbrev kept_by : List Completed → List Completed → List Predecessor
-kept_by done xs = map predecessor_of (filter (λ e. not (is_overtaken done e)) xs)
+kept_by done xs = map predecessor_of (filter (λ e. not (is_passed done e)) xs)
 
 kept_step : (d x : Completed) (before later : Bool) (all : Bool) (ys zs : List Completed)
     → nat_lt x.completion d.invocation ≡ later
@@ -38,7 +38,7 @@ kept_step d x false false all ys zs is both rest =
 kept_more : (done : List Completed) (d : Completed) (xs : List Completed) → kept_by (done ++ d ∷ []) xs ≡ filter (stays_at d) (kept_by done xs)
 kept_more done d [] = refl
 kept_more done d (x ∷ xs) =
-    kept_step d x (is_overtaken done x) (nat_lt x.completion d.invocation) (is_overtaken (done ++ d ∷ []) x) (filter (λ e. not (is_overtaken (done ++ d ∷ []) e)) xs) (filter (λ e. not (is_overtaken done e)) xs) refl
+    kept_step d x (is_passed done x) (nat_lt x.completion d.invocation) (is_passed (done ++ d ∷ []) x) (filter (λ e. not (is_passed (done ++ d ∷ []) e)) xs) (filter (λ e. not (is_passed done e)) xs) refl
     (list_any-append (λ (v : Completed). nat_lt x.completion v.invocation) done (d ∷ []))
     (kept_more done d xs)
 
@@ -49,13 +49,13 @@ kept_front x false all xs ps rest = rest
 
 kept_append : (done xs ys : List Completed) → kept_by done (xs ++ ys) ≡ kept_by done xs ++ kept_by done ys
 kept_append done [] ys = refl
-kept_append done (x ∷ xs) ys = kept_front x (not (is_overtaken done x)) (filter (λ e. not (is_overtaken done e)) (xs ++ ys)) (filter (λ e. not (is_overtaken done e)) xs) (kept_by done ys) (kept_append done xs ys)
+kept_append done (x ∷ xs) ys = kept_front x (not (is_passed done x)) (filter (λ e. not (is_passed done e)) (xs ++ ys)) (filter (λ e. not (is_passed done e)) xs) (kept_by done ys) (kept_append done xs ys)
 
 -- no transaction was invoked behind the completion of the last one
-last_stays : (done : List Completed) (d : Completed) → ((v : Completed) → In v done → v.invocation ≤ d.completion) → d.invocation ≤ d.completion → is_overtaken (done ++ d ∷ []) d ≡ false
+last_stays : (done : List Completed) (d : Completed) → ((v : Completed) → In v done → v.invocation ≤ d.completion) → d.invocation ≤ d.completion → is_passed (done ++ d ∷ []) d ≡ false
 last_stays done d earlier own =
     list_any-append (λ (v : Completed). nat_lt d.completion v.invocation) done (d ∷ [])
-    ∙ or_from (is_overtaken done d) (nat_lt d.completion d.invocation || false)
+    ∙ or_from (is_passed done d) (nat_lt d.completion d.invocation || false)
     (none_from (λ (v : Completed). nat_lt d.completion v.invocation) done (λ v i later. omega (arith, earlier v i, ltb-true d.completion v.invocation later)))
     (or_from (nat_lt d.completion d.invocation) false (le-ltb d.completion d.invocation own) refl)
 

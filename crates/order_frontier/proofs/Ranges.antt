@@ -8,12 +8,12 @@ use Rattle.std.proofs.lemmas.List.Elements.{recursion_from_All, All-from_recursi
 use Rattle.std.proofs.Math.Seq.{drop-append_seam, take-length}
 use Rattle.order_frontier.specs.declared.types.Predecessor.{Predecessor}
 use Rattle.order_frontier.specs.declared.types.Completed.{Completed}
-use Rattle.order_frontier.specs.Completions.{predecessor_of, is_overtaken, frontier_of, AreRising}
+use Rattle.order_frontier.specs.Completions.{predecessor_of, is_passed, frontier_of, AreRising}
 use Rattle.order_frontier.specs.Predecessors.{Before}
 use Rattle.order_frontier.specs.declared.types.Span.{Span}
 use Rattle.order_frontier.specs.declared.types.Row.{Row}
 use Rattle.order_frontier.specs.Ranges.{before_in, between, IsSpanOf, IsRowIn}
-use Rattle.order_frontier.proofs.Lists.{any_from, any_to}
+use Rattle.history_laws.proofs.ThinningPaths.{any_passes, some_passes}
 use Rattle.order_frontier.proofs.Passes.{rising_take}
 
 -- ---- a list that grows
@@ -111,41 +111,41 @@ pushed own own' others others' rs rs' r b are grown grown' row added =
 
 -- ---- what a frontier keeps of those in order
 
--- whoever is behind one that isn't overtaken isn't either
-clear_behind : (done : List Completed) (d v : Completed) → d.completion ≤ v.completion → not (is_overtaken done d) ≡ true → not (is_overtaken done v) ≡ true
-clear_behind done d v up clear = behind (is_overtaken done v) refl
+-- what completed no earlier than one that none has passed is passed by none either
+clear_behind : (done : List Completed) (d v : Completed) → d.completion ≤ v.completion → not (is_passed done d) ≡ true → not (is_passed done v) ≡ true
+clear_behind done d v up clear = behind (is_passed done v) refl
   where
-    behind : (b : Bool) → is_overtaken done v ≡ b → not b ≡ true
+    behind : (b : Bool) → is_passed done v ≡ b → not b ≡ true
     behind false is = refl
     behind true is =
-        let found = any_to (λ (w : Completed). nat_lt v.completion w.invocation) done is in
+        let found = some_passes (λ (w : Completed). nat_lt v.completion w.invocation) done is in
         let w : Completed = found.0 in
         let later = ltb-true v.completion w.invocation found.2 in
-        let over : is_overtaken done d ≡ true =
-        any_from (λ (w : Completed). nat_lt d.completion w.invocation) w done found.1 (lt-ltb d.completion w.invocation (omega (arith, up, later))) in
+        let over : is_passed done d ≡ true =
+        any_passes (λ (w : Completed). nat_lt d.completion w.invocation) w done found.1 (lt-ltb d.completion w.invocation (omega (arith, up, later))) in
         absurd (false≢true (sym (ap not over) ∙ clear))
 
 all_clear : (done : List Completed) (d : Completed) (xs : List Completed) → AllByRecursion (λ (v : Completed). d.completion ≤ v.completion) xs
-    → not (is_overtaken done d) ≡ true → filter (λ e. not (is_overtaken done e)) xs ≡ xs
+    → not (is_passed done d) ≡ true → filter (λ e. not (is_passed done e)) xs ≡ xs
 all_clear done d [] up clear = refl
 all_clear done d (v ∷ xs) up clear =
-    ap (λ b. cond b (v ∷ filter (λ e. not (is_overtaken done e)) xs) (filter (λ e. not (is_overtaken done e)) xs)) (clear_behind done d v up.0 clear)
+    ap (λ b. cond b (v ∷ filter (λ e. not (is_passed done e)) xs) (filter (λ e. not (is_passed done e)) xs)) (clear_behind done d v up.0 clear)
     ∙ ap (λ ys. v ∷ ys) (all_clear done d xs up.1 clear)
 
 abbrev IsEndOf : List Completed → List Completed → Type 0
 IsEndOf ys xs = (k : ℕ) × (k ≤ length xs) × (ys ≡ drop k xs)
 
-kept_end : (done xs : List Completed) → AreRising xs → IsEndOf (filter (λ e. not (is_overtaken done e)) xs) xs
+kept_end : (done xs : List Completed) → AreRising xs → IsEndOf (filter (λ e. not (is_passed done e)) xs) xs
 kept_end done [] rising = (0, omega arith, refl)
-kept_end done (x ∷ xs) rising = first (kept_end done xs rising.1) (not (is_overtaken done x)) refl
+kept_end done (x ∷ xs) rising = first (kept_end done xs rising.1) (not (is_passed done x)) refl
   where
-    first : IsEndOf (filter (λ e. not (is_overtaken done e)) xs) xs → (b : Bool) → not (is_overtaken done x) ≡ b
-        → IsEndOf (cond b (x ∷ filter (λ e. not (is_overtaken done e)) xs) (filter (λ e. not (is_overtaken done e)) xs)) (x ∷ xs)
+    first : IsEndOf (filter (λ e. not (is_passed done e)) xs) xs → (b : Bool) → not (is_passed done x) ≡ b
+        → IsEndOf (cond b (x ∷ filter (λ e. not (is_passed done e)) xs) (filter (λ e. not (is_passed done e)) xs)) (x ∷ xs)
     first end true is = (0, omega arith, ap (λ ys. x ∷ ys) (all_clear done x xs rising.0 is))
     first end false is = (suc end.0, (let low = end.1 in omega (arith, low)), end.2)
 
 module _ (done : List Completed) (n : ℕ) (recent : List Predecessor) (rising : AreRising done) (within : n ≤ length done) (is : recent ≡ frontier_of (take n done)) where
-  abbrev end : IsEndOf (filter (λ e. not (is_overtaken (take n done) e)) (take n done)) (take n done)
+  abbrev end : IsEndOf (filter (λ e. not (is_passed (take n done) e)) (take n done)) (take n done)
   end = kept_end (take n done) (take n done) (rising_take n done rising)
 
   abbrev start : ℕ

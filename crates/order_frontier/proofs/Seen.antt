@@ -2,7 +2,7 @@
 use Rattle.std.proofs.Common.{◌≡◌, inl, inr, ◌↔◌, ℕ, ◌<◌, ◌≤◌, nat_lt, flat_map, Bool, true, false, not, ◌&&◌, ◌==◌, if◌then◌else◌, Option, Some, None, option_map, List, [], ◌∷◌, map, filter, Contains, refl, ap, sym, subst, ◌∙◌, arith}
 use Rattle.std.specs.Option.{option_map_or, option_to_list}
 use Rattle.std.proofs.lemmas.Bool.{false≢true, ltb-true, lt-ltb, eqb-true, eq-eqb, ne_eqb, and_parts, and_from, not-true, not_from_false, cases_order}
-use Rattle.hist_types.proofs.Members.{In, in_from_Contains, Contains_from_in, in_each, in_mapped, in_map, in_filter, in_filtered}
+use Rattle.hist_types.proofs.Members.{In, in_from_Contains, Contains_from_in, in_each, in_mapped, in_map, in_filter, in_filtered, passes_filter, in_if, in_unless}
 use Rattle.history_laws.proofs.OrderEdges.{Comes, comes_from}
 use Rattle.hist_types.specs.Transactions.{Transaction, is_ok}
 use Rattle.hist_types.specs.Edges.{Label, process, realtime, Edge, edge, between_each, is_ok_before, same_process, realtime_label, order_labels}
@@ -11,9 +11,9 @@ use Rattle.hist_types.specs.declared.types.Level.{Level}
 use Rattle.hist_types.specs.declared.types.Level.TheVariants.{Plain, Process, Realtime}
 use Rattle.order_frontier.specs.declared.types.Predecessor.{Predecessor}
 use Rattle.order_frontier.specs.declared.types.Completed.{Completed}
-use Rattle.order_frontier.specs.Completions.{completed_of, predecessor_of, is_overtaken, frontier_of, last_of, AreKept, AreRising}
+use Rattle.order_frontier.specs.Completions.{completed_of, predecessor_of, is_passed, frontier_of, last_of, AreKept, AreRising}
 use Rattle.order_frontier.specs.Predecessors.{Before, process_edge, realtime_edge, edges_to, HasThinned}
-use Rattle.order_frontier.proofs.Lists.{none_from, none_to, in_unless, in_if, passes_from_in}
+use Rattle.order_frontier.proofs.Lists.{none_from, none_to}
 use Rattle.order_frontier.proofs.Kept.{IsLast, last-is}
 
 -- ---- ok transactions
@@ -231,10 +231,10 @@ some_same t d e is is' = cc
 module _ (ts : List Transaction) (u : Transaction) (done : List Completed) (timed : AreTimed ts) (member : In u ts) (seen : AreSeen ts u.invocation done) where
   realtime_kept : (p : Predecessor) → In p (frontier_of done) → In (realtime_edge u.invocation p) (all_thinned_edges Realtime ts)
   realtime_kept p i =
-      let found = in_map predecessor_of p (filter (λ d. not (is_overtaken done d)) done) i in
+      let found = in_map predecessor_of p (filter (λ d. not (is_passed done d)) done) i in
       let d : Completed = found.0 in
-      let inside = in_filter (λ d. not (is_overtaken done d)) d done found.1 in
-      let clear : is_overtaken done d ≡ false = not-true (is_overtaken done d) (passes_from_in (λ d. not (is_overtaken done d)) d done found.1) in
+      let inside = in_filter (λ d. not (is_passed done d)) d done found.1 in
+      let clear : is_passed done d ≡ false = not-true (is_passed done d) (passes_filter (λ d. not (is_passed done d)) d done found.1) in
       let from = seen.sound d inside in
       let t : Transaction = from.0 in
       subst (λ p. In (realtime_edge u.invocation p) (all_thinned_edges Realtime ts)) found.2
@@ -255,13 +255,13 @@ module _ (ts : List Transaction) (u : Transaction) (done : List Completed) (time
   realtime_found : (t : Transaction) (d : Completed) → IsThinned Realtime ts t u d → In (predecessor_of d) (frontier_of done)
   realtime_found t d thinned =
       let inside = seen.complete t d thinned.first thinned.done thinned.below in
-      let clear : is_overtaken done d ≡ false =
+      let clear : is_passed done d ≡ false =
       none_from (λ (v : Completed). nat_lt d.completion v.invocation) done (λ l j later.
       let from = seen.sound l j in
       let v : Transaction = from.0 in
       let below : d.completion < v.invocation = subst (λ n. d.completion < n) (sym (done-parts v l from.2).invocation) (ltb-true d.completion l.invocation later) in
       thinned.none v from.1 (before_from t v d thinned.done below) (before_from v u l from.2 from.3)) in
-      in_mapped predecessor_of d (filter (λ d. not (is_overtaken done d)) done) (in_filtered (λ d. not (is_overtaken done d)) d done inside (not_from_false (is_overtaken done d) clear))
+      in_mapped predecessor_of d (filter (λ d. not (is_passed done d)) done) (in_filtered (λ d. not (is_passed done d)) d done inside (not_from_false (is_passed done d) clear))
 
   realtime_thinned : (e : Edge) → In e (map (realtime_edge u.invocation) (frontier_of done)) ↔ (In e (all_thinned_edges Realtime ts) × (e.to ≡ u.invocation))
   realtime_thinned e = (

@@ -12,7 +12,7 @@ use Rattle.order_frontier.specs.declared.types.Row.{Row}
 abbrev pub last_of : Moving → ℕ → List Predecessor
 last_of moving process = option_to_list (value_of moving.last process)
 
--- what comes before a transaction: the last one of its process, and in real time all that no later one has overtaken
+-- what comes before a transaction: the last one of its process, and in real time all that none has passed
 abbrev pub before_next : Moving → (process invocation : ℕ) → Before
 before_next moving process invocation =
     record {
@@ -23,7 +23,7 @@ before_next moving process invocation =
     }
 
 -- the same, as ranges: of what is listed for processes with the last one of its process after it, and of those that were
--- taken, as many as none has overtaken
+-- taken, as many as none has passed
 abbrev pub row_next : Moving → Transaction → (listed taken : ℕ) → Row
 row_next moving t listed taken =
     record {

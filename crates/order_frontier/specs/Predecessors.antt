@@ -1,14 +1,16 @@
 -- What comes before each transaction, and the order edges that this gives.
-use Rattle.std.specs.Prelude.{◌≡◌, nat_eq, ℕ, Bool, ◌&&◌, Some, unwrap_or, slice_get, IsTrue, IsFalse, List, [], map, flat_map, Contains, ◌↔◌}
-use Rattle.std.specs.List.{IsDistinct, list_any}
+use Rattle.std.specs.Prelude.{◌≡◌, nat_eq, ℕ, unwrap_or, slice_get, List, [], map, flat_map, Contains, ◌↔◌}
+use Rattle.std.specs.List.{IsDistinct}
 use Rattle.std.specs.List.Sorted.{IsStrictlyIncreasing}
 use Rattle.hist_types.specs.Operations.{Operation}
-use Rattle.hist_types.specs.Transactions.{Transaction, is_ok, transactions_of}
-use Rattle.hist_types.specs.Edges.{process, realtime, Edge, is_ok_before, all_order_edges}
+use Rattle.hist_types.specs.Lists.{HasExactly}
+use Rattle.hist_types.specs.Transactions.{Transaction, transactions_of}
+use Rattle.hist_types.specs.Edges.{process, realtime, Edge, all_order_edges}
 use Rattle.hist_types.specs.ThinnedOrder.{all_thinned_edges}
 use Rattle.hist_types.specs.declared.types.Level.{Level}
 use Rattle.hist_types.specs.declared.types.Level.TheVariants.{Plain, Process, Realtime}
 use Rattle.order_frontier.specs.declared.types.Predecessor.{Predecessor}
+use Rattle.order_frontier.specs.Completions.{all_completed, frontier_of}
 
 -- a transaction, by its process and the index of its invocation, and what comes before it in its process and in real time
 pub record Before : Type 0 where
@@ -77,22 +79,12 @@ names order = map (λ (u : Before). (u.process, u.invocation)) order
 abbrev pub AreOfEvents : List Transaction → Type 0
 AreOfEvents ts = (events : List Operation) × (ts ≡ transactions_of events)
 
--- a transaction's invocation and completion
-abbrev pub IsAt : Transaction → Predecessor → Type 0
-IsAt t p = (t.invocation ≡ p.invocation) × (t.completion ≡ Some p.completion)
-
--- whether an ok transaction was both invoked after a transaction's completion and completed
-abbrev pub is_passed : List Transaction → Transaction → Bool
-is_passed ts t = list_any (λ v. is_ok v && is_ok_before t v) ts
-
 -- each completed before the next
 abbrev pub AreCompletedInOrder : List Predecessor → Type 0
 AreCompletedInOrder ps = IsStrictlyIncreasing (map (λ (p : Predecessor). p.completion) ps)
 
--- exactly the ok transactions that none has passed, each once and in the order of their completions
+-- exactly the ok transactions that none of them has passed, each once and in the order of their
+-- completions
 pub record AreFrontier (ts : List Transaction) (ps : List Predecessor) : Type 0 where
-  pub members :
-      (p : Predecessor)
-      → Contains ps p
-      ↔ ((t : Transaction) × Contains ts t × IsAt t p × IsTrue (is_ok t) × IsFalse (is_passed ts t))
+  pub members : HasExactly ps (Contains (frontier_of (all_completed ts)))
   pub order : AreCompletedInOrder ps

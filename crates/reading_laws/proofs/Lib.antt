@@ -14,3 +14,4 @@ pub mod SingleTokens
 pub mod Keywords
 pub mod Nesting
 pub mod FormEntries
+pub mod MapsOfForms

@@ -19,7 +19,7 @@ use Rattle.hist_types.specs.declared.types.Refusal.TheVariants.{TooDeep, OddMap,
 use Rattle.reading_laws.proofs.Checks.{ok_then, ok_is}
 use Rattle.hist_types.proofs.Members.{In, in_append, in_from_Contains}
 use Rattle.reading_laws.proofs.MovedForms.{entry_at, entry_of-from}
-use Rattle.reading_laws.proofs.MovedReading.{collection_from, opened, inside, Runs, Runs-reading, Histories, tokens_of-gap, tokens_of-token, tokens_of-token_last, Histories-gap, Histories-step, closed, closes_as, went_on_if, went_on_unless, same_step, no_step}
+use Rattle.reading_laws.proofs.MovedReading.{collection_from, opened, inside, Runs, Runs-reading, Histories, tokens_of-gap, tokens_of-token, tokens_of-token_last, Histories-gap, Histories-step, closed, closes_as, went_on_if, went_on_unless, same_step, no_step, none_given}
 use Rattle.reading_laws.proofs.PartCuts.{item_fault-elsewhere, width, closers_after, IsCut-front, IsCut-back, IsCut-within, IsCut-moved}
 
 -- ---- where an entry comes from
@@ -104,9 +104,6 @@ found_by_closer done items marks (c ∷ outer) t s o closes all e i =
       gives = by.gives;
       runs = h.runs;
     }
-
-none_given : (o : PlacedOperation) (p : Open) (s : Step) → only_opens p ≡ s → In (operation o) s.entries → ⊥
-none_given o p s same i = subst (λ (x : Step). In (operation o) x.entries) (sym same) i
 
 found_by :
     (kind : ItemKind) (done items : List Item) (p : Open) (t : Item) (s : Step) (o : PlacedOperation)

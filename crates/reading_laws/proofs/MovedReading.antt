@@ -4,13 +4,14 @@ use Rattle.std.specs.Prelude.{bytes_eq, nat_eq}
 use Rattle.std.proofs.lemmas.Bool.{and_parts, and_right, eqb-true}
 use Rattle.std.proofs.lemmas.List.{map-append, append-nil}
 use Rattle.std.proofs.lemmas.List.Elements.{filter-append}
-use Rattle.hist_types.specs.Entries.{Entry, entry_of, ◌>>=◌, refuse_if}
+use Rattle.hist_types.specs.Entries.{PlacedOperation, Entry, operation, entry_of, ◌>>=◌, refuse_if}
 use Rattle.hist_types.specs.Forms.{Form, plain, collection, tagged, OpenCollection, Open, is_map, is_drop, has_drop, settled, still_waiting, with_member, with_form_in, with_form, with_mark, with_opener, form_of}
 use Rattle.reading_laws.specs.Placed.{item_from}
 use Rattle.hist_types.specs.Reading.{is_operation_place, in_operation_place, may_open, Step, only_opens, refuse_waiting, entries_at_close, close, step_by, step, and_then_read, reading_from, nothing_open}
 use Rattle.hist_types.specs.Tokens.{Item, ItemKind, Opener, Closer, Drop, Tag, is_token, tokens_of, byte_fault}
 use Rattle.hist_types.specs.declared.types.Fault.{Fault}
 use Rattle.hist_types.specs.declared.types.Refusal.TheVariants.{NotAMap}
+use Rattle.hist_types.proofs.Members.{In}
 use Rattle.reading_laws.proofs.MovedForms.{form_from, forms_of-from}
 
 -- ---- open collections with their places counted from a later offset
@@ -384,6 +385,10 @@ same_step s t e = cc
 
 pub no_step : (f : Fault) (s : Step) → (let r : Result Step Fault = Err f in r ≡ Ok s) → ⊥
 no_step f s e = cc
+
+-- what gives no entries gives no operation
+pub none_given : (o : PlacedOperation) (p : Open) (s : Step) → only_opens p ≡ s → In (operation o) s.entries → ⊥
+none_given o p s same i = subst (λ (x : Step). In (operation o) x.entries) (sym same) i
 
 pub went_on_if :
     (test : Bool) (o : Open) (f : Fault) (s : Step)

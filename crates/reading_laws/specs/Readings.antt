@@ -18,7 +18,8 @@ HasNoOtherReading {A} Is =
 
 -- one list and one ending stand in this relation, and no others
 abbrev pub HasOneReading : {A : Type 0} → (List A → Option Fault → Type 0) → Type 0
-HasOneReading {A} Is = ((list : List A) × (ending : Option Fault) × Is list ending) × HasNoOtherReading Is
+HasOneReading {A} Is =
+    ((list : List A) × (ending : Option Fault) × Is list ending) × HasNoOtherReading Is
 
 -- reading the text gives the operation
 abbrev pub IsReadIn : List ℕ → PlacedOperation → Type 0

@@ -1,5 +1,5 @@
-//! Laws of reading: what follows from the definitions of tokens, forms and operations. Each is the contract of a function that does
-//! nothing; the layers that read texts, and those that keep what was read, cite them.
+//! Laws of reading: what follows from the definitions of tokens, forms and operations. Each is the contract of a function that
+//! does nothing; the layers that read texts, and those that keep what was read, cite them.
 #![tactic(auto)]
 
 ghost use Rattle.std.specs.Prelude.{◌↔◌, ◌≡◌, ℕ, List, ◌++◌, length, drop, IsTrue, All};
@@ -50,9 +50,9 @@ pub fn atoms_are_single_tokens()
         → IsFaultlessToken kind bytes → IsTokenAlone kind bytes }
 {}
 
-/// A form is a part of the list of tokens, and a collection's members are the forms between its opener and its closer. Read one by
-/// one, tokens that are forms do what the forms do, whatever is open around them. When a closer may come, the innermost collection
-/// holds what the tokens after its opener are, and around it is open what was open before its opener.
+/// A form is a part of the list of tokens, and a collection's members are the forms between its opener and its closer. Read one
+/// by one, tokens that are forms do what the forms do, whatever is open around them. When a closer may come, the innermost
+/// collection holds what the tokens after its opener are, and around it is open what was open before its opener.
 pub fn collections_hold_what_is_between()
     ensures one { (ts : List Item) (fs : List Form) → AreForms ts fs → AreNoOtherForms ts fs }
     ensures forms { (ts : List Item) (fs : List Form) → AreForms ts fs → ActAs ts fs }
@@ -61,8 +61,8 @@ pub fn collections_hold_what_is_between()
     ensures between { (ts : List Item) → HoldWhatIsBetween ts }
 {}
 
-/// A text reads as entries without a fault exactly where its tokens are forms that give these entries. Each operation that is read
-/// from a text, with a fault or without, is a map among its tokens.
+/// A text reads as entries without a fault exactly where its tokens are forms that give these entries. Each operation that is
+/// read from a text, with a fault or without, is a map among its tokens.
 pub fn texts_read_by_forms()
     ensures faultless { (text : List ℕ) (entries : List Entry)
         → Reads text entries None ↔ IsOfForms text entries }

@@ -1,10 +1,14 @@
 -- Strict serial explanations: of histories that have one, orders that are none, and a history that has none at all.
-use Rattle.std.proofs.Common.{◌≡◌, inl, inr, List, [], ◌∷◌, ◌==◌, false, IsFalse, All, Contains, refl, sym, ◌∙◌, ap, subst, arith}
+use Rattle.std.proofs.Common.{◌≡◌, inl, inr, ℕ, List, [], ◌∷◌, nat_eq, map, false, IsFalse, All, Contains, refl, sym, ◌∙◌, ap, subst, arith}
+use Rattle.std.specs.List.{IsDistinct}
 use Rattle.std.proofs.lemmas.Bool.{false≢true}
+use Rattle.std.proofs.lemmas.Cmp.{nat_eq_equiv}
+use Rattle.std.proofs.lemmas.Map.Keys.{IsDistinct-head}
+use Rattle.std.proofs.lemmas.Map.Made.{IsDistinct-from_count}
 use Rattle.std.proofs.lemmas.List.Elements.{All-from_recursion, recursion_from_All, All-contains}
 use Rattle.std.proofs.lemmas.Option.{none-some}
 use Rattle.hist_types.specs.Edges.{is_ok_before}
-use Rattle.hist_types.specs.Explanation.{all_nil, after_mops, Runs, KeepsRealtime, AreDifferent, Explains}
+use Rattle.hist_types.specs.Explanation.{all_nil, after_mops, Runs, KeepsRealtime, Explains}
 use Rattle.hist_types.specs.Operations.{Operation}
 use Rattle.hist_types.specs.Transactions.{Transaction, transactions_of, is_failed}
 use Rattle.hist_types.proofs.Members.{In, in_from_Contains, Contains_from_in}
@@ -33,10 +37,7 @@ chained_updates-explained =
         ((Contains_from_in second_update (transactions_of chained_updates) (inr (inl refl)), refl), tt),
       );
       all_ok = λ t c _. c;
-      different = (
-        All-from_recursion (λ (later : Transaction). IsFalse (later.invocation == 0)) (second_update ∷ []) (refl, tt),
-        (All-from_recursion (λ (later : Transaction). IsFalse (later.invocation == 2)) [] tt, tt),
-      );
+      different = IsDistinct-from_count nat_eq_equiv (0 ∷ 2 ∷ []) refl;
       realtime = (
         All-from_recursion (λ later. IsFalse (is_ok_before later first_update)) (second_update ∷ []) (refl, tt),
         (All-from_recursion (λ later. IsFalse (is_ok_before later second_update)) [] tt, tt),
@@ -83,10 +84,7 @@ unknown_and_read-explained =
         ((Contains_from_in reader (transactions_of unknown_and_read) (inr (inl refl)), refl), tt),
       );
       all_ok = λ t c _. c;
-      different = (
-        All-from_recursion (λ (later : Transaction). IsFalse (later.invocation == 0)) (reader ∷ []) (refl, tt),
-        (All-from_recursion (λ (later : Transaction). IsFalse (later.invocation == 2)) [] tt, tt),
-      );
+      different = IsDistinct-from_count nat_eq_equiv (0 ∷ 2 ∷ []) refl;
       realtime = (
         All-from_recursion (λ later. IsFalse (is_ok_before later unknown_one)) (reader ∷ []) (refl, tt),
         (All-from_recursion (λ later. IsFalse (is_ok_before later reader)) [] tt, tt),
@@ -117,26 +115,29 @@ ts = transactions_of stale_read
 not_both : writer ≡ late_reader → ⊥
 not_both same = let n : 0 ≡ 2 = ap (λ (t : Transaction). t.invocation) same in omega (arith, n)
 
+abbrev invocations : List Transaction → List ℕ
+invocations order = map (λ (t : Transaction). t.invocation) order
+
 -- Where the reader stands first, the writer stands behind one that began after it was over.
 reader_first : (rest : List Transaction) → In writer rest → KeepsRealtime (late_reader ∷ rest) → ⊥
 reader_first rest i realtime =
     false≢true (sym (All-contains (λ later. IsFalse (is_ok_before later late_reader)) rest writer realtime.0 (Contains_from_in writer rest i)))
 
 -- Where the writer stands first, the reader comes next, and finds what was written.
-writer_first : (rest : List Transaction) → All (MayStand ts) rest → In late_reader rest → AreDifferent (writer ∷ rest) → Runs all_nil (writer ∷ rest) → ⊥
+writer_first : (rest : List Transaction) → All (MayStand ts) rest → In late_reader rest → IsDistinct nat_eq (invocations (writer ∷ rest)) → Runs all_nil (writer ∷ rest) → ⊥
 writer_first [] chosen i different runs = i
 writer_first (b ∷ more) chosen i different runs =
     elim (in_from_Contains b ts (recursion_from_All (MayStand ts) (b ∷ more) chosen).0.0) [
       | inl again ↦ (
-          let other : (b.invocation == 0) ≡ false = (recursion_from_All (λ (later : Transaction). IsFalse (later.invocation == 0)) (b ∷ more) different.0).0 in
-          false≢true (sym other ∙ ap (λ (t : Transaction). t.invocation == 0) (sym again)))
+          let other : nat_eq 0 b.invocation ≡ false = (IsDistinct-head nat_eq 0 (invocations (b ∷ more)) different).0 in
+          false≢true (sym other ∙ ap (λ (t : Transaction). nat_eq 0 t.invocation) (sym again)))
       | inr (inl next) ↦ (
           let r : Runs (after_mops all_nil writer.mops) (late_reader ∷ more) = subst (λ (t : Transaction). Runs (after_mops all_nil writer.mops) (t ∷ more)) (sym next) runs.1 in
           none-some (number 1) (sym (r.0 refl).0))
       | inr (inr none) ↦ none
     ]
 
-one_first : (order : List Transaction) → All (MayStand ts) order → In writer order → In late_reader order → AreDifferent order → KeepsRealtime order → Runs all_nil order → ⊥
+one_first : (order : List Transaction) → All (MayStand ts) order → In writer order → In late_reader order → IsDistinct nat_eq (invocations order) → KeepsRealtime order → Runs all_nil order → ⊥
 one_first [] chosen w r different realtime runs = w
 one_first (a ∷ rest) chosen w r different realtime runs =
     let all = recursion_from_All (MayStand ts) (a ∷ rest) chosen in
@@ -144,7 +145,7 @@ one_first (a ∷ rest) chosen w r different realtime runs =
       | inl is_writer ↦ elim r [
         | inl same ↦ not_both (is_writer ∙ same)
         | inr i ↦ writer_first rest (All-from_recursion (MayStand ts) rest all.1) i
-            (subst (λ t. AreDifferent (t ∷ rest)) (sym is_writer) different)
+            (subst (λ t. IsDistinct nat_eq (invocations (t ∷ rest))) (sym is_writer) different)
             (subst (λ t. Runs all_nil (t ∷ rest)) (sym is_writer) runs)
       ]
       | inr (inl is_reader) ↦ elim w [

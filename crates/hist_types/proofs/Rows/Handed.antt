@@ -13,14 +13,14 @@ use Rattle.hist_types.proofs.Rows.History.{x, sets, finds_nil, invoke, ok, fail,
 use Rattle.hist_types.proofs.Rows.Cutting.{reading_at, reads, cutting_texts}
 
 -- a text hands over what its reading does
-by_reading :
+pub by_reading :
     (n : ℕ) (text : List ℕ) (r : Reading)
     → reading_at n text ≡ Some r
     → HandsOver text (handed_by r.entries r.fault)
 by_reading n text r e = (r.entries, r.fault, reads n text r.entries r.fault e, refl)
 
 -- the reading of the text
-abbrev reading_in : Option Reading → Reading
+abbrev pub reading_in : Option Reading → Reading
 reading_in None = record { entries = []; fault = None }
 reading_in (Some r) = r
 

@@ -1,9 +1,12 @@
 -- Short names in which the worked histories are written, and what makes a written-out walk a witness.
-use Rattle.std.proofs.Common.{◌≡◌, ℕ, List, [], ◌∷◌, length, get_or, pos, codes, Some, None, true, nat_lt, map}
+use Rattle.std.proofs.Common.{◌≡◌, ℕ, List, [], ◌∷◌, length, get_or, pos, codes, Some, None, true, nat_eq, nat_lt, map}
 use Rattle.std.specs.Bool.{⊤}
 use Rattle.std.specs.List.{AllByRecursion, Contains}
 use Rattle.std.proofs.lemmas.List.Elements.{All-from_recursion}
+use Rattle.std.specs.Set.{distinct_count}
 use Rattle.std.proofs.lemmas.Bool.{ltb-true}
+use Rattle.std.proofs.lemmas.Cmp.{nat_eq_equiv}
+use Rattle.std.proofs.lemmas.Map.Made.{IsDistinct-from_count}
 use Rattle.hist_types.specs.Atoms.{Atom, integer, keyword}
 use Rattle.hist_types.specs.Operations.{Mop, read, write, Operation}
 use Rattle.hist_types.specs.Transactions.{Transaction, Version, Ok, Fail, Info, Open}
@@ -11,7 +14,7 @@ use Rattle.hist_types.specs.Versions.{VersionPair, nil_of}
 use Rattle.hist_types.specs.Versions as versions
 use Rattle.hist_types.specs.Edges.{ww, wr, rw, process, realtime, Edge, edges_at}
 use Rattle.hist_types.specs.Phenomena.{IsClosedWalk, makes}
-use Rattle.hist_types.specs.Witness.{IsWitness, stations, all_different, alternates, ends_in_order, begins_least}
+use Rattle.hist_types.specs.Witness.{IsWitness, stations, alternates, ends_in_order, begins_least}
 use Rattle.hist_types.specs.declared.types.Level.{Level}
 use Rattle.hist_types.specs.declared.types.Phenomenon.{Phenomenon}
 use Rattle.hist_types.specs.declared.types.OpKind.TheVariants as kinds
@@ -131,7 +134,7 @@ pub witness :
     → IsClosedWalk walk
     → StandAt (edges_at level ts) places walk
     → makes phenomenon walk ≡ true
-    → all_different (stations walk) ≡ true
+    → distinct_count nat_eq (stations walk) ≡ length (stations walk)
     → alternates (ends_in_order walk) walk ≡ true
     → begins_least (stations walk) ≡ true
     → IsWitness phenomenon level ts walk
@@ -142,7 +145,7 @@ witness phenomenon level ts places walk closed stand kinds different apart least
         within = All-from_recursion (Contains (edges_at level ts)) walk (contained (edges_at level ts) places walk stand);
         kinds = kinds;
       };
-      different = different;
+      different = IsDistinct-from_count nat_eq_equiv (stations walk) different;
       apart = apart;
       least = least;
     }

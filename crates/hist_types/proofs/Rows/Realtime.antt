@@ -17,7 +17,7 @@ use Rattle.hist_types.proofs.Rows.History.{x, y, sets, finds_nil, invoke, ok, fa
 -- ---- a write, a transaction between, and a read that misses the write
 
 -- An ok transaction lies between the write and the read.
-abbrev missed_write : List Operation
+abbrev pub missed_write : List Operation
 missed_write =
     invoke 0 (sets x 1 ∷ [])
     ∷ ok 0 (sets x 1 ∷ [])

@@ -15,21 +15,12 @@ use Rattle.history_laws.specs.OpenAtOnce.{is_open_at, open_at, most_open, predec
 use Rattle.hist_types.specs.declared.types.Level.TheVariants.{Process, Realtime}
 use Rattle.hist_types.specs.declared.types.Phenomenon.TheVariants.{G0, G1c, GSingle, G2Item}
 use Rattle.hist_types.proofs.Members.{in_from_Contains, Contains_from_in}
+use Rattle.hist_types.proofs.Rows.Realtime.{missed_write}
 use Rattle.hist_types.proofs.Rows.History.{x, y, sets, finds_nil, invoke, ok, fail, info, committed, unfinished, ww_edge, wr_edge, rw_nil_edge, process_edge, realtime_edge}
 
 -- ---- nodes
 
 -- Of three transactions each begins after the one before it ended, and the last one misses the first one's write.
-abbrev in_turn : List Operation
-in_turn =
-    invoke 0 (sets x 1 ∷ [])
-    ∷ ok 0 (sets x 1 ∷ [])
-    ∷ invoke 1 (sets y 1 ∷ [])
-    ∷ ok 1 (sets y 1 ∷ [])
-    ∷ invoke 2 (finds_nil x ∷ [])
-    ∷ ok 2 (finds_nil x ∷ [])
-    ∷ []
-
 abbrev first : Transaction
 first = committed 0 0 1 (sets x 1 ∷ [])
 
@@ -39,27 +30,27 @@ middle = committed 1 2 3 (sets y 1 ∷ [])
 abbrev last : Transaction
 last = committed 2 4 5 (finds_nil x ∷ [])
 
-in_turn-legal : (first_broken [] in_turn ≡ None) × (transactions_of in_turn ≡ first ∷ middle ∷ last ∷ [])
-in_turn-legal = (refl, refl)
+missed_write-legal : (first_broken [] missed_write ≡ None) × (transactions_of missed_write ≡ first ∷ middle ∷ last ∷ [])
+missed_write-legal = (refl, refl)
 
 -- Two of the three order edges are left.
-in_turn-thinned :
-    thinned_edges_between Realtime (transactions_of in_turn) (transactions_of in_turn)
+missed_write-thinned :
+    thinned_edges_between Realtime (transactions_of missed_write) (transactions_of missed_write)
     ≡ realtime_edge 0 2 1 2
     ∷ realtime_edge 2 4 3 4
     ∷ []
-in_turn-thinned = refl
+missed_write-thinned = refl
 
 -- An ok transaction that is no node thins all the same, and then the order edge past it has no path.
-in_turn-no_node_between :
+missed_write-no_node_between :
     (order_edges_between Realtime (first ∷ last ∷ []) ≡ realtime_edge 0 4 1 4 ∷ [])
-    × (thinned_edges_between Realtime (transactions_of in_turn) (first ∷ last ∷ []) ≡ [])
-in_turn-no_node_between = (refl, refl)
+    × (thinned_edges_between Realtime (transactions_of missed_write) (first ∷ last ∷ []) ≡ [])
+missed_write-no_node_between = (refl, refl)
 
 -- So those two nodes are too few: an ok transaction is missing.
-in_turn-not_all_ok : ¬ IncludesAllOk (transactions_of in_turn) (first ∷ last ∷ [])
-in_turn-not_all_ok all =
-    let there : Contains (transactions_of in_turn) middle = Contains_from_in middle (transactions_of in_turn) (inr (inl refl)) in
+missed_write-not_all_ok : ¬ IncludesAllOk (transactions_of missed_write) (first ∷ last ∷ [])
+missed_write-not_all_ok all =
+    let there : Contains (transactions_of missed_write) middle = Contains_from_in middle (transactions_of missed_write) (inr (inl refl)) in
     elim (in_from_Contains middle (first ∷ last ∷ []) (all.ok middle there refl)) [
       | inl same ↦ (let n : 0 ≡ 2 = ap (λ (t : Transaction). t.invocation) same in omega (arith, n))
       | inr (inl same) ↦ (let n : 4 ≡ 2 = ap (λ (t : Transaction). t.invocation) same in omega (arith, n))
@@ -88,62 +79,62 @@ abbrev both_edges : List Edge
 both_edges = realtime_edge 0 2 1 2 ∷ realtime_edge 2 4 3 4 ∷ []
 
 -- The edge that was left out is a path of the two that were not.
-in_turn-path : IsPath (thinned_edges Realtime (transactions_of in_turn)) 0 4 both_edges
-in_turn-path = record {
+missed_write-path : IsPath (thinned_edges Realtime (transactions_of missed_write)) 0 4 both_edges
+missed_write-path = record {
   some = λ empty. cc;
   leads = (refl, (refl, refl));
   within =
-      All-from_recursion (Contains (thinned_edges Realtime (transactions_of in_turn))) both_edges (
+      All-from_recursion (Contains (thinned_edges Realtime (transactions_of missed_write))) both_edges (
         Contains_from_in (realtime_edge 0 2 1 2) both_edges (inl refl),
         (Contains_from_in (realtime_edge 2 4 3 4) both_edges (inr (inl refl)), tt),
       );
 }
 
 -- No edge at all makes no path, not even from a transaction to itself.
-in_turn-no_path : ¬ IsPath (thinned_edges Realtime (transactions_of in_turn)) 0 0 []
-in_turn-no_path path = path.some refl
+missed_write-no_path : ¬ IsPath (thinned_edges Realtime (transactions_of missed_write)) 0 0 []
+missed_write-no_path path = path.some refl
 
 -- dependency edges and thinned edges
-abbrev thinned_of_in_turn : List Edge
-thinned_of_in_turn = dependency_edges (transactions_of in_turn) ++ thinned_edges Realtime (transactions_of in_turn)
+abbrev thinned_of_missed_write : List Edge
+thinned_of_missed_write = dependency_edges (transactions_of missed_write) ++ thinned_edges Realtime (transactions_of missed_write)
 
-in_turn-edges : thinned_of_in_turn ≡ rw_nil_edge 4 0 x 1 ∷ both_edges
-in_turn-edges = refl
+missed_write-edges : thinned_of_missed_write ≡ rw_nil_edge 4 0 x 1 ∷ both_edges
+missed_write-edges = refl
 
 -- The thinned edges lead back from the read that missed the write,
-in_turn-leads_back : LeadsBack GSingle thinned_of_in_turn (rw_nil_edge 4 0 x 1) both_edges
-in_turn-leads_back = record {
+missed_write-leads_back : LeadsBack GSingle thinned_of_missed_write (rw_nil_edge 4 0 x 1) both_edges
+missed_write-leads_back = record {
   leads = (refl, (refl, refl));
   within =
-      All-from_recursion (Contains thinned_of_in_turn) both_edges (
-        Contains_from_in (realtime_edge 0 2 1 2) thinned_of_in_turn (inr (inl refl)),
-        (Contains_from_in (realtime_edge 2 4 3 4) thinned_of_in_turn (inr (inr (inl refl))), tt),
+      All-from_recursion (Contains thinned_of_missed_write) both_edges (
+        Contains_from_in (realtime_edge 0 2 1 2) thinned_of_missed_write (inr (inl refl)),
+        (Contains_from_in (realtime_edge 2 4 3 4) thinned_of_missed_write (inr (inr (inl refl))), tt),
       );
   kinds = refl;
 }
 
 -- and so they show what the order edge shows.
-in_turn-shows : Shows GSingle thinned_of_in_turn (rw_nil_edge 4 0 x 1 ∷ both_edges)
-in_turn-shows = record {
+missed_write-shows : Shows GSingle thinned_of_missed_write (rw_nil_edge 4 0 x 1 ∷ both_edges)
+missed_write-shows = record {
   closed = (refl, (refl, refl));
   within =
-      All-from_recursion (Contains thinned_of_in_turn) (rw_nil_edge 4 0 x 1 ∷ both_edges) (
-        Contains_from_in (rw_nil_edge 4 0 x 1) thinned_of_in_turn (inl refl),
+      All-from_recursion (Contains thinned_of_missed_write) (rw_nil_edge 4 0 x 1 ∷ both_edges) (
+        Contains_from_in (rw_nil_edge 4 0 x 1) thinned_of_missed_write (inl refl),
         (
-          Contains_from_in (realtime_edge 0 2 1 2) thinned_of_in_turn (inr (inl refl)),
-          (Contains_from_in (realtime_edge 2 4 3 4) thinned_of_in_turn (inr (inr (inl refl))), tt),
+          Contains_from_in (realtime_edge 0 2 1 2) thinned_of_missed_write (inr (inl refl)),
+          (Contains_from_in (realtime_edge 2 4 3 4) thinned_of_missed_write (inr (inr (inl refl))), tt),
         ),
       );
   kinds = refl;
 }
 
 -- Both walks count one rw edge,
-in_turn-same_counts : SameCounts (realtime_edge 0 4 1 4 ∷ rw_nil_edge 4 0 x 1 ∷ []) (rw_nil_edge 4 0 x 1 ∷ both_edges)
-in_turn-same_counts = record { ww = refl; wr = refl; rw = refl }
+missed_write-same_counts : SameCounts (realtime_edge 0 4 1 4 ∷ rw_nil_edge 4 0 x 1 ∷ []) (rw_nil_edge 4 0 x 1 ∷ both_edges)
+missed_write-same_counts = record { ww = refl; wr = refl; rw = refl }
 
 -- and the order edge alone counts none.
-in_turn-other_counts : ¬ SameCounts (realtime_edge 0 4 1 4 ∷ []) (rw_nil_edge 4 0 x 1 ∷ both_edges)
-in_turn-other_counts same = let n : 0 ≡ 1 = same.rw in omega (arith, n)
+missed_write-other_counts : ¬ SameCounts (realtime_edge 0 4 1 4 ∷ []) (rw_nil_edge 4 0 x 1 ∷ both_edges)
+missed_write-other_counts same = let n : 0 ≡ 1 = same.rw in omega (arith, n)
 
 -- Order edges may be on every way back, ww edges too, a wr edge not for G0, and an rw edge for G2-item alone.
 back-order :
@@ -198,7 +189,7 @@ three_at_once-open = (refl, refl, refl)
 
 three_at_once-most :
     (most_open (transactions_of three_at_once) ≡ 3)
-    × (most_open (transactions_of in_turn) ≡ 1)
+    × (most_open (transactions_of missed_write) ≡ 1)
     × (most_open [] ≡ 0)
 three_at_once-most = (refl, refl, refl)
 

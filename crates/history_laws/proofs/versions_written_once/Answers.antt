@@ -8,8 +8,8 @@ returns-clause-once c = written_once
 pub returns-clause-one_writer : goal.returns-clause-one_writer
 returns-clause-one_writer c events kept t u v has_t has_u = one_writer events kept t u has_t has_u v
 
-pub returns-clause-installed_or_over : goal.returns-clause-installed_or_over
-returns-clause-installed_or_over c = installed_or_over
+pub returns-clause-installed_or_intermediate : goal.returns-clause-installed_or_intermediate
+returns-clause-installed_or_intermediate c = installed_or_over
 
 pub returns-clause-not_both : goal.returns-clause-not_both
 returns-clause-not_both c = not_installed_over

@@ -1,4 +1,5 @@
-use Rattle.reading_laws.proofs.FormEntries.{read_forms, forms_read, maps_of_forms}
+use Rattle.reading_laws.proofs.FormEntries.{read_forms, forms_read}
+use Rattle.reading_laws.proofs.MapsOfForms.{maps_of_forms}
 use Rattle.reading_laws.proofs.texts_read_by_forms.Goals as goal
 
 pub returns-clause-faultless : goal.returns-clause-faultless

@@ -1,0 +1,45 @@
+-- What the parse found after `serve`.
+use Rattle.std.proofs.Common.{◌≡◌, ◌∙◌, ℕ, List, map, codes, true, false, Option, Some, None, option_map, sym, ap}
+use Rattle.std.specs.Borrow.{Bor}
+use Rattle.std.specs.Prelude.{option_and_then}
+use Rattle.std.proofs.lemmas.Option.{same_Some}
+use Rattle.clap.specs.Words.{Row, first_of, all_of, first_value, rows_of, matched_of, raw_values}
+use Rattle.clap.specs.declared.parser.matches.Found.{Found}
+use Rattle.clap.proofs.WalkLemmas.{first_value-rows, raw_values-rows}
+use Rattle.command_line.specs.Lines.{cells_in, come_in_pairs, AreForSessions}
+
+-- the number of cells that is there
+pub cells_found : (f : Found) (r : Option (Bor (List ℕ))) → option_map (λ text. text.now) r ≡ first_value f (codes "cells")
+    → option_and_then cells_in (option_map (λ text. text.now) r) ≡ option_and_then cells_in (first_of (codes "cells") (rows_of f))
+cells_found f r e = ap (option_and_then cells_in) (e ∙ first_value-rows f (codes "cells"))
+
+-- no number of cells
+pub without_cells : (cells : ℕ) (paths : List (List ℕ)) (rows : List Row) (r : Option ℕ) → r ≡ option_and_then cells_in (first_of (codes "cells") rows)
+    → r ≡ None → AreForSessions cells paths rows → ⊥
+without_cells cells paths rows r e none asked = let some : None ≡ Some cells = sym none ∙ (e ∙ asked.cells_are) in cc
+
+-- the texts behind references to references
+abbrev pub texts_in : Bor (List (Bor (List ℕ))) → List (List ℕ)
+texts_in found = map (λ text. text.now) found.now
+
+-- the paths that are there
+pub paths_found : (f : Found) (r : Option (Bor (List (Bor (List ℕ))))) (found : Bor (List (Bor (List ℕ))))
+    → option_map texts_in r ≡ option_map raw_values (matched_of f (codes "paths")) → r ≡ Some found
+    → all_of (codes "paths") (rows_of f) ≡ Some (texts_in found)
+paths_found f r found e some = sym (raw_values-rows f (codes "paths")) ∙ (sym e ∙ ap (option_map texts_in) some)
+
+-- no paths
+pub without_paths : (cells : ℕ) (paths : List (List ℕ)) (f : Found) (r : Option (Bor (List (Bor (List ℕ)))))
+    → option_map texts_in r ≡ option_map raw_values (matched_of f (codes "paths")) → r ≡ None → AreForSessions cells paths (rows_of f) → ⊥
+without_paths cells paths f r e none asked =
+    let missing : None ≡ Some paths = sym (ap (option_map texts_in) none) ∙ (e ∙ (raw_values-rows f (codes "paths") ∙ asked.paths_are)) in
+    cc
+
+-- paths that don't come in pairs
+pub without_pairs : (cells : ℕ) (paths : List (List ℕ)) (f : Found) (r : Option (Bor (List (Bor (List ℕ))))) (found : Bor (List (Bor (List ℕ))))
+    → option_map texts_in r ≡ option_map raw_values (matched_of f (codes "paths")) → r ≡ Some found → come_in_pairs (texts_in found) ≡ false
+    → AreForSessions cells paths (rows_of f) → ⊥
+without_pairs cells paths f r found e some alone asked =
+    let same : Some (texts_in found) ≡ Some paths = sym (paths_found f r found e some) ∙ asked.paths_are in
+    let both : false ≡ true = sym alone ∙ (ap come_in_pairs (same_Some _ _ same) ∙ asked.pairs) in
+    cc

@@ -1,0 +1,36 @@
+//! Why the program stops.
+
+use hist_types::types::Fault;
+use std::alloc::{AllocError, AllocFailed};
+use std::io;
+use thiserror::Error;
+
+#[derive(Debug, Drop, Error)]
+pub enum Stopped {
+    #[error("usage: seat_calls [bench SEATS EVENTS | begins EVENTS]")]
+    Usage,
+    #[error("not an atom")]
+    NotAnAtom,
+    #[error("{0}")]
+    Refused(Fault),
+    #[error("{0}")]
+    Device(#[from] io::Error),
+}
+
+impl From<Fault> for Stopped {
+    fn from(fault: Fault) -> Stopped {
+        Stopped::Refused(fault)
+    }
+}
+
+impl From<AllocError> for Stopped {
+    fn from(error: AllocError) -> Stopped {
+        Stopped::Refused(Fault::from(error))
+    }
+}
+
+impl<T: Drop> From<AllocFailed<T>> for Stopped {
+    fn from(error: AllocFailed<T>) -> Stopped {
+        Stopped::Refused(Fault::from(error))
+    }
+}

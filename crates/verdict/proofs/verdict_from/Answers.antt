@@ -1,0 +1,28 @@
+use Rattle.verdict.proofs.verdict_from.Goals as goal
+
+pub edges-requires : goal.edges-requires
+edges-requires c = record {
+  history = (c.args.events.now, c.requires.rules, c.requires.tables.txns);
+  versions = c.requires.tables.versions;
+}
+
+pub findings_of-requires : goal.findings_of-requires
+findings_of-requires c = record {
+  history = (c.args.events.now, c.requires.rules, c.requires.tables.txns);
+  deps = c.in_ok-deps.ensures.ok;
+  order = c.requires.tables.order;
+}
+
+pub reported-requires : goal.reported-requires
+reported-requires c = record {
+  rules = c.requires.rules;
+  txns = c.requires.tables.txns;
+  deps = c.in_ok-deps.ensures.ok;
+  findings = c.in_ok-findings.ensures.ok;
+}
+
+pub returns-clause-ok : goal.returns-clause-ok
+returns-clause-ok c = c.reported.ensures.ok
+
+pub returns-clause-err : goal.returns-clause-err
+returns-clause-err c = c.reported.ensures.err

@@ -1,0 +1,77 @@
+-- Texts of replies.
+use Rattle.std.proofs.Common.{◌≡◌, ◌∙◌, inl, List, [], ◌∷◌, ◌++◌, Result, Ok, Err, refl, sym, ap}
+use Rattle.std.specs.Fmt.{digits}
+use Rattle.std.specs.Prelude.{ℕ, OnOk, OnErr, codes, flat_map}
+use Rattle.std.proofs.lemmas.List.{append_assoc, append-nil}
+use Rattle.edn_ops.specs.SourceTexts.{IsMopText, AreMopTexts}
+use Rattle.edn_ops.specs.declared.write.MopText.{MopText}
+use Rattle.hist_types.specs.CanonicalText.{operation_text}
+use Rattle.hist_types.specs.Handed.{without_place}
+use Rattle.hist_types.specs.LegalAnswers as journal
+use Rattle.hist_types.specs.LegalAnswers.{Answer}
+use Rattle.hist_types.specs.Operations.{Mop, Operation}
+use Rattle.hist_types.specs.Refusals.{memory_fault}
+use Rattle.hist_types.specs.Sessions.{Saying, overlong, quit, verdict, read, import, reply_of}
+use Rattle.hist_types.specs.Texts.{line, refusal_line}
+use Rattle.hist_types.specs.declared.types.Refusal.TheVariants.{BlockFull}
+use Rattle.hist_types.specs.declared.device.Failed.{Failed}
+use Rattle.hist_types.specs.declared.device.Sink.{Ghosts as Sink}
+use Rattle.live_journal.specs.Seats.{Seat, IsLegalCall, IsLegalImport}
+use Rattle.verdict.specs.Pieces.{HasTaken, HasFailedBehind}
+use Rattle.verdict_serve.specs.Steps.{IsLegalReply, HasAnswered}
+
+pub one_more_text : (texts : List MopText) (ms : List Mop) (t : MopText) (m : Mop) → AreMopTexts texts ms → IsMopText t m → AreMopTexts (texts ++ t ∷ []) (ms ++ m ∷ [])
+one_more_text [] [] t m all one = (one, tt)
+one_more_text [] (k ∷ ms) t m all one = absurd all
+one_more_text (s ∷ texts) [] t m all one = absurd all
+one_more_text (s ∷ texts) (k ∷ ms) t m all one = (all.0, one_more_text texts ms t m all.1 one)
+
+-- the lines of operations
+abbrev pub lines_of_operations : List Operation → List ℕ
+lines_of_operations os = flat_map (λ (o : Operation). line (operation_text o)) os
+
+-- the lines of operations and of one more
+pub one_more_line : (os : List Operation) (o : Operation) → lines_of_operations (os ++ o ∷ []) ≡ lines_of_operations os ++ line (operation_text o)
+one_more_line [] o = append-nil (line (operation_text o))
+one_more_line (p ∷ os) o = ap (λ (t : List ℕ). line (operation_text p) ++ t) (one_more_line os o) ∙ sym (append_assoc (line (operation_text p)) (lines_of_operations os) (line (operation_text o)))
+
+-- ---- replies to lines
+
+module _ {T : Type 0} (prints : Sink T) where
+  -- a reply that was written as far as the sink took it
+  pub answered_with :
+      (saying : Saying) (r : Result (Unit {0}) Failed) (old new : Seat) (sink sink' : T) (bytes reply : List ℕ)
+      → bytes ≡ reply
+      → IsLegalReply saying reply old new
+      → OnOk r (HasTaken prints sink sink' bytes)
+      → OnErr r (HasFailedBehind prints sink sink' bytes)
+      → HasAnswered prints saying r old new sink sink'
+  answered_with saying (Ok done) old new sink sink' bytes reply e legal ok err = record { reply = bytes; legal = rw e legal; printed = ok }
+  answered_with saying (Err failed) old new sink sink' bytes reply e legal ok err = record { reply = bytes; legal = rw e legal; printed = err }
+
+pub import_reply : (old new : Seat) (text : List ℕ) (answer : Answer) → IsLegalImport old new text answer → IsLegalReply (import text) (reply_of answer) old new
+import_reply old new text answer legal = (legal.handed, legal.hands_over, (answer, legal.legal, refl))
+
+pub verdict_reply : (old new : Seat) (answer : Answer) → IsLegalCall old new journal.verdict answer → IsLegalReply verdict (reply_of answer) old new
+verdict_reply old new answer legal = (answer, legal, refl)
+
+pub read_reply : (old new : Seat) (from to : ℕ) (answer : Answer) → IsLegalCall old new (journal.read from to) answer → IsLegalReply (read from to) (reply_of answer) old new
+read_reply old new from to answer legal = (answer, legal, refl)
+
+-- events for whose text memory is wanting
+pub read_without_memory :
+    (old new : Seat) (from to : ℕ) (events : List Operation)
+    → IsLegalCall old new (journal.read from to) (journal.returned events)
+    → IsLegalReply (read from to) (reply_of (journal.refused memory_fault)) old new
+read_without_memory old new from to events legal = (journal.refused memory_fault, (legal.0, (inl refl, legal.1.1)), refl)
+
+-- what is always written for an overlong line and for one that says quit
+pub overlong_line : codes "refused 37 BlockFull\n" ≡ refusal_line (without_place BlockFull)
+unfolding digits
+overlong_line = refl
+
+pub overlong_reply : (seat : Seat) → IsLegalReply overlong (refusal_line (without_place BlockFull)) seat seat
+overlong_reply seat = (refl, refl)
+
+pub quit_reply : (seat : Seat) → IsLegalReply quit (line (codes "bye")) seat seat
+quit_reply seat = (refl, refl)

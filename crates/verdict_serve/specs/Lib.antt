@@ -1,0 +1,7 @@
+pub mod Alone
+pub mod Cuts
+pub mod Sources
+pub mod Sayings
+pub mod Served
+pub mod Steps
+pub mod Windows

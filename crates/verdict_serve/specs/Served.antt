@@ -1,0 +1,71 @@
+-- What a session has done: which bytes its source gave, and which replies its sink took.
+use Rattle.std.specs.Prelude.{◌≡◌, ◌⊎◌, ℕ, List, [], ◌∷◌, ◌++◌, length, min, take, flat_map, true, false, Option}
+use Rattle.std.specs.Io.KnownBytes.{Appends, IsAtEnd}
+use Rattle.hist_types.specs.Devices.{CountsFailure, most_failures}
+use Rattle.hist_types.specs.Sessions.{IsSession, IsSessionSoFar, say_quit}
+use Rattle.hist_types.specs.declared.device.Sink.{Ghosts as Sink}
+use Rattle.hist_types.specs.declared.device.Source.{Ghosts as Source}
+use Rattle.live_journal.specs.Seats.{Seat}
+use Rattle.verdict.specs.Pieces.{HasTaken}
+use Rattle.verdict_serve.specs.Sources.{HasGiven, HasFailedAfter}
+use Rattle.verdict_serve.specs.declared.session.Ended.{Ended}
+use Rattle.verdict_serve.specs.declared.session.Ended.TheVariants.{Quit, Eof}
+
+-- the replies, one after the other
+abbrev pub joined : List (List ℕ) → List ℕ
+joined replies = flat_map (λ reply. reply) replies
+
+-- how many replies there are, as far as they are counted
+abbrev pub counted : List (List ℕ) → ℕ
+counted replies = min (length replies) most_failures
+
+-- it ended so: by a line that says quit, or at the source's end without one
+abbrev pub HasEnded : Ended → (bytes : List ℕ) → (remaining : Option (List ℕ)) → Type 0
+HasEnded Quit bytes remaining = say_quit bytes ≡ true
+HasEnded Eof bytes remaining = (say_quit bytes ≡ false) × IsAtEnd remaining
+
+-- A session ended so: the lines of the bytes that the source gave have these replies by legal
+-- answers to the seat, each line one up to and with the first that says quit, and the sink took
+-- them whole and nothing else.
+pub record HasServed {S T : Type 0} (reads : Source S) (prints : Sink T) (ended : Ended)
+    (old new : Seat) (source source' : S) (sink sink' : T) : Type 0 where
+  pub bytes : List ℕ
+  pub replies : List (List ℕ)
+  pub given : HasGiven reads source source' bytes
+  pub session : IsSession (length old.row) old.number bytes replies old.view new.view
+  pub printed : HasTaken prints sink sink' (joined replies)
+  pub ended_so : HasEnded ended bytes (reads.remaining source')
+
+-- The source failed after it gave these bytes, of which the first lines have these replies; the
+-- sink took them whole and nothing else.
+pub record HasLostSource {S T : Type 0} (reads : Source S) (prints : Sink T) (answered : ℕ)
+    (old new : Seat) (source source' : S) (sink sink' : T) : Type 0 where
+  pub bytes : List ℕ
+  pub replies : List (List ℕ)
+  pub failed : HasFailedAfter reads source source' bytes
+  pub session : IsSessionSoFar (length old.row) old.number bytes replies old.view new.view
+  pub printed : HasTaken prints sink sink' (joined replies)
+  pub answered_are : answered ≡ counted replies
+
+-- The sink failed: it took these replies to the first lines whole, and a beginning of the next.
+pub record HasLostSink {S T : Type 0} (reads : Source S) (prints : Sink T) (answered : ℕ)
+    (old new : Seat) (source source' : S) (sink sink' : T) : Type 0 where
+  pub bytes : List ℕ
+  pub replies : List (List ℕ)
+  pub next : List ℕ
+  pub count : ℕ
+  pub given : HasGiven reads source source' bytes
+  pub session :
+      IsSessionSoFar (length old.row) old.number bytes (replies ++ next ∷ []) old.view new.view
+  pub printed :
+      Appends (prints.contents sink) (prints.contents sink') (joined replies ++ take count next)
+  pub failed : CountsFailure (prints.failures sink) (prints.failures sink')
+  pub answered_are : answered ≡ counted replies
+
+-- one of the devices failed, once so many lines had been answered
+abbrev pub HasLostDevice :
+    {S T : Type 0} → Source S → Sink T → (answered : ℕ) → (old new : Seat)
+    → (source source' : S) → (sink sink' : T) → Type 0
+HasLostDevice reads prints answered old new source source' sink sink' =
+    HasLostSource reads prints answered old new source source' sink sink'
+    ⊎ HasLostSink reads prints answered old new source source' sink sink'
