@@ -139,16 +139,6 @@ fn a_snapshot_sees_what_another_seat_writes(rt: HostRuntime) -> Result<(), Fail>
 }
 
 #[test]
-fn a_snapshot_grows_with_what_another_seat_writes(rt: HostRuntime) -> Result<(), Fail> {
-    let journal = Journal::new(rt.alloc(), 4)?;
-    let (mut writer, mut keeper) = (journal.seat(0)?, journal.seat(1)?);
-    assert!(rt; writer.begin(process(&rt, 0), &[]) == Ok(0));
-    assert!(rt; writer.complete(process(&rt, 0), Outcome::Ok, &[]) == Ok(1));
-    assert!(rt; keeper.snapshot()?.prefix().events() == 2);
-    Ok(())
-}
-
-#[test]
 fn a_read_shows_what_was_written(rt: HostRuntime) -> Result<(), Fail> {
     let journal = Journal::new(rt.alloc(), 1)?;
     let x = writes(&rt, b":x");
