@@ -183,25 +183,20 @@ fn an_import_is_taken_whole(rt: HostRuntime) -> Result<(), Fail> {
     Ok(())
 }
 
-/// Cells of which another seat fills one just before a call does.
+/// Cells of which another seat fills the first just before a call does.
 #[derive(Drop)]
 struct Raced<'r> {
     alloc: Global,
     row: &'r Row<Block>,
-    /// Which cell that is.
-    at: usize,
     other: Block,
 }
 
 impl Raced<'_> {
-    /// Fills the cell with the other block.
+    /// Fills the first cell with the other block.
     fn intrude(&self) {
         let Ok(mut theirs) = self.row.known(self.alloc) else {
             return;
         };
-        for _ in 0..self.at {
-            let _seen = self.row.look(&mut theirs);
-        }
         let _filled = self
             .row
             .fill(&mut theirs, || boxed_copy(self.alloc, &self.other));
@@ -223,7 +218,7 @@ impl Cells for Raced<'_> {
     where
         F: Drop,
     {
-        if known.len() == self.at {
+        if known.is_empty() {
             self.intrude();
         }
         self.row.fill(known, build)
@@ -242,7 +237,6 @@ fn begin_raced_by(alloc: Global, zero: Process, number: Process) -> Result<u64, 
     let cells = Raced {
         alloc,
         row: &row,
-        at: 0,
         other,
     };
     let mut seen = Seen::new(alloc, 0, row.known(alloc)?);
