@@ -27,7 +27,7 @@ class Session:
         if reply[0].startswith("events "):
             reply += [self.line() for _ in range(int(reply[0].split()[1]))]
         elif reply[0].startswith("prefix "):
-            while not reply[-1].startswith("stray "):
+            while not reply[-1].startswith("strict "):
                 reply.append(self.line())
         return reply
 

@@ -35,7 +35,7 @@
 
         (str/starts-with? reply "prefix ")
         (loop [reply [reply]]
-          (if (str/starts-with? (peek reply) "stray ")
+          (if (str/starts-with? (peek reply) "strict ")
             reply
             (recur (conj reply (reply-line replies)))))
 

@@ -1,8 +1,8 @@
 pub mod Lists
-pub mod Leaving
 pub mod Judging
 pub mod Deciding
 pub mod OneAnswer
 pub mod SomeAnswer
+pub mod Refuting
 pub mod Outcomes
 pub mod Reporting

@@ -7,8 +7,8 @@ use Rattle.hist_types.specs.Entries.{operations_of}
 use Rattle.reading_laws.specs.Readings.{HasOneReading}
 use Rattle.hist_types.specs.Phenomena.{height}
 use Rattle.hist_types.specs.Reading.{Reads}
-use Rattle.hist_types.specs.Reports.{finding, Report, IsVerdictOf}
-use Rattle.hist_types.specs.Texts.{reads_text, edges_text, has_bad_read, refusal_line}
+use Rattle.hist_types.specs.Reports.{finding, Report, IsVerdictOf, names_phenomenon, reads_report, names_read, edges_report}
+use Rattle.hist_types.specs.Texts.{reads_text, edges_text, refusal_line}
 use Rattle.hist_types.specs.Transactions.{Transaction, transactions_of}
 use Rattle.hist_types.specs.Witness.{Finding, IsFinding}
 use Rattle.hist_types.specs.declared.types.Fault.{Fault}
@@ -17,7 +17,7 @@ use Rattle.hist_types.specs.declared.types.Level.TheVariants.{Plain, Process, Re
 use Rattle.hist_types.specs.declared.types.Phenomenon.{Phenomenon}
 use Rattle.hist_types.specs.declared.types.Phenomenon.TheVariants.{G0, G1c, GSingle, G2Item}
 use Rattle.block_reader.specs.Texts.{GivesOperations, GivesFault}
-use Rattle.command_run.specs.Answers.{GivesEvents, journal_fault, IsRefused, names_phenomenon, IsVerdict, Reports, IsReport, IsAnswer}
+use Rattle.command_run.specs.Answers.{GivesEvents, journal_fault, IsRefused, IsVerdict, Reports, IsReport, IsAnswer}
 use Rattle.command_run.specs.SameAnswers.{level_found, DifferInWitnessesAlone}
 use Rattle.command_run.specs.Statuses.{status_by}
 use Rattle.command_run.specs.declared.answer.Status.{Status}
@@ -26,7 +26,7 @@ use Rattle.command_line.specs.declared.types.Command.{Command}
 use Rattle.command_line.specs.declared.types.Command.TheVariants.{Reads as the_reads, Edges as the_edges, Check as the_check}
 
 module _ (text : List ℕ) (one_reading : HasOneReading (Reads text)) where
-  same_operations : (ops others : List Operation) → GivesOperations text ops → GivesOperations text others → ops ≡ others
+  pub same_operations : (ops others : List Operation) → GivesOperations text ops → GivesOperations text others → ops ≡ others
   same_operations ops others one two =
       let same = one_reading.1 one.entries two.entries None None one.read two.read in
       sym one.given ∙ (ap operations_of same.0 ∙ two.given)
@@ -141,8 +141,8 @@ IsSame command status other printed others = (status ≡ other) × (command ≢ 
 one_report : (command : Command) (events others : List Operation) (status other : Status) (printed lines : List ℕ) → events ≡ others
     → Reports command events status printed → Reports command others other lines → IsSame command status other printed lines
 one_report the_reads events others status other printed lines same one two =
-    (one.0 ∙ (ap (λ (es : List Operation). status_by (has_bad_read es)) same ∙ sym two.0), λ no_check. one.1 ∙ (ap reads_text same ∙ sym two.1))
-one_report the_edges events others status other printed lines same one two = (one.0 ∙ sym two.0, λ no_check. one.1 ∙ (ap edges_text same ∙ sym two.1))
+    (one.0 ∙ (ap (λ (es : List Operation). status_by (names_read (reads_report es))) same ∙ sym two.0), λ no_check. one.1 ∙ (ap (λ (es : List Operation). reads_text (reads_report es)) same ∙ sym two.1))
+one_report the_edges events others status other printed lines same one two = (one.0 ∙ sym two.0, λ no_check. one.1 ∙ (ap (λ (es : List Operation). edges_text (edges_report es)) same ∙ sym two.1))
 one_report the_check events others status other printed lines same one two =
     (same_status events status other printed lines one (subst (λ (es : List Operation). IsVerdict es other lines) (sym same) two), λ no_check. absurd (no_check refl))
 

@@ -8,7 +8,7 @@ use Rattle.hist_types.specs.Refusals.{memory_fault}
 use Rattle.hist_types.specs.Texts.{refusal_line}
 use Rattle.hist_types.specs.declared.device.Source.{Ghosts as Source}
 use Rattle.hist_types.specs.declared.device.Sink.{Ghosts}
-use Rattle.verdict.specs.Pieces.{HasTaken, HasFailedBehind}
+use Rattle.hist_types.specs.Pieces.{HasTaken, HasTakenInPart}
 use Rattle.command_run.specs.Answers.{IsAnswer}
 use Rattle.command_run.specs.Runs.{HasPrintedMemory, HasAnswered, FailedBy, HasRun}
 use Rattle.command_run.specs.Statuses.{code_of}
@@ -29,7 +29,7 @@ of_any (Some rest) P all = (rest, refl, all rest)
 -- all is printed and the run ends with the status that was wanted, or the sink fails
 abbrev pub HasPrinted : {T : Type 0} → Ghosts T → (wanted status : Status) → (sink sink' : T) → List ℕ → Type 0
 HasPrinted device wanted status sink sink' printed =
-    ((status ≡ wanted) × HasTaken device sink sink' printed) ⊎ ((status ≡ statuses.DeviceFault) × HasFailedBehind device sink sink' printed)
+    ((status ≡ wanted) × HasTaken device sink sink' printed) ⊎ ((status ≡ statuses.DeviceFault) × HasTakenInPart device sink sink' printed)
 
 -- the line of a program that is out of memory
 pub memory_printed : {T : Type 0} (device : Ghosts T) (status : Status) (sink sink' : T)

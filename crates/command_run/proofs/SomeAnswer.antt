@@ -9,15 +9,15 @@ use Rattle.reading_laws.specs.Readings.{HasOneReading}
 use Rattle.hist_types.specs.Reading.{Reads}
 use Rattle.hist_types.specs.Refusals.{event_fault}
 use Rattle.hist_types.specs.Phenomena.{g1a, g1b, stray}
-use Rattle.hist_types.specs.Reports.{AreFindings, Report, IsVerdictOf}
-use Rattle.hist_types.specs.Texts.{reads_text, edges_text, has_bad_read, verdict_text, refusal_line}
+use Rattle.hist_types.specs.Reports.{AreFindings, Report, IsVerdictOf, names_phenomenon, reads_report, names_read, edges_report}
+use Rattle.hist_types.specs.Texts.{reads_text, edges_text, verdict_text, refusal_line}
 use Rattle.hist_types.specs.Transactions.{Transaction, transactions_of}
 use Rattle.hist_types.specs.declared.types.Fault.{Fault}
 use Rattle.hist_types.specs.declared.types.Refusal.{Refusal}
 use Rattle.hist_types.specs.declared.types.Phenomenon.TheVariants.{G0, G1c, GSingle, G2Item}
 use Rattle.command_run.proofs.Deciding.{has_finding}
 use Rattle.block_reader.specs.Texts.{GivesOperations}
-use Rattle.command_run.specs.Answers.{GivesEvents, IsRefused, names_phenomenon, IsVerdict, HasAnswer}
+use Rattle.command_run.specs.Answers.{GivesEvents, IsRefused, IsVerdict, HasAnswer}
 use Rattle.command_run.specs.Statuses.{status_by}
 use Rattle.command_run.specs.declared.answer.Status.{Status}
 use Rattle.command_run.specs.declared.answer.Status.TheVariants as statuses
@@ -35,15 +35,15 @@ refused : (command : Command) (text : List ℕ) (fault : Fault) → IsRefused te
 refused command text fault because = (statuses.Refused, refusal_line fault, not_memory statuses.Refused refl, (fault, because, refl))
 
 reported : (command : Command) (text : List ℕ) (events : List Operation) → GivesEvents text events → HasAnswer command text
-reported the_reads text events given = by_reads (has_bad_read events) refl
+reported the_reads text events given = by_reads (names_read (reads_report events)) refl
   where
-    by_reads : (named : Bool) → has_bad_read events ≡ named → HasAnswer the_reads text
+    by_reads : (named : Bool) → names_read (reads_report events) ≡ named → HasAnswer the_reads text
     by_reads true e =
-        (statuses.SomePhenomenon, reads_text events, not_memory statuses.SomePhenomenon refl, record { events = events; given = given; reported = (rw e refl, refl) })
+        (statuses.SomePhenomenon, reads_text (reads_report events), not_memory statuses.SomePhenomenon refl, record { events = events; given = given; reported = (rw e refl, refl) })
     by_reads false e =
-        (statuses.NoPhenomenon, reads_text events, not_memory statuses.NoPhenomenon refl, record { events = events; given = given; reported = (rw e refl, refl) })
+        (statuses.NoPhenomenon, reads_text (reads_report events), not_memory statuses.NoPhenomenon refl, record { events = events; given = given; reported = (rw e refl, refl) })
 reported the_edges text events given =
-    (statuses.NoPhenomenon, edges_text events, not_memory statuses.NoPhenomenon refl, record { events = events; given = given; reported = (refl, refl) })
+    (statuses.NoPhenomenon, edges_text (edges_report events), not_memory statuses.NoPhenomenon refl, record { events = events; given = given; reported = (refl, refl) })
 reported the_check text events given = by_named (names_phenomenon report) refl
   where
     ts : List Transaction

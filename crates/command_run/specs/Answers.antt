@@ -1,10 +1,10 @@
 -- What the program answers to a text.
-use Rattle.std.specs.Prelude.{◌≡◌, ◌≢◌, ◌⊎◌, ℕ, List, [], Bool, ◌||◌, Option, Some, option_map, is_some}
+use Rattle.std.specs.Prelude.{◌≡◌, ◌≢◌, ◌⊎◌, ℕ, List, [], Option, Some, option_map}
 use Rattle.hist_types.specs.Operations.{Operation}
 use Rattle.hist_types.specs.Journal.{first_broken, KeepsRules}
 use Rattle.hist_types.specs.Refusals.{event_fault, memory_fault}
-use Rattle.hist_types.specs.Reports.{Findings, Report, IsVerdictOf}
-use Rattle.hist_types.specs.Texts.{reads_text, edges_text, has_bad_read, verdict_text, refusal_line}
+use Rattle.hist_types.specs.Reports.{Report, IsVerdictOf, names_phenomenon, reads_report, names_read, edges_report}
+use Rattle.hist_types.specs.Texts.{reads_text, edges_text, verdict_text, refusal_line}
 use Rattle.hist_types.specs.declared.types.Fault.{Fault}
 use Rattle.block_reader.specs.Texts.{GivesOperations, GivesFault}
 use Rattle.command_run.specs.Statuses.{status_by}
@@ -32,15 +32,6 @@ BreaksRule text fault =
 abbrev pub IsRefused : List ℕ → Fault → Type 0
 IsRefused text fault = GivesFault text fault ⊎ BreaksRule text fault
 
--- whether a report names one of the phenomena that cycles show
-abbrev pub names_cycle : Findings → Bool
-names_cycle found =
-    is_some found.g0 || is_some found.g1c || is_some found.single || is_some found.item
-
--- whether it names one of the six phenomena
-abbrev pub names_phenomenon : Report → Bool
-names_phenomenon r = names_cycle r.findings || (is_some r.g1a || is_some r.g1b)
-
 -- the text of a verdict of the events, with status 1 exactly where it names a phenomenon
 pub record IsVerdict (events : List Operation) (status : Status) (printed : List ℕ) : Type 0 where
   pub report : Report
@@ -51,9 +42,10 @@ pub record IsVerdict (events : List Operation) (status : Status) (printed : List
 -- what a command prints of the events, and the status with it
 abbrev pub Reports : Command → List Operation → Status → List ℕ → Type 0
 Reports commands.Reads events status printed =
-    (status ≡ status_by (has_bad_read events)) × (printed ≡ reads_text events)
+    (status ≡ status_by (names_read (reads_report events)))
+    × (printed ≡ reads_text (reads_report events))
 Reports commands.Edges events status printed =
-    (status ≡ statuses.NoPhenomenon) × (printed ≡ edges_text events)
+    (status ≡ statuses.NoPhenomenon) × (printed ≡ edges_text (edges_report events))
 Reports commands.Check events status printed = IsVerdict events status printed
 
 -- the report of a command on the events that the text gives

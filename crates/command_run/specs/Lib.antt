@@ -1,8 +1,6 @@
 pub mod Answers
 pub mod SameAnswers
+pub mod Refuted
 pub mod Judged
-pub mod Pieces
-pub mod Leaving
 pub mod Statuses
 pub mod Runs
-pub mod Tables

@@ -7,7 +7,7 @@ use Rattle.hist_types.specs.Refusals.{memory_fault}
 use Rattle.hist_types.specs.Texts.{refusal_line}
 use Rattle.hist_types.specs.declared.device.Source.{Ghosts as Source}
 use Rattle.hist_types.specs.declared.device.Sink.{Ghosts as Sink}
-use Rattle.verdict.specs.Pieces.{HasTaken, HasFailedBehind}
+use Rattle.hist_types.specs.Pieces.{HasTaken, HasTakenInPart}
 use Rattle.command_run.specs.Answers.{IsAnswer}
 use Rattle.command_run.specs.Statuses.{code_of}
 use Rattle.command_run.specs.declared.answer.Status.{Status}
@@ -21,7 +21,7 @@ abbrev pub HasPrintedMemory : {T : Type 0} → Sink T → Status → (sink sink'
 HasPrintedMemory device statuses.Memory sink sink' =
     HasTaken device sink sink' (refusal_line memory_fault)
 HasPrintedMemory device statuses.DeviceFault sink sink' =
-    HasFailedBehind device sink sink' (refusal_line memory_fault)
+    HasTakenInPart device sink sink' (refusal_line memory_fault)
 HasPrintedMemory device status sink sink' = ⊥
 
 -- ---- the run of a command

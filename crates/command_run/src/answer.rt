@@ -1,10 +1,11 @@
 //! Answers, and how a run ends.
 
-ghost use Rattle.std.specs.Prelude.{◌≡◌, ◌++◌, IfOk, OnOk};
+ghost use Rattle.std.specs.Prelude.{◌≡◌, IfOk};
 ghost use Rattle.hist_types.specs.Texts.{refusal_line};
-ghost use Rattle.command_run.specs.Statuses.{code_of};
+ghost use Rattle.command_run.specs.Statuses.{code_of, status_by};
 
 use hist_types::types::Fault;
+use report_text::text::refusal_line;
 use std::alloc::{AllocError, Global};
 
 /// How a run ended.
@@ -40,12 +41,15 @@ pub struct Answer {
     pub printed: Vec<u8>,
 }
 
-/// Appends the line of a refusal.
-fn write_refusal(alloc: Global, out: &mut Vec<u8>, fault: Fault) -> Result<(), AllocError>
-    ensures { OnOk result (out.new.items ≡ out.old.items ++ refusal_line fault) }
+/// The status of a report, by whether it names a phenomenon.
+pub fn status_by(named: bool) -> Status
+    ensures { result ≡ status_by named }
 {
-    let line = format!(in alloc; "{fault}\n")?;
-    out.extend_from_slice(line.as_bytes())
+    if named {
+        Status::SomePhenomenon
+    } else {
+        Status::NoPhenomenon
+    }
 }
 
 /// The answer to a refused input.
@@ -53,10 +57,8 @@ pub fn refuse(alloc: Global, fault: Fault) -> Result<Answer, AllocError>
     ensures status { IfOk result (λ answer. answer.status ≡ Status.Refused) }
     ensures printed { IfOk result (λ answer. answer.printed.items ≡ refusal_line fault) }
 {
-    let mut printed = Vec::new(alloc);
-    write_refusal(alloc, &mut printed, fault)?;
     Ok(Answer {
         status: Status::Refused,
-        printed,
+        printed: refusal_line(alloc, fault)?,
     })
 }

@@ -4,12 +4,13 @@ ghost use Rattle.std.specs.Prelude.{◌≡◌, IfOk, IfErr};
 ghost use Rattle.hist_types.specs.Journal.{KeepsRules};
 ghost use Rattle.hist_types.specs.Refusals.{memory_fault};
 ghost use Rattle.verdict.specs.Lowest.{AreTablesOf};
-ghost use Rattle.command_run.specs.Answers.{names_phenomenon, Reports};
+ghost use Rattle.hist_types.specs.Reports.{names_phenomenon};
+ghost use Rattle.command_run.specs.Answers.{Reports};
 ghost use Rattle.command_run.specs.Statuses.{status_by};
 ghost use Rattle.command_line.specs.declared.types.Command.TheVariants.{Check};
 
 use crate::answer::{Answer, Status};
-use hist_types::types::{Fault, Phenomenon};
+use hist_types::types::{Fault, Strict};
 use journal_core::events::Events;
 use std::alloc::Global;
 use std::thread::Threads;
@@ -20,15 +21,9 @@ use verdict::verdict_from_wide;
 fn status_of(verdict: &Verdict<'_>) -> Status
     ensures { result ≡ status_by (names_phenomenon verdict.now) }
 {
-    let cycle = verdict.level(Phenomenon::G0).is_some()
-        || verdict.level(Phenomenon::G1c).is_some()
-        || verdict.level(Phenomenon::GSingle).is_some()
-        || verdict.level(Phenomenon::G2Item).is_some();
-    let read = verdict.g1a().is_some() || verdict.g1b().is_some();
-    if cycle || read {
-        Status::SomePhenomenon
-    } else {
-        Status::NoPhenomenon
+    match verdict.strict() {
+        Strict::Refuted => Status::SomePhenomenon,
+        Strict::Open => Status::NoPhenomenon,
     }
 }
 

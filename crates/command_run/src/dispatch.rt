@@ -1,16 +1,16 @@
 //! From what the command line asks for to what is done.
 
 ghost use Rattle.std.specs.Prelude.{◌≡◌, IfOk, IfErr, OnErr};
-ghost use Rattle.command_run.specs.Pieces.{HasTakenUnlessFailed};
+ghost use Rattle.hist_types.specs.Pieces.{HasTakenUnlessFailed};
 ghost use Rattle.command_run.specs.Runs.{HasRun, HasRefusedLine, complaint};
 
 use crate::answer::Status;
 use crate::run::{print_memory, run};
 use command_line::types::{Command, LineFault};
 use hist_types::device::{Sink, Source};
+use hist_types::whole::write_all;
 use std::alloc::Global;
 use std::thread::Threads;
-use verdict::devices::write_all;
 
 /// What is said on standard error: the help, what is wrong with the command line, or that a device failed.
 fn complaint(command: &Result<Command, LineFault>, status: Status) -> &[u8]

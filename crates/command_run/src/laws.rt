@@ -1,10 +1,11 @@
 //! Laws of the commands.
 
-ghost use Rattle.std.specs.Prelude.{◌≡◌, ◌≢◌, ℕ, List};
+ghost use Rattle.std.specs.Prelude.{◌≡◌, ◌≢◌, ℕ, List, codes};
 ghost use Rattle.command_run.specs.Answers.{IsAnswer, IsReport, HasAnswer};
+ghost use Rattle.command_run.specs.Refuted.{EndsWith, HasNoExplanation};
 ghost use Rattle.command_run.specs.SameAnswers.{DifferInWitnessesAlone};
 ghost use Rattle.command_run.specs.declared.answer.Status.{Status};
-ghost use Rattle.command_run.specs.declared.answer.Status.TheVariants.{Refused, Memory};
+ghost use Rattle.command_run.specs.declared.answer.Status.TheVariants.{SomePhenomenon, Refused, Memory};
 ghost use Rattle.command_line.specs.declared.types.Command.{Command};
 ghost use Rattle.command_line.specs.declared.types.Command.TheVariants.{Check};
 
@@ -35,6 +36,18 @@ pub fn one_answer_to_a_text()
 /// Each text has an answer of each command other than the one that is out of memory.
 pub fn an_answer_to_each_text()
     ensures { (command : Command) (text : List ℕ) → HasAnswer command text }
+{
+    texts_have_one_reading();
+}
+
+/// A history that `check` refutes isn't strictly serializable: where it ends with status 1, or prints `strict refuted` at the
+/// end, no order explains the history that it read.
+pub fn refuted_histories_have_no_explanation()
+    ensures status { (text printed : List ℕ)
+        → IsAnswer Check text SomePhenomenon printed → HasNoExplanation text }
+    ensures line { (text : List ℕ) (status : Status) (printed : List ℕ)
+        → IsReport Check text status printed → EndsWith printed (codes "strict refuted\n")
+        → HasNoExplanation text }
 {
     texts_have_one_reading();
 }

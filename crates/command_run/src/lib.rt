@@ -3,9 +3,7 @@
 
 pub mod answer;
 mod check;
-mod devices;
 pub mod dispatch;
-mod edge_order;
 mod edges;
 mod inputs;
 pub mod laws;

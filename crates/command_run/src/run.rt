@@ -4,25 +4,24 @@ ghost use Rattle.std.specs.Prelude.{◌≡◌, ◌⊎◌, IfOk, OnOk, IfErr};
 ghost use Rattle.hist_types.specs.Journal.{KeepsRules};
 ghost use Rattle.hist_types.specs.Refusals.{memory_fault};
 ghost use Rattle.block_reader.specs.Blocks.{operations_in};
-ghost use Rattle.verdict.specs.Pieces.{HasTaken, HasFailedBehind};
+ghost use Rattle.hist_types.specs.Pieces.{HasTaken, HasTakenInPart};
 ghost use Rattle.command_run.specs.Answers.{IsAnswer, IsRefused, Reports};
 ghost use Rattle.command_run.specs.Judged.{IsFirstBrokenBy};
 ghost use Rattle.command_run.specs.Runs.{HasPrintedMemory, HasRun};
 
 use crate::answer::{Answer, Status, refuse};
-use crate::devices::{ReadFault, read_all};
 use crate::inputs::events_of;
-use crate::tables::{tables_of, verdict_tables_of, while_judging};
+use crate::tables::judged_tables_of;
 use crate::{check, edges, reads};
 use block_reader::reading::read_blocks;
 use command_line::types::Command;
 use hist_types::device::{Failed, Sink, Source};
 use hist_types::types::{Fault, Refusal};
+use hist_types::whole::{ReadFault, read_all, write_all};
 use journal_core::events::Events;
 use op_block::block::Block;
 use std::alloc::{AllocError, Global};
 use std::thread::Threads;
-use verdict::devices::write_all;
 
 /// What the command prints of the events of the blocks, which are judged at the same time.
 fn report_on<'a, R: Threads + Sync>(
@@ -39,24 +38,11 @@ fn report_on<'a, R: Threads + Sync>(
     ensures err { IfErr result
         (λ fault. (fault ≡ memory_fault) ⊎ IsFirstBrokenBy blocks.now fault) }
 {
+    let tables = judged_tables_of(rt, alloc, blocks, events)?;
     match command {
-        Command::Reads => {
-            let tables = while_judging(rt, alloc, blocks, &mut || tables_of(rt, alloc, events))?;
-            reads::report(alloc, events, &tables)
-        }
-        Command::Edges => {
-            let tables = while_judging(rt, alloc, blocks, &mut || tables_of(rt, alloc, events))?;
-            edges::report(alloc, events, &tables)
-        }
-        Command::Check => {
-            let tables = while_judging(
-                rt,
-                alloc,
-                blocks,
-                &mut || verdict_tables_of(rt, alloc, events),
-            )?;
-            check::report(rt, alloc, events, &tables)
-        }
+        Command::Reads => reads::report(alloc, events, &tables),
+        Command::Edges => edges::report(alloc, events, &tables),
+        Command::Check => check::report(rt, alloc, events, &tables),
     }
 }
 
@@ -99,7 +85,7 @@ fn answer_to<R: Threads + Sync>(
 fn print<T: Sink>(sink: &mut T, status: Status, printed: &[u8]) -> Status
     ensures { ((result ≡ status) × HasTaken T.Sink sink.old sink.new printed.now)
         ⊎ ((result ≡ Status.DeviceFault)
-        × HasFailedBehind T.Sink sink.old sink.new printed.now) }
+        × HasTakenInPart T.Sink sink.old sink.new printed.now) }
 {
     match write_all(sink, printed) {
         Ok(()) => status,

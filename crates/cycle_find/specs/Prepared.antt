@@ -21,7 +21,8 @@ AreWholeRanks task coarse ranks = AreRanksWithin task.graph (whole_kinds task) c
 abbrev pub AreBackRanks : Task → (coarse finer : List ℕ) → Type 0
 AreBackRanks task coarse finer = AreRanksWithin task.graph (back_kinds task) coarse finer
 
--- the arcs of the needed edges and of the way back, and coarse ranks with ranks within them over the whole walk and over the way back
+-- the arcs of the needed edges and of the way back, and coarse ranks with ranks within them over the
+-- whole walk and over the way back
 pub record IsPrepared (task : Task) (needed back : List (List ℕ))
     (coarse ranks finer : List ℕ) : Type 0 where
   pub kept : AreOfHistory task.graph.txns

@@ -4,4 +4,3 @@ pub mod Joining
 pub mod Needed
 pub mod Tightening
 pub mod Fewer
-pub mod Longer

@@ -1,4 +1,4 @@
-//! Witnesses of cycles: closed walks reduced to what a reader needs, and their text.
+//! Witnesses of cycles: closed walks reduced to what a reader needs.
 #![tactic(auto)]
 
 ghost use Rattle.std.specs.Prelude.{◌≡◌, ◌≤◌, IfOk, IfErr};
@@ -8,7 +8,6 @@ ghost use Rattle.cycle_show.specs.Reductions.{IsWitnessOf, dependencies};
 mod kinds;
 mod path;
 pub mod types;
-pub mod write;
 
 use crate::path::{least_place, short_round};
 use crate::types::Witness;

@@ -1,11 +1,8 @@
 //! Witnesses.
 
-ghost use Rattle.std.specs.Prelude.{◌≡◌, ◌++◌, OnOk, OnErr};
-ghost use Rattle.cycle_show.specs.Lines.{witness_lines};
+ghost use Rattle.std.specs.Prelude.{◌≡◌};
 
-use crate::write::write_witness;
 use dep_edges::types::Edge;
-use std::alloc::AllocError;
 use std::marker::Model;
 
 /// A closed walk with no transaction twice and no two order edges side by side, written from its least transaction on.
@@ -35,13 +32,5 @@ impl<'a> Witness<'a> {
         ensures { result.now ≡ self.now }
     {
         &self.edges
-    }
-
-    /// Appends an indented line for each edge. Out of memory leaves the Vec as it was.
-    pub fn write(&self, out: &mut Vec<u8>) -> Result<(), AllocError>
-        ensures ok { OnOk result (out.new.items ≡ out.old.items ++ witness_lines self.now) }
-        ensures err { OnErr result (out.new.items ≡ out.old.items) }
-    {
-        write_witness(out, &self.edges)
     }
 }

@@ -1,7 +1,7 @@
 -- The dependency edges that leave a transaction, found from what it reads and installs itself.
 --
--- A version that it installs leads by wr to those that read it, and by ww to those that install a version after it; a version that
--- it reads leads by rw to those that install a version after it.
+-- A version that it installs leads by wr to those that read it, and by ww to those that install a
+-- version after it; a version that it reads leads by rw to those that install a version after it.
 use Rattle.std.specs.Prelude.{◌≡◌, ◌↔◌, ℕ, List, [], ◌∷◌, ◌++◌, ◌==◌, if◌then◌else◌, flat_map, Contains}
 use Rattle.hist_types.specs.Edges.{Label, ww, wr, rw, Edge, dependency_edges}
 use Rattle.hist_types.specs.Lists.{NoneTwice}
@@ -36,7 +36,8 @@ node_edge ts from u label = if is_node ts u then edge_to from u label else []
 -- to each node that reads the version
 abbrev pub reader_edges : List Transaction → ℕ → Version → List Edge
 reader_edges ts from v =
-    flat_map (λ (u : Transaction). if is_known_to_read u v then node_edge ts from u (wr v) else []) ts
+    flat_map
+    (λ (u : Transaction). if is_known_to_read u v then node_edge ts from u (wr v) else []) ts
 
 -- to each node that installs a version after this one, labelled by that version
 abbrev pub later_edges : List Transaction → ℕ → (Version → Label) → Version → List Edge

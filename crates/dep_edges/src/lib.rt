@@ -9,6 +9,7 @@ ghost use Rattle.dep_edges.specs.Histories.{AreOfHistory};
 mod bad_reads;
 pub mod deps;
 pub mod history;
+pub mod laws;
 mod leaving;
 mod nodes;
 mod possible;

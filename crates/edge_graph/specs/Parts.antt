@@ -1,5 +1,6 @@
--- What a graph of transactions is made of, and its edges: the dependency edges, and of a level's order edges those whose second
--- end is a node. (The first end of an order edge is ok, and so is a node.) The order may be the one of all pairs or a thinned one.
+-- What a graph of transactions is made of, and its edges: the dependency edges, and of a level's
+-- order edges those whose second end is a node. (The first end of an order edge is ok, and so is a
+-- node.) The order may be the one of all pairs or a thinned one.
 use Rattle.std.specs.Prelude.{◌≡◌, ◌↔◌, ◌⊎◌, ◌==◌, ℕ, Bool, List, ◌++◌, IsTrue, Some, slice_get, map, filter, All, Contains}
 use Rattle.std.specs.List.{list_any}
 use Rattle.hist_types.specs.Edges.{Edge, dependency_edges, all_order_edges}

@@ -3,3 +3,4 @@ pub mod Titles
 pub mod Equality
 pub mod AtomOrder
 pub mod Members
+pub mod Pieces

@@ -56,3 +56,7 @@ pub record Explains (ts : List Transaction) (order : List Transaction) : Type 0 
   pub different : IsDistinct nat_eq (map (λ (t : Transaction). t.invocation) order)
   pub realtime : KeepsRealtime order
   pub runs : Runs all_nil order
+
+-- some order explains the transactions
+abbrev pub AreExplained : List Transaction → Type 0
+AreExplained ts = (order : List Transaction) × Explains ts order

@@ -30,6 +30,7 @@ pub mod Interleavings
 pub mod Sessions
 -- Where bytes come from and go to.
 pub mod Devices
+pub mod Pieces
 -- Words of no subject of their own.
 pub mod Lists
 -- How the logic stores these data, for the types of code that contracts see as such data.

@@ -14,7 +14,7 @@
 -- These two have no level; each is reported by the reader with the least index and its first such
 -- read. A stray read (Elle: garbage read) is a read of a version that isn't nil and that no
 -- transaction wrote. Reads are meant as in Transactions: external ones, of ok transactions.
-use Rattle.std.specs.Prelude.{◌≡◌, ℕ, ◌<◌, List, [], ◌∷◌, length, Bool, true, false, not, ◌&&◌, ◌||◌, ◌==◌, if◌then◌else◌, IsTrue, Option, Some, None, is_some, filter, map, flat_map, Contains, All, count_by}
+use Rattle.std.specs.Prelude.{◌≡◌, ◌⊎◌, ℕ, ◌<◌, List, [], ◌∷◌, length, Bool, true, false, not, ◌&&◌, ◌||◌, ◌==◌, if◌then◌else◌, IsTrue, Option, Some, None, is_some, filter, map, flat_map, Contains, All, count_by}
 use Rattle.std.specs.List.{list_any, list_all}
 use Rattle.hist_types.specs.Transactions.{Transaction, Version, is_ok, is_failed, external_reads, writes, wrote_intermediate}
 use Rattle.hist_types.specs.Edges.{Label, ww, wr, rw, Edge, edges_at}
@@ -149,3 +149,11 @@ stray_reads ts = for_each_read ts (λ reader v. if is_stray ts v then v ∷ [] e
 
 abbrev pub stray : List Transaction → ℕ
 stray ts = length (stray_reads ts)
+
+-- ---- any of the six
+
+-- some phenomenon is there: a cycle shows it at some level, or a read does
+abbrev pub HasPhenomenon : List Transaction → Type 0
+HasPhenomenon ts =
+    ((phenomenon : Phenomenon) × (level : Level) × IsThere phenomenon level ts)
+    ⊎ IsTrue (is_some (g1a ts) || is_some (g1b ts))

@@ -2,22 +2,23 @@
 --
 -- Each line ends with a byte 10. Numbers are decimal, atoms are written canonically. Transactions are
 -- written `T` and their index.
-use Rattle.std.specs.Prelude.{◌≡◌, ℕ, List, [], ◌∷◌, ◌++◌, length, Bool, codes, decimal, Option, Some, None, flat_map, is_some, ◌||◌}
+use Rattle.std.specs.Prelude.{◌≡◌, ℕ, List, [], ◌∷◌, ◌++◌, length, codes, decimal, Option, Some, None, flat_map}
 use Rattle.hist_types.specs.Bytes.{line_feed}
 use Rattle.hist_types.specs.Operations.{Operation}
-use Rattle.hist_types.specs.Transactions.{Version, transactions_of}
-use Rattle.hist_types.specs.Edges.{Label, ww, wr, rw, process, realtime, Edge, dependency_edges}
-use Rattle.hist_types.specs.Phenomena.{BadRead, g1a, g1b, stray}
+use Rattle.hist_types.specs.Transactions.{Version}
+use Rattle.hist_types.specs.Edges.{Label, ww, wr, rw, process, realtime, Edge}
+use Rattle.hist_types.specs.Phenomena.{BadRead}
 use Rattle.hist_types.specs.Witness.{Finding}
-use Rattle.hist_types.specs.Reports.{Report, IsVerdictOf}
+use Rattle.hist_types.specs.Reports.{Report, IsVerdictOf, strict_of, ReadsReport, EdgesReport}
 use Rattle.hist_types.specs.declared.types.At.{At}
 use Rattle.hist_types.specs.declared.types.At.TheVariants.{Byte, Event, Nowhere}
 use Rattle.hist_types.specs.declared.types.Fault.{Fault}
 use Rattle.hist_types.specs.declared.types.Level.{Level}
 use Rattle.hist_types.specs.declared.types.Level.TheVariants.{Plain, Process, Realtime}
+use Rattle.hist_types.specs.declared.types.Strict.{Strict}
+use Rattle.hist_types.specs.declared.types.Strict.TheVariants.{Refuted, Open}
 use Rattle.hist_types.specs.Refusals.{number_of, name_of}
 use Rattle.hist_types.specs.CanonicalText.{atom_text, value_text}
-use Rattle.hist_types.specs.EdgeOrder.{in_order}
 
 -- ---- lines
 
@@ -72,34 +73,23 @@ bad_read_lines name (Some r) = line (name ++ codes " yes") ++ indented (bad_read
 abbrev pub head_lines : (events txns : ℕ) → List ℕ
 head_lines events txns = number_line (codes "prefix") events ++ number_line (codes "txns") txns
 
--- the lines, from these numbers, what shows G1a and G1b, and how many reads are stray
-abbrev pub reads_lines :
-    (events txns : ℕ) → (aborted intermediate : Option BadRead) → (unwritten : ℕ) → List ℕ
-reads_lines events txns aborted intermediate unwritten =
-    head_lines events txns
-    ++ bad_read_lines (codes "G1a") aborted
-    ++ bad_read_lines (codes "G1b") intermediate
-    ++ number_line (codes "stray") unwritten
-
-abbrev pub reads_text : List Operation → List ℕ
-reads_text events =
-    let ts = transactions_of events in
-    reads_lines (length events) (length ts) (g1a ts) (g1b ts) (stray ts)
-
--- whether that text names a phenomenon
-abbrev pub has_bad_read : List Operation → Bool
-has_bad_read events =
-    is_some (g1a (transactions_of events)) || is_some (g1b (transactions_of events))
+abbrev pub reads_text : ReadsReport → List ℕ
+reads_text r =
+    head_lines r.prefix r.txns
+    ++ bad_read_lines (codes "G1a") r.g1a
+    ++ bad_read_lines (codes "G1b") r.g1b
+    ++ number_line (codes "stray") r.stray
 
 -- ---- the text of `edges`
 
-abbrev pub edges_text : List Operation → List ℕ
-edges_text events =
-    let ts = transactions_of events in
-    let es = in_order (dependency_edges ts) in
-    head_lines (length events) (length ts)
-    ++ flat_map (λ (e : Edge). line (edge_text e)) es
-    ++ number_line (codes "edges") (length es)
+abbrev pub edge_lines : List Edge → List ℕ
+edge_lines es = flat_map (λ (e : Edge). line (edge_text e)) es
+
+abbrev pub edges_text : EdgesReport → List ℕ
+edges_text r =
+    head_lines r.prefix r.txns
+    ++ edge_lines r.edges
+    ++ number_line (codes "edges") (length r.edges)
 
 -- ---- the text of a verdict
 
@@ -108,11 +98,17 @@ level_text Plain = codes "plain"
 level_text Process = codes "process"
 level_text Realtime = codes "realtime"
 
+abbrev pub witness_lines : List Edge → List ℕ
+witness_lines es = flat_map (λ (e : Edge). indented (edge_text e)) es
+
 abbrev pub finding_lines : List ℕ → Option Finding → List ℕ
 finding_lines name None = line (name ++ codes " none")
 finding_lines name (Some found) =
-    line (name ++ codes " " ++ level_text found.level)
-    ++ flat_map (λ (e : Edge). indented (edge_text e)) found.walk
+    line (name ++ codes " " ++ level_text found.level) ++ witness_lines found.walk
+
+abbrev pub strict_text : Strict → List ℕ
+strict_text Refuted = codes "strict refuted"
+strict_text Open = codes "strict open"
 
 abbrev pub verdict_text : Report → List ℕ
 verdict_text r =
@@ -124,6 +120,7 @@ verdict_text r =
     ++ finding_lines (codes "G-single") r.findings.single
     ++ finding_lines (codes "G2-item") r.findings.item
     ++ number_line (codes "stray") r.stray
+    ++ line (strict_text (strict_of r))
 
 -- the text of a verdict of the events; any witness of the right form fits
 abbrev pub IsVerdictText : List Operation → List ℕ → Type 0

@@ -46,6 +46,15 @@ pub enum Phenomenon {
     G2Item,
 }
 
+/// What a report says of strict serializability.
+#[derive(Clone, Copy, Debug, PartialEq, Eq)]
+pub enum Strict {
+    /// A phenomenon is reported, so no strict serial explanation of the history exists.
+    Refuted,
+    /// No phenomenon is reported. That says nothing: the history may have an explanation or none.
+    Open,
+}
+
 /// Why a call was refused. Each has a number and a name that never change.
 #[derive(Clone, Copy, Debug, PartialEq, Eq, Error)]
 pub enum Refusal {

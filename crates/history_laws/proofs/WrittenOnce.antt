@@ -227,7 +227,7 @@ same_writes_by kinds.Ok before events index event found kept invokes e kind =
     subst (λ p. open_invocation p (before ++ event ∷ between) ≡ Some event) (sym next.4) (invocation_open before between event invokes next.3) in
     alike event.mops found.event.mops (matches (before ++ event ∷ between) after event found.event kept' opened kind)
 
-same_writes :
+pub same_writes :
     (before events : List Operation) (index : ℕ) (event : Operation) (completion : Option Indexed)
     → KeepsRules (before ++ event ∷ events)
     → is_invoke event.kind ≡ true

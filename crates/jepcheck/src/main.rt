@@ -2,6 +2,8 @@
 #![tactic(auto)]
 
 #[cfg(test)]
+mod devices;
+#[cfg(test)]
 mod graphs;
 #[cfg(test)]
 mod layers;
@@ -10,6 +12,10 @@ mod rows;
 #[cfg(test)]
 mod runs;
 mod serve;
+#[cfg(test)]
+mod sessions;
+#[cfg(test)]
+mod settling;
 
 use crate::serve::{open_pairs, serve};
 use command_line::types::{Asked, LineFault};

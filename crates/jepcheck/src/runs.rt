@@ -1,13 +1,11 @@
 //! Runs over devices that fail or move one byte a call, and with each growth refused.
 
-ghost use Rattle.std.specs.Prelude.{None};
-
-use arrayvec::ArrayVec;
+use crate::devices::{Dripping, Sipping};
 use command_line::types::{Command, LineFault};
 use command_run::answer::Status;
 use command_run::dispatch::dispatch;
 use command_run::run::run;
-use hist_types::device::{Failed, MemorySource, Sink, Source};
+use hist_types::device::MemorySource;
 use std::process::Abort;
 use std::test::Fail;
 use std::thread::Threads;
@@ -40,84 +38,6 @@ G1a none
 G1b none
 stray 0
 ";
-
-/// A source of a few bytes a call, which may fail at one of its calls.
-#[derive(Drop)]
-struct Dripping<'a> {
-    rest: &'a [u8],
-    calls_before_failure: u64,
-    failures: u64,
-}
-
-impl<'a> Dripping<'a> {
-    fn new(rest: &'a [u8], calls_before_failure: u64) -> Dripping<'a> {
-        Dripping {
-            rest,
-            calls_before_failure,
-            failures: 0,
-        }
-    }
-}
-
-impl Source for Dripping<'_> {
-    ghost remaining = { λ _. None };
-
-    ghost failures = { λ source. source.failures };
-
-    fn read(&mut self, room: &mut [u8]) -> Result<usize, Failed> {
-        if self.calls_before_failure == 0 {
-            self.failures = self.failures.saturating_add(1);
-            return Err(Failed);
-        }
-        self.calls_before_failure -= 1;
-        let Some((first, others)) = self.rest.split_first() else {
-            return Ok(0);
-        };
-        if room.is_empty() {
-            return Ok(0);
-        }
-        room[0] = *first;
-        self.rest = others;
-        Ok(1)
-    }
-}
-
-/// A sink that needs no memory: it takes this many bytes a call, and may fail at one of its calls.
-#[derive(Drop)]
-struct Sipping {
-    taken: ArrayVec<u8, 512>,
-    bytes_a_call: usize,
-    calls_before_failure: u64,
-    failures: u64,
-}
-
-impl Sipping {
-    fn new(bytes_a_call: usize, calls_before_failure: u64) -> Sipping {
-        Sipping {
-            taken: ArrayVec::new(),
-            bytes_a_call,
-            calls_before_failure,
-            failures: 0,
-        }
-    }
-}
-
-impl Sink for Sipping {
-    ghost contents = { λ _. None };
-
-    ghost failures = { λ sink. sink.failures };
-
-    fn write(&mut self, piece: &[u8]) -> Result<usize, Failed> {
-        let count = piece.len().min(self.bytes_a_call.max(1));
-        let (front, _) = piece.split_at(count);
-        if self.calls_before_failure == 0 || self.taken.try_extend_from_slice(front).is_err() {
-            self.failures = self.failures.saturating_add(1);
-            return Err(Failed);
-        }
-        self.calls_before_failure -= 1;
-        Ok(count)
-    }
-}
 
 #[test]
 fn a_source_of_one_byte_a_call(rt: HostRuntime) -> Result<(), Fail> {

@@ -4,6 +4,7 @@ use command_run::answer::Status;
 use command_run::run::print_memory;
 use hist_types::device::{Sink, StreamSink, StreamSource};
 use hist_types::types::{Fault, Refusal};
+use hist_types::whole::write_all;
 use live_journal::journal::Journal;
 use std::alloc::Global;
 use std::fs::File;
@@ -11,7 +12,6 @@ use std::io;
 use std::io::ErrorKind;
 use std::sync::Wait;
 use std::thread::Threads;
-use verdict::devices::write_all;
 use verdict_serve::clients::{Client, sessions};
 use verdict_serve::session::{Ended, SessionFault};
 

@@ -55,7 +55,8 @@ from_place f place (t ∷ ts) = f place t ++ from_place f (place + 1) ts
 abbrev pub writers_of : List Transaction → Version → List Writer
 writers_of ts v =
     from_place
-    (λ place t. if writes t v then record { txn = place; over = wrote_intermediate t v } ∷ [] else []) 0 ts
+    (λ place t.
+    if writes t v then record { txn = place; over = wrote_intermediate t v } ∷ [] else []) 0 ts
 
 -- the first transaction that writes it; where the journal's rules are kept, there is no other
 abbrev pub writer_of : List Transaction → Version → Option Writer

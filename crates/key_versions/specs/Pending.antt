@@ -1,4 +1,5 @@
--- What is known of each version while the table is built: writers by number, and readers and followers with the numbers of their versions.
+-- What is known of each version while the table is built: writers by number, and readers and
+-- followers with the numbers of their versions.
 use Rattle.std.specs.Prelude.{ℕ, ◌+◌, List, [], ◌∷◌, Option, Some, None, true, false, All, length}
 use Rattle.key_versions.specs.declared.pending.Written.{Written}
 use Rattle.key_versions.specs.declared.pending.Written.TheVariants.{Never, Last, Over}

@@ -9,9 +9,10 @@ ghost use Rattle.live_journal.specs.Steps.{AddsNoBlock, IsAnsweredBySteps};
 ghost use Rattle.hist_types.specs.Operations.{Operation};
 ghost use Rattle.hist_types.specs.declared.types.Fault.{Fault};
 
-/// Whatever steps seats take, each has seen a beginning of the row, each position of the row is an own one of exactly one seat, and
-/// no two blocks of a seat have the same stamp. Where what fills a cell counted after what its seat had seen, all blocks count, and
-/// the answers, by how many blocks their seats had seen, are those of one sequential journal, each seat's in its own order.
+/// Whatever steps seats take, each has seen a beginning of the row, each position of the row is an own one of exactly one seat,
+/// and no two blocks of a seat have the same stamp. Where what fills a cell counted after what its seat had seen, all blocks
+/// count, and the answers, by how many blocks their seats had seen, are those of one sequential journal, each seat's in its own
+/// order.
 pub fn interleavings()
     ensures agreed { (cells : ℕ) (steps : List Step) (w : World)
         → IsOutcomeOf cells at_first steps w → AreAgreed w }
@@ -24,7 +25,8 @@ pub fn interleavings()
         → IsOneHistory cells w }
 {}
 
-/// After what a seat has seen no block is its own. So where a call finds its own block in the next cell, this call has put it there.
+/// After what a seat has seen no block is its own. So where a call finds its own block in the next cell, this call has put it
+/// there.
 pub fn found_blocks_are_anothers()
     ensures others { (cells : ℕ) (steps : List Step) (w : World)
         → IsOutcomeOf cells at_first steps w → AreOthersAfterSeen w }
@@ -32,9 +34,9 @@ pub fn found_blocks_are_anothers()
         → IsOutcomeOf cells at_first steps w → FindsNoOwnBlock w }
 {}
 
-/// A seat gives each legal answer by steps of its own: it looks until it has seen the blocks of others that it has then seen, and then
-/// replies, or fills a cell. So it is where what it has then seen begins the row, or, if it fills a cell, is the whole row and its own
-/// block.
+/// A seat gives each legal answer by steps of its own: it looks until it has seen the blocks of others that it has then seen,
+/// and then replies, or fills a cell. So it is where what it has then seen begins the row, or, if it fills a cell, is the whole
+/// row and its own block.
 pub fn legal_answers_are_steps()
     ensures reply { (cells seat : ℕ) (request : Request) (answer : Answer) (w : World) (new : View)
         → IsLegal cells seat request answer (w.views seat) new

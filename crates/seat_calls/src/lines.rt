@@ -20,12 +20,12 @@ use verdict::write_verdict;
 /// How many cells the journal has.
 const CELLS: usize = 6;
 
-type PlainJournal = Journal<BuildHasherDefault<FoldHasher>>;
+pub type PlainJournal = Journal<BuildHasherDefault<FoldHasher>>;
 
-type PlainSeat<'j> = Seat<'j, BuildHasherDefault<FoldHasher>>;
+pub type PlainSeat<'j> = Seat<'j, BuildHasherDefault<FoldHasher>>;
 
 /// Prints what a write returned.
-fn print_answer<R: Print>(rt: &R, answer: Result<u64, Fault>) -> io::Result<()> {
+pub fn print_answer<R: Print>(rt: &R, answer: Result<u64, Fault>) -> io::Result<()> {
     match answer {
         Ok(index) => println!(rt; "event {index}"),
         Err(fault) => println!(rt; "{fault}"),
@@ -124,7 +124,7 @@ fn print_verdict<R: Print>(rt: &R, alloc: Global, seat: &mut PlainSeat<'_>) -> R
 }
 
 /// Prints whether the seats account for the blocks that they have seen.
-fn print_account<R: Print>(
+pub fn print_account<R: Print>(
     rt: &R,
     journal: &PlainJournal,
     seats: &[PlainSeat<'_>],

@@ -2,11 +2,14 @@
 //! how long they take.
 #![tactic(auto)]
 
+mod four_completions;
 mod limits;
 mod lines;
+mod pair;
 mod stopped;
 mod texts;
 mod times;
+mod two_begins;
 
 use crate::stopped::Stopped;
 use crate::texts::number_of;
@@ -22,6 +25,8 @@ fn main(rt: HostRuntime) -> Result<(), Stopped> {
     match words.as_slice() {
         [] | [_] => {
             lines::run(&rt, alloc)?;
+            two_begins::run(&rt, alloc)?;
+            four_completions::run(&rt, alloc)?;
             limits::run(&rt, alloc)
         }
         [_, what, seats, events] if what.as_str() == "bench" => {

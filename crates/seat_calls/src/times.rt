@@ -1,15 +1,14 @@
 //! How long the calls of seats take.
 
+use crate::lines::{PlainJournal, PlainSeat};
 use crate::stopped::Stopped;
 use crate::texts::{number_text, transactions};
 use hist_types::limits::{MAX_CELLS, MAX_EVENTS};
 use hist_types::types::{At, Fault, Outcome, Process, Refusal};
 use live_journal::journal::Journal;
-use live_journal::seat::Seat;
 use op_view::atom::Atom;
 use op_view::mops::Mop;
 use std::alloc::{AllocError, Global};
-use std::hash::{BuildHasherDefault, FoldHasher};
 use std::thread::Threads;
 use std::time::{Clock, Duration, Instant};
 use std::{io, slice, thread};
@@ -20,10 +19,6 @@ const BLOCK: u64 = 512;
 /// How many begins are timed together.
 const BEGINS: u64 = 1_000;
 
-type PlainSeat<'j> = Seat<'j, BuildHasherDefault<FoldHasher>>;
-
-type PlainJournal = Journal<BuildHasherDefault<FoldHasher>>;
-
 /// A seat that writes transactions of a process of its own, and what its last calls returned.
 #[derive(Drop)]
 struct Worker<'j> {
@@ -33,7 +28,7 @@ struct Worker<'j> {
 }
 
 /// The micro-operation that writes the value to a key.
-fn write_of(value: &String) -> Result<Mop<'_>, Fault> {
+pub fn write_of(value: &String) -> Result<Mop<'_>, Fault> {
     match (Atom::read(b":x"), Atom::read(value.as_bytes())) {
         (Some(key), Some(value)) => Ok(Mop::w(key, value)),
         _ => Err(Fault {

@@ -21,7 +21,6 @@ IsThinnedOrder ts order =
 -- what a verdict of the events is made from
 pub record AreTablesOf (events : List Operation) (tables : Tables) : Type 0 where
   pub txns : tables.txns ≡ transactions_of events
-  pub order : IsThinnedOrder tables.txns tables.order
   pub versions : IsTableOf tables.txns tables.versions
 
 -- the graph of some events' transactions, with their dependency edges and at each level the thinned order edges

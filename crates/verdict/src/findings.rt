@@ -8,7 +8,7 @@ ghost use Rattle.hist_types.specs.Witness.{IsFinding};
 ghost use Rattle.verdict.specs.Lowest.{IsThinnedOrder, IsThinned, IsLowest, AreFindingsOfTwo};
 ghost use Rattle.hist_types.specs.Reports.{AreFindings};
 
-use crate::report::{Finding, Findings};
+use clean_order::settles;
 use cycle_find::ranked_graph::RankedGraph;
 use cycle_find::types::Walk;
 use cycle_show::tighten;
@@ -16,7 +16,9 @@ use dep_edges::deps::Deps;
 use edge_graph::graph::Graph;
 use edge_graph::threads::try_join;
 use hist_types::types::{Fault, Level, Phenomenon};
+use order_frontier::thin;
 use order_frontier::types::Order;
+use report_text::report::{Finding, Findings};
 use std::alloc::Global;
 use std::marker::Model;
 use std::thread::Threads;
@@ -192,7 +194,7 @@ fn find_each_wide<'a, R: Threads + Sync>(
 }
 
 /// The graph of a history over its thinned order, and what is found in it.
-pub fn findings_of<'a>(
+fn findings_in_graph<'a>(
     alloc: Global,
     txns: &Txns<'a>,
     deps: &Deps<'_, 'a>,
@@ -208,8 +210,8 @@ pub fn findings_of<'a>(
     find_each(alloc, &graph)
 }
 
-/// As `findings_of`, with a few threads if others can be started.
-pub fn findings_of_wide<'a, R: Threads + Sync>(
+/// As `findings_in_graph`, with a few threads if others can be started.
+fn findings_in_graph_wide<'a, R: Threads + Sync>(
     rt: &R,
     alloc: Global,
     txns: &Txns<'a>,
@@ -224,4 +226,41 @@ pub fn findings_of_wide<'a, R: Threads + Sync>(
 {
     let graph = Graph::new_wide(rt, alloc, deps, order)?;
     find_each_wide(rt, alloc, &graph)
+}
+
+/// What is found of the phenomena that cycles show. Where the history settles, no order is thinned and no graph is made.
+pub fn findings_of<'a>(
+    alloc: Global,
+    txns: &Txns<'a>,
+    deps: &Deps<'_, 'a>,
+) -> Result<Findings<'a>, Fault>
+    requires history { AreOfHistory txns.now }
+    requires deps { deps.now ≡ txns.now }
+    ensures ok { IfOk result (AreFindings txns.now) }
+    ensures err { IfErr result (λ fault. fault ≡ memory_fault) }
+{
+    if settles(alloc, deps)? {
+        return Ok(Findings::none());
+    }
+    let order = thin(alloc, txns)?;
+    findings_in_graph(alloc, txns, deps, &order)
+}
+
+/// As `findings_of`, with a few threads if others can be started.
+pub fn findings_of_wide<'a, R: Threads + Sync>(
+    rt: &R,
+    alloc: Global,
+    txns: &Txns<'a>,
+    deps: &Deps<'_, 'a>,
+) -> Result<Findings<'a>, Fault>
+    requires history { AreOfHistory txns.now }
+    requires deps { deps.now ≡ txns.now }
+    ensures ok { IfOk result (AreFindings txns.now) }
+    ensures err { IfErr result (λ fault. fault ≡ memory_fault) }
+{
+    if settles(alloc, deps)? {
+        return Ok(Findings::none());
+    }
+    let order = thin(alloc, txns)?;
+    findings_in_graph_wide(rt, alloc, txns, deps, &order)
 }

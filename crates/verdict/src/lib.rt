@@ -7,29 +7,28 @@ ghost use Rattle.std.specs.Prelude.{◌≡◌, IfOk, IfErr, OnOk, OnErr};
 ghost use Rattle.hist_types.specs.Journal.{KeepsRules};
 ghost use Rattle.hist_types.specs.Refusals.{memory_fault};
 ghost use Rattle.verdict.specs.Lowest.{AreTablesOf};
-ghost use Rattle.verdict.specs.Pieces.{HasTaken, HasFailedBehind};
+ghost use Rattle.hist_types.specs.Pieces.{HasTaken, HasTakenInPart};
 ghost use Rattle.hist_types.specs.Reports.{AreFindings, IsVerdictOf};
 ghost use Rattle.hist_types.specs.Texts.{verdict_text};
 ghost use Rattle.hist_types.specs.Transactions.{transactions_of};
+ghost use Rattle.report_laws.specs.Explained.{RefutesExplanations};
 
-pub mod devices;
 mod findings;
-mod report;
+pub mod laws;
 pub mod tables;
-mod text;
 pub mod types;
 
-use crate::devices::write_all;
 use crate::findings::{findings_of, findings_of_wide};
-use crate::report::{Findings, Report};
 use crate::tables::{Tables, tables_of};
 use crate::types::Verdict;
 use dep_edges::deps::Deps;
 use dep_edges::edges;
 use hist_types::device::{Failed, Sink};
 use hist_types::types::Fault;
+use hist_types::whole::write_all;
 use journal_core::events::Events;
 use journal_core::prefix::Prefix;
+use report_text::report::{Findings, VerdictReport};
 use std::alloc::Global;
 use std::hash::BuildHasher;
 use std::thread::Threads;
@@ -50,7 +49,7 @@ fn reported<'a>(
     ensures ok { IfOk result (IsVerdictOf events.now) }
     ensures err { IfErr result (λ fault. fault ≡ memory_fault) }
 {
-    let report = Report {
+    let report = VerdictReport {
         prefix: events.len(),
         txns: txns.as_slice().len() as u64,
         findings,
@@ -72,11 +71,13 @@ pub fn verdict_from<'a>(
     requires rules { KeepsRules events.now }
     requires tables { AreTablesOf events.now tables.now }
     ensures ok { IfOk result (IsVerdictOf events.now) }
+    // Where the verdict says refuted, no order explains the events; where it says open, that says nothing.
+    ensures strict { IfOk result (RefutesExplanations events.now) }
     ensures err { IfErr result (λ fault. fault ≡ memory_fault) }
 {
     let txns = &tables.txns;
     let deps = edges(alloc, txns, &tables.versions)?;
-    let findings = findings_of(alloc, txns, &deps, &tables.order)?;
+    let findings = findings_of(alloc, txns, &deps)?;
     reported(alloc, events, txns, &deps, findings)
 }
 
@@ -90,11 +91,13 @@ pub fn verdict_from_wide<'a, R: Threads + Sync>(
     requires rules { KeepsRules events.now }
     requires tables { AreTablesOf events.now tables.now }
     ensures ok { IfOk result (IsVerdictOf events.now) }
+    // Where the verdict says refuted, no order explains the events; where it says open, that says nothing.
+    ensures strict { IfOk result (RefutesExplanations events.now) }
     ensures err { IfErr result (λ fault. fault ≡ memory_fault) }
 {
     let txns = &tables.txns;
     let deps = edges(alloc, txns, &tables.versions)?;
-    let findings = findings_of_wide(rt, alloc, txns, &deps, &tables.order)?;
+    let findings = findings_of_wide(rt, alloc, txns, &deps)?;
     reported(alloc, events, txns, &deps, findings)
 }
 
@@ -107,6 +110,8 @@ pub fn verdict<'a, S: BuildHasher + Copy>(
     hasher: S,
 ) -> Result<Verdict<'a>, Fault>
     ensures ok { IfOk result (IsVerdictOf prefix.now) }
+    // Where the verdict says refuted, no order explains the events; where it says open, that says nothing.
+    ensures strict { IfOk result (RefutesExplanations prefix.now) }
     ensures err { IfErr result (λ fault. fault ≡ memory_fault) }
 {
     let events = prefix.as_events();
@@ -120,7 +125,7 @@ pub fn verdict<'a, S: BuildHasher + Copy>(
 pub fn write_verdict<T: Sink>(verdict: &Verdict<'_>, sink: &mut T) -> Result<(), Failed>
     ensures ok { OnOk result (HasTaken T.Sink sink.old sink.new (verdict_text verdict.now)) }
     ensures err { OnErr result
-        (HasFailedBehind T.Sink sink.old sink.new (verdict_text verdict.now)) }
+        (HasTakenInPart T.Sink sink.old sink.new (verdict_text verdict.now)) }
 {
     write_all(sink, verdict.text())
 }

@@ -3,21 +3,20 @@
 ghost use Rattle.std.specs.Option.{option_copied};
 ghost use Rattle.std.specs.Prelude.{◌≡◌, IfOk, option_map};
 ghost use Rattle.hist_types.specs.Witness.{Finding as AFinding};
-ghost use Rattle.hist_types.specs.Reports.{finding};
+ghost use Rattle.hist_types.specs.Reports.{finding, strict_of};
 ghost use Rattle.hist_types.specs.Texts.{verdict_text};
 
-use crate::report::{Finding, Report};
-use crate::text::write_report;
 use cycle_show::types::Witness;
 use dep_edges::types::BadRead;
-use hist_types::types::{Level, Phenomenon};
+use hist_types::types::{Level, Phenomenon, Strict};
+use report_text::report::{Finding, VerdictReport};
 use std::alloc::{AllocError, Global};
 use std::marker::Model;
 
 /// Everything that is reported of a history, with its text. Keys and values are borrowed from the journal's blocks.
 #[derive(Drop)]
 pub struct Verdict<'a> {
-    report: Report<'a>,
+    report: VerdictReport<'a>,
     text: Vec<u8>,
 }
 
@@ -34,11 +33,10 @@ impl<'a> Model for Verdict<'a> {
 }
 
 impl<'a> Verdict<'a> {
-    pub(crate) fn new(alloc: Global, report: Report<'a>) -> Result<Self, AllocError>
+    pub(crate) fn new(alloc: Global, report: VerdictReport<'a>) -> Result<Self, AllocError>
         ensures { IfOk result (λ verdict. verdict ≡ report.entry) }
     {
-        let mut text = Vec::new(alloc);
-        write_report(&mut text, &report)?;
+        let text = report.text(alloc)?;
         Ok(Verdict { report, text })
     }
 
@@ -103,6 +101,13 @@ impl<'a> Verdict<'a> {
         ensures { result ≡ self.now.stray }
     {
         self.report.stray
+    }
+
+    /// What it says of strict serializability.
+    pub fn strict(&self) -> Strict
+        ensures { result ≡ strict_of self.now }
+    {
+        self.report.strict()
     }
 
     /// The text, as `write_verdict` writes it.

@@ -17,7 +17,7 @@ use Rattle.hist_types.specs.declared.types.Refusal.TheVariants.{BlockFull}
 use Rattle.hist_types.specs.declared.device.Failed.{Failed}
 use Rattle.hist_types.specs.declared.device.Sink.{Ghosts as Sink}
 use Rattle.live_journal.specs.Seats.{Seat, IsLegalCall, IsLegalImport}
-use Rattle.verdict.specs.Pieces.{HasTaken, HasFailedBehind}
+use Rattle.hist_types.specs.Pieces.{HasTaken, HasTakenInPart}
 use Rattle.verdict_serve.specs.Steps.{IsLegalReply, HasAnswered}
 
 pub one_more_text : (texts : List MopText) (ms : List Mop) (t : MopText) (m : Mop) → AreMopTexts texts ms → IsMopText t m → AreMopTexts (texts ++ t ∷ []) (ms ++ m ∷ [])
@@ -44,7 +44,7 @@ module _ {T : Type 0} (prints : Sink T) where
       → bytes ≡ reply
       → IsLegalReply saying reply old new
       → OnOk r (HasTaken prints sink sink' bytes)
-      → OnErr r (HasFailedBehind prints sink sink' bytes)
+      → OnErr r (HasTakenInPart prints sink sink' bytes)
       → HasAnswered prints saying r old new sink sink'
   answered_with saying (Ok done) old new sink sink' bytes reply e legal ok err = record { reply = bytes; legal = rw e legal; printed = ok }
   answered_with saying (Err failed) old new sink sink' bytes reply e legal ok err = record { reply = bytes; legal = rw e legal; printed = err }

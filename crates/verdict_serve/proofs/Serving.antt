@@ -8,7 +8,7 @@ use Rattle.hist_types.specs.Sessions.{Saying, Answering, IsReply, AreReplies, li
 use Rattle.hist_types.specs.declared.device.Sink.{Ghosts as Sink}
 use Rattle.hist_types.specs.declared.device.Source.{Ghosts as Source}
 use Rattle.live_journal.specs.Seats.{Seat, IsSameSeat}
-use Rattle.verdict.specs.Pieces.{HasTaken}
+use Rattle.hist_types.specs.Pieces.{HasTaken}
 use Rattle.verdict_serve.specs.Served.{joined, counted, HasServed, HasLostSource, HasLostSink}
 use Rattle.verdict_serve.specs.Sources.{HasGiven}
 use Rattle.verdict_serve.specs.Steps.{IsLegalReply, HasAnsweredLine, HasFoundEnd, HasLostNext, HasLostReply}

@@ -6,7 +6,7 @@ use Rattle.hist_types.specs.Sessions.{IsSession, IsSessionSoFar, say_quit}
 use Rattle.hist_types.specs.declared.device.Sink.{Ghosts as Sink}
 use Rattle.hist_types.specs.declared.device.Source.{Ghosts as Source}
 use Rattle.live_journal.specs.Seats.{Seat}
-use Rattle.verdict.specs.Pieces.{HasTaken}
+use Rattle.hist_types.specs.Pieces.{HasTaken}
 use Rattle.verdict_serve.specs.Sources.{HasGiven, HasFailedAfter}
 use Rattle.verdict_serve.specs.declared.session.Ended.{Ended}
 use Rattle.verdict_serve.specs.declared.session.Ended.TheVariants.{Quit, Eof}

@@ -23,6 +23,7 @@ abbrev pub HasFailed : {S : Type 0} → Ghosts S → (source source' : S) → Ty
 HasFailed device source source' = (given : List ℕ) × HasFailedAfter device source source' given
 
 -- with these bytes that it gave before, the source gives this next, and this is left of them then
-abbrev pub GivesNext : {S : Type 0} → Ghosts S → Next → (before : List ℕ) → (source source' : S) → Cut → Type 0
+abbrev pub GivesNext :
+    {S : Type 0} → Ghosts S → Next → (before : List ℕ) → (source source' : S) → Cut → Type 0
 GivesNext device next before source source' cut =
     (given : List ℕ) × HasGiven device source source' given × IsNext next (before ++ given) cut

@@ -7,7 +7,7 @@ use Rattle.hist_types.specs.declared.device.Failed.{Failed}
 use Rattle.hist_types.specs.declared.device.Sink.{Ghosts as Sink}
 use Rattle.hist_types.specs.declared.device.Source.{Ghosts as Source}
 use Rattle.live_journal.specs.Seats.{Seat}
-use Rattle.verdict.specs.Pieces.{HasTaken, HasFailedBehind}
+use Rattle.hist_types.specs.Pieces.{HasTaken, HasTakenInPart}
 use Rattle.verdict_serve.specs.Cuts.{BeginsWithLine, IsUnbroken}
 use Rattle.verdict_serve.specs.Sources.{HasGiven, HasFailed}
 use Rattle.verdict_serve.specs.declared.lines.Next.{Next}
@@ -22,7 +22,7 @@ abbrev pub IsPrinted :
     {T : Type 0} → Sink T → Result (Unit {0}) Failed → (sink sink' : T) → (reply : List ℕ) → Type 0
 IsPrinted prints result sink sink' reply =
     MatchResult result (λ _. HasTaken prints sink sink' reply)
-    (λ _. HasFailedBehind prints sink sink' reply)
+    (λ _. HasTakenInPart prints sink sink' reply)
 
 -- the reply is one to a line that says this, by a legal answer to the seat
 abbrev pub IsLegalReply : ASaying → (reply : List ℕ) → (old new : Seat) → Type 0
@@ -103,7 +103,7 @@ pub record HasLostReply {S T : Type 0} (reads : Source S) (prints : Sink T) (bef
   pub reply : List ℕ
   pub given : GivesLine reads before source source' line rest
   pub legal : IsLegalReply (saying_of line) reply old new
-  pub failed : HasFailedBehind prints sink sink' reply
+  pub failed : HasTakenInPart prints sink sink' reply
 
 abbrev pub HasStopped :
     {S T : Type 0} → Source S → Sink T → (before : List ℕ) → (old new : Seat)

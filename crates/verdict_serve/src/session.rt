@@ -13,11 +13,11 @@ use crate::replies::{event_reply, events_reply, refusal_reply};
 use crate::sayings::{Saying, saying_of};
 use hist_types::device::{Failed, Sink, Source};
 use hist_types::types::Fault;
+use hist_types::whole::write_all;
 use live_journal::seat::Seat;
 use std::alloc::{AllocError, Global};
 use std::hash::BuildHasher;
 use std::sync::Wait;
-use verdict::devices::write_all;
 
 /// How a session ended.
 #[derive(Clone, Copy, Debug, PartialEq, Eq)]

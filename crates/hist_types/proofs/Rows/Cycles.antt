@@ -8,6 +8,7 @@ use Rattle.hist_types.specs.Versions.{version_pairs}
 use Rattle.hist_types.specs.Edges.{Edge, dependency_edges}
 use Rattle.hist_types.specs.Phenomena.{makes}
 use Rattle.hist_types.specs.Witness.{IsWitness}
+use Rattle.hist_types.specs.Reports.{edges_report}
 use Rattle.hist_types.specs.Texts.{edges_text, finding_lines}
 use Rattle.hist_types.specs.declared.types.Level.TheVariants.{Plain}
 use Rattle.hist_types.specs.declared.types.Phenomenon.TheVariants.{G0, G1c, GSingle, G2Item}
@@ -110,7 +111,7 @@ updates_of_nil-edges :
 updates_of_nil-edges = refl
 
 -- Each of the two edges is printed once.
-updates_of_nil-text : edges_text updates_of_nil ≡ codes "prefix 4\ntxns 2\nT0 -rw :x nil 2-> T1\nT1 -rw :x nil 1-> T0\nedges 2\n"
+updates_of_nil-text : edges_text (edges_report updates_of_nil) ≡ codes "prefix 4\ntxns 2\nT0 -rw :x nil 2-> T1\nT1 -rw :x nil 1-> T0\nedges 2\n"
 unfolding digits
 updates_of_nil-text = refl
 
@@ -183,7 +184,7 @@ crossed_updates-edges :
 crossed_updates-edges = refl
 
 -- The edges are printed so: by transactions, and ww before wr.
-crossed_updates-text : edges_text crossed_updates ≡ codes "prefix 4\ntxns 2\nT0 -ww :x 1 2-> T1\nT0 -wr :x 1-> T1\nT1 -ww :y 1 2-> T0\nT1 -wr :y 1-> T0\nedges 4\n"
+crossed_updates-text : edges_text (edges_report crossed_updates) ≡ codes "prefix 4\ntxns 2\nT0 -ww :x 1 2-> T1\nT0 -wr :x 1-> T1\nT1 -ww :y 1 2-> T0\nT1 -wr :y 1-> T0\nedges 4\n"
 unfolding digits
 crossed_updates-text = refl
 
@@ -294,6 +295,6 @@ chained_updates-edges :
 chained_updates-edges = refl
 
 -- The edges are printed so, each once.
-chained_updates-text : edges_text chained_updates ≡ codes "prefix 4\ntxns 2\nT0 -ww :x 1 2-> T2\nT0 -wr :x 1-> T2\nT0 -rw :x nil 2-> T2\nedges 3\n"
+chained_updates-text : edges_text (edges_report chained_updates) ≡ codes "prefix 4\ntxns 2\nT0 -ww :x 1 2-> T2\nT0 -wr :x 1-> T2\nT0 -rw :x nil 2-> T2\nedges 3\n"
 unfolding digits
 chained_updates-text = refl

@@ -58,6 +58,10 @@ chained_updates-left_out e =
       | inr i ↦ i
     ]
 
+-- None may come twice.
+chained_updates-twice : ¬ Explains (transactions_of chained_updates) (first_update ∷ first_update ∷ second_update ∷ [])
+chained_updates-twice e = false≢true (sym (IsDistinct-head nat_eq 0 (0 ∷ 2 ∷ []) e.different).0)
+
 -- ---- a write of which nobody knows, and a later read
 
 -- One is never told whether its write was done, and another one reads the value.

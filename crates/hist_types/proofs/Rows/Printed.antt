@@ -5,6 +5,7 @@ use Rattle.hist_types.specs.Atoms.{Atom, integer, keyword, string, symbol}
 use Rattle.hist_types.specs.Edges.{dependency_edges}
 use Rattle.hist_types.specs.Operations.{read, write, Operation}
 use Rattle.hist_types.specs.CanonicalText.{atom_text, operation_text}
+use Rattle.hist_types.specs.Reports.{edges_report}
 use Rattle.hist_types.specs.Texts.{edges_text, refusal_line}
 use Rattle.hist_types.specs.Transactions.{transactions_of}
 use Rattle.hist_types.specs.declared.types.At.TheVariants.{Byte, Event, Nowhere}
@@ -85,7 +86,7 @@ mixed_keys-edges :
 mixed_keys-edges = refl
 
 -- They are printed in order: wr before rw, then integers by number before keywords before strings, and nil before 5.
-mixed_keys-text : edges_text mixed_keys ≡ codes "prefix 4\ntxns 2\nT0 -wr -1 1-> T2\nT0 -wr :x 1-> T2\nT0 -wr \"s\" 1-> T2\nT0 -rw 9 nil 6-> T2\nT0 -rw 9 5 6-> T2\nT0 -rw 10 nil 7-> T2\nedges 6\n"
+mixed_keys-text : edges_text (edges_report mixed_keys) ≡ codes "prefix 4\ntxns 2\nT0 -wr -1 1-> T2\nT0 -wr :x 1-> T2\nT0 -wr \"s\" 1-> T2\nT0 -rw 9 nil 6-> T2\nT0 -rw 9 5 6-> T2\nT0 -rw 10 nil 7-> T2\nedges 6\n"
 unfolding digits
 mixed_keys-text = refl
 

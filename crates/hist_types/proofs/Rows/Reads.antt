@@ -8,6 +8,7 @@ use Rattle.hist_types.specs.Versions.{version_pairs}
 use Rattle.hist_types.specs.Edges.{Edge, dependency_edges}
 use Rattle.hist_types.specs.Phenomena.{g1a, g1b, stray}
 use Rattle.hist_types.specs.Witness.{IsWitness}
+use Rattle.hist_types.specs.Reports.{reads_report}
 use Rattle.hist_types.specs.Texts.{reads_text, finding_lines}
 use Rattle.hist_types.specs.declared.types.Level.TheVariants.{Process}
 use Rattle.hist_types.specs.declared.types.Phenomenon.TheVariants.{GSingle, G2Item}
@@ -58,7 +59,7 @@ aborted_read-stray : stray (transactions_of aborted_read) ≡ 0
 aborted_read-stray = refl
 
 -- It is printed so.
-aborted_read-text : reads_text aborted_read ≡ codes "prefix 4\ntxns 2\nG1a yes\n  T2 read :x 1 of T0\nG1b none\nstray 0\n"
+aborted_read-text : reads_text (reads_report aborted_read) ≡ codes "prefix 4\ntxns 2\nG1a yes\n  T2 read :x 1 of T0\nG1b none\nstray 0\n"
 unfolding digits
 aborted_read-text = refl
 
@@ -110,7 +111,7 @@ intermediate_read-writes : map intermediate_writes (transactions_of intermediate
 intermediate_read-writes = refl
 
 -- It is printed so.
-intermediate_read-text : reads_text intermediate_read ≡ codes "prefix 4\ntxns 2\nG1a none\nG1b yes\n  T2 read :x 1 of T0\nstray 0\n"
+intermediate_read-text : reads_text (reads_report intermediate_read) ≡ codes "prefix 4\ntxns 2\nG1a none\nG1b yes\n  T2 read :x 1 of T0\nstray 0\n"
 unfolding digits
 intermediate_read-text = refl
 
@@ -148,14 +149,14 @@ stray_read-found : (stray (transactions_of stray_read) ≡ 1) × (g1a (transacti
 stray_read-found = (refl, refl, refl)
 
 -- It is printed so.
-stray_read-text : reads_text stray_read ≡ codes "prefix 2\ntxns 1\nG1a none\nG1b none\nstray 1\n"
+stray_read-text : reads_text (reads_report stray_read) ≡ codes "prefix 2\ntxns 1\nG1a none\nG1b none\nstray 1\n"
 unfolding digits
 stray_read-text = refl
 
 -- ---- no events
 
 -- Of no events the text says that there is nothing.
-no_events-text : reads_text [] ≡ codes "prefix 0\ntxns 0\nG1a none\nG1b none\nstray 0\n"
+no_events-text : reads_text (reads_report []) ≡ codes "prefix 0\ntxns 0\nG1a none\nG1b none\nstray 0\n"
 unfolding digits
 no_events-text = refl
 

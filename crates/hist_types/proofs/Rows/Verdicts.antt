@@ -68,7 +68,7 @@ verdict_by events text found g0 g1c single item lines = (
 )
 
 -- An empty history shows nothing.
-no_events-verdict : IsVerdictText [] (codes "prefix 0\ntxns 0\nG0 none\nG1a none\nG1b none\nG1c none\nG-single none\nG2-item none\nstray 0\n")
+no_events-verdict : IsVerdictText [] (codes "prefix 0\ntxns 0\nG0 none\nG1a none\nG1b none\nG1c none\nG-single none\nG2-item none\nstray 0\nstrict open\n")
 unfolding digits
 no_events-verdict =
     verdict_by _ _
@@ -80,7 +80,7 @@ no_events-verdict =
     refl
 
 -- Reads that cross are a G1c, and nothing else.
-crossed_reads-verdict : IsVerdictText crossed_reads (codes "prefix 4\ntxns 2\nG0 none\nG1a none\nG1b none\nG1c plain\n  T0 -wr :x 1-> T1\n  T1 -wr :y 1-> T0\nG-single none\nG2-item none\nstray 0\n")
+crossed_reads-verdict : IsVerdictText crossed_reads (codes "prefix 4\ntxns 2\nG0 none\nG1a none\nG1b none\nG1c plain\n  T0 -wr :x 1-> T1\n  T1 -wr :y 1-> T0\nG-single none\nG2-item none\nstray 0\nstrict refuted\n")
 unfolding digits
 crossed_reads-verdict =
     verdict_by _ _
@@ -92,7 +92,7 @@ crossed_reads-verdict =
     refl
 
 -- Two updates of nil are a G2-item and no G-single: a walk over their edges has two rw edges at least.
-updates_of_nil-verdict : IsVerdictText updates_of_nil (codes "prefix 4\ntxns 2\nG0 none\nG1a none\nG1b none\nG1c none\nG-single none\nG2-item plain\n  T0 -rw :x nil 2-> T1\n  T1 -rw :x nil 1-> T0\nstray 0\n")
+updates_of_nil-verdict : IsVerdictText updates_of_nil (codes "prefix 4\ntxns 2\nG0 none\nG1a none\nG1b none\nG1c none\nG-single none\nG2-item plain\n  T0 -rw :x nil 2-> T1\n  T1 -rw :x nil 1-> T0\nstray 0\nstrict refuted\n")
 unfolding digits
 updates_of_nil-verdict =
     verdict_by _ _
@@ -104,7 +104,7 @@ updates_of_nil-verdict =
     refl
 
 -- Updates that cross are a G0 and a G1c.
-crossed_updates-verdict : IsVerdictText crossed_updates (codes "prefix 4\ntxns 2\nG0 plain\n  T0 -ww :x 1 2-> T1\n  T1 -ww :y 1 2-> T0\nG1a none\nG1b none\nG1c plain\n  T0 -ww :x 1 2-> T1\n  T1 -wr :y 1-> T0\nG-single none\nG2-item none\nstray 0\n")
+crossed_updates-verdict : IsVerdictText crossed_updates (codes "prefix 4\ntxns 2\nG0 plain\n  T0 -ww :x 1 2-> T1\n  T1 -ww :y 1 2-> T0\nG1a none\nG1b none\nG1c plain\n  T0 -ww :x 1 2-> T1\n  T1 -wr :y 1-> T0\nG-single none\nG2-item none\nstray 0\nstrict refuted\n")
 unfolding digits
 crossed_updates-verdict =
     verdict_by _ _
@@ -116,7 +116,7 @@ crossed_updates-verdict =
     refl
 
 -- A stale read is a G-single and a G2-item, and neither at a lower level than realtime.
-stale_read-verdict : IsVerdictText stale_read (codes "prefix 4\ntxns 2\nG0 none\nG1a none\nG1b none\nG1c none\nG-single realtime\n  T0 -realtime 1 2-> T2\n  T2 -rw :x nil 1-> T0\nG2-item realtime\n  T0 -realtime 1 2-> T2\n  T2 -rw :x nil 1-> T0\nstray 0\n")
+stale_read-verdict : IsVerdictText stale_read (codes "prefix 4\ntxns 2\nG0 none\nG1a none\nG1b none\nG1c none\nG-single realtime\n  T0 -realtime 1 2-> T2\n  T2 -rw :x nil 1-> T0\nG2-item realtime\n  T0 -realtime 1 2-> T2\n  T2 -rw :x nil 1-> T0\nstray 0\nstrict refuted\n")
 unfolding digits
 stale_read-verdict =
     verdict_by _ _
@@ -128,7 +128,7 @@ stale_read-verdict =
     refl
 
 -- Within one process the level is process.
-own_stale_read-verdict : IsVerdictText own_stale_read (codes "prefix 4\ntxns 2\nG0 none\nG1a none\nG1b none\nG1c none\nG-single process\n  T0 -process 0-> T2\n  T2 -rw :x nil 1-> T0\nG2-item process\n  T0 -process 0-> T2\n  T2 -rw :x nil 1-> T0\nstray 0\n")
+own_stale_read-verdict : IsVerdictText own_stale_read (codes "prefix 4\ntxns 2\nG0 none\nG1a none\nG1b none\nG1c none\nG-single process\n  T0 -process 0-> T2\n  T2 -rw :x nil 1-> T0\nG2-item process\n  T0 -process 0-> T2\n  T2 -rw :x nil 1-> T0\nstray 0\nstrict refuted\n")
 unfolding digits
 own_stale_read-verdict =
     verdict_by _ _
@@ -140,7 +140,7 @@ own_stale_read-verdict =
     refl
 
 -- An unknown write that was read and then missed is alike.
-unknown_write-verdict : IsVerdictText unknown_write (codes "prefix 6\ntxns 3\nG0 none\nG1a none\nG1b none\nG1c none\nG-single process\n  T0 -wr :x 1-> T2\n  T2 -process 1-> T4\n  T4 -rw :x nil 1-> T0\nG2-item process\n  T0 -wr :x 1-> T2\n  T2 -process 1-> T4\n  T4 -rw :x nil 1-> T0\nstray 0\n")
+unknown_write-verdict : IsVerdictText unknown_write (codes "prefix 6\ntxns 3\nG0 none\nG1a none\nG1b none\nG1c none\nG-single process\n  T0 -wr :x 1-> T2\n  T2 -process 1-> T4\n  T4 -rw :x nil 1-> T0\nG2-item process\n  T0 -wr :x 1-> T2\n  T2 -process 1-> T4\n  T4 -rw :x nil 1-> T0\nstray 0\nstrict refuted\n")
 unfolding digits
 unknown_write-verdict =
     verdict_by _ _

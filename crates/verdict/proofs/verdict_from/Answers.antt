@@ -1,3 +1,5 @@
+use Rattle.std.proofs.lemmas.Result.{IfOk-weaker}
+use Rattle.report_laws.proofs.ExplainedVerdicts.{verdict_refutes}
 use Rattle.verdict.proofs.verdict_from.Goals as goal
 
 pub edges-requires : goal.edges-requires
@@ -10,7 +12,6 @@ pub findings_of-requires : goal.findings_of-requires
 findings_of-requires c = record {
   history = (c.args.events.now, c.requires.rules, c.requires.tables.txns);
   deps = c.in_ok-deps.ensures.ok;
-  order = c.requires.tables.order;
 }
 
 pub reported-requires : goal.reported-requires
@@ -26,3 +27,7 @@ returns-clause-ok c = c.reported.ensures.ok
 
 pub returns-clause-err : goal.returns-clause-err
 returns-clause-err c = c.reported.ensures.err
+
+pub returns-clause-strict : goal.returns-clause-strict
+returns-clause-strict c =
+    IfOk-weaker _ _ _ (λ v. verdict_refutes c.args.events.now v c.requires.rules) c.reported.ensures.ok

@@ -1,3 +1,5 @@
+use Rattle.std.proofs.lemmas.Result.{IfOk-weaker}
+use Rattle.report_laws.proofs.ExplainedVerdicts.{verdict_refutes}
 use Rattle.verdict.proofs.verdict_from_wide.Goals as goal
 
 pub edges-requires : goal.edges-requires
@@ -19,3 +21,7 @@ returns-clause-ok g c = c.reported.ensures.ok
 
 pub returns-clause-err : goal.returns-clause-err
 returns-clause-err g c = c.reported.ensures.err
+
+pub returns-clause-strict : goal.returns-clause-strict
+returns-clause-strict g c =
+    IfOk-weaker _ _ _ (λ v. verdict_refutes c.args.events.now v c.requires.rules) c.reported.ensures.ok

@@ -1,0 +1,232 @@
+-- Where ranks rise at each version and in time, they rise along each edge.
+use Rattle.std.proofs.Common.{◌≡◌, ◌∙◌, ◌<◌, ◌+◌, inl, inr, ℕ, zero, suc, List, [], ◌∷◌, map, Bool, true, false, if◌then◌else◌, nat_eq, Option, Some, None, unwrap_or, slice_index, All, Contains, pos, refl, sym, ap, subst, arith}
+use Rattle.std.specs.Prelude.{slice_get}
+use Rattle.std.specs.Option.{is_some}
+use Rattle.std.specs.List.{list_any}
+use Rattle.std.proofs.lemmas.Bool.{false≢true, and_parts, eq-eqb, ne_eqb}
+use Rattle.std.proofs.lemmas.Option.{none-some, same_Some, slice_get_within, get_or_from_slice_get}
+use Rattle.hist_types.specs.Edges.{Label, ww, wr, rw, process, realtime, Edge, is_ok_before, order_labels, dependency_edges, order_edges, edges_at}
+use Rattle.hist_types.specs.Reports.{AreFindings, no_findings}
+use Rattle.hist_types.specs.Transactions.{Transaction, Version, Open, is_ok, external_reads, reads_after, has_version, installs, writes, is_known_to_read, is_node, nodes, transactions_of}
+use Rattle.hist_types.specs.Atoms.{Atom, integer, atom_eq}
+use Rattle.hist_types.specs.Operations.{Mop, read, write}
+use Rattle.hist_types.specs.Versions.{nil_of, pair, version_pairs}
+use Rattle.hist_types.specs.declared.types.Level.{Level}
+use Rattle.hist_types.proofs.Members.{In, in_from_Contains, Contains_from_in, in_append, in_mapped, in_filter, passes_filter}
+use Rattle.history_laws.specs.Dependencies.{Depends}
+use Rattle.history_laws.specs.Times.{AreInvokedInOrder}
+use Rattle.history_laws.proofs.DependencyEdges.{edges_by_versions}
+use Rattle.history_laws.proofs.ThinningPaths.{any_passes, ends_of, ordered_from_label, ordered_in_time}
+use Rattle.history_laws.proofs.ThinningTimes.{invoked_in_order}
+use Rattle.history_laws.proofs.VersionMembers.{in_from_has, has_from_in, pairs_by_membership}
+use Rattle.history_laws.proofs.WrittenOnce.{installed_or_over, nil_unwritten, one_writer}
+use Rattle.key_versions.specs.Histories.{named_in, named_by, is_named, installs_behind, writer_of, readers_of, followers_of}
+use Rattle.key_versions.specs.Tables.{Table, IsTableOf}
+use Rattle.dep_edges.specs.Histories.{AreOfHistory}
+use Rattle.dep_edges.specs.Tables.{IsNumber, txn_at, version_at}
+use Rattle.dep_edges.proofs.Marks.{place_in, to_some_place}
+use Rattle.dep_edges.proofs.Out.{pair_is_behind}
+use Rattle.dep_edges.proofs.Writers.{has_writer, WroteAt, writer_wrote}
+use Rattle.clean_order.specs.Rising.{RisesAlong, RisesAtEachLevel}
+use Rattle.clean_order.specs.Ranked.{IsLower, IsLowerIfOther, RisesToReaders, RisesToNode, RisesAtVersion, RisesInTime}
+use Rattle.clean_order.proofs.Walks.{none_found}
+
+-- ---- members and places
+
+all_in : {X : Type 0} (P : X → Type 0) (xs : List X) (x : X) → All P xs → In x xs → P x
+all_in P xs x all i =
+    let (k, below, at) = Contains_from_in x xs i in
+    subst P at (all k x below)
+
+abbrev nobody : Transaction
+nobody = record { process = 0; invocation = 0; completion = None; status = Open; mops = [] }
+
+txn_of : (ts : List Transaction) (place : ℕ) (t : Transaction) → slice_get ts place ≡ Some t → txn_at ts place ≡ t
+txn_of ts place t e = ap (λ o. unwrap_or o nobody) e
+
+-- the place of the transaction with this invocation
+abbrev place : ℕ → List Transaction → ℕ
+place n [] = 0
+place n (t ∷ ts) = if nat_eq t.invocation n then 0 else suc (place n ts)
+
+in_at : {X : Type 0} (xs : List X) (k : ℕ) (x : X) → slice_get xs k ≡ Some x → In x xs
+in_at xs k x e = in_from_Contains x xs (k, slice_get_within xs k x e, get_or_from_slice_get xs k x x e)
+
+placed : (ts : List Transaction) → AreInvokedInOrder ts → (k : ℕ) (t : Transaction) → slice_get ts k ≡ Some t → place t.invocation ts ≡ k
+placed [] order k t e = elim (none-some t e) [ ]
+placed (u ∷ ts) order zero t e =
+    ap (λ b. if b then 0 else suc (place t.invocation ts)) (eq-eqb u.invocation t.invocation (ap (λ (x : Transaction). x.invocation) (same_Some u t e)))
+placed (u ∷ ts) order (suc k) t e =
+    let later : u.invocation < t.invocation = all_in (λ (x : Transaction). u.invocation < x.invocation) ts t order.0 (in_at ts k t e) in
+    ap (λ b. if b then 0 else suc (place t.invocation ts)) (ne_eqb u.invocation t.invocation (λ same. absurd (omega (arith, later, same))))
+    ∙ ap suc (placed ts order.1 k t e)
+
+abbrev pub rank_by : List Transaction → List ℕ → ℕ → ℕ
+rank_by ts ranks n = slice_index ranks (place n ts)
+
+in_order : (ts : List Transaction) → AreOfHistory ts → AreInvokedInOrder ts
+in_order ts (events, kept, of) = subst AreInvokedInOrder (sym of) (invoked_in_order events)
+
+rank_at_place : (ts : List Transaction) (ranks : List ℕ) → AreOfHistory ts → (k : ℕ) (t : Transaction) → slice_get ts k ≡ Some t → rank_by ts ranks t.invocation ≡ slice_index ranks k
+rank_at_place ts ranks kept k t e = ap (slice_index ranks) (placed ts (in_order ts kept) k t e)
+
+then_in : (test : Bool) (n m : ℕ) → test ≡ true → m ≡ n → In n (if test then m ∷ [] else [])
+then_in test n m e same = subst (λ b. In n (if b then m ∷ [] else [])) (sym e) (inl same)
+
+reader_there : (ts : List Transaction) (v : Version) (k : ℕ) (t : Transaction) → slice_get ts k ≡ Some t → is_known_to_read t v ≡ true → In k (readers_of ts v)
+reader_there ts v k t at known =
+    to_some_place (λ place t. if is_known_to_read t v then place ∷ [] else []) 0 ts k t k at
+    (then_in (is_known_to_read t v) k (0 + k) known (omega arith))
+
+follower_there : (ts : List Transaction) (v w : Version) (k : ℕ) (t : Transaction) → slice_get ts k ≡ Some t → In w (installs_behind t v) → In {X = ℕ × Version} (k, w) (followers_of ts v)
+follower_there ts v w k t at behind =
+    let here : k ≡ 0 + k = omega arith in
+    let p : ℕ × Version = (k, w) in
+    let mapped : In p (map (λ (x : Version). (k, x)) (installs_behind t v)) = in_mapped (λ (x : Version). (k, x)) w (installs_behind t v) behind in
+    to_some_place (λ place t. map (λ (x : Version). (place, x)) (installs_behind t v)) 0 ts k t p at
+    (subst (λ n. In p (map (λ (x : Version). (n, x)) (installs_behind t v))) here mapped)
+
+abbrev nothing : Version
+nothing = nil_of (integer (pos 0))
+
+version_of_number : (table : Table) (number : ℕ) (v : Version) → slice_get table.versions number ≡ Some v → version_at table number ≡ v
+version_of_number table number v e = ap (λ o. unwrap_or o nothing) e
+
+has_some : {X : Type 0} (o : Option X) → is_some o ≡ true → (x : X) × (o ≡ Some x)
+has_some None e = elim (false≢true e) [ ]
+has_some (Some x) e = (x, refl)
+
+-- ---- what is read has a number
+
+named_if : (test : Bool) (w v : Version) (rest names : List Version) → (In v rest → In v names) → In v (if test then rest else w ∷ rest) → In v (w ∷ names)
+named_if true w v rest names f i = inr (f i)
+named_if false w v rest names f (inl e) = inl e
+named_if false w v rest names f (inr i) = inr (f i)
+
+named_by_read : (v : Version) (written : List Atom) (mops : List Mop) → In v (reads_after written mops) → In v (named_in true mops)
+named_by_read v written [] i = i
+named_by_read v written (read key value ∷ mops) i =
+    inr (named_if (list_any (atom_eq key) written) (record { key = key; value = value }) v (reads_after written mops) (named_in true mops)
+    (named_by_read v written mops) i)
+named_by_read v written (write key value ∷ mops) i = inr (inr (named_by_read v (key ∷ written) mops i))
+
+is_named_by_read : (ts : List Transaction) (v : Version) (t : Transaction) → In t ts → is_known_to_read t v ≡ true → is_named ts v ≡ true
+is_named_by_read ts v t i known =
+    let (ok, has) = and_parts (is_ok t) (has_version (external_reads t) v) known in
+    let among : In v (named_in true t.mops) = named_by_read v [] t.mops (in_from_has v (external_reads t) has) in
+    any_passes (λ (x : Transaction). has_version (named_by x) v) t ts i
+    (has_from_in v (named_by t) (subst (λ b. In v (named_in b t.mops)) (sym ok) among))
+
+-- ---- dependency edges
+
+one_that_writes : (ts : List Transaction) → AreOfHistory ts → (t u : Transaction) (v : Version) → In t ts → In u ts → writes t v ≡ true → writes u v ≡ true → t ≡ u
+one_that_writes ts (events, rules, of) t u v i j first second =
+    one_writer events rules t u (Contains_from_in t (transactions_of events) (subst (In t) of i)) (Contains_from_in u (transactions_of events) (subst (In u) of j)) v first second
+
+-- two different nodes of the history, with their places
+record AreEnds (ts : List Transaction) (t u : Transaction) (j k : ℕ) : Type 0 where
+  first : slice_get ts j ≡ Some t
+  second : slice_get ts k ≡ Some u
+  node : is_node ts u ≡ true
+  other : ¬ (t.invocation ≡ u.invocation)
+
+different : (ts : List Transaction) (t u : Transaction) (j k : ℕ) → AreEnds ts t u j k → ¬ (j ≡ k)
+different ts t u j k ends same =
+    ends.other (ap (λ (x : Transaction). x.invocation) (same_Some t u (sym ends.first ∙ ap (slice_get ts) same ∙ ends.second)))
+
+module _ (ts : List Transaction) (table : Table) (ranks : List ℕ) (kept : AreOfHistory ts) (is : IsTableOf ts table)
+    (versions : (number : ℕ) → IsNumber table number → RisesAtVersion ts ranks (version_at table number)) where
+  rises_at_read : (v : Version) (t : Transaction) → In t ts → is_known_to_read t v ≡ true → RisesAtVersion ts ranks v
+  rises_at_read v t i known =
+      let (number, at) = place_in table.versions v (in_from_has v table.versions (is.named v ∙ is_named_by_read ts v t i known)) in
+      subst (RisesAtVersion ts ranks) (version_of_number table number v at) (versions number (slice_get_within table.versions number v at))
+
+  -- from who installs a version to who reads it
+  from_writer : (t u : Transaction) (j k : ℕ) (v : Version) → AreEnds ts t u j k → installs t v ≡ true → is_known_to_read u v ≡ true → IsLower ranks j k
+  from_writer t u j k v ends installed known =
+      let reader : In k (readers_of ts v) = reader_there ts v k u ends.second known in
+      let wrote : writes t v ≡ true = (installed_or_over t v).1 (inl installed) in
+      let there : In t ts = in_at ts j t ends.first in
+      let some : is_some (writer_of ts v) ≡ true = has_writer ts v ∙ any_passes (λ x. writes x v) t ts there wrote in
+      let (w, e) = has_some (writer_of ts v) some in
+      let at : WroteAt ts v w = writer_wrote ts v w e in
+      let one : txn_at ts w.txn ≡ t = one_that_writes ts kept (txn_at ts w.txn) t v (in_from_Contains (txn_at ts w.txn) ts at.among) there at.wrote wrote in
+      let same : w.txn ≡ j =
+      sym (placed ts (in_order ts kept) w.txn t (at.place ∙ ap Some one)) ∙ placed ts (in_order ts kept) j t ends.first in
+      let rises : RisesToReaders ranks (writer_of ts v) (readers_of ts v) = (rises_at_read v u (in_at ts k u ends.second) known).readers in
+      let all : All (IsLowerIfOther ranks w.txn) (readers_of ts v) = subst (λ o. RisesToReaders ranks o (readers_of ts v)) e rises in
+      subst (λ n. IsLowerIfOther ranks n k) same (all_in (IsLowerIfOther ranks w.txn) (readers_of ts v) k all reader) (different ts t u j k ends)
+
+  -- from who reads a version to who installs the next one
+  from_reader :
+      (t u : Transaction) (j k : ℕ) (v w : Version) → AreEnds ts t u j k → Contains (version_pairs ts) (pair v w)
+      → is_known_to_read t v ≡ true → installs u w ≡ true → IsLower ranks j k
+  from_reader t u j k v w ends paired known installed =
+      let reader : In j (readers_of ts v) = reader_there ts v j t ends.first known in
+      let behind : In w (installs_behind u v) = pair_is_behind ts kept u v w (in_at ts k u ends.second) installed paired in
+      let p : ℕ × Version = (k, w) in
+      let follower : In p (followers_of ts v) = follower_there ts v w k u ends.second behind in
+      let above : RisesToNode ts ranks (readers_of ts v) k =
+      all_in (λ (p : ℕ × Version). RisesToNode ts ranks (readers_of ts v) p.0) (followers_of ts v) p (rises_at_read v t (in_at ts j t ends.first) known).followers follower in
+      let node : is_node ts (txn_at ts k) ≡ true = ap (is_node ts) (txn_of ts k u ends.second) ∙ ends.node in
+      all_in (λ n. IsLowerIfOther ranks n k) (readers_of ts v) j (above node) reader (different ts t u j k ends)
+
+  -- nil is installed by nobody, so who installs the later version of a pair whose earlier one is installed reads that
+  reads_earlier : (t u : Transaction) (v w : Version) → In u ts → Contains (version_pairs ts) (pair v w) → installs t v ≡ true → installs u w ≡ true → is_known_to_read u v ≡ true
+  reads_earlier t u v w i paired first second = elim ((pairs_by_membership ts (pair v w)).0 paired) [
+    | inl nil ↦ elim (nil_unwritten t v ((installed_or_over t v).1 (inl first)) (ap (λ (x : Version). x.value) nil.0)) [ ]
+    | inr update ↦ (
+        let (key, other, r, there, known, wrote) = update in
+        let one : r ≡ u =
+        one_that_writes ts kept r u w (in_from_Contains r ts there) i ((installed_or_over r w).1 (inl wrote)) ((installed_or_over u w).1 (inl second)) in
+        subst (λ x. is_known_to_read x v ≡ true) one known)
+  ]
+
+  by_label : (t u : Transaction) (j k : ℕ) (label : Label) → AreEnds ts t u j k → Depends ts t u label → IsLower ranks j k
+  by_label t u j k (ww v w) ends d = from_writer t u j k v ends d.1 (reads_earlier t u v w (in_at ts k u ends.second) d.0 d.1 d.2)
+  by_label t u j k (wr v) ends d = from_writer t u j k v ends d.0 d.1
+  by_label t u j k (rw v w) ends d = from_reader t u j k v w ends d.0 d.1 d.2
+  by_label t u j k (process p) ends d = elim d [ ]
+  by_label t u j k (realtime c i) ends d = elim d [ ]
+
+  by_places : (e : Edge) (t u : Transaction) (j k : ℕ) → AreEnds ts t u j k → e.from ≡ t.invocation → e.to ≡ u.invocation → IsLower ranks j k → RisesAlong (rank_by ts ranks) e
+  by_places e t u j k ends from to lower =
+      let first : rank_by ts ranks e.from ≡ slice_index ranks j = ap (rank_by ts ranks) from ∙ rank_at_place ts ranks kept j t ends.first in
+      let second : rank_by ts ranks e.to ≡ slice_index ranks k = ap (rank_by ts ranks) to ∙ rank_at_place ts ranks kept k u ends.second in
+      omega (arith, first, second, lower)
+
+  ends_at : (t u : Transaction) → In t (nodes ts) → In u (nodes ts) → ¬ (t.invocation ≡ u.invocation) → (j : ℕ) × (k : ℕ) × AreEnds ts t u j k
+  ends_at t u first second other =
+      let (j, at) = place_in ts t (in_filter (is_node ts) t ts first) in
+      let (k, there) = place_in ts u (in_filter (is_node ts) u ts second) in
+      (j, k, record { first = at; second = there; node = passes_filter (is_node ts) u ts second; other = other })
+
+  dependency_rises : (e : Edge) → Contains (dependency_edges ts) e → RisesAlong (rank_by ts ranks) e
+  dependency_rises e c =
+      let (t, u, first, second, apart, same, depends) = (edges_by_versions ts e).0 c in
+      let (j, k, ends) = ends_at t u (in_from_Contains t (nodes ts) first) (in_from_Contains u (nodes ts) second) apart in
+      by_places e t u j k ends (ap (λ (d : Edge). d.from) same) (ap (λ (d : Edge). d.to) same) (by_label t u j k e.label ends depends)
+
+  -- ---- order edges
+
+  module _ (time : RisesInTime ts ranks) where
+    order_rises : (level : Level) (e : Edge) → Contains (order_edges level ts) e → RisesAlong (rank_by ts ranks) e
+    order_rises level e c =
+        let (t, u, label, found) = ends_of (nodes ts) (order_labels level) e (in_from_Contains e (order_edges level ts) c) in
+        let before : is_ok_before t u ≡ true = ordered_in_time level t u (ordered_from_label level t u label found.labelled) in
+        let (j, k, ends) = ends_at t u found.first found.second found.other in
+        let at : txn_at ts j ≡ t = txn_of ts j t ends.first in
+        let there : txn_at ts k ≡ u = txn_of ts k u ends.second in
+        let node : is_node ts (txn_at ts k) ≡ true = ap (is_node ts) there ∙ ends.node in
+        let timely : is_ok_before (txn_at ts j) (txn_at ts k) ≡ true = ap (λ x. is_ok_before x (txn_at ts k)) at ∙ ap (is_ok_before t) there ∙ before in
+        by_places e t u j k ends (ap (λ (d : Edge). d.from) found.is) (ap (λ (d : Edge). d.to) found.is)
+        (time j k (slice_get_within ts j t ends.first) (slice_get_within ts k u ends.second) node timely)
+
+    rises_along : RisesAtEachLevel (rank_by ts ranks) ts
+    rises_along level e c = elim (in_append e (dependency_edges ts) (order_edges level ts) (in_from_Contains e (edges_at level ts) c)) [
+      | inl i ↦ dependency_rises e (Contains_from_in e (dependency_edges ts) i)
+      | inr i ↦ order_rises level e (Contains_from_in e (order_edges level ts) i)
+    ]
+
+    pub nothing_found : AreFindings ts no_findings
+    nothing_found = none_found (rank_by ts ranks) ts rises_along

@@ -1,0 +1,57 @@
+-- A rank for each transaction of a history, by its place, and along what it rises.
+use Rattle.std.specs.Prelude.{◌≡◌, ◌<◌, ◌≤◌, ℕ, List, slice_index, slice_get, Option, Some, None, All, IsTrue, ⊤}
+use Rattle.hist_types.specs.Edges.{is_ok_before}
+use Rattle.hist_types.specs.Transactions.{Transaction, Version, is_ok, is_node}
+use Rattle.key_versions.specs.Histories.{writer_of, readers_of, followers_of}
+use Rattle.key_versions.specs.declared.types.Writer.{Writer}
+use Rattle.dep_edges.specs.Tables.{IsPlace, txn_at}
+
+-- the transaction at the one place has a lower rank than the one at the other
+abbrev pub IsLower : (ranks : List ℕ) → (place other : ℕ) → Type 0
+IsLower ranks place other = slice_index ranks place < slice_index ranks other
+
+-- unless they are one transaction
+abbrev pub IsLowerIfOther : (ranks : List ℕ) → (place other : ℕ) → Type 0
+IsLowerIfOther ranks place other = ¬ (place ≡ other) → IsLower ranks place other
+
+-- ---- versions
+
+-- the one that wrote a version has a lower rank than each other one that reads it
+abbrev pub RisesToReaders : (ranks : List ℕ) → Option Writer → (readers : List ℕ) → Type 0
+RisesToReaders ranks None readers = ⊤
+RisesToReaders ranks (Some w) readers = All (IsLowerIfOther ranks w.txn) readers
+
+-- each that reads a version has a lower rank than the other one, if that is a node
+abbrev pub RisesToNode : (ts : List Transaction) → (ranks readers : List ℕ) → (place : ℕ) → Type 0
+RisesToNode ts ranks readers place =
+    IsTrue (is_node ts (txn_at ts place))
+    → All (λ reader. IsLowerIfOther ranks reader place) readers
+
+-- ranks rise from who wrote the version to who reads it, and from these to the nodes that install
+-- a version after it
+pub record RisesAtVersion (ts : List Transaction) (ranks : List ℕ) (v : Version) : Type 0 where
+  pub readers : RisesToReaders ranks (writer_of ts v) (readers_of ts v)
+  pub followers :
+      All (λ (p : ℕ × Version). RisesToNode ts ranks (readers_of ts v) p.0) (followers_of ts v)
+
+-- ---- time
+
+-- an ok transaction has a lower rank than each node that was invoked after its completion
+abbrev pub RisesInTime : List Transaction → (ranks : List ℕ) → Type 0
+RisesInTime ts ranks =
+    (place other : ℕ)
+    → IsPlace ts place
+    → IsPlace ts other
+    → IsTrue (is_node ts (txn_at ts other))
+    → IsTrue (is_ok_before (txn_at ts place) (txn_at ts other))
+    → IsLower ranks place other
+
+-- an ok transaction's place is listed at the index of its completion
+abbrev pub IsListed : (ends : List ℕ) → Transaction → (place : ℕ) → Type 0
+IsListed ends t place =
+    IsTrue (is_ok t) → (index : ℕ) → t.completion ≡ Some index → slice_get ends index ≡ Some place
+
+-- no transaction that is listed before the index has a rank above this one
+abbrev pub AreAtMost : (ends ranks : List ℕ) → (rank index : ℕ) → Type 0
+AreAtMost ends ranks rank index =
+    (k place : ℕ) → k < index → slice_get ends k ≡ Some place → slice_index ranks place ≤ rank

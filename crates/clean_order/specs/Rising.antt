@@ -1,0 +1,18 @@
+-- Ranks of a history's transactions that rise along its edges. Where there are such ranks, no walk
+-- along edges comes back to where it began.
+use Rattle.std.specs.Prelude.{◌<◌, ℕ, List, Contains}
+use Rattle.hist_types.specs.Edges.{Edge, edges_at}
+use Rattle.hist_types.specs.Transactions.{Transaction}
+use Rattle.hist_types.specs.declared.types.Level.{Level}
+
+-- the rank of what the edge leads to is higher than that of what it leaves
+abbrev pub RisesAlong : (rank : ℕ → ℕ) → Edge → Type 0
+RisesAlong rank e = rank e.from < rank e.to
+
+-- the rank of a transaction, which is named by the index of its invocation, rises along each edge
+abbrev pub Rises : (rank : ℕ → ℕ) → List Edge → Type 0
+Rises rank es = (e : Edge) → Contains es e → RisesAlong rank e
+
+-- it rises along each edge that a cycle at some level may use
+abbrev pub RisesAtEachLevel : (rank : ℕ → ℕ) → List Transaction → Type 0
+RisesAtEachLevel rank ts = (level : Level) → Rises rank (edges_at level ts)

@@ -1,0 +1,40 @@
+//! An order of a history's transactions along which every edge goes forward, which rules out cycles without a graph.
+#![tactic(auto)]
+
+ghost use Rattle.std.specs.Prelude.{◌≡◌, IfOk, IfErr};
+ghost use Rattle.std.specs.Bool.{OnTrue};
+ghost use Rattle.hist_types.specs.Refusals.{memory_fault};
+ghost use Rattle.hist_types.specs.Reports.{AreFindings, no_findings};
+
+mod ends;
+pub mod laws;
+mod putting;
+mod rising;
+
+use crate::ends::ends;
+use crate::putting::Putting;
+use crate::rising::rises;
+use dep_edges::deps::Deps;
+use hist_types::types::Fault;
+use std::alloc::Global;
+
+/// True only if no cycle shows any phenomenon at any level. False says nothing: the history may have one, or not.
+///
+/// Transactions get ranks, one after the other in the order of their completions, each after what it depends on and after what
+/// completed before its invocation. If that can be done, the ranks rise along all edges, which one more pass makes sure of. It is
+/// true of each history whose nodes can be ordered so, thus of each one without a cycle in which no version that a transaction
+/// wrote over was read.
+///
+/// It takes a few numbers for each transaction and each version, and linear time. Only memory can run out.
+pub fn settles(alloc: Global, deps: &Deps<'_, '_>) -> Result<bool, Fault>
+    ensures ok { IfOk result (λ settled. OnTrue settled (AreFindings deps.now no_findings)) }
+    ensures err { IfErr result (λ fault. fault ≡ memory_fault) }
+{
+    let history = deps.history();
+    let ends = ends(alloc, history)?;
+    let mut putting = Putting::new(alloc, history)?;
+    if !putting.put_each(&ends)? {
+        return Ok(false);
+    }
+    Ok(rises(deps, history, putting.ranks(), &ends))
+}

@@ -1,0 +1,214 @@
+//! Ranks for transactions, one after the other. Nothing is claimed of them here: that they rise is looked at afterwards.
+
+use crate::rising::rank_at;
+use dep_edges::history::History;
+use std::alloc::{AllocError, Global};
+use txn_pairs::types::Status;
+
+/// No version's number.
+const NONE: u32 = u32::MAX;
+
+/// A transaction that others wait for.
+#[derive(Clone, Copy)]
+struct Frame {
+    place: u32,
+    /// How many of the versions that it reads and installs need no further look.
+    looked: usize,
+}
+
+impl Frame {
+    fn new(place: u32) -> Self {
+        Frame { place, looked: 0 }
+    }
+}
+
+/// The transactions that were put so far. Transactions go by place, versions by number.
+#[derive(Drop)]
+pub struct Putting<'h, 'v, 'a> {
+    history: &'h History<'v, 'a>,
+    /// Which one it was that was put, from 1 on. 0 is one that wasn't put.
+    ranks: Vec<u32>,
+    put: u32,
+    /// Whether it was begun with.
+    begun: Vec<bool>,
+    /// Those that were begun with and not put, each waiting for the one after it.
+    waiting: Vec<Frame>,
+    /// The nil version of the key, if somebody reads that.
+    nils: Vec<u32>,
+    /// How many of the version's first readers need no further look.
+    looked: Vec<usize>,
+}
+
+/// Notes that the version, which is nil, comes before what its followers install.
+fn note_followers(history: &History<'_, '_>, number: usize, nils: &mut [u32]) {
+    if number < history.versions() {
+        for follower in history.followers(number) {
+            if let Some(nil) = nils.get_mut(follower.version as usize) {
+                *nil = u32::try_from(number).unwrap_or(NONE);
+            }
+        }
+    }
+}
+
+/// For each version the nil version of its key, if somebody reads that.
+fn nils(alloc: Global, history: &History<'_, '_>) -> Result<Vec<u32>, AllocError> {
+    let mut nils = vec![in alloc; NONE; history.versions()]?;
+    for number in 0..history.versions() {
+        if !history.readers(number).is_empty() && history.version(number).value().is_none() {
+            note_followers(history, number, &mut nils);
+        }
+    }
+    Ok(nils)
+}
+
+impl<'h, 'v, 'a> Putting<'h, 'v, 'a> {
+    pub fn new(alloc: Global, history: &'h History<'v, 'a>) -> Result<Self, AllocError> {
+        let txns = history.txns().len();
+        Ok(Putting {
+            history,
+            ranks: vec![in alloc; 0; txns]?,
+            put: 0,
+            begun: vec![in alloc; false; txns]?,
+            waiting: Vec::new(alloc),
+            nils: nils(alloc, history)?,
+            looked: vec![in alloc; 0; history.versions()]?,
+        })
+    }
+
+    /// The ranks of the transactions, from 1 on.
+    pub fn ranks(&self) -> &[u32] {
+        &self.ranks
+    }
+
+    fn is_put(&self, place: u32) -> bool {
+        rank_at(&self.ranks, place as usize) > 0
+    }
+
+    /// Puts each of the transactions, and whatever has to come before. It is false if one can't be put.
+    pub fn put_each(&mut self, places: &[u32]) -> Result<bool, AllocError> {
+        for place in places {
+            if (*place as usize) < self.ranks.len() && !self.put(*place)? {
+                return Ok(false);
+            }
+        }
+        Ok(true)
+    }
+
+    /// Puts the transaction, and before it whatever has to come before it.
+    fn put(&mut self, place: u32) -> Result<bool, AllocError> {
+        if self.is_put(place) {
+            return Ok(true);
+        }
+        if !self.begin(place)? {
+            return Ok(false);
+        }
+        // Each turn puts a transaction or begins with one.
+        for _ in 0..u64::MAX {
+            match self.waiting.pop() {
+                None => return Ok(true),
+                Some(frame) => {
+                    if !self.go_on(frame)? {
+                        return Ok(false);
+                    }
+                }
+            }
+        }
+        Ok(false)
+    }
+
+    /// Begins with the transaction. It is false if that was done before.
+    fn begin(&mut self, place: u32) -> Result<bool, AllocError> {
+        match self.begun.get_mut(place as usize) {
+            Some(begun) if !*begun => *begun = true,
+            _ => return Ok(false),
+        }
+        self.waiting.push(Frame::new(place))?;
+        Ok(true)
+    }
+
+    /// Puts the transaction, or lets it wait for one that has to come before it. It is false if that one waits already.
+    fn go_on(&mut self, frame: Frame) -> Result<bool, AllocError> {
+        let mut frame = frame;
+        let Some(before) = self.first_before(&mut frame) else {
+            self.put = self.put.checked_add(1).ok_or(AllocError)?;
+            if let Some(rank) = self.ranks.get_mut(frame.place as usize) {
+                *rank = self.put;
+            }
+            return Ok(true);
+        };
+        self.waiting.push(frame)?;
+        self.begin(before)
+    }
+
+    /// A transaction that has to be put before this one and wasn't.
+    fn first_before(&mut self, frame: &mut Frame) -> Option<u32> {
+        let place = frame.place as usize;
+        if place >= self.history.txns().len() {
+            return None;
+        }
+        let reads = self.history.reads(place);
+        let installs = self.history.installs(place);
+        for step in frame.looked..reads.len().saturating_add(installs.len()) {
+            let before = match reads.get(step) {
+                Some(number) => self.before_read(frame.place, *number as usize),
+                None => match installs.get(step.saturating_sub(reads.len())) {
+                    Some(number) => self.before_install(frame.place, *number as usize),
+                    None => None,
+                },
+            };
+            if before.is_some() {
+                frame.looked = step;
+                return before;
+            }
+        }
+        None
+    }
+
+    /// What has to be put before the transaction for what it reads: the one that wrote the version, and if it installs the next
+    /// one, the others that read it.
+    fn before_read(&mut self, place: u32, number: usize) -> Option<u32> {
+        if number >= self.history.versions() {
+            return None;
+        }
+        if let Some(writer) = self.history.writer(number) {
+            if writer.txn != place
+                && !self.is_put(writer.txn)
+                && self.history.txn(writer.txn as usize).status() != Status::Fail
+            {
+                return Some(writer.txn);
+            }
+        }
+        match self.history.followers(number) {
+            [follower] if follower.txn == place => self.next_reader(place, number),
+            _ => None,
+        }
+    }
+
+    /// What has to be put before the transaction for what it installs: those that read the key's nil version.
+    fn before_install(&mut self, place: u32, number: usize) -> Option<u32> {
+        let nil = *self.nils.get(number)?;
+        self.next_reader(place, nil as usize)
+    }
+
+    /// A reader of the version, other than the transaction, that wasn't put.
+    fn next_reader(&mut self, place: u32, number: usize) -> Option<u32> {
+        if number >= self.history.versions() {
+            return None;
+        }
+        let readers = self.history.readers(number);
+        let first = self.looked.get(number).copied().unwrap_or(0);
+        let mut index = first;
+        let mut found = None;
+        for reader in readers.get(first..)? {
+            if *reader != place && !self.is_put(*reader) {
+                found = Some(*reader);
+                break;
+            }
+            index = index.saturating_add(1);
+        }
+        if let Some(looked) = self.looked.get_mut(number) {
+            *looked = index;
+        }
+        found
+    }
+}

@@ -1,0 +1,230 @@
+//! One look at each version and at each transaction, which shows that ranks rise along all edges.
+
+ghost use Rattle.std.specs.Prelude.{◌≡◌, ◌<◌, ◌≤◌, ℕ, length, slice_index, slice_get, All, Some, IsTrue};
+ghost use Rattle.hist_types.specs.Transactions.{is_node};
+ghost use Rattle.std.specs.Bool.{OnTrue};
+ghost use Rattle.hist_types.specs.Reports.{AreFindings, no_findings};
+ghost use Rattle.key_versions.specs.Tables.{IsTableOf};
+ghost use Rattle.dep_edges.specs.Histories.{AreOfHistory};
+ghost use Rattle.dep_edges.specs.Tables.{IsPlace, IsNumber, txn_at, version_at};
+ghost use Rattle.clean_order.specs.Ranked.{IsLowerIfOther, RisesToReaders, RisesToNode, RisesAtVersion, RisesInTime, IsListed, AreAtMost};
+ghost use Rattle.clean_order.specs.Highest.{IsCounted, AreCounted, RisesAbove};
+
+use dep_edges::deps::Deps;
+use dep_edges::history::History;
+use key_versions::types::{Follower, Writer};
+use txn_pairs::types::{Status, Txn};
+
+/// The rank of the transaction at the place.
+pub fn rank_at(ranks: &[u32], place: usize) -> u32
+    ensures { result ≡ slice_index ranks.now place }
+{
+    match ranks.get(place) {
+        Some(rank) => *rank,
+        None => 0,
+    }
+}
+
+/// Whether the writer of a version has a lower rank than each other transaction that reads it.
+fn rises_to_readers(ranks: &[u32], writer: Option<Writer>, readers: &[u32]) -> bool
+    ensures { OnTrue result (RisesToReaders ranks.now writer readers.now) }
+{
+    let Some(writer) = writer else {
+        return true;
+    };
+    let rank = rank_at(ranks, writer.txn as usize);
+    for reader in readers {
+        if *reader != writer.txn && rank_at(ranks, *reader as usize) <= rank {
+            return false;
+        }
+    }
+    true
+}
+
+/// The highest rank of some transactions, whose it is, and the highest rank of the others.
+#[derive(Clone, Copy)]
+struct Highest {
+    place: u32,
+    first: u32,
+    second: u32,
+}
+
+impl Highest {
+    /// Counts one more transaction.
+    fn with(self, place: u32, rank: u32) -> Highest
+        ensures one { IsCounted result place rank }
+        ensures others { (other lower : ℕ)
+            → IsCounted self other lower → IsCounted result other lower }
+    {
+        if rank > self.first {
+            Highest {
+                place,
+                first: rank,
+                second: self.first,
+            }
+        } else if place == self.place || rank <= self.second {
+            self
+        } else {
+            Highest {
+                place: self.place,
+                first: self.first,
+                second: rank,
+            }
+        }
+    }
+
+    /// The highest rank of the transactions other than this one.
+    fn without(&self, place: u32) -> u32
+        ensures { (other rank : ℕ) → IsCounted self.now other rank → ¬ (other ≡ place)
+            → rank ≤ result }
+    {
+        if place == self.place {
+            self.second
+        } else {
+            self.first
+        }
+    }
+}
+
+/// The highest of the ranks of transactions.
+fn highest_of(ranks: &[u32], places: &[u32]) -> Highest
+    ensures { AreCounted result ranks.now places.now }
+{
+    let mut highest = Highest {
+        place: 0,
+        first: 0,
+        second: 0,
+    };
+    for place in places {
+        highest = highest.with(*place, rank_at(ranks, *place as usize));
+    }
+    highest
+}
+
+/// Whether all but this one have a lower rank than the transaction, if it is a node.
+fn rises_above(deps: &Deps<'_, '_>, ranks: &[u32], highest: &Highest, place: u32) -> bool
+    requires { IsPlace deps.now place }
+    ensures { OnTrue result (RisesAbove deps.now ranks.now highest.now place) }
+{
+    rank_at(ranks, place as usize) > highest.without(place) || !deps.is_node(place as usize)
+}
+
+/// Whether the transactions that read a version have lower ranks than the others that install one after it and are nodes.
+fn rises_to_followers(
+    deps: &Deps<'_, '_>,
+    ranks: &[u32],
+    readers: &[u32],
+    followers: &[Follower],
+) -> bool
+    requires { All (λ f. IsPlace deps.now f.txn) followers.now }
+    ensures { OnTrue result
+        (All (λ f. RisesToNode deps.now ranks.now readers.now f.txn) followers.now) }
+{
+    let highest = highest_of(ranks, readers);
+    for follower in followers {
+        if !rises_above(deps, ranks, &highest, follower.txn) {
+            return false;
+        }
+    }
+    true
+}
+
+/// Whether ranks rise from who wrote the version to who reads it, and from these to who installs one after it.
+fn rises_at(deps: &Deps<'_, '_>, history: &History<'_, '_>, ranks: &[u32], number: usize) -> bool
+    requires history { deps.now ≡ history.now.txns }
+    requires number { IsNumber history.now.table number }
+    ensures { OnTrue result
+        (RisesAtVersion history.now.txns ranks.now (version_at history.now.table number)) }
+{
+    let readers = history.readers(number);
+    rises_to_readers(ranks, history.writer(number), readers)
+        && rises_to_followers(deps, ranks, readers, history.followers(number))
+}
+
+/// Whether they do at each version.
+fn rises_at_each(deps: &Deps<'_, '_>, history: &History<'_, '_>, ranks: &[u32]) -> bool
+    requires { deps.now ≡ history.now.txns }
+    ensures { OnTrue result ((number : ℕ) → IsNumber history.now.table number
+        → RisesAtVersion history.now.txns ranks.now (version_at history.now.table number)) }
+{
+    for number in 0..history.versions() {
+        if !rises_at(deps, history, ranks, number) {
+            return false;
+        }
+    }
+    true
+}
+
+/// The highest rank of those that are listed before the index, of which those before the first one have this rank at most.
+fn highest_before(ranks: &[u32], ends: &[u32], rank: u32, first: usize, index: usize) -> u32
+    ensures most { AreAtMost ends.now ranks.now rank first
+        → AreAtMost ends.now ranks.now result index }
+    ensures rank { rank ≤ result }
+{
+    let mut highest = rank;
+    for k in first..index {
+        if let Some(place) = ends.get(k) {
+            highest = highest.max(rank_at(ranks, *place as usize));
+        }
+    }
+    highest
+}
+
+/// Whether the transaction's place is listed at the index of its completion, if it is ok.
+fn is_listed(ends: &[u32], txn: &Txn<'_>, place: usize) -> bool
+    ensures { OnTrue result (IsListed ends.now txn.now place) }
+{
+    if txn.status() != Status::Ok {
+        return true;
+    }
+    match txn.completion() {
+        None => true,
+        Some(index) => match ends.get(index as usize) {
+            None => false,
+            Some(end) => *end as usize == place,
+        },
+    }
+}
+
+/// Whether the transaction has a rank above this one, if it is a node.
+fn is_later(deps: &Deps<'_, '_>, ranks: &[u32], rank: u32, place: usize) -> bool
+    requires { IsPlace deps.now place }
+    ensures { OnTrue result (IsTrue (is_node deps.now (txn_at deps.now place))
+        → rank < slice_index ranks.now place) }
+{
+    rank_at(ranks, place) > rank || !deps.is_node(place)
+}
+
+/// Whether each ok transaction has a lower rank than each node that was invoked after its completion.
+fn rises_in_time(
+    deps: &Deps<'_, '_>,
+    history: &History<'_, '_>,
+    ranks: &[u32],
+    ends: &[u32],
+) -> bool
+    requires { deps.now ≡ history.now.txns }
+    ensures { OnTrue result (RisesInTime history.now.txns ranks.now) }
+{
+    let mut before = 0;
+    let mut highest = 0;
+    for place in 0..history.txns().len() {
+        let txn = history.txn(place);
+        let invocation = txn.invocation() as usize;
+        highest = highest_before(ranks, ends, highest, before, invocation);
+        before = before.max(invocation);
+        if !is_listed(ends, txn, place) || !is_later(deps, ranks, highest, place) {
+            return false;
+        }
+    }
+    true
+}
+
+/// Whether ranks rise along all edges of the history.
+pub fn rises(deps: &Deps<'_, '_>, history: &History<'_, '_>, ranks: &[u32], ends: &[u32]) -> bool
+    requires history { deps.now ≡ history.now.txns }
+    requires kept { AreOfHistory history.now.txns }
+    requires table { IsTableOf history.now.txns history.now.table }
+    ensures { OnTrue result (AreFindings deps.now no_findings) }
+{
+    rises_at_each(deps, history, ranks) && rises_in_time(deps, history, ranks, ends)
+}

@@ -1,5 +1,0 @@
-use Rattle.command_run.proofs.Leaving.{AreWritten}
-use Rattle.command_run.proofs.edges.write_all_edges.Given as goal
-
-abbrev pub invariant-loop-place : goal.invariant-loop-place
-invariant-loop-place l = AreWritten l.deps l.place l.fn.out.items l.out.items l.count

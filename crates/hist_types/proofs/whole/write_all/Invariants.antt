@@ -1,0 +1,14 @@
+use Rattle.std.proofs.Common.{◌≡◌, ◌≤◌, ◌-◌, length, take}
+use Rattle.std.specs.Io.KnownBytes.{Appends}
+use Rattle.hist_types.proofs.whole.write_all.Given as goal
+
+abbrev pub invariant-loop-done : goal.invariant-loop-done
+invariant-loop-done g l =
+    record {
+      within : l.done ≤ length l.bytes;
+      taken : Appends (g.T.Sink.contents l.fn.sink) (g.T.Sink.contents l.sink) (take l.done l.bytes);
+      counted : g.T.Sink.failures l.sink ≡ g.T.Sink.failures l.fn.sink;
+    }
+
+abbrev pub decreases-loop-done : goal.decreases-loop-done
+decreases-loop-done g l = length l.bytes - l.done

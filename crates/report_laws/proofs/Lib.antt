@@ -1,0 +1,9 @@
+pub mod ExplainedOrders
+pub mod ExplainedRegisters
+pub mod ExplainedReads
+pub mod ExplainedEdges
+pub mod ExplainedPhenomena
+pub mod ExplainedVerdicts
+pub mod Growing
+pub mod GrowingEdges
+pub mod GrowingPhenomena

@@ -1,0 +1,10 @@
+-- Histories that grow: the words of the law about reports that stay.
+use Rattle.std.specs.Prelude.{List}
+use Rattle.hist_types.specs.Operations.{Operation}
+use Rattle.hist_types.specs.Transactions.{transactions_of}
+use Rattle.hist_types.specs.Phenomena.{HasPhenomenon}
+
+-- a history that has a phenomenon at these events still has one at the later ones
+abbrev pub PhenomenaStay : (events later : List Operation) → Type 0
+PhenomenaStay events later =
+    HasPhenomenon (transactions_of events) → HasPhenomenon (transactions_of later)

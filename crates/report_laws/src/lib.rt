@@ -1,0 +1,20 @@
+//! What a report of a phenomenon means: laws over the definitions of histories, transactions and phenomena. Each is the
+//! contract of a function that does nothing.
+#![tactic(auto)]
+
+ghost use Rattle.std.specs.Prelude.{List};
+ghost use Rattle.hist_types.specs.Journal.{KeepsRules, events_of};
+ghost use Rattle.hist_types.specs.Operations.{Operation};
+ghost use Rattle.hist_types.specs.Reports.{Report, IsVerdictOf};
+ghost use Rattle.report_laws.specs.Explained.{PhenomenaRefute, RefutesExplanations};
+
+/// A history that keeps the rules and has a phenomenon has no strict serial explanation: it isn't strictly serializable. So it is
+/// for each history, and for each prefix of a live run, of which a verdict says that it is refuted.
+pub fn phenomena_refute()
+    ensures phenomena { (events : List Operation) → KeepsRules events → PhenomenaRefute events }
+    ensures verdict { (events : List Operation) (report : Report)
+        → KeepsRules events → IsVerdictOf events report → RefutesExplanations events report }
+    ensures run { (blocks : List (List Operation)) (report : Report)
+        → IsVerdictOf (events_of blocks) report
+        → RefutesExplanations (events_of blocks) report }
+{}

@@ -1,0 +1,5 @@
+use Rattle.report_text.proofs.EdgeLines.{AreWritten}
+use Rattle.report_text.proofs.leaving.append_all_edges.Given as goal
+
+abbrev pub invariant-loop-place : goal.invariant-loop-place
+invariant-loop-place l = AreWritten l.deps l.place l.fn.out.items l.out.items l.count

@@ -1,0 +1,7 @@
+-- The lines so far are those of the edges so far.
+use Rattle.std.proofs.Common.{◌≡◌, ◌++◌, take}
+use Rattle.hist_types.specs.Texts.{edge_lines}
+use Rattle.report_text.proofs.lines.append_edges.Given as goal
+
+abbrev pub invariant-loop-edge : goal.invariant-loop-edge
+invariant-loop-edge l = l.out.items ≡ l.fn.out.items ++ edge_lines (take l.edge-index l.edges)

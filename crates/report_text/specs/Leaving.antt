@@ -1,0 +1,19 @@
+-- The dependency edges of a history, transaction by transaction.
+use Rattle.std.specs.Prelude.{◌≡◌, ◌==◌, ℕ, List, ◌++◌, filter, length}
+use Rattle.hist_types.specs.Edges.{Edge, dependency_edges}
+use Rattle.hist_types.specs.EdgeOrder.{in_order}
+use Rattle.hist_types.specs.Texts.{edge_lines}
+use Rattle.hist_types.specs.Transactions.{Transaction}
+
+-- those that leave a transaction, in order
+abbrev pub edges_leaving : List Transaction → Transaction → List Edge
+edges_leaving ts t = filter (λ (e : Edge). e.from == t.invocation) (in_order (dependency_edges ts))
+
+-- all edges in order
+abbrev pub all_edges : List Transaction → List Edge
+all_edges ts = in_order (dependency_edges ts)
+
+-- a text was continued by the lines of all edges, in order, and they are that many
+abbrev pub IsContinuedByAll : List Transaction → (text text' : List ℕ) → (count : ℕ) → Type 0
+IsContinuedByAll ts text text' count =
+    (text' ≡ text ++ edge_lines (all_edges ts)) × (count ≡ length (all_edges ts))

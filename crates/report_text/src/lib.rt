@@ -1,0 +1,10 @@
+//! Reports of a history, and their texts: each line of theirs is written here, and nowhere else.
+//!
+//! A report is a value, and its text a function of it.
+#![tactic(auto)]
+
+mod edge_order;
+mod leaving;
+mod lines;
+pub mod report;
+pub mod text;

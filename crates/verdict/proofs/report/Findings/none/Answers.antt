@@ -1,5 +1,0 @@
-use Rattle.std.proofs.Common.{refl}
-use Rattle.verdict.proofs.report.Findings.none.Goals as goal
-
-pub returns : goal.returns
-returns c = refl
