@@ -3,11 +3,9 @@ use Rattle.std.proofs.Common.{◌≡◌, ℕ, ◌≤◌, ◌-◌, List, [], ◌�
 use Rattle.std.proofs.lemmas.List.{length-drop, length-take, map-append}
 use Rattle.hist_types.specs.Entries.{PlacedMop, PlacedOperation, operation_of}
 use Rattle.hist_types.specs.Operations.{Mop, Operation}
-use Rattle.reading_laws.specs.Placed.{IsIn, IsTextOf, KeepsLimits, between, from_its_start, mop_from}
-use Rattle.edn_ops.specs.Shapes.{IsShapeOf}
-use Rattle.edn_ops.specs.declared.types.OpShape.{OpShape}
+use Rattle.reading_laws.specs.Placed.{between, from_its_start, mop_from}
 use Rattle.block_reader.specs.Blocks.{operations_pushed}
-use Rattle.op_block.specs.Contents.{BlockOperation, HasRoomFor, length_of, taken_out}
+use Rattle.op_block.specs.Contents.{BlockOperation, taken_out}
 
 mops_moved : (offset : ℕ) (ms : List PlacedMop) → map (λ (m : PlacedMop). m.mop) (map (mop_from offset) ms) ≡ map (λ (m : PlacedMop). m.mop) ms
 mops_moved offset [] = refl
@@ -30,12 +28,3 @@ pushed_behind full last more all text o same added =
     ∙ ap (λ (moved : Operation). operations_pushed last ++ moved ∷ []) (operation_moved o)) in
     ap (λ (os : List Operation). full ++ os) pushed
     ∙ (sym (append_assoc full (operations_pushed last) (operation_of o ∷ [])) ∙ ap (λ (os : List Operation). os ++ operation_of o ∷ []) same)
-
--- an operation fits into an empty block
-pub room_in_empty : (text : List ℕ) (o : PlacedOperation) (shape : OpShape) → ((t : List ℕ) → (p : PlacedOperation) → IsTextOf t p → KeepsLimits t p) →
-    IsIn text o → IsShapeOf shape o → HasRoomFor (length_of shape) []
-room_in_empty text o shape limits is_in is_shape =
-    let few = (limits (between text o.start o.end) (from_its_start o) is_in.2).0 in
-    let long = length_between text o.start o.end is_in.1 in
-    let span : length_of shape ≡ o.end - o.start = rw is_shape.span refl in
-    record { operations = omega arith; bytes = omega arith }

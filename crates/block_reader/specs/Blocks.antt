@@ -1,5 +1,5 @@
 -- The operations of blocks.
-use Rattle.std.specs.Prelude.{◌≡◌, List, ◌++◌, map}
+use Rattle.std.specs.Prelude.{◌≡◌, ℕ, List, ◌++◌, map}
 use Rattle.std.specs.List.{flat_map}
 use Rattle.hist_types.specs.Entries.{operation_of}
 use Rattle.hist_types.specs.Operations.{Operation}
@@ -18,3 +18,8 @@ abbrev pub HaveAlso : (blocks : List Contents) → List BlockOperation → (bloc
     → Type 0
 HaveAlso blocks pushed blocks' =
     operations_in blocks' ≡ operations_in blocks ++ operations_pushed pushed
+
+-- operations of a text
+pub record TextOperations : Type 0 where
+  pub text : List ℕ
+  pub operations : List Operation

@@ -89,7 +89,7 @@ pub fn block_of_text(alloc: Global, text: &[u8], stamp: Stamp) -> Result<Block, 
     if builder.is_empty() {
         return Err(nowhere(Refusal::EmptyImport));
     }
-    Ok(builder.freeze(stamp))
+    builder.freeze(stamp)
 }
 
 /// The micro-operations that count for an operation of this kind: none for a fail and an info.

@@ -4,6 +4,7 @@ ghost use Rattle.std.specs.Prelude.{◌≡◌, ◌<◌, length, false, All, IfOk
 ghost use Rattle.block_reader.specs.Parts.{IsIn, IsPartOf, ReadsOn};
 
 use crate::blocks::Blocks;
+use bytes::Bytes;
 use edn_ops::reader::OpReader;
 use hist_types::types::Fault;
 use op_block::block::Block;
@@ -20,10 +21,12 @@ pub struct Part {
 }
 
 /// Reads the next operation into the blocks: false at the text's end.
-pub fn read_op(text: &[u8], reader: &mut OpReader<'_>, blocks: &mut Blocks) -> Result<bool, Fault>
-    requires { reader.old.state.text ≡ text.now }
-    ensures on { ReadsOn text.now result reader.old reader.new blocks.old blocks.new }
-    ensures text { reader.new.state.text ≡ text.now }
+pub fn read_op(reader: &mut OpReader<'_>, blocks: &mut Blocks) -> Result<bool, Fault>
+    requires { reader.old.state.text ≡ blocks.old.text }
+    ensures on { ReadsOn blocks.old.text result reader.old reader.new blocks.old.operations
+        blocks.new.operations }
+    ensures text { reader.new.state.text ≡ blocks.old.text }
+    ensures same_text { blocks.new.text ≡ blocks.old.text }
     ensures end { IfOk result (λ more. more ≡ false → blocks.new ≡ blocks.old) }
     ensures err { OnErr result (blocks.new ≡ blocks.old) }
 {
@@ -33,24 +36,24 @@ pub fn read_op(text: &[u8], reader: &mut OpReader<'_>, blocks: &mut Blocks) -> R
     let Some(shape) = reader.next_op()? else {
         return Ok(false);
     };
-    blocks.push(text, &shape)?;
+    blocks.push(&shape)?;
     Ok(true)
 }
 
 /// Reads from `start`, as if nothing stood before it, up to the first operation that ends at `stop` or after it, or the
 /// last one before a fault or the text's end. None where memory runs out, or where an operation is in a vector or list.
-fn read_from(alloc: Global, seat: u32, text: &[u8], start: usize, stop: usize) -> Option<Part>
+fn read_from(alloc: Global, seat: u32, text: &Bytes, start: usize, stop: usize) -> Option<Part>
     requires { IsIn text.now start }
     ensures { IfSome result (IsPartOf text.now) }
 {
     let mut reader = OpReader::at(alloc, text, start);
-    let mut blocks = Blocks::new(alloc, seat);
+    let mut blocks = Blocks::new(alloc, text.clone().ok()?, seat);
     let mut end = start;
     for _ in start..stop {
         if end >= stop {
             break;
         }
-        match read_op(text, &mut reader, &mut blocks) {
+        match read_op(&mut reader, &mut blocks) {
             Ok(true) => end = reader.top_offset()?,
             Ok(false) | Err(_) => break,
         }
@@ -60,7 +63,7 @@ fn read_from(alloc: Global, seat: u32, text: &[u8], start: usize, stop: usize) -
 }
 
 /// The part that begins at the start with this index and ends at the next one.
-fn read_part(alloc: Global, text: &[u8], starts: &[usize], index: usize) -> Option<Part>
+fn read_part(alloc: Global, text: &Bytes, starts: &[usize], index: usize) -> Option<Part>
     requires low { index < length starts.now }
     requires starts { All (IsIn text.now) starts.now }
     ensures { IfSome result (IsPartOf text.now) }
@@ -78,7 +81,7 @@ fn read_part(alloc: Global, text: &[u8], starts: &[usize], index: usize) -> Opti
 pub fn read_parts<R: Threads + Sync>(
     rt: &R,
     alloc: Global,
-    text: &[u8],
+    text: &Bytes,
     starts: &[usize],
 ) -> Result<Vec<Option<Part>>, AllocError>
     requires { All (IsIn text.now) starts.now }

@@ -9,6 +9,7 @@ ghost use Rattle.block_reader.specs.Texts.{GivesOperations, GivesFault};
 use crate::blocks::Blocks;
 use crate::parts::{Part, read_op, read_parts};
 use crate::starts::starts_of;
+use bytes::Bytes;
 use edn_ops::reader::OpReader;
 use hist_types::types::Fault;
 use op_block::block::Block;
@@ -16,20 +17,16 @@ use std::alloc::Global;
 use std::thread::Threads;
 
 /// Reads up to a place at `stop` or after it where nothing is open, or to the text's end, where it returns false.
-fn read_up_to(
-    text: &[u8],
-    stop: usize,
-    reader: &mut OpReader<'_>,
-    blocks: &mut Blocks,
-) -> Result<bool, Fault>
-    requires { HasReadTo text.now reader.old blocks.old }
-    ensures { IsUpTo text.now result reader.new blocks.new }
+fn read_up_to(stop: usize, reader: &mut OpReader<'_>, blocks: &mut Blocks) -> Result<bool, Fault>
+    requires { HasReadTo blocks.old.text reader.old blocks.old.operations }
+    ensures up_to { IsUpTo blocks.old.text result reader.new blocks.new.operations }
+    ensures text { blocks.new.text ≡ blocks.old.text }
 {
     for _ in 0..u64::MAX {
         if matches!(reader.top_offset(), Some(offset) if offset >= stop) {
             return Ok(true);
         }
-        if !read_op(text, reader, blocks)? {
+        if !read_op(reader, blocks)? {
             return Ok(false);
         }
     }
@@ -46,8 +43,9 @@ fn take_over<'a>(
     blocks: &mut Blocks,
 ) -> Result<(), Fault>
     requires part { IsPartOf text.now part }
-    requires read { HasReadTo text.now reader.old blocks.old }
-    ensures ok { OnOk result (HasReadTo text.now reader.new blocks.new) }
+    requires read { HasReadTo text.now reader.old blocks.old.operations }
+    ensures ok { OnOk result (HasReadTo text.now reader.new blocks.new.operations) }
+    ensures text { blocks.new.text ≡ blocks.old.text }
     ensures err { IfErr result (λ fault. fault ≡ memory_fault) }
 {
     let Some(offset) = reader.top_offset() else {
@@ -63,7 +61,7 @@ fn take_over<'a>(
 /// The operations of the text, of which these parts have been read.
 pub(crate) fn read_behind(
     alloc: Global,
-    text: &[u8],
+    text: &Bytes,
     parts: Vec<Option<Part>>,
 ) -> Result<Vec<Block>, Fault>
     requires { All (λ part. IfSome part (IsPartOf text.now)) parts.items }
@@ -71,16 +69,16 @@ pub(crate) fn read_behind(
     ensures err { IfErr result (λ fault. (fault ≡ memory_fault) ⊎ GivesFault text.now fault) }
 {
     let mut reader = OpReader::new(alloc, text);
-    let mut blocks = Blocks::new(alloc, 0);
+    let mut blocks = Blocks::new(alloc, text.clone()?, 0);
     for part in parts {
         if let Some(part) = part {
-            if !read_up_to(text, part.start, &mut reader, &mut blocks)? {
+            if !read_up_to(part.start, &mut reader, &mut blocks)? {
                 return blocks.finish();
             }
             take_over(alloc, text, part, &mut reader, &mut blocks)?;
         }
     }
-    if read_up_to(text, usize::MAX, &mut reader, &mut blocks)? {
+    if read_up_to(usize::MAX, &mut reader, &mut blocks)? {
         // No text is so long.
         return Err(Fault::memory());
     }
@@ -88,17 +86,20 @@ pub(crate) fn read_behind(
 }
 
 /// The operations of a text in blocks, each filled until the next operation doesn't fit or a part of the text ends, or the first
-/// fault of its reading. A text of some megabytes is read in parts, by as many threads as there are processors, where each
-/// operation has lines of its own at the top level; in any other it takes one thread as long as all.
+/// fault of its reading. The blocks share the text, of which nothing is copied. A text of some megabytes is read in parts, by as
+/// many threads as there are processors, where each operation has lines of its own at the top level; in any other it takes one
+/// thread as long as all.
 pub fn read_blocks<R: Threads + Sync>(
     rt: &R,
     alloc: Global,
-    text: &[u8],
+    text: Vec<u8>,
 ) -> Result<Vec<Block>, Fault>
-    ensures ok { IfOk result (λ blocks. GivesOperations text.now (operations_in blocks.items)) }
-    ensures err { IfErr result (λ fault. (fault ≡ memory_fault) ⊎ GivesFault text.now fault) }
+    ensures ok { IfOk result
+        (λ blocks. GivesOperations text.items (operations_in blocks.items)) }
+    ensures err { IfErr result (λ fault. (fault ≡ memory_fault) ⊎ GivesFault text.items fault) }
 {
-    let starts = starts_of(rt, alloc, text)?;
-    let parts = read_parts(rt, alloc, text, &starts)?;
-    read_behind(alloc, text, parts)
+    let text = Bytes::from_vec(text)?;
+    let starts = starts_of(rt, alloc, &text)?;
+    let parts = read_parts(rt, alloc, &text, &starts)?;
+    read_behind(alloc, &text, parts)
 }

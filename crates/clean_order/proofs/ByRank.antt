@@ -7,28 +7,31 @@ use Rattle.std.proofs.lemmas.Bool.{false≢true, and_parts, eq-eqb, ne_eqb}
 use Rattle.std.proofs.lemmas.Option.{none-some, same_Some, slice_get_within, get_or_from_slice_get}
 use Rattle.hist_types.specs.Edges.{Label, ww, wr, rw, process, realtime, Edge, is_ok_before, order_labels, dependency_edges, order_edges, edges_at}
 use Rattle.hist_types.specs.Reports.{AreFindings, no_findings}
-use Rattle.hist_types.specs.Transactions.{Transaction, Version, Open, is_ok, external_reads, reads_after, has_version, installs, writes, is_known_to_read, is_node, nodes, transactions_of}
+use Rattle.hist_types.specs.Transactions.{Transaction, Version, version_of, Open, is_ok, external_reads, reads_after, has_version, installs, writes, is_known_to_read, is_node, nodes, transactions_of}
 use Rattle.hist_types.specs.Atoms.{Atom, integer, atom_eq}
 use Rattle.hist_types.specs.Operations.{Mop, read, write}
-use Rattle.hist_types.specs.Versions.{nil_of, pair, version_pairs}
+use Rattle.hist_types.specs.Versions.{nil_of, pair, process_pairs, version_pairs}
+use Rattle.hist_types.specs.Journal.{writes_of}
 use Rattle.hist_types.specs.declared.types.Level.{Level}
-use Rattle.hist_types.proofs.Members.{In, in_from_Contains, Contains_from_in, in_append, in_mapped, in_filter, passes_filter}
+use Rattle.hist_types.specs.declared.types.KeyOrder.{KeyOrder}
+use Rattle.hist_types.proofs.Members.{In, in_back, in_from_Contains, Contains_from_in, in_append, in_mapped, in_filter, passes_filter}
 use Rattle.history_laws.specs.Dependencies.{Depends}
 use Rattle.history_laws.specs.Times.{AreInvokedInOrder}
 use Rattle.history_laws.proofs.DependencyEdges.{edges_by_versions}
 use Rattle.history_laws.proofs.ThinningPaths.{any_passes, ends_of, ordered_from_label, ordered_in_time}
 use Rattle.history_laws.proofs.ThinningTimes.{invoked_in_order}
-use Rattle.history_laws.proofs.VersionMembers.{in_from_has, has_from_in, pairs_by_membership}
-use Rattle.history_laws.proofs.WrittenOnce.{installed_or_over, nil_unwritten, one_writer}
-use Rattle.key_versions.specs.Histories.{named_in, named_by, is_named, installs_behind, writer_of, readers_of, followers_of}
+use Rattle.history_laws.proofs.VersionMembers.{in_from_has, has_from_in}
+use Rattle.history_laws.proofs.WrittenOnce.{installed_or_over, one_writer}
+use Rattle.key_versions.specs.Histories.{known_in, named_in, named_by, is_named, installs_behind, writer_of, readers_of, followers_of}
 use Rattle.key_versions.specs.Tables.{Table, IsTableOf}
+use Rattle.key_versions.specs.declared.types.Writer.{Writer}
 use Rattle.dep_edges.specs.Histories.{AreOfHistory}
 use Rattle.dep_edges.specs.Tables.{IsNumber, txn_at, version_at}
 use Rattle.dep_edges.proofs.Marks.{place_in, to_some_place}
 use Rattle.dep_edges.proofs.Out.{pair_is_behind}
 use Rattle.dep_edges.proofs.Writers.{has_writer, WroteAt, writer_wrote}
 use Rattle.clean_order.specs.Rising.{RisesAlong, RisesAtEachLevel}
-use Rattle.clean_order.specs.Ranked.{IsLower, IsLowerIfOther, RisesToReaders, RisesToNode, RisesAtVersion, RisesInTime}
+use Rattle.clean_order.specs.Ranked.{IsLower, IsLowerIfOther, users, RisesToReaders, RisesToNode, RisesAtVersion, RisesInTime}
 use Rattle.clean_order.proofs.Walks.{none_found}
 
 -- ---- members and places
@@ -78,13 +81,13 @@ reader_there ts v k t at known =
     to_some_place (λ place t. if is_known_to_read t v then place ∷ [] else []) 0 ts k t k at
     (then_in (is_known_to_read t v) k (0 + k) known (omega arith))
 
-follower_there : (ts : List Transaction) (v w : Version) (k : ℕ) (t : Transaction) → slice_get ts k ≡ Some t → In w (installs_behind t v) → In {X = ℕ × Version} (k, w) (followers_of ts v)
-follower_there ts v w k t at behind =
+follower_there : (keys : KeyOrder) (ts : List Transaction) (v w : Version) (k : ℕ) (t : Transaction) → slice_get ts k ≡ Some t → In w (installs_behind (process_pairs keys ts) t v) → In {X = ℕ × Version} (k, w) (followers_of keys ts v)
+follower_there keys ts v w k t at behind =
     let here : k ≡ 0 + k = omega arith in
     let p : ℕ × Version = (k, w) in
-    let mapped : In p (map (λ (x : Version). (k, x)) (installs_behind t v)) = in_mapped (λ (x : Version). (k, x)) w (installs_behind t v) behind in
-    to_some_place (λ place t. map (λ (x : Version). (place, x)) (installs_behind t v)) 0 ts k t p at
-    (subst (λ n. In p (map (λ (x : Version). (n, x)) (installs_behind t v))) here mapped)
+    let mapped : In p (map (λ (x : Version). (k, x)) (installs_behind (process_pairs keys ts) t v)) = in_mapped (λ (x : Version). (k, x)) w (installs_behind (process_pairs keys ts) t v) behind in
+    to_some_place (λ place t. map (λ (x : Version). (place, x)) (installs_behind (process_pairs keys ts) t v)) 0 ts k t p at
+    (subst (λ n. In p (map (λ (x : Version). (n, x)) (installs_behind (process_pairs keys ts) t v))) here mapped)
 
 abbrev nothing : Version
 nothing = nil_of (integer (pos 0))
@@ -117,6 +120,22 @@ is_named_by_read ts v t i known =
     any_passes (λ (x : Transaction). has_version (named_by x) v) t ts i
     (has_from_in v (named_by t) (subst (λ b. In v (named_in b t.mops)) (sym ok) among))
 
+named_by_write : (ok : Bool) (v : Version) (mops : List Mop) → In v (map version_of (writes_of mops)) → In v (named_in ok mops)
+named_by_write ok v [] i = i
+named_by_write ok v (read key value ∷ mops) i =
+    inr (in_back v (known_in ok (read key value)) (named_in ok mops) (named_by_write ok v mops i))
+named_by_write ok v (write key value ∷ mops) (inl e) = inr (inl e)
+named_by_write ok v (write key value ∷ mops) (inr i) = inr (inr (named_by_write ok v mops i))
+
+is_named_by_write : (ts : List Transaction) (v : Version) (t : Transaction) → In t ts → writes t v ≡ true → is_named ts v ≡ true
+is_named_by_write ts v t i wrote =
+    any_passes (λ (x : Transaction). has_version (named_by x) v) t ts i
+    (has_from_in v (named_by t) (named_by_write (is_ok t) v t.mops (in_from_has v (map version_of (writes_of t.mops)) wrote)))
+
+reader_is_user : (o : Option Writer) (readers : List ℕ) (place : ℕ) → In place readers → In place (users o readers)
+reader_is_user None readers place i = i
+reader_is_user (Some w) readers place i = inr i
+
 -- ---- dependency edges
 
 one_that_writes : (ts : List Transaction) → AreOfHistory ts → (t u : Transaction) (v : Version) → In t ts → In u ts → writes t v ≡ true → writes u v ≡ true → t ≡ u
@@ -134,58 +153,61 @@ different : (ts : List Transaction) (t u : Transaction) (j k : ℕ) → AreEnds 
 different ts t u j k ends same =
     ends.other (ap (λ (x : Transaction). x.invocation) (same_Some t u (sym ends.first ∙ ap (slice_get ts) same ∙ ends.second)))
 
-module _ (ts : List Transaction) (table : Table) (ranks : List ℕ) (kept : AreOfHistory ts) (is : IsTableOf ts table)
-    (versions : (number : ℕ) → IsNumber table number → RisesAtVersion ts ranks (version_at table number)) where
-  rises_at_read : (v : Version) (t : Transaction) → In t ts → is_known_to_read t v ≡ true → RisesAtVersion ts ranks v
+module _ (keys : KeyOrder) (ts : List Transaction) (table : Table) (ranks : List ℕ) (kept : AreOfHistory ts) (is : IsTableOf keys ts table)
+    (versions : (number : ℕ) → IsNumber table number → RisesAtVersion keys ts ranks (version_at table number)) where
+  rises_at_read : (v : Version) (t : Transaction) → In t ts → is_known_to_read t v ≡ true → RisesAtVersion keys ts ranks v
   rises_at_read v t i known =
       let (number, at) = place_in table.versions v (in_from_has v table.versions (is.named v ∙ is_named_by_read ts v t i known)) in
-      subst (RisesAtVersion ts ranks) (version_of_number table number v at) (versions number (slice_get_within table.versions number v at))
+      subst (RisesAtVersion keys ts ranks) (version_of_number table number v at) (versions number (slice_get_within table.versions number v at))
+
+  rises_at_written : (v : Version) (t : Transaction) → In t ts → writes t v ≡ true → RisesAtVersion keys ts ranks v
+  rises_at_written v t i wrote =
+      let (number, at) = place_in table.versions v (in_from_has v table.versions (is.named v ∙ is_named_by_write ts v t i wrote)) in
+      subst (RisesAtVersion keys ts ranks) (version_of_number table number v at) (versions number (slice_get_within table.versions number v at))
+
+  -- who installs a version is the one that wrote it
+  writer_at : (t : Transaction) (j : ℕ) (v : Version) → slice_get ts j ≡ Some t → installs t v ≡ true → (w : Writer) × (writer_of ts v ≡ Some w) × (w.txn ≡ j)
+  writer_at t j v first installed =
+      let wrote : writes t v ≡ true = (installed_or_over t v).1 (inl installed) in
+      let there : In t ts = in_at ts j t first in
+      let some : is_some (writer_of ts v) ≡ true = has_writer ts v ∙ any_passes (λ x. writes x v) t ts there wrote in
+      let (w, e) = has_some (writer_of ts v) some in
+      let at : WroteAt ts v w = writer_wrote ts v w e in
+      let one : txn_at ts w.txn ≡ t = one_that_writes ts kept (txn_at ts w.txn) t v (in_from_Contains (txn_at ts w.txn) ts at.among) there at.wrote wrote in
+      (w, e, sym (placed ts (in_order ts kept) w.txn t (at.place ∙ ap Some one)) ∙ placed ts (in_order ts kept) j t first)
 
   -- from who installs a version to who reads it
   from_writer : (t u : Transaction) (j k : ℕ) (v : Version) → AreEnds ts t u j k → installs t v ≡ true → is_known_to_read u v ≡ true → IsLower ranks j k
   from_writer t u j k v ends installed known =
       let reader : In k (readers_of ts v) = reader_there ts v k u ends.second known in
-      let wrote : writes t v ≡ true = (installed_or_over t v).1 (inl installed) in
-      let there : In t ts = in_at ts j t ends.first in
-      let some : is_some (writer_of ts v) ≡ true = has_writer ts v ∙ any_passes (λ x. writes x v) t ts there wrote in
-      let (w, e) = has_some (writer_of ts v) some in
-      let at : WroteAt ts v w = writer_wrote ts v w e in
-      let one : txn_at ts w.txn ≡ t = one_that_writes ts kept (txn_at ts w.txn) t v (in_from_Contains (txn_at ts w.txn) ts at.among) there at.wrote wrote in
-      let same : w.txn ≡ j =
-      sym (placed ts (in_order ts kept) w.txn t (at.place ∙ ap Some one)) ∙ placed ts (in_order ts kept) j t ends.first in
+      let (w, e, same) = writer_at t j v ends.first installed in
       let rises : RisesToReaders ranks (writer_of ts v) (readers_of ts v) = (rises_at_read v u (in_at ts k u ends.second) known).readers in
       let all : All (IsLowerIfOther ranks w.txn) (readers_of ts v) = subst (λ o. RisesToReaders ranks o (readers_of ts v)) e rises in
       subst (λ n. IsLowerIfOther ranks n k) same (all_in (IsLowerIfOther ranks w.txn) (readers_of ts v) k all reader) (different ts t u j k ends)
 
-  -- from who reads a version to who installs the next one
-  from_reader :
-      (t u : Transaction) (j k : ℕ) (v w : Version) → AreEnds ts t u j k → Contains (version_pairs ts) (pair v w)
-      → is_known_to_read t v ≡ true → installs u w ≡ true → IsLower ranks j k
-  from_reader t u j k v w ends paired known installed =
-      let reader : In j (readers_of ts v) = reader_there ts v j t ends.first known in
-      let behind : In w (installs_behind u v) = pair_is_behind ts kept u v w (in_at ts k u ends.second) installed paired in
+  -- from who wrote a version or reads it to who installs one after it
+  from_user :
+      (t u : Transaction) (j k : ℕ) (v w : Version) → AreEnds ts t u j k → RisesAtVersion keys ts ranks v
+      → In j (users (writer_of ts v) (readers_of ts v)) → Contains (version_pairs keys ts) (pair v w) → installs u w ≡ true → IsLower ranks j k
+  from_user t u j k v w ends rises user paired installed =
+      let places = users (writer_of ts v) (readers_of ts v) in
+      let behind : In w (installs_behind (process_pairs keys ts) u v) = pair_is_behind keys ts kept u v w (in_at ts k u ends.second) installed paired in
       let p : ℕ × Version = (k, w) in
-      let follower : In p (followers_of ts v) = follower_there ts v w k u ends.second behind in
-      let above : RisesToNode ts ranks (readers_of ts v) k =
-      all_in (λ (p : ℕ × Version). RisesToNode ts ranks (readers_of ts v) p.0) (followers_of ts v) p (rises_at_read v t (in_at ts j t ends.first) known).followers follower in
+      let follower : In p (followers_of keys ts v) = follower_there keys ts v w k u ends.second behind in
+      let above : RisesToNode ts ranks places k =
+      all_in (λ (p : ℕ × Version). RisesToNode ts ranks places p.0) (followers_of keys ts v) p rises.followers follower in
       let node : is_node ts (txn_at ts k) ≡ true = ap (is_node ts) (txn_of ts k u ends.second) ∙ ends.node in
-      all_in (λ n. IsLowerIfOther ranks n k) (readers_of ts v) j (above node) reader (different ts t u j k ends)
+      all_in (λ n. IsLowerIfOther ranks n k) places j (above node) user (different ts t u j k ends)
 
-  -- nil is installed by nobody, so who installs the later version of a pair whose earlier one is installed reads that
-  reads_earlier : (t u : Transaction) (v w : Version) → In u ts → Contains (version_pairs ts) (pair v w) → installs t v ≡ true → installs u w ≡ true → is_known_to_read u v ≡ true
-  reads_earlier t u v w i paired first second = elim ((pairs_by_membership ts (pair v w)).0 paired) [
-    | inl nil ↦ elim (nil_unwritten t v ((installed_or_over t v).1 (inl first)) (ap (λ (x : Version). x.value) nil.0)) [ ]
-    | inr update ↦ (
-        let (key, other, r, there, known, wrote) = update in
-        let one : r ≡ u =
-        one_that_writes ts kept r u w (in_from_Contains r ts there) i ((installed_or_over r w).1 (inl wrote)) ((installed_or_over u w).1 (inl second)) in
-        subst (λ x. is_known_to_read x v ≡ true) one known)
-  ]
-
-  by_label : (t u : Transaction) (j k : ℕ) (label : Label) → AreEnds ts t u j k → Depends ts t u label → IsLower ranks j k
-  by_label t u j k (ww v w) ends d = from_writer t u j k v ends d.1 (reads_earlier t u v w (in_at ts k u ends.second) d.0 d.1 d.2)
+  by_label : (t u : Transaction) (j k : ℕ) (label : Label) → AreEnds ts t u j k → Depends keys ts t u label → IsLower ranks j k
+  by_label t u j k (ww v w) ends d =
+      let (writer, e, same) = writer_at t j v ends.first d.1 in
+      let user : In j (users (writer_of ts v) (readers_of ts v)) = subst (λ o. In j (users o (readers_of ts v))) (sym e) (inl same) in
+      from_user t u j k v w ends (rises_at_written v t (in_at ts j t ends.first) ((installed_or_over t v).1 (inl d.1))) user d.0 d.2
   by_label t u j k (wr v) ends d = from_writer t u j k v ends d.0 d.1
-  by_label t u j k (rw v w) ends d = from_reader t u j k v w ends d.0 d.1 d.2
+  by_label t u j k (rw v w) ends d =
+      from_user t u j k v w ends (rises_at_read v t (in_at ts j t ends.first) d.1)
+      (reader_is_user (writer_of ts v) (readers_of ts v) j (reader_there ts v j t ends.first d.1)) d.0 d.2
   by_label t u j k (process p) ends d = elim d [ ]
   by_label t u j k (realtime c i) ends d = elim d [ ]
 
@@ -201,9 +223,9 @@ module _ (ts : List Transaction) (table : Table) (ranks : List ℕ) (kept : AreO
       let (k, there) = place_in ts u (in_filter (is_node ts) u ts second) in
       (j, k, record { first = at; second = there; node = passes_filter (is_node ts) u ts second; other = other })
 
-  dependency_rises : (e : Edge) → Contains (dependency_edges ts) e → RisesAlong (rank_by ts ranks) e
+  dependency_rises : (e : Edge) → Contains (dependency_edges keys ts) e → RisesAlong (rank_by ts ranks) e
   dependency_rises e c =
-      let (t, u, first, second, apart, same, depends) = (edges_by_versions ts e).0 c in
+      let (t, u, first, second, apart, same, depends) = (edges_by_versions keys ts e).0 c in
       let (j, k, ends) = ends_at t u (in_from_Contains t (nodes ts) first) (in_from_Contains u (nodes ts) second) apart in
       by_places e t u j k ends (ap (λ (d : Edge). d.from) same) (ap (λ (d : Edge). d.to) same) (by_label t u j k e.label ends depends)
 
@@ -222,11 +244,11 @@ module _ (ts : List Transaction) (table : Table) (ranks : List ℕ) (kept : AreO
         by_places e t u j k ends (ap (λ (d : Edge). d.from) found.is) (ap (λ (d : Edge). d.to) found.is)
         (time j k (slice_get_within ts j t ends.first) (slice_get_within ts k u ends.second) node timely)
 
-    rises_along : RisesAtEachLevel (rank_by ts ranks) ts
-    rises_along level e c = elim (in_append e (dependency_edges ts) (order_edges level ts) (in_from_Contains e (edges_at level ts) c)) [
-      | inl i ↦ dependency_rises e (Contains_from_in e (dependency_edges ts) i)
+    rises_along : RisesAtEachLevel keys (rank_by ts ranks) ts
+    rises_along level e c = elim (in_append e (dependency_edges keys ts) (order_edges level ts) (in_from_Contains e (edges_at keys level ts) c)) [
+      | inl i ↦ dependency_rises e (Contains_from_in e (dependency_edges keys ts) i)
       | inr i ↦ order_rises level e (Contains_from_in e (order_edges level ts) i)
     ]
 
-    pub nothing_found : AreFindings ts no_findings
-    nothing_found = none_found (rank_by ts ranks) ts rises_along
+    pub nothing_found : AreFindings keys ts no_findings
+    nothing_found = none_found keys (rank_by ts ranks) ts rises_along

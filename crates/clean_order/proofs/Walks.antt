@@ -7,6 +7,7 @@ use Rattle.hist_types.specs.Reports.{AreFindings, no_findings}
 use Rattle.hist_types.specs.Transactions.{Transaction}
 use Rattle.hist_types.specs.declared.types.Phenomenon.{Phenomenon}
 use Rattle.hist_types.specs.declared.types.Phenomenon.TheVariants.{G0, G1c, GSingle, G2Item}
+use Rattle.hist_types.specs.declared.types.KeyOrder.{KeyOrder}
 use Rattle.hist_types.proofs.Members.{In, Contains_from_in}
 use Rattle.history_laws.proofs.ThinningWalks.{within_in}
 use Rattle.clean_order.specs.Rising.{RisesAlong, Rises, RisesAtEachLevel}
@@ -35,8 +36,8 @@ pub show_nothing : (rank : ℕ → ℕ) (es : List Edge) → Rises rank es → (
 show_nothing rank es rises phenomenon (walk, shows) =
     never_closed rank walk shows.closed (all_rise rank es walk rises (within_in es walk shows.within))
 
-pub none_found : (rank : ℕ → ℕ) (ts : List Transaction) → RisesAtEachLevel rank ts → AreFindings ts no_findings
-none_found rank ts rises G0 = (λ level. show_nothing rank (edges_at level ts) (rises level) G0, tt)
-none_found rank ts rises G1c = (λ level. show_nothing rank (edges_at level ts) (rises level) G1c, tt)
-none_found rank ts rises GSingle = (λ level. show_nothing rank (edges_at level ts) (rises level) GSingle, tt)
-none_found rank ts rises G2Item = (λ level. show_nothing rank (edges_at level ts) (rises level) G2Item, tt)
+pub none_found : (keys : KeyOrder) (rank : ℕ → ℕ) (ts : List Transaction) → RisesAtEachLevel keys rank ts → AreFindings keys ts no_findings
+none_found keys rank ts rises G0 = (λ level. show_nothing rank (edges_at keys level ts) (rises level) G0, tt)
+none_found keys rank ts rises G1c = (λ level. show_nothing rank (edges_at keys level ts) (rises level) G1c, tt)
+none_found keys rank ts rises GSingle = (λ level. show_nothing rank (edges_at keys level ts) (rises level) GSingle, tt)
+none_found keys rank ts rises G2Item = (λ level. show_nothing rank (edges_at keys level ts) (rises level) G2Item, tt)

@@ -1,7 +1,8 @@
 -- A rank for each transaction of a history, by its place, and along what it rises.
-use Rattle.std.specs.Prelude.{◌≡◌, ◌<◌, ◌≤◌, ℕ, List, slice_index, slice_get, Option, Some, None, All, IsTrue, ⊤}
+use Rattle.std.specs.Prelude.{◌≡◌, ◌<◌, ◌≤◌, ℕ, List, ◌∷◌, slice_index, slice_get, Option, Some, None, All, IsTrue, ⊤}
 use Rattle.hist_types.specs.Edges.{is_ok_before}
 use Rattle.hist_types.specs.Transactions.{Transaction, Version, is_ok, is_node}
+use Rattle.hist_types.specs.declared.types.KeyOrder.{KeyOrder}
 use Rattle.key_versions.specs.Histories.{writer_of, readers_of, followers_of}
 use Rattle.key_versions.specs.declared.types.Writer.{Writer}
 use Rattle.dep_edges.specs.Tables.{IsPlace, txn_at}
@@ -21,18 +22,26 @@ abbrev pub RisesToReaders : (ranks : List ℕ) → Option Writer → (readers : 
 RisesToReaders ranks None readers = ⊤
 RisesToReaders ranks (Some w) readers = All (IsLowerIfOther ranks w.txn) readers
 
--- each that reads a version has a lower rank than the other one, if that is a node
-abbrev pub RisesToNode : (ts : List Transaction) → (ranks readers : List ℕ) → (place : ℕ) → Type 0
-RisesToNode ts ranks readers place =
-    IsTrue (is_node ts (txn_at ts place))
-    → All (λ reader. IsLowerIfOther ranks reader place) readers
+-- who wrote a version, if somebody did, and those that read it
+abbrev pub users : Option Writer → (readers : List ℕ) → List ℕ
+users None readers = readers
+users (Some w) readers = w.txn ∷ readers
 
--- ranks rise from who wrote the version to who reads it, and from these to the nodes that install
+-- each of these has a lower rank than the other one, if that is a node
+abbrev pub RisesToNode : (ts : List Transaction) → (ranks places : List ℕ) → (place : ℕ) → Type 0
+RisesToNode ts ranks places place =
+    IsTrue (is_node ts (txn_at ts place))
+    → All (λ user. IsLowerIfOther ranks user place) places
+
+-- ranks rise from who wrote the version to who reads it, and from both to the nodes that install
 -- a version after it
-pub record RisesAtVersion (ts : List Transaction) (ranks : List ℕ) (v : Version) : Type 0 where
+pub record RisesAtVersion (keys : KeyOrder) (ts : List Transaction) (ranks : List ℕ)
+    (v : Version) : Type 0 where
   pub readers : RisesToReaders ranks (writer_of ts v) (readers_of ts v)
   pub followers :
-      All (λ (p : ℕ × Version). RisesToNode ts ranks (readers_of ts v) p.0) (followers_of ts v)
+      All
+      (λ (p : ℕ × Version). RisesToNode ts ranks (users (writer_of ts v) (readers_of ts v)) p.0)
+      (followers_of keys ts v)
 
 -- ---- time
 

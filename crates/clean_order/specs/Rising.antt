@@ -4,6 +4,7 @@ use Rattle.std.specs.Prelude.{◌<◌, ℕ, List, Contains}
 use Rattle.hist_types.specs.Edges.{Edge, edges_at}
 use Rattle.hist_types.specs.Transactions.{Transaction}
 use Rattle.hist_types.specs.declared.types.Level.{Level}
+use Rattle.hist_types.specs.declared.types.KeyOrder.{KeyOrder}
 
 -- the rank of what the edge leads to is higher than that of what it leaves
 abbrev pub RisesAlong : (rank : ℕ → ℕ) → Edge → Type 0
@@ -14,5 +15,5 @@ abbrev pub Rises : (rank : ℕ → ℕ) → List Edge → Type 0
 Rises rank es = (e : Edge) → Contains es e → RisesAlong rank e
 
 -- it rises along each edge that a cycle at some level may use
-abbrev pub RisesAtEachLevel : (rank : ℕ → ℕ) → List Transaction → Type 0
-RisesAtEachLevel rank ts = (level : Level) → Rises rank (edges_at level ts)
+abbrev pub RisesAtEachLevel : (keys : KeyOrder) (rank : ℕ → ℕ) → List Transaction → Type 0
+RisesAtEachLevel keys rank ts = (level : Level) → Rises rank (edges_at keys level ts)

@@ -5,6 +5,7 @@ ghost use Rattle.hist_types.specs.Edges.{Edge};
 ghost use Rattle.hist_types.specs.Phenomena.{IsShownBy};
 ghost use Rattle.hist_types.specs.Reports.{AreFindings, no_findings};
 ghost use Rattle.hist_types.specs.Transactions.{Transaction};
+ghost use Rattle.hist_types.specs.declared.types.KeyOrder.{KeyOrder};
 ghost use Rattle.hist_types.specs.declared.types.Phenomenon.{Phenomenon};
 ghost use Rattle.clean_order.specs.Rising.{Rises, RisesAtEachLevel};
 
@@ -13,6 +14,6 @@ ghost use Rattle.clean_order.specs.Rising.{Rises, RisesAtEachLevel};
 pub fn rising_ranks_rule_out_cycles()
     ensures edges { (rank : ℕ → ℕ) → (es : List Edge)
         → Rises rank es → (phenomenon : Phenomenon) → ¬ IsShownBy phenomenon es }
-    ensures history { (rank : ℕ → ℕ) → (ts : List Transaction)
-        → RisesAtEachLevel rank ts → AreFindings ts no_findings }
+    ensures history { (keys : KeyOrder) → (rank : ℕ → ℕ) → (ts : List Transaction)
+        → RisesAtEachLevel keys rank ts → AreFindings keys ts no_findings }
 {}

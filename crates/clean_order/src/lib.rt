@@ -6,6 +6,7 @@ ghost use Rattle.std.specs.Bool.{OnTrue};
 ghost use Rattle.hist_types.specs.Refusals.{memory_fault};
 ghost use Rattle.hist_types.specs.Reports.{AreFindings, no_findings};
 
+mod earlier;
 mod ends;
 pub mod laws;
 mod putting;
@@ -27,7 +28,8 @@ use std::alloc::Global;
 ///
 /// It takes a few numbers for each transaction and each version, and linear time. Only memory can run out.
 pub fn settles(alloc: Global, deps: &Deps<'_, '_>) -> Result<bool, Fault>
-    ensures ok { IfOk result (λ settled. OnTrue settled (AreFindings deps.now no_findings)) }
+    ensures ok { IfOk result (λ settled.
+        OnTrue settled (AreFindings deps.now.table.keys deps.now.txns no_findings)) }
     ensures err { IfErr result (λ fault. fault ≡ memory_fault) }
 {
     let history = deps.history();

@@ -1,12 +1,10 @@
 //! Ranks for transactions, one after the other. Nothing is claimed of them here: that they rise is looked at afterwards.
 
+use crate::earlier::Earlier;
 use crate::rising::rank_at;
 use dep_edges::history::History;
 use std::alloc::{AllocError, Global};
 use txn_pairs::types::Status;
-
-/// No version's number.
-const NONE: u32 = u32::MAX;
 
 /// A transaction that others wait for.
 #[derive(Clone, Copy)]
@@ -14,11 +12,17 @@ struct Frame {
     place: u32,
     /// How many of the versions that it reads and installs need no further look.
     looked: usize,
+    /// At the next one of these the link with which the look at the versions before it goes on, where it has begun.
+    link: Option<u32>,
 }
 
 impl Frame {
     fn new(place: u32) -> Self {
-        Frame { place, looked: 0 }
+        Frame {
+            place,
+            looked: 0,
+            link: None,
+        }
     }
 }
 
@@ -33,32 +37,9 @@ pub struct Putting<'h, 'v, 'a> {
     begun: Vec<bool>,
     /// Those that were begun with and not put, each waiting for the one after it.
     waiting: Vec<Frame>,
-    /// The nil version of the key, if somebody reads that.
-    nils: Vec<u32>,
+    earlier: Earlier,
     /// How many of the version's first readers need no further look.
     looked: Vec<usize>,
-}
-
-/// Notes that the version, which is nil, comes before what its followers install.
-fn note_followers(history: &History<'_, '_>, number: usize, nils: &mut [u32]) {
-    if number < history.versions() {
-        for follower in history.followers(number) {
-            if let Some(nil) = nils.get_mut(follower.version as usize) {
-                *nil = u32::try_from(number).unwrap_or(NONE);
-            }
-        }
-    }
-}
-
-/// For each version the nil version of its key, if somebody reads that.
-fn nils(alloc: Global, history: &History<'_, '_>) -> Result<Vec<u32>, AllocError> {
-    let mut nils = vec![in alloc; NONE; history.versions()]?;
-    for number in 0..history.versions() {
-        if !history.readers(number).is_empty() && history.version(number).value().is_none() {
-            note_followers(history, number, &mut nils);
-        }
-    }
-    Ok(nils)
 }
 
 impl<'h, 'v, 'a> Putting<'h, 'v, 'a> {
@@ -70,7 +51,7 @@ impl<'h, 'v, 'a> Putting<'h, 'v, 'a> {
             put: 0,
             begun: vec![in alloc; false; txns]?,
             waiting: Vec::new(alloc),
-            nils: nils(alloc, history)?,
+            earlier: Earlier::of(alloc, history)?,
             looked: vec![in alloc; 0; history.versions()]?,
         })
     }
@@ -152,7 +133,7 @@ impl<'h, 'v, 'a> Putting<'h, 'v, 'a> {
             let before = match reads.get(step) {
                 Some(number) => self.before_read(frame.place, *number as usize),
                 None => match installs.get(step.saturating_sub(reads.len())) {
-                    Some(number) => self.before_install(frame.place, *number as usize),
+                    Some(number) => self.before_install(frame, *number as usize),
                     None => None,
                 },
             };
@@ -160,6 +141,7 @@ impl<'h, 'v, 'a> Putting<'h, 'v, 'a> {
                 frame.looked = step;
                 return before;
             }
+            frame.link = None;
         }
         None
     }
@@ -170,13 +152,8 @@ impl<'h, 'v, 'a> Putting<'h, 'v, 'a> {
         if number >= self.history.versions() {
             return None;
         }
-        if let Some(writer) = self.history.writer(number) {
-            if writer.txn != place
-                && !self.is_put(writer.txn)
-                && self.history.txn(writer.txn as usize).status() != Status::Fail
-            {
-                return Some(writer.txn);
-            }
+        if let Some(writer) = self.next_writer(place, number) {
+            return Some(writer);
         }
         match self.history.followers(number) {
             [follower] if follower.txn == place => self.next_reader(place, number),
@@ -184,10 +161,36 @@ impl<'h, 'v, 'a> Putting<'h, 'v, 'a> {
         }
     }
 
-    /// What has to be put before the transaction for what it installs: those that read the key's nil version.
-    fn before_install(&mut self, place: u32, number: usize) -> Option<u32> {
-        let nil = *self.nils.get(number)?;
-        self.next_reader(place, nil as usize)
+    /// What has to be put before the transaction for what it installs: those that wrote or read the versions before it.
+    fn before_install(&mut self, frame: &mut Frame, number: usize) -> Option<u32> {
+        let mut next = frame.link.unwrap_or(self.earlier.first(number));
+        for _ in 0..u64::MAX {
+            let link = self.earlier.link(next)?;
+            let before = self
+                .next_writer(frame.place, link.version as usize)
+                .or_else(|| self.next_reader(frame.place, link.version as usize));
+            if before.is_some() {
+                frame.link = Some(next);
+                return before;
+            }
+            next = link.next;
+        }
+        None
+    }
+
+    /// The transaction that wrote the version, if it is another one that didn't fail and wasn't put.
+    fn next_writer(&self, place: u32, number: usize) -> Option<u32> {
+        if number >= self.history.versions() {
+            return None;
+        }
+        let writer = self.history.writer(number)?.txn;
+        if writer == place
+            || self.is_put(writer)
+            || self.history.txn(writer as usize).status() == Status::Fail
+        {
+            return None;
+        }
+        Some(writer)
     }
 
     /// A reader of the version, other than the transaction, that wasn't put.

@@ -7,7 +7,7 @@ ghost use Rattle.hist_types.specs.Reports.{AreFindings, no_findings};
 ghost use Rattle.key_versions.specs.Tables.{IsTableOf};
 ghost use Rattle.dep_edges.specs.Histories.{AreOfHistory};
 ghost use Rattle.dep_edges.specs.Tables.{IsPlace, IsNumber, txn_at, version_at};
-ghost use Rattle.clean_order.specs.Ranked.{IsLowerIfOther, RisesToReaders, RisesToNode, RisesAtVersion, RisesInTime, IsListed, AreAtMost};
+ghost use Rattle.clean_order.specs.Ranked.{IsLowerIfOther, users, RisesToReaders, RisesAtVersion, RisesInTime, IsListed, AreAtMost};
 ghost use Rattle.clean_order.specs.Highest.{IsCounted, AreCounted, RisesAbove};
 
 use dep_edges::deps::Deps;
@@ -103,49 +103,62 @@ fn highest_of(ranks: &[u32], places: &[u32]) -> Highest
 
 /// Whether all but this one have a lower rank than the transaction, if it is a node.
 fn rises_above(deps: &Deps<'_, '_>, ranks: &[u32], highest: &Highest, place: u32) -> bool
-    requires { IsPlace deps.now place }
-    ensures { OnTrue result (RisesAbove deps.now ranks.now highest.now place) }
+    requires { IsPlace deps.now.txns place }
+    ensures { OnTrue result (RisesAbove deps.now.txns ranks.now highest.now place) }
 {
     rank_at(ranks, place as usize) > highest.without(place) || !deps.is_node(place as usize)
 }
 
-/// Whether the transactions that read a version have lower ranks than the others that install one after it and are nodes.
+/// The highest of the ranks of who wrote a version and of those that read it.
+fn highest_at(ranks: &[u32], writer: Option<Writer>, readers: &[u32]) -> Highest
+    ensures { AreCounted result ranks.now (users writer readers.now) }
+{
+    let highest = highest_of(ranks, readers);
+    match writer {
+        None => highest,
+        Some(writer) => highest.with(writer.txn, rank_at(ranks, writer.txn as usize)),
+    }
+}
+
+/// Whether the transactions that wrote or read a version have lower ranks than the others that install one after it and are nodes.
 fn rises_to_followers(
     deps: &Deps<'_, '_>,
     ranks: &[u32],
-    readers: &[u32],
+    highest: &Highest,
     followers: &[Follower],
 ) -> bool
-    requires { All (λ f. IsPlace deps.now f.txn) followers.now }
+    requires { All (λ f. IsPlace deps.now.txns f.txn) followers.now }
     ensures { OnTrue result
-        (All (λ f. RisesToNode deps.now ranks.now readers.now f.txn) followers.now) }
+        (All (λ f. RisesAbove deps.now.txns ranks.now highest.now f.txn) followers.now) }
 {
-    let highest = highest_of(ranks, readers);
     for follower in followers {
-        if !rises_above(deps, ranks, &highest, follower.txn) {
+        if !rises_above(deps, ranks, highest, follower.txn) {
             return false;
         }
     }
     true
 }
 
-/// Whether ranks rise from who wrote the version to who reads it, and from these to who installs one after it.
+/// Whether ranks rise from who wrote the version to who reads it, and from both to who installs one after it.
 fn rises_at(deps: &Deps<'_, '_>, history: &History<'_, '_>, ranks: &[u32], number: usize) -> bool
-    requires history { deps.now ≡ history.now.txns }
+    requires history { deps.now ≡ history.now }
     requires number { IsNumber history.now.table number }
-    ensures { OnTrue result
-        (RisesAtVersion history.now.txns ranks.now (version_at history.now.table number)) }
+    ensures { OnTrue result (RisesAtVersion history.now.table.keys history.now.txns ranks.now
+        (version_at history.now.table number)) }
 {
+    let writer = history.writer(number);
     let readers = history.readers(number);
-    rises_to_readers(ranks, history.writer(number), readers)
-        && rises_to_followers(deps, ranks, readers, history.followers(number))
+    let highest = highest_at(ranks, writer, readers);
+    rises_to_readers(ranks, writer, readers)
+        && rises_to_followers(deps, ranks, &highest, history.followers(number))
 }
 
 /// Whether they do at each version.
 fn rises_at_each(deps: &Deps<'_, '_>, history: &History<'_, '_>, ranks: &[u32]) -> bool
-    requires { deps.now ≡ history.now.txns }
+    requires { deps.now ≡ history.now }
     ensures { OnTrue result ((number : ℕ) → IsNumber history.now.table number
-        → RisesAtVersion history.now.txns ranks.now (version_at history.now.table number)) }
+        → RisesAtVersion history.now.table.keys history.now.txns ranks.now
+        (version_at history.now.table number)) }
 {
     for number in 0..history.versions() {
         if !rises_at(deps, history, ranks, number) {
@@ -188,8 +201,8 @@ fn is_listed(ends: &[u32], txn: &Txn<'_>, place: usize) -> bool
 
 /// Whether the transaction has a rank above this one, if it is a node.
 fn is_later(deps: &Deps<'_, '_>, ranks: &[u32], rank: u32, place: usize) -> bool
-    requires { IsPlace deps.now place }
-    ensures { OnTrue result (IsTrue (is_node deps.now (txn_at deps.now place))
+    requires { IsPlace deps.now.txns place }
+    ensures { OnTrue result (IsTrue (is_node deps.now.txns (txn_at deps.now.txns place))
         → rank < slice_index ranks.now place) }
 {
     rank_at(ranks, place) > rank || !deps.is_node(place)
@@ -202,7 +215,7 @@ fn rises_in_time(
     ranks: &[u32],
     ends: &[u32],
 ) -> bool
-    requires { deps.now ≡ history.now.txns }
+    requires { deps.now ≡ history.now }
     ensures { OnTrue result (RisesInTime history.now.txns ranks.now) }
 {
     let mut before = 0;
@@ -221,10 +234,10 @@ fn rises_in_time(
 
 /// Whether ranks rise along all edges of the history.
 pub fn rises(deps: &Deps<'_, '_>, history: &History<'_, '_>, ranks: &[u32], ends: &[u32]) -> bool
-    requires history { deps.now ≡ history.now.txns }
+    requires history { deps.now ≡ history.now }
     requires kept { AreOfHistory history.now.txns }
-    requires table { IsTableOf history.now.txns history.now.table }
-    ensures { OnTrue result (AreFindings deps.now no_findings) }
+    requires table { IsTableOf history.now.table.keys history.now.txns history.now.table }
+    ensures { OnTrue result (AreFindings deps.now.table.keys deps.now.txns no_findings) }
 {
     rises_at_each(deps, history, ranks) && rises_in_time(deps, history, ranks, ends)
 }

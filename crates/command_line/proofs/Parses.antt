@@ -1,5 +1,5 @@
 -- What the parse takes.
-use Rattle.std.proofs.Common.{◌≡◌, ℕ, List, [], ◌∷◌, refl, sym, subst, codes, true, ◌⊎◌, inl, inr}
+use Rattle.std.proofs.Common.{◌≡◌, ℕ, List, [], ◌∷◌, ◌++◌, refl, sym, subst, codes, true, ◌⊎◌, inl, inr}
 use Rattle.std.specs.Prelude.{◌≢◌}
 use Rattle.clap.specs.Words.{App, is_simple, is_simple_and_free, subcommand_rows_of, HasMatchesOf, HasKind, IsAmong, Kinds, fault_of, kind_of}
 use Rattle.clap.specs.declared.error.Error.{Error}
@@ -7,7 +7,9 @@ use Rattle.clap.specs.declared.error.kind.ErrorKind.{ErrorKind}
 use Rattle.clap.specs.declared.error.kind.ErrorKind.TheVariants.{OutOfMemory, DisplayHelp}
 use Rattle.clap.specs.declared.parser.matches.ArgMatches.{ArgMatches}
 use Rattle.clap.proofs.OnLiterals.{clap_on_literals}
-use Rattle.command_line.specs.Lines.{word_of, program_app, IsAskedBy, AskToServe, AskFor, AskForHelp, MayAskForHelp}
+use Rattle.hist_types.specs.declared.types.KeyOrder.{KeyOrder}
+use Rattle.hist_types.specs.declared.types.KeyOrder.TheVariants.{Basic, Sequential}
+use Rattle.command_line.specs.Lines.{word_of, name_of_order, program_app, IsAskedBy, AskToServe, AskFor, AskForHelp, MayAskForHelp}
 use Rattle.command_line.specs.declared.types.Asked.{Asked}
 use Rattle.command_line.specs.declared.types.Asked.TheVariants.{Run}
 use Rattle.command_line.specs.declared.types.Command.{Command}
@@ -22,25 +24,67 @@ program_is_free : is_simple_and_free program_app ≡ true
 unfolding clap_on_literals
 program_is_free = refl
 
--- a name and a command's word ask for the command
-pub command_is_asked : (command : Command) (name : List ℕ) → AskFor (Run command) (name ∷ word_of command ∷ [])
+-- a name and a command's word ask for the command, with basic keys
+pub commands_are_asked :
+    (name : List ℕ)
+    → AskFor (Run Reads) (name ∷ codes "reads" ∷ [])
+    × AskFor (Run (Edges Basic)) (name ∷ codes "edges" ∷ [])
+    × AskFor (Run (Check Basic)) (name ∷ codes "check" ∷ [])
 unfolding clap_on_literals
-command_is_asked Reads name = (refl, refl)
-command_is_asked Edges name = (refl, refl)
-command_is_asked Check name = (refl, refl)
+commands_are_asked name = ((refl, (refl, tt)), (refl, (refl, refl)), (refl, (refl, refl)))
+
+-- `--keys` asks for keys of the order that it names
+pub edges_with_keys : (keys : KeyOrder) (name : List ℕ) → AskFor (Run (Edges keys)) (name ∷ codes "edges" ∷ codes "--keys" ∷ name_of_order keys ∷ [])
+unfolding clap_on_literals
+edges_with_keys Basic name = (refl, (refl, refl))
+edges_with_keys Sequential name = (refl, (refl, refl))
+
+pub edges_with_keys_joined : (keys : KeyOrder) (name : List ℕ) → AskFor (Run (Edges keys)) (name ∷ codes "edges" ∷ (codes "--keys=" ++ name_of_order keys) ∷ [])
+unfolding clap_on_literals
+edges_with_keys_joined Basic name = (refl, (refl, refl))
+edges_with_keys_joined Sequential name = (refl, (refl, refl))
+
+pub check_with_keys : (keys : KeyOrder) (name : List ℕ) → AskFor (Run (Check keys)) (name ∷ codes "check" ∷ codes "--keys" ∷ name_of_order keys ∷ [])
+unfolding clap_on_literals
+check_with_keys Basic name = (refl, (refl, refl))
+check_with_keys Sequential name = (refl, (refl, refl))
+
+pub check_with_keys_joined : (keys : KeyOrder) (name : List ℕ) → AskFor (Run (Check keys)) (name ∷ codes "check" ∷ (codes "--keys=" ++ name_of_order keys) ∷ [])
+unfolding clap_on_literals
+check_with_keys_joined Basic name = (refl, (refl, refl))
+check_with_keys_joined Sequential name = (refl, (refl, refl))
 
 -- a name, `serve` and two paths ask for a session, at a journal of so many cells as are asked for
 pub sessions_are_asked :
     (name : List ℕ)
-    → AskToServe 65536 (codes "in" ∷ codes "out" ∷ []) (name ∷ codes "serve" ∷ codes "in" ∷ codes "out" ∷ [])
-    × AskToServe 4 (codes "in" ∷ codes "out" ∷ []) (name ∷ codes "serve" ∷ codes "--cells" ∷ codes "4" ∷ codes "in" ∷ codes "out" ∷ [])
-    × AskToServe 1048576 (codes "a" ∷ codes "b" ∷ codes "c" ∷ codes "d" ∷ []) (name ∷ codes "serve" ∷ codes "a" ∷ codes "b" ∷ codes "c" ∷ codes "d" ∷ codes "--cells=1048576" ∷ [])
+    → AskToServe 65536 Basic (codes "in" ∷ codes "out" ∷ []) (name ∷ codes "serve" ∷ codes "in" ∷ codes "out" ∷ [])
+    × AskToServe 4 Basic (codes "in" ∷ codes "out" ∷ []) (name ∷ codes "serve" ∷ codes "--cells" ∷ codes "4" ∷ codes "in" ∷ codes "out" ∷ [])
+    × AskToServe 1048576 Basic (codes "a" ∷ codes "b" ∷ codes "c" ∷ codes "d" ∷ []) (name ∷ codes "serve" ∷ codes "a" ∷ codes "b" ∷ codes "c" ∷ codes "d" ∷ codes "--cells=1048576" ∷ [])
 unfolding clap_on_literals
 sessions_are_asked name = (
-  (refl, (refl, record { cells_are = refl; paths_are = refl; pairs = refl })),
-  (refl, (refl, record { cells_are = refl; paths_are = refl; pairs = refl })),
-  (refl, (refl, record { cells_are = refl; paths_are = refl; pairs = refl })),
+  (refl, (refl, record { cells_are = refl; keys_are = refl; paths_are = refl; pairs = refl })),
+  (refl, (refl, record { cells_are = refl; keys_are = refl; paths_are = refl; pairs = refl })),
+  (refl, (refl, record { cells_are = refl; keys_are = refl; paths_are = refl; pairs = refl })),
 )
+
+-- and with keys of the order that is asked for
+pub sessions_with_keys : (keys : KeyOrder) (name : List ℕ)
+    → AskToServe 65536 keys (codes "in" ∷ codes "out" ∷ []) (name ∷ codes "serve" ∷ codes "--keys" ∷ name_of_order keys ∷ codes "in" ∷ codes "out" ∷ [])
+unfolding clap_on_literals
+sessions_with_keys Basic name = (refl, (refl, record { cells_are = refl; keys_are = refl; paths_are = refl; pairs = refl }))
+sessions_with_keys Sequential name = (refl, (refl, record { cells_are = refl; keys_are = refl; paths_are = refl; pairs = refl }))
+
+pub sessions_with_keys_after : (keys : KeyOrder) (name : List ℕ)
+    → AskToServe 65536 keys (codes "in" ∷ codes "out" ∷ []) (name ∷ codes "serve" ∷ codes "in" ∷ codes "out" ∷ codes "--keys" ∷ name_of_order keys ∷ [])
+unfolding clap_on_literals
+sessions_with_keys_after Basic name = (refl, (refl, record { cells_are = refl; keys_are = refl; paths_are = refl; pairs = refl }))
+sessions_with_keys_after Sequential name = (refl, (refl, record { cells_are = refl; keys_are = refl; paths_are = refl; pairs = refl }))
+
+pub sessions_with_keys_joined : (keys : KeyOrder) (name : List ℕ)
+    → AskToServe 4 keys (codes "in" ∷ codes "out" ∷ []) (name ∷ codes "serve" ∷ codes "--cells=4" ∷ (codes "--keys=" ++ name_of_order keys) ∷ codes "in" ∷ codes "out" ∷ [])
+unfolding clap_on_literals
+sessions_with_keys_joined Basic name = (refl, (refl, record { cells_are = refl; keys_are = refl; paths_are = refl; pairs = refl }))
+sessions_with_keys_joined Sequential name = (refl, (refl, record { cells_are = refl; keys_are = refl; paths_are = refl; pairs = refl }))
 
 -- a name and `--help` ask for help
 pub help_is_asked : (name : List ℕ) → AskForHelp (name ∷ codes "--help" ∷ [])
@@ -51,8 +95,8 @@ help_is_asked name = refl
 pub help_with_a_command : (command : Command) (name : List ℕ) → AskForHelp (name ∷ word_of command ∷ codes "--help" ∷ [])
 unfolding clap_on_literals
 help_with_a_command Reads name = refl
-help_with_a_command Edges name = refl
-help_with_a_command Check name = refl
+help_with_a_command (Edges keys) name = refl
+help_with_a_command (Check keys) name = refl
 
 -- what the matches hold of a subcommand is what the words ask for
 pub asked_in_matches :

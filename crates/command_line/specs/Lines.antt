@@ -2,11 +2,14 @@
 use Rattle.std.specs.Prelude.{◌≡◌, ◌==◌, ℕ, ◌/◌, ◌%◌, ◌^◌, List, [], ◌∷◌, ◌++◌, length, map, codes, Bool, true, not, ◌&&◌, nat_lt, nat_le, if◌then◌else◌, Option, Some, None, IfSome, option_map, option_and_then, string_bytes}
 use Rattle.std.specs.Char.{is_ascii_digit}
 use Rattle.std.specs.List.{before_first, list_all}
+use Rattle.std.specs.Str.{bytes_eq}
 use Rattle.std.specs.Str.Parse.{digits_value}
 use Rattle.clap.specs.Lexer.{usize_max}
 use Rattle.clap.specs.Words.{App, Row, Rule, Text, new_app, new_rule, with_rule, with_subcommand, subcommand_of, fault_of, first_of, all_of, IsAmong}
 use Rattle.clap.specs.declared.builder.value_parser.ValueParser.TheVariants.{Unsigned}
 use Rattle.hist_types.specs.declared.limits.TheConstants.{MAX_CELLS}
+use Rattle.hist_types.specs.declared.types.KeyOrder.{KeyOrder}
+use Rattle.hist_types.specs.declared.types.KeyOrder.TheVariants.{Basic, Sequential}
 use Rattle.clap.specs.declared.error.kind.ErrorKind.TheVariants.{DisplayHelp}
 use Rattle.command_line.specs.declared.types.Asked.{Asked}
 use Rattle.command_line.specs.declared.types.Asked.TheVariants.{Run, Serve}
@@ -23,11 +26,34 @@ with_required a = record a { top = record a.top { subcommand_required = true } }
 -- the subcommand of a command
 abbrev pub word_of : Command → List ℕ
 word_of Reads = codes "reads"
-word_of Edges = codes "edges"
-word_of Check = codes "check"
+word_of (Edges keys) = codes "edges"
+word_of (Check keys) = codes "check"
 
-abbrev pub with_command : App → Command → App
-with_command a command = with_subcommand a (new_app (word_of command)).top
+-- ---- keys
+
+-- `--keys ORDER`, basic if it is not given
+abbrev pub keys_rule : Rule
+keys_rule =
+    record (new_rule (codes "keys")) {
+      long = Some (codes "keys");
+      value_names = 1;
+      defaults = codes "basic" ∷ [];
+    }
+
+-- the word for an order of keys
+abbrev pub name_of_order : KeyOrder → List ℕ
+name_of_order Basic = codes "basic"
+name_of_order Sequential = codes "sequential"
+
+-- the order of keys that this is the word for
+abbrev pub keys_in : List ℕ → Option KeyOrder
+keys_in text =
+    if bytes_eq text (name_of_order Basic) then Some Basic
+    else (if bytes_eq text (name_of_order Sequential) then Some Sequential else None)
+
+-- what the parse found after a subcommand is the word for this order of keys
+abbrev pub HasKeys : (keys : KeyOrder) → List Row → Type 0
+HasKeys keys rows = option_and_then keys_in (first_of (codes "keys") rows) ≡ Some keys
 
 -- ---- serve
 
@@ -51,7 +77,8 @@ paths_rule =
     }
 
 abbrev pub serve_app : App
-serve_app = with_rule (with_rule (new_app (codes "serve")) cells_rule) paths_rule
+serve_app =
+    with_rule (with_rule (with_rule (new_app (codes "serve")) cells_rule) keys_rule) paths_rule
 
 -- the number of cells that digits write, if a row may have so many
 abbrev pub cells_in : List ℕ → Option ℕ
@@ -64,48 +91,72 @@ abbrev pub come_in_pairs : List (List ℕ) → Bool
 come_in_pairs paths =
     (length paths % 2 == 0) && nat_lt 0 (length paths) && nat_lt (length paths / 2) (2 ^ 32)
 
--- what the parse found after `serve` is a number of cells, and these paths in pairs
-pub record AreForSessions (cells : ℕ) (paths : List (List ℕ)) (rows : List Row) : Type 0 where
+-- what the parse found after `serve` is a number of cells, the word for an order of keys, and these
+-- paths in pairs
+pub record AreForSessions (cells : ℕ) (keys : KeyOrder) (paths : List (List ℕ)) (rows : List Row)
+    : Type 0 where
   pub cells_are : option_and_then cells_in (first_of (codes "cells") rows) ≡ Some cells
+  pub keys_are : HasKeys keys rows
   pub paths_are : all_of (codes "paths") rows ≡ Some paths
   pub pairs : come_in_pairs paths ≡ true
 
 -- it asks for a session for each of these pairs
 abbrev pub AsksForSessions : Asked → List Row → Type 0
-AsksForSessions (Serve cells paths) rows = AreForSessions cells (map string_bytes paths.items) rows
+AsksForSessions (Serve cells keys paths) rows =
+    AreForSessions cells keys (map string_bytes paths.items) rows
 AsksForSessions (Run command) rows = ⊥
 
 -- ---- lines
+
+-- a subcommand of this name with `--keys`
+abbrev pub app_with_keys : (name : List ℕ) → App
+app_with_keys name = with_rule (new_app name) keys_rule
 
 -- a subcommand for each command, and one to serve
 abbrev pub program_app : App
 program_app =
     let jepcheck = with_required (new_app (codes "jepcheck")) in
-    let commands = with_command (with_command (with_command jepcheck Reads) Edges) Check in
-    with_subcommand commands serve_app.top
+    let reads = with_subcommand jepcheck (new_app (codes "reads")).top in
+    let edges = with_subcommand reads (app_with_keys (codes "edges")).top in
+    let check = with_subcommand edges (app_with_keys (codes "check")).top in
+    with_subcommand check serve_app.top
 
 -- the parse met this subcommand
 abbrev pub IsMet : (name : List ℕ) → Option (Text × List Row) → Type 0
 IsMet name met = option_map (λ subcommand. subcommand.0) met ≡ Some name
 
+-- where a command has keys of an order, what the parse found after it names that order
+abbrev pub HasKeysOf : Command → List Row → Type 0
+HasKeysOf Reads rows = Unit {0}
+HasKeysOf (Edges keys) rows = HasKeys keys rows
+HasKeysOf (Check keys) rows = HasKeys keys rows
+
+-- what it met asks for this command
+abbrev pub IsRun : Command → Option (Text × List Row) → Type 0
+IsRun command met =
+    IsMet (word_of command) met × IfSome met (λ subcommand. HasKeysOf command subcommand.1)
+
 -- what it met asks for a session for each pair of these paths
-abbrev pub IsServe : (cells : ℕ) → (paths : List (List ℕ)) → Option (Text × List Row) → Type 0
-IsServe cells paths met =
-    IsMet (codes "serve") met × IfSome met (λ subcommand. AreForSessions cells paths subcommand.1)
+abbrev pub IsServe
+    : (cells : ℕ) → (keys : KeyOrder) → (paths : List (List ℕ)) → Option (Text × List Row) → Type 0
+IsServe cells keys paths met =
+    IsMet (codes "serve") met
+    × IfSome met (λ subcommand. AreForSessions cells keys paths subcommand.1)
 
 -- what it met asks for this
 abbrev pub IsAskedBy : Asked → Option (Text × List Row) → Type 0
-IsAskedBy (Run command) met = IsMet (word_of command) met
-IsAskedBy (Serve cells paths) met = IsServe cells (map string_bytes paths.items) met
+IsAskedBy (Run command) met = IsRun command met
+IsAskedBy (Serve cells keys paths) met = IsServe cells keys (map string_bytes paths.items) met
 
 -- by the definitions of the library that parses the words nothing is at fault in them
 abbrev pub AreFaultless : List (List ℕ) → Type 0
 AreFaultless words = fault_of program_app words ≡ []
 
 -- the words of a command line ask for a session for each pair of these paths
-abbrev pub AskToServe : (cells : ℕ) → (paths : List (List ℕ)) → (words : List (List ℕ)) → Type 0
-AskToServe cells paths words =
-    AreFaultless words × IsServe cells paths (subcommand_of program_app words)
+abbrev pub AskToServe
+    : (cells : ℕ) → (keys : KeyOrder) → (paths : List (List ℕ)) → (words : List (List ℕ)) → Type 0
+AskToServe cells keys paths words =
+    AreFaultless words × IsServe cells keys paths (subcommand_of program_app words)
 
 -- what the words of a command line ask for
 abbrev pub AskFor : Asked → (words : List (List ℕ)) → Type 0

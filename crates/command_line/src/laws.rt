@@ -1,31 +1,74 @@
 //! Laws of the command lines.
 
-ghost use Rattle.std.specs.Prelude.{ℕ, List, [], ◌∷◌, codes};
-ghost use Rattle.command_line.specs.Lines.{AskFor, AskForNothing, AskToServe, GetHelp, word_of};
+ghost use Rattle.std.specs.Prelude.{ℕ, List, [], ◌∷◌, ◌++◌, codes};
+ghost use Rattle.command_line.specs.Lines.{AskFor, AskForNothing, AskToServe, GetHelp, name_of_order, word_of};
 ghost use Rattle.command_line.specs.declared.types.Asked.TheVariants.{Run};
 ghost use Rattle.command_line.specs.declared.types.Command.{Command};
+ghost use Rattle.command_line.specs.declared.types.Command.TheVariants.{Reads, Edges, Check};
+ghost use Rattle.hist_types.specs.declared.types.KeyOrder.{KeyOrder};
+ghost use Rattle.hist_types.specs.declared.types.KeyOrder.TheVariants.{Basic};
 
-/// The program's name, whatever it is, and the word of a command ask for the command.
+/// The program's name, whatever it is, and the word of a command ask for the command, with basic keys if it takes `--keys`.
 pub fn commands_are_asked_for()
-    ensures { (command : Command) (name : List ℕ)
-        → AskFor (Run command) (name ∷ word_of command ∷ []) }
+    ensures reads { (name : List ℕ) → AskFor (Run Reads) (name ∷ codes "reads" ∷ []) }
+    ensures edges { (name : List ℕ) → AskFor (Run (Edges Basic)) (name ∷ codes "edges" ∷ []) }
+    ensures check { (name : List ℕ) → AskFor (Run (Check Basic)) (name ∷ codes "check" ∷ []) }
+{}
+
+/// With `--keys`, `edges` and `check` ask for keys of the order that it names, in the next word or after `=`.
+pub fn keys_are_asked_for()
+    ensures edges { (keys : KeyOrder) (name : List ℕ) → AskFor (Run (Edges keys))
+        (name ∷ codes "edges" ∷ codes "--keys" ∷ name_of_order keys ∷ []) }
+    ensures edges_joined { (keys : KeyOrder) (name : List ℕ) → AskFor (Run (Edges keys))
+        (name ∷ codes "edges" ∷ (codes "--keys=" ++ name_of_order keys) ∷ []) }
+    ensures check { (keys : KeyOrder) (name : List ℕ) → AskFor (Run (Check keys))
+        (name ∷ codes "check" ∷ codes "--keys" ∷ name_of_order keys ∷ []) }
+    ensures check_joined { (keys : KeyOrder) (name : List ℕ) → AskFor (Run (Check keys))
+        (name ∷ codes "check" ∷ (codes "--keys=" ++ name_of_order keys) ∷ []) }
+{}
+
+/// `edges` and `check` ask for nothing if `--keys` names no order or is the last word, and `reads` takes no such option.
+pub fn no_keys_are_asked_for()
+    ensures edges { (name : List ℕ)
+        → AskForNothing (name ∷ codes "edges" ∷ codes "--keys" ∷ codes "other" ∷ []) }
+    ensures edges_alone { (name : List ℕ)
+        → AskForNothing (name ∷ codes "edges" ∷ codes "--keys" ∷ []) }
+    ensures check { (name : List ℕ)
+        → AskForNothing (name ∷ codes "check" ∷ codes "--keys" ∷ codes "other" ∷ []) }
+    ensures check_alone { (name : List ℕ)
+        → AskForNothing (name ∷ codes "check" ∷ codes "--keys" ∷ []) }
+    ensures reads { (keys : KeyOrder) (name : List ℕ)
+        → AskForNothing (name ∷ codes "reads" ∷ codes "--keys" ∷ name_of_order keys ∷ []) }
 {}
 
 /// The program's name, whatever it is, `serve` and paths two by two ask for a session for each pair, at a journal of 65,536
-/// cells or of so many as `--cells` says.
+/// cells or of so many as `--cells` says, with basic keys or those of the order that `--keys` names, before the paths or after
+/// them.
 pub fn sessions_are_asked_for()
-    ensures alone { (name : List ℕ) → AskToServe 65536 (codes "in" ∷ codes "out" ∷ [])
+    ensures alone { (name : List ℕ) → AskToServe 65536 Basic (codes "in" ∷ codes "out" ∷ [])
         (name ∷ codes "serve" ∷ codes "in" ∷ codes "out" ∷ []) }
-    ensures cells { (name : List ℕ) → AskToServe 4 (codes "in" ∷ codes "out" ∷ [])
+    ensures cells { (name : List ℕ) → AskToServe 4 Basic (codes "in" ∷ codes "out" ∷ [])
         (name ∷ codes "serve" ∷ codes "--cells" ∷ codes "4" ∷ codes "in" ∷ codes "out" ∷ []) }
+    ensures keys { (keys : KeyOrder) (name : List ℕ)
+        → AskToServe 65536 keys (codes "in" ∷ codes "out" ∷ [])
+        (name ∷ codes "serve" ∷ codes "--keys" ∷ name_of_order keys ∷ codes "in" ∷ codes "out"
+        ∷ []) }
+    ensures keys_after { (keys : KeyOrder) (name : List ℕ)
+        → AskToServe 65536 keys (codes "in" ∷ codes "out" ∷ [])
+        (name ∷ codes "serve" ∷ codes "in" ∷ codes "out" ∷ codes "--keys" ∷ name_of_order keys
+        ∷ []) }
+    ensures keys_joined { (keys : KeyOrder) (name : List ℕ)
+        → AskToServe 4 keys (codes "in" ∷ codes "out" ∷ [])
+        (name ∷ codes "serve" ∷ codes "--cells=4" ∷ (codes "--keys=" ++ name_of_order keys)
+        ∷ codes "in" ∷ codes "out" ∷ []) }
     ensures pairs { (name : List ℕ)
-        → AskToServe 1048576 (codes "a" ∷ codes "b" ∷ codes "c" ∷ codes "d" ∷ [])
+        → AskToServe 1048576 Basic (codes "a" ∷ codes "b" ∷ codes "c" ∷ codes "d" ∷ [])
         (name ∷ codes "serve" ∷ codes "a" ∷ codes "b" ∷ codes "c" ∷ codes "d"
         ∷ codes "--cells=1048576" ∷ []) }
 {}
 
-/// `serve` asks for no session with a path alone or an odd number of them, or with a number of cells that is 0, more than
-/// 1,048,576 or written with a sign.
+/// `serve` asks for no session with a path alone or an odd number of them, with a number of cells that is 0, more than
+/// 1,048,576 or written with a sign, or with `--keys` that names no order or is the last word.
 pub fn no_sessions_are_asked_for()
     ensures one { (name : List ℕ) → AskForNothing (name ∷ codes "serve" ∷ codes "in" ∷ []) }
     ensures three { (name : List ℕ)
@@ -35,7 +78,13 @@ pub fn no_sessions_are_asked_for()
     ensures many { (name : List ℕ) → AskForNothing
         (name ∷ codes "serve" ∷ codes "--cells=1048577" ∷ codes "in" ∷ codes "out" ∷ []) }
     ensures sign { (name : List ℕ)
-        → AskForNothing (name ∷ codes "serve" ∷ codes "--cells=+4" ∷ codes "in" ∷ codes "out" ∷ []) }
+        → AskForNothing (name ∷ codes "serve" ∷ codes "--cells=+4" ∷ codes "in" ∷ codes "out"
+        ∷ []) }
+    ensures keys { (name : List ℕ)
+        → AskForNothing (name ∷ codes "serve" ∷ codes "--keys=other" ∷ codes "in" ∷ codes "out"
+        ∷ []) }
+    ensures keys_alone { (name : List ℕ)
+        → AskForNothing (name ∷ codes "serve" ∷ codes "in" ∷ codes "out" ∷ codes "--keys" ∷ []) }
 {}
 
 /// The program's name and `--help` ask for help, and so they do with the word of a command between them.

@@ -1,5 +1,6 @@
 //! What a command line asks for, and why one asks for nothing.
 
+use hist_types::types::KeyOrder;
 use std::alloc::AllocError;
 
 /// What is done with a history.
@@ -7,19 +8,23 @@ use std::alloc::AllocError;
 pub enum Command {
     /// Print the aborted and the intermediate reads, and how many reads return what nobody wrote.
     Reads,
-    /// Print the dependency edges between transactions.
-    Edges,
-    /// Print which phenomena the history has, with what shows each.
-    Check,
+    /// Print the dependency edges between transactions, of keys of this order.
+    Edges(KeyOrder),
+    /// Print which phenomena the history has, with what shows each, of keys of this order.
+    Check(KeyOrder),
 }
 
 /// What a command line asks for.
 #[derive(Debug, Drop)]
 pub enum Asked {
     Run(Command),
-    /// A session for each pair of paths, all at a journal of so many cells. Of a pair the first path is read from, and the
-    /// second one is written to.
-    Serve { cells: usize, paths: Vec<String> },
+    /// A session for each pair of paths, all at a journal of this many cells and with keys of this order. Of a pair the first
+    /// path is read from, and the second one is written to.
+    Serve {
+        cells: usize,
+        keys: KeyOrder,
+        paths: Vec<String>,
+    },
 }
 
 /// Why a command line asks for nothing that can be done.

@@ -6,12 +6,14 @@ ghost use Rattle.std.specs.IoError.{error_kind};
 ghost use Rattle.std.specs.List.{list_all};
 ghost use Rattle.std.specs.declared.io.ErrorKind.TheVariants.{OutOfMemory};
 ghost use Rattle.clap.specs.Words.{app_of, first_of, found_of, kind_of, rows_of, rule_of, subcommand_rows_of};
-ghost use Rattle.command_line.specs.Lines.{cells_rule, paths_rule, program_app, cells_in, come_in_pairs, AreForSessions, AsksForSessions, IsAskedBy, first_line, AskFor, AskForHelp, MayAskForHelp, IsComplaint, Helps, SaysWhatIsWrong};
+ghost use Rattle.command_line.specs.Lines.{cells_rule, keys_rule, paths_rule, program_app, cells_in, keys_in, HasKeys, come_in_pairs, AreForSessions, AsksForSessions, IsAskedBy, first_line, AskFor, AskForHelp, MayAskForHelp, IsComplaint, Helps, SaysWhatIsWrong};
 ghost use Rattle.command_line.specs.declared.types.Asked.{Asked};
+ghost use Rattle.hist_types.specs.declared.types.KeyOrder.{KeyOrder};
 
 use crate::types::{Asked, Command, LineFault};
 use clap::error::ErrorKind;
 use hist_types::limits::MAX_CELLS;
+use hist_types::types::KeyOrder;
 use std::alloc::{AllocError, Global};
 use std::io;
 
@@ -19,8 +21,10 @@ use std::io;
 const HELP: &str = "\
 jepcheck 0.1.0: reports where a run of a Jepsen test broke strict serializability.
 
-Usage: jepcheck COMMAND < HISTORY
-       jepcheck serve [--cells N] IN OUT [IN OUT ...]
+Usage: jepcheck check [--keys ORDER] < HISTORY
+       jepcheck reads < HISTORY
+       jepcheck edges [--keys ORDER] < HISTORY
+       jepcheck serve [--cells N] [--keys ORDER] IN OUT [IN OUT ...]
 
 Commands:
   check    print which of the phenomena G0, G1a, G1b, G1c, G-single and G2-item the history has, each with the
@@ -34,6 +38,11 @@ Commands:
   serve    check a run while it goes on: of each pair of files or named pipes read IN line by line, and write a
            reply to each line to OUT. A line is operations, `read FROM TO`, `verdict` or `quit`. All pairs share one
            journal of N cells, 65536 if not given and 1048576 at most, and each line of operations takes one
+
+Options:
+  --keys ORDER  how check, edges and serve order the versions of a key: by what each transaction shows by itself
+                (basic, the default), or also by what each process sees in turn (sequential). Give sequential
+                only if each register is sequentially consistent for each client
 
 The history is read from standard input, to its end. It is the file history.edn that Jepsen leaves in the
 folder of a test whose operations are transactions over registers: `:f :txn`, with reads [:r key value] and
@@ -72,6 +81,17 @@ fn cells_option<'a>(alloc: Global) -> clap::Arg<'a>
         .default_value("65536")
 }
 
+/// Which order the versions of a key have, by its name, which `keys_in` checks.
+fn keys_option<'a>(alloc: Global) -> clap::Arg<'a>
+    ensures rule { rule_of result ≡ keys_rule }
+    ensures local { result.global ≡ false }
+{
+    clap::Arg::new(alloc, "keys")
+        .long("keys")
+        .value_name("ORDER")
+        .default_value("basic")
+}
+
 /// The paths of `serve`, two at least.
 fn paths_argument<'a>(alloc: Global) -> clap::Arg<'a>
     ensures rule { rule_of result ≡ paths_rule }
@@ -87,14 +107,18 @@ fn paths_argument<'a>(alloc: Global) -> clap::Arg<'a>
 fn program<'a>(alloc: Global) -> Result<clap::Command<'a>, AllocError>
     ensures { IfOk result (λ program. app_of program ≡ program_app) }
 {
+    let reads = clap::Command::new(alloc, "reads");
+    let edges = clap::Command::new(alloc, "edges").arg(keys_option(alloc))?;
+    let check = clap::Command::new(alloc, "check").arg(keys_option(alloc))?;
     let serve = clap::Command::new(alloc, "serve")
         .arg(cells_option(alloc))?
+        .arg(keys_option(alloc))?
         .arg(paths_argument(alloc))?;
     clap::Command::new(alloc, "jepcheck")
         .subcommand_required(true)
-        .subcommand(clap::Command::new(alloc, "reads"))?
-        .subcommand(clap::Command::new(alloc, "edges"))?
-        .subcommand(clap::Command::new(alloc, "check"))?
+        .subcommand(reads)?
+        .subcommand(edges)?
+        .subcommand(check)?
         .subcommand(serve)
 }
 
@@ -185,6 +209,17 @@ fn cells_in(text: &str) -> Option<usize>
     }
 }
 
+/// The order of keys that has this name.
+fn keys_in(text: &str) -> Option<KeyOrder>
+    ensures { result ≡ keys_in text.now }
+{
+    match text {
+        "basic" => Some(KeyOrder::Basic),
+        "sequential" => Some(KeyOrder::Sequential),
+        _ => None,
+    }
+}
+
 /// Whether paths come in pairs, of which there is one at least, and no more than seats can be numbered.
 fn come_in_pairs(paths: &[&str]) -> bool
     ensures { result ≡ come_in_pairs (map (λ path. path.now) paths.now) }
@@ -212,11 +247,35 @@ fn cells_found(serve: &clap::ArgMatches<'_>) -> Option<usize>
     cells_in(serve.get_str("cells")?)
 }
 
+/// Which order of keys is named, where a command was met with these arguments.
+fn keys_found(command: &clap::ArgMatches<'_>) -> Option<KeyOrder>
+    ensures { result ≡ option_and_then keys_in
+        (first_of (codes "keys") (rows_of (found_of command.now))) }
+{
+    keys_in(command.get_str("keys")?)
+}
+
+/// Which order of keys is asked for, where a command was met with these arguments.
+fn keys_asked(alloc: Global, command: &clap::ArgMatches<'_>) -> Result<KeyOrder, LineFault>
+    ensures only { IfOk result (λ keys. HasKeys keys (rows_of (found_of command.now))) }
+    ensures asked { IfErr result (λ _.
+        (keys : KeyOrder) → ¬ HasKeys keys (rows_of (found_of command.now))) }
+    ensures wrong { IfErr result SaysWhatIsWrong }
+{
+    match keys_found(command) {
+        Some(keys) => Ok(keys),
+        None => Err(wrong(
+            alloc,
+            "error: the value of '--keys <ORDER>' is neither basic nor sequential",
+        )),
+    }
+}
+
 /// What is asked for where `serve` was met with these arguments.
 fn sessions_asked(alloc: Global, serve: &clap::ArgMatches<'_>) -> Result<Asked, LineFault>
     ensures only { IfOk result (λ asked. AsksForSessions asked (rows_of (found_of serve.now))) }
-    ensures asked { (cells : ℕ) (paths : List (List ℕ))
-        → AreForSessions cells paths (rows_of (found_of serve.now))
+    ensures asked { (cells : ℕ) (keys : KeyOrder) (paths : List (List ℕ))
+        → AreForSessions cells keys paths (rows_of (found_of serve.now))
         → IfErr result (λ fault. fault ≡ LineFault.Memory) }
     ensures wrong { IfErr result SaysWhatIsWrong }
 {
@@ -226,9 +285,11 @@ fn sessions_asked(alloc: Global, serve: &clap::ArgMatches<'_>) -> Result<Asked, 
             "error: the value of '--cells <N>' is not written in digits",
         ));
     };
+    let keys = keys_asked(alloc, serve)?;
     match serve.get_raw("paths") {
         Some(paths) if come_in_pairs(paths) => Ok(Asked::Serve {
             cells,
+            keys,
             paths: copies(alloc, paths)?,
         }),
         _ => Err(wrong(
@@ -245,13 +306,11 @@ fn asked_by(alloc: Global, matches: &clap::ArgMatches<'_>) -> Result<Asked, Line
         → IfErr result (λ fault. fault ≡ LineFault.Memory) }
     ensures wrong { IfErr result SaysWhatIsWrong }
 {
-    if let Some(serve) = matches.subcommand_matches("serve") {
-        return sessions_asked(alloc, serve);
-    }
-    match matches.subcommand_name() {
-        Some("reads") => Ok(Asked::Run(Command::Reads)),
-        Some("edges") => Ok(Asked::Run(Command::Edges)),
-        Some("check") => Ok(Asked::Run(Command::Check)),
+    match matches.subcommand() {
+        Some(("reads", _)) => Ok(Asked::Run(Command::Reads)),
+        Some(("edges", edges)) => Ok(Asked::Run(Command::Edges(keys_asked(alloc, edges)?))),
+        Some(("check", check)) => Ok(Asked::Run(Command::Check(keys_asked(alloc, check)?))),
+        Some(("serve", serve)) => sessions_asked(alloc, serve),
         _ => Err(wrong(alloc, "error: no command is named")),
     }
 }

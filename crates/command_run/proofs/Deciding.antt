@@ -11,6 +11,7 @@ use Rattle.hist_types.specs.Witness.{Finding, IsFinding}
 use Rattle.hist_types.specs.declared.types.Level.{Level}
 use Rattle.hist_types.specs.declared.types.Level.TheVariants.{Plain, Process, Realtime}
 use Rattle.hist_types.specs.declared.types.Phenomenon.{Phenomenon}
+use Rattle.hist_types.specs.declared.types.KeyOrder.{KeyOrder}
 use Rattle.hist_types.proofs.Members.{In, in_from_Contains, Contains_from_in, in_filter, in_filtered, passes_filter}
 use Rattle.history_laws.proofs.ThinningCycles.{closed_by_one}
 use Rattle.history_laws.proofs.ThinningPaths.{leads_on, all_of_both}
@@ -165,12 +166,12 @@ closes_of phenomenon es r =
       back = record { walk = r.3; leads = r.4.leads; within = within_filtered (may_lead_back phenomenon) es r.3 (within_in es r.3 r.4.within) r.4.kinds };
     }
 
-has_decided : (phenomenon : Phenomenon) (level : Level) (ts : List Transaction) → Decided (IsThere phenomenon level ts)
-has_decided phenomenon level ts = by_closing (closes_decided phenomenon (edges_at level ts) (edges_at level ts))
+has_decided : (keys : KeyOrder) (phenomenon : Phenomenon) (level : Level) (ts : List Transaction) → Decided (IsThere keys phenomenon level ts)
+has_decided keys phenomenon level ts = by_closing (closes_decided phenomenon (edges_at keys level ts) (edges_at keys level ts))
   where
-    by_closing : Decided (Closes phenomenon (edges_at level ts) (edges_at level ts)) → Decided (IsThere phenomenon level ts)
-    by_closing (inl c) = inl ((closed_by_one phenomenon (edges_at level ts)).1 (return_of phenomenon (edges_at level ts) c))
-    by_closing (inr none) = inr (λ h. none (closes_of phenomenon (edges_at level ts) ((closed_by_one phenomenon (edges_at level ts)).0 h)))
+    by_closing : Decided (Closes phenomenon (edges_at keys level ts) (edges_at keys level ts)) → Decided (IsThere keys phenomenon level ts)
+    by_closing (inl c) = inl ((closed_by_one phenomenon (edges_at keys level ts)).1 (return_of phenomenon (edges_at keys level ts) c))
+    by_closing (inr none) = inr (λ h. none (closes_of phenomenon (edges_at keys level ts) ((closed_by_one phenomenon (edges_at keys level ts)).0 h)))
 
 -- ---- findings
 
@@ -178,35 +179,35 @@ none_below : (level : Level) → height level < 0 → ⊥
 none_below level below = omega (arith, below)
 
 -- what is reported of a phenomenon that is there at a level and at none below
-found_at : (phenomenon : Phenomenon) (level : Level) (events : List Operation) → IsThere phenomenon level (transactions_of events) → ((lower : Level) → height lower < height level → ¬ IsThere phenomenon lower (transactions_of events)) → (found : Option Finding) × IsFinding phenomenon (transactions_of events) found
-found_at phenomenon level events here none_lower =
-    let witness = (has_witness phenomenon level events).0 here in
+found_at : (keys : KeyOrder) (phenomenon : Phenomenon) (level : Level) (events : List Operation) → IsThere keys phenomenon level (transactions_of events) → ((lower : Level) → height lower < height level → ¬ IsThere keys phenomenon lower (transactions_of events)) → (found : Option Finding) × IsFinding keys phenomenon (transactions_of events) found
+found_at keys phenomenon level events here none_lower =
+    let witness = (has_witness keys phenomenon level events).0 here in
     (Some (record { level = level; walk = witness.0 }), ((here, none_lower), witness.1))
 
 -- each phenomenon has a finding
-pub has_finding : (phenomenon : Phenomenon) (events : List Operation) → (found : Option Finding) × IsFinding phenomenon (transactions_of events) found
-has_finding phenomenon events = by_levels (has_decided phenomenon Plain ts) (has_decided phenomenon Process ts) (has_decided phenomenon Realtime ts)
+pub has_finding : (keys : KeyOrder) (phenomenon : Phenomenon) (events : List Operation) → (found : Option Finding) × IsFinding keys phenomenon (transactions_of events) found
+has_finding keys phenomenon events = by_levels (has_decided keys phenomenon Plain ts) (has_decided keys phenomenon Process ts) (has_decided keys phenomenon Realtime ts)
   where
     ts : List Transaction
     ts = transactions_of events
 
-    below_process : ¬ IsThere phenomenon Plain ts → (lower : Level) → height lower < 1 → ¬ IsThere phenomenon lower ts
+    below_process : ¬ IsThere keys phenomenon Plain ts → (lower : Level) → height lower < 1 → ¬ IsThere keys phenomenon lower ts
     below_process not_plain Plain below = not_plain
     below_process not_plain Process below = absurd (omega (arith, below))
     below_process not_plain Realtime below = absurd (omega (arith, below))
 
-    below_realtime : ¬ IsThere phenomenon Plain ts → ¬ IsThere phenomenon Process ts → (lower : Level) → height lower < 2 → ¬ IsThere phenomenon lower ts
+    below_realtime : ¬ IsThere keys phenomenon Plain ts → ¬ IsThere keys phenomenon Process ts → (lower : Level) → height lower < 2 → ¬ IsThere keys phenomenon lower ts
     below_realtime not_plain not_process Plain below = not_plain
     below_realtime not_plain not_process Process below = not_process
     below_realtime not_plain not_process Realtime below = absurd (omega (arith, below))
 
-    at_none : ¬ IsThere phenomenon Plain ts → ¬ IsThere phenomenon Process ts → ¬ IsThere phenomenon Realtime ts → (level : Level) → ¬ IsThere phenomenon level ts
+    at_none : ¬ IsThere keys phenomenon Plain ts → ¬ IsThere keys phenomenon Process ts → ¬ IsThere keys phenomenon Realtime ts → (level : Level) → ¬ IsThere keys phenomenon level ts
     at_none not_plain not_process not_realtime Plain = not_plain
     at_none not_plain not_process not_realtime Process = not_process
     at_none not_plain not_process not_realtime Realtime = not_realtime
 
-    by_levels : Decided (IsThere phenomenon Plain ts) → Decided (IsThere phenomenon Process ts) → Decided (IsThere phenomenon Realtime ts) → (found : Option Finding) × IsFinding phenomenon ts found
-    by_levels (inl plain) process realtime = found_at phenomenon Plain events plain (λ lower below. absurd (none_below lower below))
-    by_levels (inr not_plain) (inl process) realtime = found_at phenomenon Process events process (below_process not_plain)
-    by_levels (inr not_plain) (inr not_process) (inl realtime) = found_at phenomenon Realtime events realtime (below_realtime not_plain not_process)
+    by_levels : Decided (IsThere keys phenomenon Plain ts) → Decided (IsThere keys phenomenon Process ts) → Decided (IsThere keys phenomenon Realtime ts) → (found : Option Finding) × IsFinding keys phenomenon ts found
+    by_levels (inl plain) process realtime = found_at keys phenomenon Plain events plain (λ lower below. absurd (none_below lower below))
+    by_levels (inr not_plain) (inl process) realtime = found_at keys phenomenon Process events process (below_process not_plain)
+    by_levels (inr not_plain) (inr not_process) (inl realtime) = found_at keys phenomenon Realtime events realtime (below_realtime not_plain not_process)
     by_levels (inr not_plain) (inr not_process) (inr not_realtime) = (None, (at_none not_plain not_process not_realtime, tt))

@@ -16,6 +16,7 @@ use Rattle.hist_types.specs.declared.types.Level.{Level}
 use Rattle.hist_types.specs.declared.types.Level.TheVariants.{Plain, Process, Realtime}
 use Rattle.hist_types.specs.declared.types.Phenomenon.{Phenomenon}
 use Rattle.hist_types.specs.declared.types.Phenomenon.TheVariants.{G0, G1c, GSingle, G2Item}
+use Rattle.hist_types.specs.declared.types.KeyOrder.{KeyOrder}
 use Rattle.block_reader.specs.Texts.{GivesOperations, GivesFault}
 use Rattle.command_run.specs.Answers.{GivesEvents, journal_fault, IsRefused, IsVerdict, Reports, IsReport, IsAnswer}
 use Rattle.command_run.specs.SameAnswers.{level_found, DifferInWitnessesAlone}
@@ -73,26 +74,26 @@ judged command text statuses.DeviceFault printed given a = absurd a
 judged command text statuses.Memory printed given a = absurd (given refl)
 
 -- a phenomenon is found or not
-same_finding : (phenomenon : Phenomenon) (ts : List Transaction) (found other : Option Finding) → IsFinding phenomenon ts found → IsFinding phenomenon ts other → is_some found ≡ is_some other
-same_finding phenomenon ts None None one two = refl
-same_finding phenomenon ts (Some f) (Some g) one two = refl
-same_finding phenomenon ts None (Some g) one two = absurd (one.0 g.level two.0.0)
-same_finding phenomenon ts (Some f) None one two = absurd (two.0 f.level one.0.0)
+same_finding : (keys : KeyOrder) (phenomenon : Phenomenon) (ts : List Transaction) (found other : Option Finding) → IsFinding keys phenomenon ts found → IsFinding keys phenomenon ts other → is_some found ≡ is_some other
+same_finding keys phenomenon ts None None one two = refl
+same_finding keys phenomenon ts (Some f) (Some g) one two = refl
+same_finding keys phenomenon ts None (Some g) one two = absurd (one.0 g.level two.0.0)
+same_finding keys phenomenon ts (Some f) None one two = absurd (two.0 f.level one.0.0)
 
-same_named : (events : List Operation) (r s : Report) → IsVerdictOf events r → IsVerdictOf events s → names_phenomenon r ≡ names_phenomenon s
-same_named events r s one two =
+same_named : (keys : KeyOrder) (events : List Operation) (r s : Report) → IsVerdictOf keys events r → IsVerdictOf keys events s → names_phenomenon r ≡ names_phenomenon s
+same_named keys events r s one two =
     rw (
-      same_finding _ _ r.findings.g0 s.findings.g0 (one.findings G0) (two.findings G0),
-      same_finding _ _ r.findings.g1c s.findings.g1c (one.findings G1c) (two.findings G1c),
-      same_finding _ _ r.findings.single s.findings.single (one.findings GSingle) (two.findings GSingle),
-      same_finding _ _ r.findings.item s.findings.item (one.findings G2Item) (two.findings G2Item),
+      same_finding keys _ _ r.findings.g0 s.findings.g0 (one.findings G0) (two.findings G0),
+      same_finding keys _ _ r.findings.g1c s.findings.g1c (one.findings G1c) (two.findings G1c),
+      same_finding keys _ _ r.findings.single s.findings.single (one.findings GSingle) (two.findings GSingle),
+      same_finding keys _ _ r.findings.item s.findings.item (one.findings G2Item) (two.findings G2Item),
       one.g1a ∙ sym two.g1a,
       one.g1b ∙ sym two.g1b,
     ) refl
 
-same_status : (events : List Operation) (status other : Status) (printed lines : List ℕ) → IsVerdict events status printed → IsVerdict events other lines → status ≡ other
-same_status events status other printed lines one two =
-    one.status_is ∙ (ap status_by (same_named events one.report two.report one.is_verdict two.is_verdict) ∙ sym two.status_is)
+same_status : (keys : KeyOrder) (events : List Operation) (status other : Status) (printed lines : List ℕ) → IsVerdict keys events status printed → IsVerdict keys events other lines → status ≡ other
+same_status keys events status other printed lines one two =
+    one.status_is ∙ (ap status_by (same_named keys events one.report two.report one.is_verdict two.is_verdict) ∙ sym two.status_is)
 
 -- levels of which none is below the other
 one_height : (a b : Level) → ¬ (height a < height b) → ¬ (height b < height a) → a ≡ b
@@ -107,16 +108,16 @@ one_height Realtime Process n m = absurd (m (omega arith))
 one_height Realtime Realtime n m = refl
 
 -- a phenomenon is found at one level
-same_level : (phenomenon : Phenomenon) (ts : List Transaction) (found other : Option Finding) → IsFinding phenomenon ts found → IsFinding phenomenon ts other → level_found found ≡ level_found other
-same_level phenomenon ts None None one two = refl
-same_level phenomenon ts (Some f) (Some g) one two =
+same_level : (keys : KeyOrder) (phenomenon : Phenomenon) (ts : List Transaction) (found other : Option Finding) → IsFinding keys phenomenon ts found → IsFinding keys phenomenon ts other → level_found found ≡ level_found other
+same_level keys phenomenon ts None None one two = refl
+same_level keys phenomenon ts (Some f) (Some g) one two =
     ap Some (one_height f.level g.level (λ below. two.0.1 f.level below one.0.0) (λ below. one.0.1 g.level below two.0.0))
-same_level phenomenon ts None (Some g) one two = absurd (one.0 g.level two.0.0)
-same_level phenomenon ts (Some f) None one two = absurd (two.0 f.level one.0.0)
+same_level keys phenomenon ts None (Some g) one two = absurd (one.0 g.level two.0.0)
+same_level keys phenomenon ts (Some f) None one two = absurd (two.0 f.level one.0.0)
 
 -- verdicts on the same events differ in witnesses alone
-same_verdicts : (events : List Operation) (status other : Status) (printed lines : List ℕ) → IsVerdict events status printed → IsVerdict events other lines → DifferInWitnessesAlone printed lines
-same_verdicts events status other printed lines one two = (
+same_verdicts : (keys : KeyOrder) (events : List Operation) (status other : Status) (printed lines : List ℕ) → IsVerdict keys events status printed → IsVerdict keys events other lines → DifferInWitnessesAlone printed lines
+same_verdicts keys events status other printed lines one two = (
   one.report,
   two.report,
   one.text,
@@ -125,7 +126,7 @@ same_verdicts events status other printed lines one two = (
     prefix = one.is_verdict.prefix ∙ sym two.is_verdict.prefix;
     txns = one.is_verdict.txns ∙ sym two.is_verdict.txns;
     levels = λ phenomenon.
-        same_level phenomenon (transactions_of events) (finding one.report.findings phenomenon) (finding two.report.findings phenomenon)
+        same_level keys phenomenon (transactions_of events) (finding one.report.findings phenomenon) (finding two.report.findings phenomenon)
         (one.is_verdict.findings phenomenon) (two.is_verdict.findings phenomenon);
     g1a = one.is_verdict.g1a ∙ sym two.is_verdict.g1a;
     g1b = one.is_verdict.g1b ∙ sym two.is_verdict.g1b;
@@ -135,16 +136,16 @@ same_verdicts events status other printed lines one two = (
 
 -- one status, and except for a verdict one output with it
 abbrev IsSame : Command → (status other : Status) → (printed others : List ℕ) → Type 0
-IsSame command status other printed others = (status ≡ other) × (command ≢ the_check → printed ≡ others)
+IsSame command status other printed others = (status ≡ other) × (((keys : KeyOrder) → command ≢ the_check keys) → printed ≡ others)
 
 -- events have one report
 one_report : (command : Command) (events others : List Operation) (status other : Status) (printed lines : List ℕ) → events ≡ others
     → Reports command events status printed → Reports command others other lines → IsSame command status other printed lines
 one_report the_reads events others status other printed lines same one two =
     (one.0 ∙ (ap (λ (es : List Operation). status_by (names_read (reads_report es))) same ∙ sym two.0), λ no_check. one.1 ∙ (ap (λ (es : List Operation). reads_text (reads_report es)) same ∙ sym two.1))
-one_report the_edges events others status other printed lines same one two = (one.0 ∙ sym two.0, λ no_check. one.1 ∙ (ap (λ (es : List Operation). edges_text (edges_report es)) same ∙ sym two.1))
-one_report the_check events others status other printed lines same one two =
-    (same_status events status other printed lines one (subst (λ (es : List Operation). IsVerdict es other lines) (sym same) two), λ no_check. absurd (no_check refl))
+one_report (the_edges keys) events others status other printed lines same one two = (one.0 ∙ sym two.0, λ no_check. one.1 ∙ (ap (λ (es : List Operation). edges_text (edges_report keys es)) same ∙ sym two.1))
+one_report (the_check keys) events others status other printed lines same one two =
+    (same_status keys events status other printed lines one (subst (λ (es : List Operation). IsVerdict keys es other lines) (sym same) two), λ no_check. absurd (no_check keys refl))
 
 -- a text that has one reading has one answer
 pub one_answer : ((text : List ℕ) → HasOneReading (Reads text)) → (command : Command) (text : List ℕ) (status other : Status) (printed others : List ℕ) → status ≢ statuses.Memory → other ≢ statuses.Memory
@@ -167,8 +168,8 @@ one_refusal one_reading command text printed others one two =
     one.2 ∙ (ap refusal_line (same_refusal text (one_reading text) one.0 two.0 one.1 two.1) ∙ sym two.2)
 
 -- the reports of `check` on a text differ in witnesses alone
-pub one_verdict : ((text : List ℕ) → HasOneReading (Reads text)) → (text : List ℕ) (status other : Status) (printed others : List ℕ)
-    → IsReport the_check text status printed → IsReport the_check text other others → DifferInWitnessesAlone printed others
-one_verdict one_reading text status other printed others r s =
+pub one_verdict : ((text : List ℕ) → HasOneReading (Reads text)) → (keys : KeyOrder) (text : List ℕ) (status other : Status) (printed others : List ℕ)
+    → IsReport (the_check keys) text status printed → IsReport (the_check keys) text other others → DifferInWitnessesAlone printed others
+one_verdict one_reading keys text status other printed others r s =
     let same = same_operations text (one_reading text) r.events s.events r.given.given s.given.given in
-    same_verdicts r.events status other printed others r.reported (subst (λ (es : List Operation). IsVerdict es other others) (sym same) s.reported)
+    same_verdicts keys r.events status other printed others r.reported (subst (λ (es : List Operation). IsVerdict keys es other others) (sym same) s.reported)

@@ -42,9 +42,9 @@ reported the_reads text events given = by_reads (names_read (reads_report events
         (statuses.SomePhenomenon, reads_text (reads_report events), not_memory statuses.SomePhenomenon refl, record { events = events; given = given; reported = (rw e refl, refl) })
     by_reads false e =
         (statuses.NoPhenomenon, reads_text (reads_report events), not_memory statuses.NoPhenomenon refl, record { events = events; given = given; reported = (rw e refl, refl) })
-reported the_edges text events given =
-    (statuses.NoPhenomenon, edges_text (edges_report events), not_memory statuses.NoPhenomenon refl, record { events = events; given = given; reported = (refl, refl) })
-reported the_check text events given = by_named (names_phenomenon report) refl
+reported (the_edges keys) text events given =
+    (statuses.NoPhenomenon, edges_text (edges_report keys events), not_memory statuses.NoPhenomenon refl, record { events = events; given = given; reported = (refl, refl) })
+reported (the_check keys) text events given = by_named (names_phenomenon report) refl
   where
     ts : List Transaction
     ts = transactions_of events
@@ -56,29 +56,29 @@ reported the_check text events given = by_named (names_phenomenon report) refl
           txns = length ts;
           findings =
               record {
-                g0 = (has_finding G0 events).0;
-                g1c = (has_finding G1c events).0;
-                single = (has_finding GSingle events).0;
-                item = (has_finding G2Item events).0;
+                g0 = (has_finding keys G0 events).0;
+                g1c = (has_finding keys G1c events).0;
+                single = (has_finding keys GSingle events).0;
+                item = (has_finding keys G2Item events).0;
               };
           g1a = g1a ts;
           g1b = g1b ts;
           stray = stray ts;
         }
 
-    each : AreFindings ts report.findings
-    each G0 = (has_finding G0 events).1
-    each G1c = (has_finding G1c events).1
-    each GSingle = (has_finding GSingle events).1
-    each G2Item = (has_finding G2Item events).1
+    each : AreFindings keys ts report.findings
+    each G0 = (has_finding keys G0 events).1
+    each G1c = (has_finding keys G1c events).1
+    each GSingle = (has_finding keys GSingle events).1
+    each G2Item = (has_finding keys G2Item events).1
 
-    verdict : IsVerdictOf events report
+    verdict : IsVerdictOf keys events report
     verdict = record { prefix = refl; txns = refl; findings = each; g1a = refl; g1b = refl; stray = refl }
 
-    with_status : (status : Status) → status ≡ status_by (names_phenomenon report) → IsVerdict events status (verdict_text report)
+    with_status : (status : Status) → status ≡ status_by (names_phenomenon report) → IsVerdict keys events status (verdict_text report)
     with_status status is = record { report = report; is_verdict = verdict; text = refl; status_is = is }
 
-    by_named : (named : Bool) → names_phenomenon report ≡ named → HasAnswer the_check text
+    by_named : (named : Bool) → names_phenomenon report ≡ named → HasAnswer (the_check keys) text
     by_named true e =
         (statuses.SomePhenomenon, verdict_text report, not_memory statuses.SomePhenomenon refl, record { events = events; given = given; reported = with_status statuses.SomePhenomenon (rw e refl) })
     by_named false e =

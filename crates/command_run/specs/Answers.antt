@@ -6,6 +6,8 @@ use Rattle.hist_types.specs.Refusals.{event_fault, memory_fault}
 use Rattle.hist_types.specs.Reports.{Report, IsVerdictOf, names_phenomenon, reads_report, names_read, edges_report}
 use Rattle.hist_types.specs.Texts.{reads_text, edges_text, verdict_text, refusal_line}
 use Rattle.hist_types.specs.declared.types.Fault.{Fault}
+use Rattle.hist_types.specs.declared.types.KeyOrder.{KeyOrder}
+use Rattle.hist_types.specs.declared.types.KeyOrder.TheVariants.{Basic}
 use Rattle.block_reader.specs.Texts.{GivesOperations, GivesFault}
 use Rattle.command_run.specs.Statuses.{status_by}
 use Rattle.command_run.specs.declared.answer.Status.{Status}
@@ -33,20 +35,27 @@ abbrev pub IsRefused : List ℕ → Fault → Type 0
 IsRefused text fault = GivesFault text fault ⊎ BreaksRule text fault
 
 -- the text of a verdict of the events, with status 1 exactly where it names a phenomenon
-pub record IsVerdict (events : List Operation) (status : Status) (printed : List ℕ) : Type 0 where
+pub record IsVerdict (keys : KeyOrder) (events : List Operation) (status : Status)
+    (printed : List ℕ) : Type 0 where
   pub report : Report
-  pub is_verdict : IsVerdictOf events report
+  pub is_verdict : IsVerdictOf keys events report
   pub text : printed ≡ verdict_text report
   pub status_is : status ≡ status_by (names_phenomenon report)
+
+-- the order of keys that a command rests on, where it rests on one
+abbrev pub keys_of : Command → KeyOrder
+keys_of commands.Reads = Basic
+keys_of (commands.Edges keys) = keys
+keys_of (commands.Check keys) = keys
 
 -- what a command prints of the events, and the status with it
 abbrev pub Reports : Command → List Operation → Status → List ℕ → Type 0
 Reports commands.Reads events status printed =
     (status ≡ status_by (names_read (reads_report events)))
     × (printed ≡ reads_text (reads_report events))
-Reports commands.Edges events status printed =
-    (status ≡ statuses.NoPhenomenon) × (printed ≡ edges_text (edges_report events))
-Reports commands.Check events status printed = IsVerdict events status printed
+Reports (commands.Edges keys) events status printed =
+    (status ≡ statuses.NoPhenomenon) × (printed ≡ edges_text (edges_report keys events))
+Reports (commands.Check keys) events status printed = IsVerdict keys events status printed
 
 -- the report of a command on the events that the text gives
 pub record IsReport (command : Command) (text : List ℕ) (status : Status)

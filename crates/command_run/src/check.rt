@@ -35,9 +35,9 @@ pub fn report<R: Threads + Sync>(
     tables: &Tables<'_>,
 ) -> Result<Answer, Fault>
     requires kept { KeepsRules events.now }
-    requires tables { AreTablesOf events.now tables.now }
+    requires tables { AreTablesOf tables.now.versions.keys events.now tables.now }
     ensures ok { IfOk result
-        (λ answer. Reports Check events.now answer.status answer.printed.items) }
+        (λ answer. Reports (Check tables.now.versions.keys) events.now answer.status answer.printed.items) }
     ensures err { IfErr result (λ fault. fault ≡ memory_fault) }
 {
     let verdict = verdict_from_wide(rt, alloc, events, tables)?;

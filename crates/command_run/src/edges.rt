@@ -18,9 +18,9 @@ use verdict::tables::Tables;
 /// What `edges` prints of events that keep the rules. It fails only where it is out of memory.
 pub fn report(alloc: Global, events: &Events<'_>, tables: &Tables<'_>) -> Result<Answer, Fault>
     requires kept { KeepsRules events.now }
-    requires tables { AreTablesOf events.now tables.now }
+    requires tables { AreTablesOf tables.now.versions.keys events.now tables.now }
     ensures ok { IfOk result
-        (λ answer. Reports Edges events.now answer.status answer.printed.items) }
+        (λ answer. Reports (Edges tables.now.versions.keys) events.now answer.status answer.printed.items) }
     ensures err { IfErr result (λ fault. fault ≡ memory_fault) }
 {
     let txns = &tables.txns;

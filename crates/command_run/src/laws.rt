@@ -1,6 +1,7 @@
 //! Laws of the commands.
 
 ghost use Rattle.std.specs.Prelude.{◌≡◌, ◌≢◌, ℕ, List, codes};
+ghost use Rattle.hist_types.specs.declared.types.KeyOrder.{KeyOrder};
 ghost use Rattle.command_run.specs.Answers.{IsAnswer, IsReport, HasAnswer};
 ghost use Rattle.command_run.specs.Refuted.{EndsWith, HasNoExplanation};
 ghost use Rattle.command_run.specs.SameAnswers.{DifferInWitnessesAlone};
@@ -12,7 +13,7 @@ ghost use Rattle.command_line.specs.declared.types.Command.TheVariants.{Check};
 use reading_laws::texts_have_one_reading;
 
 /// A text has one answer of a command at most, other than the one that is out of memory: one status, and one output with it.
-/// Only two reports of `check` may differ, in their witnesses alone.
+/// Only two reports of `check` over keys of one order may differ, in their witnesses alone.
 pub fn one_answer_to_a_text()
     ensures status { (command : Command) (text : List ℕ)
         (status other : Status) (printed others : List ℕ) → status ≢ Memory → other ≢ Memory
@@ -20,14 +21,14 @@ pub fn one_answer_to_a_text()
         → status ≡ other }
     ensures printed { (command : Command) (text : List ℕ)
         (status other : Status) (printed others : List ℕ) → status ≢ Memory → other ≢ Memory
-        → command ≢ Check
+        → ((keys : KeyOrder) → command ≢ Check keys)
         → IsAnswer command text status printed → IsAnswer command text other others
         → printed ≡ others }
     ensures refused { (command : Command) (text : List ℕ) (printed others : List ℕ)
         → IsAnswer command text Refused printed → IsAnswer command text Refused others
         → printed ≡ others }
-    ensures check { (text : List ℕ) (status other : Status) (printed others : List ℕ)
-        → IsReport Check text status printed → IsReport Check text other others
+    ensures check { (keys : KeyOrder) (text : List ℕ) (status other : Status) (printed others : List ℕ)
+        → IsReport (Check keys) text status printed → IsReport (Check keys) text other others
         → DifferInWitnessesAlone printed others }
 {
     texts_have_one_reading();
@@ -43,10 +44,10 @@ pub fn an_answer_to_each_text()
 /// A history that `check` refutes isn't strictly serializable: where it ends with status 1, or prints `strict refuted` at the
 /// end, no order explains the history that it read.
 pub fn refuted_histories_have_no_explanation()
-    ensures status { (text printed : List ℕ)
-        → IsAnswer Check text SomePhenomenon printed → HasNoExplanation text }
-    ensures line { (text : List ℕ) (status : Status) (printed : List ℕ)
-        → IsReport Check text status printed → EndsWith printed (codes "strict refuted\n")
+    ensures status { (keys : KeyOrder) (text printed : List ℕ)
+        → IsAnswer (Check keys) text SomePhenomenon printed → HasNoExplanation text }
+    ensures line { (keys : KeyOrder) (text : List ℕ) (status : Status) (printed : List ℕ)
+        → IsReport (Check keys) text status printed → EndsWith printed (codes "strict refuted\n")
         → HasNoExplanation text }
 {
     texts_have_one_reading();

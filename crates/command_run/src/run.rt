@@ -5,7 +5,7 @@ ghost use Rattle.hist_types.specs.Journal.{KeepsRules};
 ghost use Rattle.hist_types.specs.Refusals.{memory_fault};
 ghost use Rattle.block_reader.specs.Blocks.{operations_in};
 ghost use Rattle.hist_types.specs.Pieces.{HasTaken, HasTakenInPart};
-ghost use Rattle.command_run.specs.Answers.{IsAnswer, IsRefused, Reports};
+ghost use Rattle.command_run.specs.Answers.{IsAnswer, IsRefused, Reports, keys_of};
 ghost use Rattle.command_run.specs.Judged.{IsFirstBrokenBy};
 ghost use Rattle.command_run.specs.Runs.{HasPrintedMemory, HasRun};
 
@@ -16,12 +16,22 @@ use crate::{check, edges, reads};
 use block_reader::reading::read_blocks;
 use command_line::types::Command;
 use hist_types::device::{Failed, Sink, Source};
-use hist_types::types::{Fault, Refusal};
+use hist_types::types::{Fault, KeyOrder, Refusal};
 use hist_types::whole::{ReadFault, read_all, write_all};
 use journal_core::events::Events;
 use op_block::block::Block;
 use std::alloc::{AllocError, Global};
 use std::thread::Threads;
+
+/// The order of keys that the command rests on. Reads rest on none.
+fn keys_of(command: Command) -> KeyOrder
+    ensures { result ≡ keys_of command }
+{
+    match command {
+        Command::Reads => KeyOrder::Basic,
+        Command::Edges(keys) | Command::Check(keys) => keys,
+    }
+}
 
 /// What the command prints of the events of the blocks, which are judged at the same time.
 fn report_on<'a, R: Threads + Sync>(
@@ -38,11 +48,11 @@ fn report_on<'a, R: Threads + Sync>(
     ensures err { IfErr result
         (λ fault. (fault ≡ memory_fault) ⊎ IsFirstBrokenBy blocks.now fault) }
 {
-    let tables = judged_tables_of(rt, alloc, blocks, events)?;
+    let tables = judged_tables_of(rt, alloc, blocks, events, keys_of(command))?;
     match command {
         Command::Reads => reads::report(alloc, events, &tables),
-        Command::Edges => edges::report(alloc, events, &tables),
-        Command::Check => check::report(rt, alloc, events, &tables),
+        Command::Edges(_) => edges::report(alloc, events, &tables),
+        Command::Check(_) => check::report(rt, alloc, events, &tables),
     }
 }
 
@@ -57,9 +67,7 @@ fn judge<R: Threads + Sync>(
         (λ answer. IsAnswer command text.items answer.status answer.printed.items) }
     ensures err { IfErr result (λ fault. (fault ≡ memory_fault) ⊎ IsRefused text.items fault) }
 {
-    let blocks = read_blocks(rt, alloc, &text)?;
-    // The blocks have copies of what they need.
-    drop(text);
+    let blocks = read_blocks(rt, alloc, text)?;
     let events = events_of(alloc, &blocks)?;
     report_on(rt, alloc, command, &blocks, &events)
 }

@@ -8,7 +8,7 @@ ghost use Rattle.verdict.specs.Lowest.{AreTablesOf};
 ghost use Rattle.command_run.specs.Judged.{IsFirstBrokenBy};
 
 use crate::inputs::journal_of;
-use hist_types::types::Fault;
+use hist_types::types::{Fault, KeyOrder};
 use journal_core::events::Events;
 use op_block::block::Block;
 use std::alloc::Global;
@@ -20,11 +20,18 @@ fn tables_of<'a, R: Threads + Sync>(
     rt: &R,
     alloc: Global,
     events: &Events<'a>,
+    keys: KeyOrder,
 ) -> Result<Tables<'a>, Fault>
-    ensures ok { IfOk result (AreTablesOf events.now) }
+    ensures ok { IfOk result (AreTablesOf keys events.now) }
     ensures err { IfErr result (λ fault. fault ≡ memory_fault) }
 {
-    tables_of_wide(rt, alloc, events, BuildHasherDefault::<FoldHasher>::new())
+    tables_of_wide(
+        rt,
+        alloc,
+        events,
+        BuildHasherDefault::<FoldHasher>::new(),
+        keys,
+    )
 }
 
 /// The tables of the events, made while another thread judges the blocks, if one can be started.
@@ -33,8 +40,9 @@ pub fn judged_tables_of<'a, R: Threads + Sync>(
     alloc: Global,
     blocks: &[Block],
     events: &Events<'a>,
+    keys: KeyOrder,
 ) -> Result<Tables<'a>, Fault>
-    ensures ok { IfOk result (AreTablesOf events.now) }
+    ensures ok { IfOk result (AreTablesOf keys events.now) }
     ensures kept { OnOk result (KeepsRules (operations_in blocks.now)) }
     ensures err { IfErr result
         (λ fault. (fault ≡ memory_fault) ⊎ IsFirstBrokenBy blocks.now fault) }
@@ -42,7 +50,7 @@ pub fn judged_tables_of<'a, R: Threads + Sync>(
     let (judged, made) = join_mut(
         rt,
         &mut || journal_of(alloc, blocks),
-        &mut || tables_of(rt, alloc, events),
+        &mut || tables_of(rt, alloc, events, keys),
     );
     judged?;
     made

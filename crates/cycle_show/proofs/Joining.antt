@@ -8,6 +8,7 @@ use Rattle.history_laws.specs.WaysBack.{may_lead_back}
 use Rattle.hist_types.specs.declared.types.Level.{Level}
 use Rattle.hist_types.specs.declared.types.Level.TheVariants.{Plain, Process, Realtime}
 use Rattle.hist_types.specs.declared.types.Phenomenon.{Phenomenon}
+use Rattle.hist_types.specs.declared.types.KeyOrder.{KeyOrder}
 use Rattle.hist_types.proofs.Members.{In, in_back}
 use Rattle.history_laws.proofs.ThinningPaths.{Ordered, ordered_in_time, ended_before, ordered_through, ordered_from_label, edge_between, ends_of, AreNodes, are_nodes, nodes_included}
 use Rattle.history_laws.proofs.ThinningWalks.{Uncounted, uncounted_edge, label_of_one}
@@ -69,13 +70,13 @@ order_edges_joined level ts ns e f nodes i j meet =
     (subst (λ d. In (joined (edge t u label) d) (order_edges_between level ns)) (sym ends'.is) one)
 
 pub edges_joined :
-    (phenomenon : Phenomenon) (level : Level) (events : List Operation)
-    → JoinsTwo (edges_at level (transactions_of events)) (may_lead_back phenomenon)
-edges_joined phenomenon level events e f i j order order' meet =
+    (keys : KeyOrder) (phenomenon : Phenomenon) (level : Level) (events : List Operation)
+    → JoinsTwo (edges_at keys level (transactions_of events)) (may_lead_back phenomenon)
+edges_joined keys phenomenon level events e f i j order order' meet =
     let ts : List Transaction = transactions_of events in
     let one : In (joined e f) (order_edges_between level (nodes ts)) =
-    order_edges_joined level ts (nodes ts) e f (are_nodes events (nodes ts) (nodes_included ts)) (order_edge level ts e i order) (order_edge level ts f j order') meet in
+    order_edges_joined level ts (nodes ts) e f (are_nodes events (nodes ts) (nodes_included ts)) (order_edge keys level ts e i order) (order_edge keys level ts f j order') meet in
     let u : Uncounted (joined e f).label = uncounted_edge level (nodes ts) (joined e f) one in (
-      in_back (joined e f) (dependency_edges ts) (order_edges level ts) one,
+      in_back (joined e f) (dependency_edges keys ts) (order_edges level ts) one,
       order_may phenomenon (joined e f) (joined_is_order e f order) u.no_rw,
     )

@@ -11,6 +11,7 @@ use Rattle.history_laws.specs.WaysBack.{may_lead_back}
 use Rattle.hist_types.specs.Witness.{stations, IsWitness}
 use Rattle.hist_types.specs.declared.types.Level.{Level}
 use Rattle.hist_types.specs.declared.types.Phenomenon.{Phenomenon}
+use Rattle.hist_types.specs.declared.types.KeyOrder.{KeyOrder}
 use Rattle.hist_types.proofs.Members.{In, Contains_from_in}
 use Rattle.history_laws.proofs.ThinningPaths.{leads_on, all_of_both}
 use Rattle.history_laws.proofs.ThinningWalks.{within_in}
@@ -41,11 +42,11 @@ told_behind phenomenon es [] e r = r
 told_behind phenomenon es (d ∷ rest) e r = turned_round phenomenon es (e ∷ []) d rest r
 
 pub round_from_walk :
-    (phenomenon : Phenomenon) (level : Level) (events : List Operation) (walk : List Edge)
-    → Shows phenomenon (edges_at level (transactions_of events)) walk
-    → IsRound phenomenon (edges_at level (transactions_of events)) (short_round walk)
-round_from_walk phenomenon level events walk shows =
-    let es : List Edge = edges_at level (transactions_of events) in
+    (keys : KeyOrder) (phenomenon : Phenomenon) (level : Level) (events : List Operation) (walk : List Edge)
+    → Shows phenomenon (edges_at keys level (transactions_of events)) walk
+    → IsRound phenomenon (edges_at keys level (transactions_of events)) (short_round walk)
+round_from_walk keys phenomenon level events walk shows =
+    let es : List Edge = edges_at keys level (transactions_of events) in
     let p : Edge → Bool = may_lead_back phenomenon in
     let (front, e, back, split) = about_needed phenomenon walk shows.kinds in
     let (from, round) = closed_is_led walk shows.closed in
@@ -55,7 +56,7 @@ round_from_walk phenomenon level events walk shows =
     let leads : Leads e.to (back ++ front) e.from = leads_on e.to from e.from back front led.1 led.0 in
     let passes = both_hold es p (back ++ front) (all_of_both (λ (d : Edge). In d es) back front within.1.1 within.0) (passes_list p (back ++ front) (rest_leads_back phenomenon front e back made split.passes)) in
     let path : List Edge = fold followed [] (back ++ front) in
-    let short : IsShort es p e.to e.from path = short_all es p e.to e.to e.from [] (back ++ front) (edges_joined phenomenon level events) leads passes (short_none es p e.to) in
+    let short : IsShort es p e.to e.from path = short_all es p e.to e.to e.from [] (back ++ front) (edges_joined keys phenomenon level events) leads passes (short_none es p e.to) in
     let simple : IsSimple es p e.to e.from (path_to e.from path) = simple_before es p e.to e.from path short in
     let told = told_behind phenomenon es (path_to e.from path) e (round_of_simple phenomenon es e (path_to e.from path) within.1.0 split.passes simple) in
     let closed : followed path e ≡ path_to e.from path ++ e ∷ [] = closed_by path e (needed_dependency phenomenon e split.passes) in
@@ -95,21 +96,21 @@ some_round phenomenon es [] r = elim r.closed [ ]
 some_round phenomenon es (e ∷ path) r = omega arith
 
 pub tightened :
-    (phenomenon : Phenomenon) (level : Level) (events : List Operation) (walk path : List Edge) (least : ℕ)
+    (keys : KeyOrder) (phenomenon : Phenomenon) (level : Level) (events : List Operation) (walk path : List Edge) (least : ℕ)
     → path ≡ short_round walk
     → least ≤ length path - 1
     → ((k : ℕ) → k < length (stations path) → slice_index (stations path) least ≤ slice_index (stations path) k)
-    → Shows phenomenon (edges_at level (transactions_of events)) walk
-    → IsWitness phenomenon level (transactions_of events) (drop least path ++ take least path)
-tightened phenomenon level events walk [] least is within each shows =
-    elim (subst (IsRound phenomenon (edges_at level (transactions_of events))) (sym is) (round_from_walk phenomenon level events walk shows)).closed [ ]
-tightened phenomenon level events walk (d ∷ rest) least is within each shows =
+    → Shows phenomenon (edges_at keys level (transactions_of events)) walk
+    → IsWitness keys phenomenon level (transactions_of events) (drop least path ++ take least path)
+tightened keys phenomenon level events walk [] least is within each shows =
+    elim (subst (IsRound phenomenon (edges_at keys level (transactions_of events))) (sym is) (round_from_walk keys phenomenon level events walk shows)).closed [ ]
+tightened keys phenomenon level events walk (d ∷ rest) least is within each shows =
     let ts : List Transaction = transactions_of events in
     let path : List Edge = d ∷ rest in
-    let round : IsRound phenomenon (edges_at level ts) path = subst (IsRound phenomenon (edges_at level ts)) (sym is) (round_from_walk phenomenon level events walk shows) in
+    let round : IsRound phenomenon (edges_at keys level ts) path = subst (IsRound phenomenon (edges_at keys level ts)) (sym is) (round_from_walk keys phenomenon level events walk shows) in
     let below : least < length path = omega (arith, within) in
     let (whole, behind) = split_at path least d below in
     let e : Edge = get_or path least d in
     let back : List Edge = drop (suc least) path in
-    let witness = turned_witness phenomenon level ts (take least path) e back (subst (IsRound phenomenon (edges_at level ts)) whole round) (λ c i. least_of_all path least d below each c (subst (In c) (sym whole) i)) in
-    subst (λ xs. IsWitness phenomenon level ts (xs ++ take least path)) (sym behind) witness
+    let witness = turned_witness keys phenomenon level ts (take least path) e back (subst (IsRound phenomenon (edges_at keys level ts)) whole round) (λ c i. least_of_all path least d below each c (subst (In c) (sym whole) i)) in
+    subst (λ xs. IsWitness keys phenomenon level ts (xs ++ take least path)) (sym behind) witness

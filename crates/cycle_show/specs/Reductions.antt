@@ -7,13 +7,14 @@ use Rattle.hist_types.specs.Phenomena.{Shows, is_order}
 use Rattle.hist_types.specs.Witness.{IsWitness}
 use Rattle.hist_types.specs.declared.types.Level.{Level}
 use Rattle.hist_types.specs.declared.types.Phenomenon.{Phenomenon}
+use Rattle.hist_types.specs.declared.types.KeyOrder.{KeyOrder}
 
 -- Each phenomenon that the walk shows at a level, over all pairs of transactions in order, has this witness there.
 abbrev pub IsWitnessOf : (walk witness : List Edge) → Type 0
 IsWitnessOf walk witness =
-    (phenomenon : Phenomenon) (level : Level) (events : List Operation)
-    → Shows phenomenon (edges_at level (transactions_of events)) walk
-    → IsWitness phenomenon level (transactions_of events) witness
+    (keys : KeyOrder) (phenomenon : Phenomenon) (level : Level) (events : List Operation)
+    → Shows phenomenon (edges_at keys level (transactions_of events)) walk
+    → IsWitness keys phenomenon level (transactions_of events) witness
 
 -- how many edges are no order edges
 abbrev pub dependencies : List Edge → ℕ

@@ -7,7 +7,9 @@ use Rattle.std.proofs.lemmas.List.Elements.{All-contains}
 use Rattle.std.proofs.lemmas.List.Folds.{flat_map-map}
 use Rattle.std.proofs.lemmas.Grind.{flat_map-append}
 use Rattle.hist_types.specs.Edges.{Label, wr, Edge}
+use Rattle.hist_types.specs.Versions.{process_pairs}
 use Rattle.hist_types.specs.Transactions.{Transaction, Version, Open, version_eq, has_version, is_known_to_read}
+use Rattle.hist_types.specs.declared.types.KeyOrder.{KeyOrder}
 use Rattle.hist_types.proofs.Equality.{version_eq-same, version_eq-itself}
 use Rattle.hist_types.proofs.Members.{In, Contains_from_in}
 use Rattle.key_versions.specs.Histories.{installs_behind, readers_of, followers_of}
@@ -47,26 +49,26 @@ readers_gathered ts from v =
     by_reading false p u is = refl
 
 pub later_gathered :
-    (ts : List Transaction) (from : ℕ) (label : Version → Label) (v : Version)
-    → flat_map (λ (p : ℕ × Version). node_edge ts from (txn_at ts p.0) (label p.1)) (followers_of ts v) ≡ later_edges ts from label v
-later_gathered ts from label v =
-    gathered_by_place (λ place t. map (λ w. (place, w)) (installs_behind t v)) (λ (p : ℕ × Version). node_edge ts from (txn_at ts p.0) (label p.1))
-    (λ u. flat_map (λ w. node_edge ts from u (label w)) (installs_behind u v)) 0 ts
+    (keys : KeyOrder) (ts : List Transaction) (from : ℕ) (label : Version → Label) (v : Version)
+    → flat_map (λ (p : ℕ × Version). node_edge ts from (txn_at ts p.0) (label p.1)) (followers_of keys ts v) ≡ later_edges keys ts from label v
+later_gathered keys ts from label v =
+    gathered_by_place (λ place t. map (λ w. (place, w)) (installs_behind (process_pairs keys ts) t v)) (λ (p : ℕ × Version). node_edge ts from (txn_at ts p.0) (label p.1))
+    (λ u. flat_map (λ w. node_edge ts from u (label w)) (installs_behind (process_pairs keys ts) u v)) 0 ts
     (λ j u get.
-    flat_map-map (λ (p : ℕ × Version). node_edge ts from (txn_at ts p.0) (label p.1)) (λ w. (0 + j, w)) (installs_behind u v)
-    ∙ ap (λ x. flat_map (λ w. node_edge ts from x (label w)) (installs_behind u v)) (at ts j u get))
+    flat_map-map (λ (p : ℕ × Version). node_edge ts from (txn_at ts p.0) (label p.1)) (λ w. (0 + j, w)) (installs_behind (process_pairs keys ts) u v)
+    ∙ ap (λ x. flat_map (λ w. node_edge ts from x (label w)) (installs_behind (process_pairs keys ts) u v)) (at ts j u get))
   where
     at : (ts : List Transaction) (j : ℕ) (u : Transaction) → slice_get ts j ≡ Some u → txn_at ts (0 + j) ≡ u
     at ts j u get = let same : 0 + j ≡ j = omega arith in ap (txn_at ts) same ∙ ap (λ o. unwrap_or o (record { process = 0; invocation = 0; completion = None; status = Open; mops = [] })) get
 
 pub followers_gathered :
-    (ts : List Transaction) (table : Table) (from : ℕ) (label : Version → Label) (v : Version) (fs : List Follower)
-    → map (later_in table) fs ≡ followers_of ts v
-    → flat_map (λ (f : Follower). node_edge ts from (txn_at ts f.txn) (label (version_at table f.version))) fs ≡ later_edges ts from label v
-followers_gathered ts table from label v fs told =
+    (keys : KeyOrder) (ts : List Transaction) (table : Table) (from : ℕ) (label : Version → Label) (v : Version) (fs : List Follower)
+    → map (later_in table) fs ≡ followers_of keys ts v
+    → flat_map (λ (f : Follower). node_edge ts from (txn_at ts f.txn) (label (version_at table f.version))) fs ≡ later_edges keys ts from label v
+followers_gathered keys ts table from label v fs told =
     sym (flat_map-map (λ (p : ℕ × Version). node_edge ts from (txn_at ts p.0) (label p.1)) (later_in table) fs)
     ∙ ap (flat_map (λ (p : ℕ × Version). node_edge ts from (txn_at ts p.0) (label p.1))) told
-    ∙ later_gathered ts from label v
+    ∙ later_gathered keys ts from label v
 
 -- what a loop has added, with the next item
 pub next_added :

@@ -1,6 +1,7 @@
 pub mod Lists
 pub mod Places
 pub mod Apart
+mod Steps
 pub mod Out
 pub mod Writers
 pub mod Found

@@ -10,6 +10,7 @@ use Rattle.std.proofs.lemmas.Grind.{take_at_read, fold-append}
 use Rattle.hist_types.specs.Journal.{Write, writes_of}
 use Rattle.hist_types.specs.Operations.{Mop, read, write}
 use Rattle.hist_types.specs.Transactions.{Transaction, Version, Open, version_of, has_version, is_ok, is_failed, is_known_to_read, writes, was_read, is_node}
+use Rattle.hist_types.specs.declared.types.KeyOrder.{KeyOrder}
 use Rattle.hist_types.proofs.Members.{In, Contains_from_in, in_front, in_back, in_map, in_mapped}
 use Rattle.history_laws.proofs.Processes.{told_apart}
 use Rattle.history_laws.proofs.ThinningPaths.{any_passes}
@@ -194,14 +195,14 @@ some_writer None e = elim (false≢true e) [ ]
 some_writer (Some w) e = (w, refl)
 
 read_is_marked :
-    (ts : List Transaction) (table : Table)
+    (keys : KeyOrder) (ts : List Transaction) (table : Table)
     → AreOfHistory ts
-    → IsTableOf ts table
+    → IsTableOf keys ts table
     → (k : ℕ) (t : Transaction)
     → slice_get ts k ≡ Some t
     → (not (is_failed t) && was_read ts t) ≡ true
     → list_any (marks_at ts k) table.versions ≡ true
-read_is_marked ts table of told k t at e =
+read_is_marked keys ts table of told k t at e =
     let (unfailed, was) = and_parts (not (is_failed t)) (was_read ts t) e in
     let (a, among, some) = some_passes (λ w. list_any (λ r. is_known_to_read r (version_of w)) ts) (writes_of t.mops) was in
     let v : Version = version_of a in
@@ -227,33 +228,33 @@ read_is_marked ts table of told k t at e =
     one ts (events, kept, of) x t v i j e d = one_writer events kept x t (subst (λ us. Contains us x) of i) (subst (λ us. Contains us t) of j) v e d
 
 node_at :
-    (ts : List Transaction) (table : Table)
+    (keys : KeyOrder) (ts : List Transaction) (table : Table)
     → AreOfHistory ts
-    → IsTableOf ts table
+    → IsTableOf keys ts table
     → (k : ℕ) (t : Transaction)
     → slice_get ts k ≡ Some t
     → get_or (all_marked ts table.versions) k false ≡ is_node ts t
-node_at ts table of told k t at =
+node_at keys ts table of told k t at =
     let below : k < length ts = within_at ts k t at in
     let same : list_any (marks_at ts k) table.versions ≡ (not (is_failed t) && was_read ts t) =
     same_tests (list_any (marks_at ts k) table.versions) (not (is_failed t) && was_read ts t)
     (λ e.
     let (v, among, marks) = some_passes (marks_at ts k) table.versions e in
     marked_was_read ts k t v (writer_of ts v) (ap (λ o. unwrap_or o (record { process = 0; invocation = 0; completion = None; status = Open; mops = [] })) at) refl marks)
-    (read_is_marked ts table of told k t at) in
+    (read_is_marked keys ts table of told k t at) in
     all_at ts table.versions (map is_ok ts) k (subst (λ n. k < n) (sym (length-map ts is_ok)) below)
     ∙ ap (λ b. b || list_any (marks_at ts k) table.versions) (mapped_at is_ok ts k t at)
     ∙ ap (λ b. is_ok t || b) same
 
 -- when all versions have been gone over, exactly the nodes are marked
-pub nodes_marked : (ts : List Transaction) (table : Table) → AreOfHistory ts → IsTableOf ts table → all_marked ts table.versions ≡ map (is_node ts) ts
-nodes_marked ts table of told =
+pub nodes_marked : (keys : KeyOrder) (ts : List Transaction) (table : Table) → AreOfHistory ts → IsTableOf keys ts table → all_marked ts table.versions ≡ map (is_node ts) ts
+nodes_marked keys ts table of told =
     same_lists (all_marked ts table.versions) (map (is_node ts) ts)
     (length_all ts table.versions (map is_ok ts) ∙ length-map ts is_ok ∙ sym (length-map ts (is_node ts)))
     (λ k below.
     let within : k < length ts = subst (λ n. k < n) (length-map ts (is_node ts)) below in
     let (t, at) = item_at ts k within in
-    node_at ts table of told k t at ∙ sym (mapped_at (is_node ts) ts k t at))
+    node_at keys ts table of told k t at ∙ sym (mapped_at (is_node ts) ts k t at))
   where
     item_at : (ts : List Transaction) (k : ℕ) → k < length ts → (t : Transaction) × (slice_get ts k ≡ Some t)
     item_at [] k below = let none : ⊥ = omega (arith, below) in elim none [ ]

@@ -1,6 +1,6 @@
 -- The edges that are found out of a transaction are the dependency edges that leave it, each once.
 use Rattle.std.proofs.Common.{◌≡◌, ℕ, List, [], ◌∷◌, ◌++◌, Bool, true, false, not, ◌||◌, ◌==◌, if◌then◌else◌, Some, None, map, flat_map, Contains, Result, Ok, Err, OnOk, refl, sym, ◌∙◌, ap, subst, inl, inr}
-use Rattle.std.specs.Option.{is_none}
+use Rattle.std.specs.Option.{is_none, is_some}
 use Rattle.std.proofs.lemmas.Bool.{false≢true, and_parts, and_from, or_cases, or_left, or_right, eqb-false, false_from_ne_true, not-true}
 use Rattle.hist_types.specs.Atoms.{Value, atom_eq, value_eq}
 use Rattle.history_laws.specs.Dependencies.{Depends}
@@ -8,7 +8,8 @@ use Rattle.hist_types.specs.Edges.{Label, ww, wr, rw, process, realtime, Edge, e
 use Rattle.hist_types.specs.Journal.{Write, writes_of}
 use Rattle.hist_types.specs.Phenomena.{is_rw_label, is_wr_label}
 use Rattle.hist_types.specs.Transactions.{Transaction, Version, version_of, has_version, has_key, last_writes, external_reads, installed_by, is_known_to_read, installs, writes, is_ok, is_node, nodes, transactions_of}
-use Rattle.hist_types.specs.Versions.{pair, nil_of, is_change, version_pairs}
+use Rattle.hist_types.specs.Versions.{pair, nil_of, is_change, process_pairs, version_pairs}
+use Rattle.hist_types.specs.declared.types.KeyOrder.{KeyOrder}
 use Rattle.history_laws.proofs.DependencyEdges.{edges_by_versions}
 use Rattle.hist_types.proofs.Equality.{atom_eq-same, atom_eq-itself, value_eq-same, value_eq-itself, same_version}
 use Rattle.hist_types.proofs.Members.{In, in_from_Contains, Contains_from_in, in_front, in_back, in_append, in_each, in_some, in_map, in_filter, in_filtered, in_if, passes_filter}
@@ -16,12 +17,14 @@ use Rattle.history_laws.proofs.Processes.{told_apart}
 use Rattle.history_laws.proofs.ThinningTimes.{timed_from}
 use Rattle.history_laws.proofs.VersionMembers.{in_from_has, has_from_in, pairs_by_membership}
 use Rattle.history_laws.proofs.WrittenOnce.{AreApart, apart_append, none_twice, all_apart, one_writer, nil_unwritten}
-use Rattle.key_versions.specs.Histories.{read_by, is_followed, installs_behind}
+use Rattle.history_laws.proofs.ProcessPairs.{is_step_of}
+use Rattle.key_versions.specs.Histories.{has_pair, read_by, is_followed, installs_behind}
 use Rattle.dep_edges.specs.Histories.{AreOfHistory}
 use Rattle.dep_edges.specs.OutEdges.{AreEdgesFrom, AddsEdgesFrom, edge_to, node_edge, reader_edges, later_edges, written_edges, read_edges, each_once, edges_out, leaving}
 use Rattle.dep_edges.specs.Tables.{txn_at}
 use Rattle.dep_edges.proofs.Apart.{apart_each, apart_filter, apart_if, apart_unless}
 use Rattle.dep_edges.proofs.Places.{installed_written}
+use Rattle.dep_edges.proofs.Steps.{pair_in, pair_there}
 
 -- ---- one transaction by its invocation, and by what it writes
 
@@ -50,51 +53,65 @@ is_nil (Some a) e = elim (false≢true e) [ ]
 
 -- what a node installs behind a version makes a pair with it
 pub behind_makes_pair :
-    (ts : List Transaction) (u : Transaction) (v w : Version)
+    (keys : KeyOrder) (ts : List Transaction) (u : Transaction) (v w : Version)
     → In u ts
     → is_node ts u ≡ true
-    → In w (installs_behind u v)
-    → Contains (version_pairs ts) (pair v w)
-behind_makes_pair ts u v w i node behind =
-    let both = and_parts (is_none v.value || is_known_to_read u v) (is_change (pair v w)) (passes_filter (is_followed u v) w (installed_by u) behind) in
+    → In w (installs_behind (process_pairs keys ts) u v)
+    → Contains (version_pairs keys ts) (pair v w)
+behind_makes_pair keys ts u v w i node behind =
+    let steps = process_pairs keys ts in
+    let test = is_followed steps u v in
+    let both = and_parts (has_pair steps (pair v w) || (is_none v.value || is_known_to_read u v)) (is_change (pair v w)) (passes_filter test w (installed_by u) behind) in
     let change = and_parts (atom_eq v.key w.key) (not (value_eq v.value w.value)) both.1 in
     let key : v.key ≡ w.key = atom_eq-same v.key w.key change.0 in
-    let installed = has_from_in w (installed_by u) (in_filter (is_followed u v) w (installed_by u) behind) in
-    (pairs_by_membership ts (pair v w)).1 (elim (or_cases (is_none v.value) (is_known_to_read u v) both.0) [
-      | inl nil ↦ inl (same_version v (nil_of w.key) key (is_nil v.value nil), u, Contains_from_in u (nodes ts) (in_filtered (is_node ts) u ts i node), installed)
-      | inr read ↦ inr (
-        key,
-        λ same. false≢true (sym (not-true (value_eq v.value w.value) change.1) ∙ subst (λ (x : Version). value_eq v.value x.value ≡ true) same (value_eq-itself v.value)),
-        u,
-        Contains_from_in u ts i,
-        read,
-        installed,
-      )
+    let installed = has_from_in w (installed_by u) (in_filter test w (installed_by u) behind) in
+    (pairs_by_membership keys ts (pair v w)).1 (elim (or_cases (has_pair steps (pair v w)) (is_none v.value || is_known_to_read u v) both.0) [
+      | inl step ↦ inr (inr (Contains_from_in (pair v w) steps (pair_in steps v w step)))
+      | inr other ↦ elim (or_cases (is_none v.value) (is_known_to_read u v) other) [
+        | inl nil ↦ inl (same_version v (nil_of w.key) key (is_nil v.value nil), u, Contains_from_in u (nodes ts) (in_filtered (is_node ts) u ts i node), installed)
+        | inr read ↦ inr (inl (
+          key,
+          λ same. false≢true (sym (not-true (value_eq v.value w.value) change.1) ∙ subst (λ (x : Version). value_eq v.value x.value ≡ true) same (value_eq-itself v.value)),
+          u,
+          Contains_from_in u ts i,
+          read,
+          installed,
+        ))
+      ]
     ])
 
 pub pair_is_behind :
-    (ts : List Transaction)
+    (keys : KeyOrder) (ts : List Transaction)
     → AreOfHistory ts
     → (u : Transaction) (v w : Version)
     → In u ts
     → installs u w ≡ true
-    → Contains (version_pairs ts) (pair v w)
-    → In w (installs_behind u v)
-pair_is_behind ts of u v w i installed paired =
+    → Contains (version_pairs keys ts) (pair v w)
+    → In w (installs_behind (process_pairs keys ts) u v)
+pair_is_behind keys ts of u v w i installed paired =
+    let steps = process_pairs keys ts in
+    let has = has_pair steps (pair v w) in
+    let known = is_none v.value || is_known_to_read u v in
     let among : In w (installed_by u) = in_from_has w (installed_by u) installed in
-    in_filtered (is_followed u v) w (installed_by u) among (elim ((pairs_by_membership ts (pair v w)).0 paired) [
+    in_filtered (is_followed steps u v) w (installed_by u) among (elim ((pairs_by_membership keys ts (pair v w)).0 paired) [
       | inl first ↦ (
           let nil : v ≡ nil_of w.key = first.0 in
           let other : ¬ (v ≡ w) = λ same. nil_unwritten u w (installed_written u w among) (sym (ap (λ (x : Version). x.value) same) ∙ ap (λ (x : Version). x.value) nil) in
-          and_from (is_none v.value || is_known_to_read u v) (is_change (pair v w))
-          (or_left (is_none v.value) (is_known_to_read u v) (ap (λ (x : Version). is_none x.value) nil))
+          and_from (has || known) (is_change (pair v w))
+          (or_right has known (or_left (is_none v.value) (is_known_to_read u v) (ap (λ (x : Version). is_none x.value) nil)))
           (differ v w (ap (λ (x : Version). x.key) nil) other))
-      | inr update ↦ (
-          let (key, other, t, there, read, writes) = update in
-          let one : t ≡ u = one_that_installs ts of t u w (in_from_Contains t ts there) i (in_from_has w (installed_by t) writes) among in
-          and_from (is_none v.value || is_known_to_read u v) (is_change (pair v w))
-          (or_right (is_none v.value) (is_known_to_read u v) (subst (λ x. is_known_to_read x v ≡ true) one read))
-          (differ v w key other))
+      | inr others ↦ elim others [
+        | inl update ↦ (
+            let (key, other, t, there, read, writes) = update in
+            let one : t ≡ u = one_that_installs ts of t u w (in_from_Contains t ts there) i (in_from_has w (installed_by t) writes) among in
+            and_from (has || known) (is_change (pair v w))
+            (or_right has known (or_right (is_none v.value) (is_known_to_read u v) (subst (λ x. is_known_to_read x v ≡ true) one read)))
+            (differ v w key other))
+        | inr step ↦
+            and_from (has || known) (is_change (pair v w))
+            (or_left has known (pair_there steps (pair v w) (in_from_Contains (pair v w) steps step)))
+            (and_parts (is_change (pair v w)) (is_some w.value) (is_step_of keys ts (pair v w) step)).0
+      ]
     ])
 
 -- ---- members of what is found
@@ -138,12 +155,12 @@ reader_from ts from v e i =
     (u, read, leads_from ts from u (wr v) e there k)
 
 pub later_from :
-    (ts : List Transaction) (from : ℕ) (label : Version → Label) (v : Version) (e : Edge)
-    → In e (later_edges ts from label v)
-    → (u : Transaction) × (w : Version) × In w (installs_behind u v) × LeadsTo ts from u (label w) e
-later_from ts from label v e i =
-    let (u, there, j) = in_some (λ (u : Transaction). flat_map (λ w. node_edge ts from u (label w)) (installs_behind u v)) e ts i in
-    let (w, behind, k) = in_some (λ w. node_edge ts from u (label w)) e (installs_behind u v) j in
+    (keys : KeyOrder) (ts : List Transaction) (from : ℕ) (label : Version → Label) (v : Version) (e : Edge)
+    → In e (later_edges keys ts from label v)
+    → (u : Transaction) × (w : Version) × In w (installs_behind (process_pairs keys ts) u v) × LeadsTo ts from u (label w) e
+later_from keys ts from label v e i =
+    let (u, there, j) = in_some (λ (u : Transaction). flat_map (λ w. node_edge ts from u (label w)) (installs_behind (process_pairs keys ts) u v)) e ts i in
+    let (w, behind, k) = in_some (λ w. node_edge ts from u (label w)) e (installs_behind (process_pairs keys ts) u v) j in
     (u, w, behind, leads_from ts from u (label w) e there k)
 
 reader_to :
@@ -158,15 +175,15 @@ reader_to ts from v u i node other read =
     (in_then (out from u (wr v)) (is_known_to_read u v) (node_edge ts from u (wr v)) read (leads_to ts from u (wr v) node other))
 
 later_to :
-    (ts : List Transaction) (from : ℕ) (label : Version → Label) (v w : Version) (u : Transaction)
+    (keys : KeyOrder) (ts : List Transaction) (from : ℕ) (label : Version → Label) (v w : Version) (u : Transaction)
     → In u ts
     → is_node ts u ≡ true
     → (from == u.invocation) ≡ false
-    → In w (installs_behind u v)
-    → In (out from u (label w)) (later_edges ts from label v)
-later_to ts from label v w u i node other behind =
-    in_each (λ (u : Transaction). flat_map (λ w. node_edge ts from u (label w)) (installs_behind u v)) (out from u (label w)) u ts i
-    (in_each (λ w. node_edge ts from u (label w)) (out from u (label w)) w (installs_behind u v) behind (leads_to ts from u (label w) node other))
+    → In w (installs_behind (process_pairs keys ts) u v)
+    → In (out from u (label w)) (later_edges keys ts from label v)
+later_to keys ts from label v w u i node other behind =
+    in_each (λ (u : Transaction). flat_map (λ w. node_edge ts from u (label w)) (installs_behind (process_pairs keys ts) u v)) (out from u (label w)) u ts i
+    (in_each (λ w. node_edge ts from u (label w)) (out from u (label w)) w (installs_behind (process_pairs keys ts) u v) behind (leads_to ts from u (label w) node other))
 
 -- ---- each version once
 
@@ -232,15 +249,15 @@ apart_installed t = apart_lasts (writes_of t.mops)
 -- ---- the edges are dependency edges
 
 is_dependency :
-    (ts : List Transaction) (t u : Transaction) (label : Label) (e : Edge)
+    (keys : KeyOrder) (ts : List Transaction) (t u : Transaction) (label : Label) (e : Edge)
     → In t ts
     → is_node ts t ≡ true
     → LeadsTo ts t.invocation u label e
-    → Depends ts t u label
-    → Contains (dependency_edges ts) e × (e.from ≡ t.invocation)
-is_dependency ts t u label e i node to depends = (
-  subst (Contains (dependency_edges ts)) (sym to.is)
-      ((edges_by_versions ts (edge t u label)).1 (
+    → Depends keys ts t u label
+    → Contains (dependency_edges keys ts) e × (e.from ≡ t.invocation)
+is_dependency keys ts t u label e i node to depends = (
+  subst (Contains (dependency_edges keys ts)) (sym to.is)
+      ((edges_by_versions keys ts (edge t u label)).1 (
         t,
         u,
         Contains_from_in t (nodes ts) (in_filtered (is_node ts) t ts i node),
@@ -253,39 +270,39 @@ is_dependency ts t u label e i node to depends = (
 )
 
 written_depends :
-    (ts : List Transaction) (t : Transaction) (v : Version) (e : Edge)
+    (keys : KeyOrder) (ts : List Transaction) (t : Transaction) (v : Version) (e : Edge)
     → In t ts
     → is_node ts t ≡ true
     → In v (installed_by t)
-    → In e (written_edges ts t.invocation v)
-    → Contains (dependency_edges ts) e × (e.from ≡ t.invocation)
-written_depends ts t v e i node installed j =
-    elim (in_append e (reader_edges ts t.invocation v) (later_edges ts t.invocation (ww v) v) j) [
+    → In e (written_edges keys ts t.invocation v)
+    → Contains (dependency_edges keys ts) e × (e.from ≡ t.invocation)
+written_depends keys ts t v e i node installed j =
+    elim (in_append e (reader_edges ts t.invocation v) (later_edges keys ts t.invocation (ww v) v) j) [
       | inl k ↦ (
           let (u, read, to) = reader_from ts t.invocation v e k in
-          is_dependency ts t u (wr v) e i node to (has_from_in v (installed_by t) installed, read))
+          is_dependency keys ts t u (wr v) e i node to (has_from_in v (installed_by t) installed, read))
       | inr k ↦ (
-          let (u, w, behind, to) = later_from ts t.invocation (ww v) v e k in
-          is_dependency ts t u (ww v w) e i node to (
-            behind_makes_pair ts u v w to.among to.node behind,
+          let (u, w, behind, to) = later_from keys ts t.invocation (ww v) v e k in
+          is_dependency keys ts t u (ww v w) e i node to (
+            behind_makes_pair keys ts u v w to.among to.node behind,
             has_from_in v (installed_by t) installed,
-            has_from_in w (installed_by u) (in_filter (is_followed u v) w (installed_by u) behind),
+            has_from_in w (installed_by u) (in_filter (is_followed (process_pairs keys ts) u v) w (installed_by u) behind),
           ))
     ]
 
 read_depends :
-    (ts : List Transaction) (t : Transaction) (v : Version) (e : Edge)
+    (keys : KeyOrder) (ts : List Transaction) (t : Transaction) (v : Version) (e : Edge)
     → In t ts
     → is_node ts t ≡ true
     → is_known_to_read t v ≡ true
-    → In e (read_edges ts t.invocation v)
-    → Contains (dependency_edges ts) e × (e.from ≡ t.invocation)
-read_depends ts t v e i node read j =
-    let (u, w, behind, to) = later_from ts t.invocation (rw v) v e j in
-    is_dependency ts t u (rw v w) e i node to (
-      behind_makes_pair ts u v w to.among to.node behind,
+    → In e (read_edges keys ts t.invocation v)
+    → Contains (dependency_edges keys ts) e × (e.from ≡ t.invocation)
+read_depends keys ts t v e i node read j =
+    let (u, w, behind, to) = later_from keys ts t.invocation (rw v) v e j in
+    is_dependency keys ts t u (rw v w) e i node to (
+      behind_makes_pair keys ts u v w to.among to.node behind,
       read,
-      has_from_in w (installed_by u) (in_filter (is_followed u v) w (installed_by u) behind),
+      has_from_in w (installed_by u) (in_filter (is_followed (process_pairs keys ts) u v) w (installed_by u) behind),
     )
 
 reads_told : (t : Transaction) (v : Version) → In v (read_by t) → is_known_to_read t v ≡ true
@@ -297,64 +314,64 @@ told_reads t v read =
     in_then v (is_ok t) (external_reads t) ok (in_from_has v (external_reads t) among)
 
 leaving_depends :
-    (ts : List Transaction) (t : Transaction) (e : Edge)
+    (keys : KeyOrder) (ts : List Transaction) (t : Transaction) (e : Edge)
     → In t ts
-    → In e (leaving ts t)
-    → Contains (dependency_edges ts) e × (e.from ≡ t.invocation)
-leaving_depends ts t e i j =
-    let (node, k) = in_if e (is_node ts t) (edges_out ts t) j in
-    elim (in_append e (flat_map (written_edges ts t.invocation) (installed_by t)) (flat_map (read_edges ts t.invocation) (each_once (read_by t))) k) [
-      | inl l ↦ (let (v, installed, m) = in_some (written_edges ts t.invocation) e (installed_by t) l in written_depends ts t v e i node installed m)
+    → In e (leaving keys ts t)
+    → Contains (dependency_edges keys ts) e × (e.from ≡ t.invocation)
+leaving_depends keys ts t e i j =
+    let (node, k) = in_if e (is_node ts t) (edges_out keys ts t) j in
+    elim (in_append e (flat_map (written_edges keys ts t.invocation) (installed_by t)) (flat_map (read_edges keys ts t.invocation) (each_once (read_by t))) k) [
+      | inl l ↦ (let (v, installed, m) = in_some (written_edges keys ts t.invocation) e (installed_by t) l in written_depends keys ts t v e i node installed m)
       | inr l ↦ (
-          let (v, read, m) = in_some (read_edges ts t.invocation) e (each_once (read_by t)) l in
-          read_depends ts t v e i node (reads_told t v (once_among (read_by t) v read)) m)
+          let (v, read, m) = in_some (read_edges keys ts t.invocation) e (each_once (read_by t)) l in
+          read_depends keys ts t v e i node (reads_told t v (once_among (read_by t) v read)) m)
     ]
 
 -- ---- and all that leave it
 
 out_of :
-    (ts : List Transaction)
+    (keys : KeyOrder) (ts : List Transaction)
     → AreOfHistory ts
     → (t u : Transaction) (label : Label)
     → In u ts
     → is_node ts u ≡ true
     → (t.invocation == u.invocation) ≡ false
-    → Depends ts t u label
-    → In (out t.invocation u label) (edges_out ts t)
-out_of ts of t u (ww v w) i node other (paired, installed, later) =
-    in_front (out t.invocation u (ww v w)) (flat_map (written_edges ts t.invocation) (installed_by t)) (flat_map (read_edges ts t.invocation) (each_once (read_by t)))
-    (in_each (written_edges ts t.invocation) (out t.invocation u (ww v w)) v (installed_by t) (in_from_has v (installed_by t) installed)
-    (in_back (out t.invocation u (ww v w)) (reader_edges ts t.invocation v) (later_edges ts t.invocation (ww v) v)
-    (later_to ts t.invocation (ww v) v w u i node other (pair_is_behind ts of u v w i later paired))))
-out_of ts of t u (wr v) i node other (installed, read) =
-    in_front (out t.invocation u (wr v)) (flat_map (written_edges ts t.invocation) (installed_by t)) (flat_map (read_edges ts t.invocation) (each_once (read_by t)))
-    (in_each (written_edges ts t.invocation) (out t.invocation u (wr v)) v (installed_by t) (in_from_has v (installed_by t) installed)
-    (in_front (out t.invocation u (wr v)) (reader_edges ts t.invocation v) (later_edges ts t.invocation (ww v) v)
+    → Depends keys ts t u label
+    → In (out t.invocation u label) (edges_out keys ts t)
+out_of keys ts of t u (ww v w) i node other (paired, installed, later) =
+    in_front (out t.invocation u (ww v w)) (flat_map (written_edges keys ts t.invocation) (installed_by t)) (flat_map (read_edges keys ts t.invocation) (each_once (read_by t)))
+    (in_each (written_edges keys ts t.invocation) (out t.invocation u (ww v w)) v (installed_by t) (in_from_has v (installed_by t) installed)
+    (in_back (out t.invocation u (ww v w)) (reader_edges ts t.invocation v) (later_edges keys ts t.invocation (ww v) v)
+    (later_to keys ts t.invocation (ww v) v w u i node other (pair_is_behind keys ts of u v w i later paired))))
+out_of keys ts of t u (wr v) i node other (installed, read) =
+    in_front (out t.invocation u (wr v)) (flat_map (written_edges keys ts t.invocation) (installed_by t)) (flat_map (read_edges keys ts t.invocation) (each_once (read_by t)))
+    (in_each (written_edges keys ts t.invocation) (out t.invocation u (wr v)) v (installed_by t) (in_from_has v (installed_by t) installed)
+    (in_front (out t.invocation u (wr v)) (reader_edges ts t.invocation v) (later_edges keys ts t.invocation (ww v) v)
     (reader_to ts t.invocation v u i node other read)))
-out_of ts of t u (rw v w) i node other (paired, read, later) =
-    in_back (out t.invocation u (rw v w)) (flat_map (written_edges ts t.invocation) (installed_by t)) (flat_map (read_edges ts t.invocation) (each_once (read_by t)))
-    (in_each (read_edges ts t.invocation) (out t.invocation u (rw v w)) v (each_once (read_by t)) (among_once (read_by t) v (told_reads t v read))
-    (later_to ts t.invocation (rw v) v w u i node other (pair_is_behind ts of u v w i later paired)))
-out_of ts of t u (process p) i node other d = elim d [ ]
-out_of ts of t u (realtime c n) i node other d = elim d [ ]
+out_of keys ts of t u (rw v w) i node other (paired, read, later) =
+    in_back (out t.invocation u (rw v w)) (flat_map (written_edges keys ts t.invocation) (installed_by t)) (flat_map (read_edges keys ts t.invocation) (each_once (read_by t)))
+    (in_each (read_edges keys ts t.invocation) (out t.invocation u (rw v w)) v (each_once (read_by t)) (among_once (read_by t) v (told_reads t v read))
+    (later_to keys ts t.invocation (rw v) v w u i node other (pair_is_behind keys ts of u v w i later paired)))
+out_of keys ts of t u (process p) i node other d = elim d [ ]
+out_of keys ts of t u (realtime c n) i node other d = elim d [ ]
 
 all_leaving :
-    (ts : List Transaction)
+    (keys : KeyOrder) (ts : List Transaction)
     → AreOfHistory ts
     → (t : Transaction) (e : Edge)
     → In t ts
-    → Contains (dependency_edges ts) e
+    → Contains (dependency_edges keys ts) e
     → e.from ≡ t.invocation
-    → In e (leaving ts t)
-all_leaving ts of t e i c from =
-    let (t', u, first, second, apart, is, depends) = (edges_by_versions ts e).0 c in
+    → In e (leaving keys ts t)
+all_leaving keys ts of t e i c from =
+    let (t', u, first, second, apart, is, depends) = (edges_by_versions keys ts e).0 c in
     let there : In t' (nodes ts) = in_from_Contains t' (nodes ts) first in
     let to : In u (nodes ts) = in_from_Contains u (nodes ts) second in
     let one : t' ≡ t = one_by_invocation ts of t' t (in_filter (is_node ts) t' ts there) i (sym (ap (λ (d : Edge). d.from) is) ∙ from) in
-    let found = out_of ts of t' u e.label (in_filter (is_node ts) u ts to) (passes_filter (is_node ts) u ts to) (told_apart t'.invocation u.invocation apart) depends in
-    let here : In e (leaving ts t') =
-    in_then e (is_node ts t') (edges_out ts t') (passes_filter (is_node ts) t' ts there) (subst (λ d. In d (edges_out ts t')) (sym is) found) in
-    subst (λ x. In e (leaving ts x)) one here
+    let found = out_of keys ts of t' u e.label (in_filter (is_node ts) u ts to) (passes_filter (is_node ts) u ts to) (told_apart t'.invocation u.invocation apart) depends in
+    let here : In e (leaving keys ts t') =
+    in_then e (is_node ts t') (edges_out keys ts t') (passes_filter (is_node ts) t' ts there) (subst (λ d. In d (edges_out keys ts t')) (sym is) found) in
+    subst (λ x. In e (leaving keys ts x)) one here
 
 -- ---- each of them once
 
@@ -376,16 +393,16 @@ apart_readers ts of from v =
     (leads_from ts from u (wr v) e i (in_if e (is_known_to_read u v) (node_edge ts from u (wr v)) k).1)
     (leads_from ts from x (wr v) e j (in_if e (is_known_to_read x v) (node_edge ts from x (wr v)) l).1))
 
-apart_later : (ts : List Transaction) → AreOfHistory ts → (from : ℕ) (label : Version → Label) (v : Version) → ((w x : Version) → label w ≡ label x → w ≡ x) → AreApart (later_edges ts from label v)
-apart_later ts of from label v one =
-    apart_each (λ (u : Transaction). flat_map (λ w. node_edge ts from u (label w)) (installs_behind u v)) ts (apart_of ts of)
+apart_later : (keys : KeyOrder) (ts : List Transaction) → AreOfHistory ts → (from : ℕ) (label : Version → Label) (v : Version) → ((w x : Version) → label w ≡ label x → w ≡ x) → AreApart (later_edges keys ts from label v)
+apart_later keys ts of from label v one =
+    apart_each (λ (u : Transaction). flat_map (λ w. node_edge ts from u (label w)) (installs_behind (process_pairs keys ts) u v)) ts (apart_of ts of)
     (λ u i.
-    apart_each (λ w. node_edge ts from u (label w)) (installs_behind u v) (apart_filter (is_followed u v) (installed_by u) (apart_installed u))
+    apart_each (λ w. node_edge ts from u (label w)) (installs_behind (process_pairs keys ts) u v) (apart_filter (is_followed (process_pairs keys ts) u v) (installed_by u) (apart_installed u))
     (λ w j. apart_node_edge ts from u (label w))
     (λ w x e j k l m. one w x (same_label ts from u u (label w) (label x) e (leads_from ts from u (label w) e i l) (leads_from ts from u (label x) e i m))))
     (λ u x e i j k l.
-    let (w, _, a) = in_some (λ w. node_edge ts from u (label w)) e (installs_behind u v) k in
-    let (y, _, b) = in_some (λ w. node_edge ts from x (label w)) e (installs_behind x v) l in
+    let (w, _, a) = in_some (λ w. node_edge ts from u (label w)) e (installs_behind (process_pairs keys ts) u v) k in
+    let (y, _, b) = in_some (λ w. node_edge ts from x (label w)) e (installs_behind (process_pairs keys ts) x v) l in
     same_to ts of from u x (label w) (label y) e (leads_from ts from u (label w) e i a) (leads_from ts from x (label y) e j b))
 
 -- the version out of which an edge is found
@@ -395,54 +412,54 @@ origin (wr v) x = v
 origin (rw v w) x = v
 origin label x = x
 
-written_origin : (ts : List Transaction) (from : ℕ) (v x : Version) (e : Edge) → In e (written_edges ts from v) → (origin e.label x ≡ v) × (is_rw_label e.label ≡ false)
-written_origin ts from v x e i = elim (in_append e (reader_edges ts from v) (later_edges ts from (ww v) v) i) [
+written_origin : (keys : KeyOrder) (ts : List Transaction) (from : ℕ) (v x : Version) (e : Edge) → In e (written_edges keys ts from v) → (origin e.label x ≡ v) × (is_rw_label e.label ≡ false)
+written_origin keys ts from v x e i = elim (in_append e (reader_edges ts from v) (later_edges keys ts from (ww v) v) i) [
   | inl j ↦ (let (u, read, to) = reader_from ts from v e j in (ap (λ (d : Edge). origin d.label x) to.is, ap (λ (d : Edge). is_rw_label d.label) to.is))
-  | inr j ↦ (let (u, w, behind, to) = later_from ts from (ww v) v e j in (ap (λ (d : Edge). origin d.label x) to.is, ap (λ (d : Edge). is_rw_label d.label) to.is))
+  | inr j ↦ (let (u, w, behind, to) = later_from keys ts from (ww v) v e j in (ap (λ (d : Edge). origin d.label x) to.is, ap (λ (d : Edge). is_rw_label d.label) to.is))
 ]
 
-read_origin : (ts : List Transaction) (from : ℕ) (v x : Version) (e : Edge) → In e (read_edges ts from v) → (origin e.label x ≡ v) × (is_rw_label e.label ≡ true)
-read_origin ts from v x e i =
-    let (u, w, behind, to) = later_from ts from (rw v) v e i in
+read_origin : (keys : KeyOrder) (ts : List Transaction) (from : ℕ) (v x : Version) (e : Edge) → In e (read_edges keys ts from v) → (origin e.label x ≡ v) × (is_rw_label e.label ≡ true)
+read_origin keys ts from v x e i =
+    let (u, w, behind, to) = later_from keys ts from (rw v) v e i in
     (ap (λ (d : Edge). origin d.label x) to.is, ap (λ (d : Edge). is_rw_label d.label) to.is)
 
-apart_written : (ts : List Transaction) → AreOfHistory ts → (from : ℕ) (v : Version) → AreApart (written_edges ts from v)
-apart_written ts of from v =
-    apart_append (reader_edges ts from v) (later_edges ts from (ww v) v) (apart_readers ts of from v) (apart_later ts of from (ww v) v (λ w x e. cc)) (λ e i j.
+apart_written : (keys : KeyOrder) (ts : List Transaction) → AreOfHistory ts → (from : ℕ) (v : Version) → AreApart (written_edges keys ts from v)
+apart_written keys ts of from v =
+    apart_append (reader_edges ts from v) (later_edges keys ts from (ww v) v) (apart_readers ts of from v) (apart_later keys ts of from (ww v) v (λ w x e. cc)) (λ e i j.
     let (u, read, a) = reader_from ts from v e i in
-    let (x, w, behind, b) = later_from ts from (ww v) v e j in
+    let (x, w, behind, b) = later_from keys ts from (ww v) v e j in
     false≢true (sym (ap (λ (d : Edge). is_wr_label d.label) b.is) ∙ ap (λ (d : Edge). is_wr_label d.label) a.is))
 
-apart_out : (ts : List Transaction) → AreOfHistory ts → (t : Transaction) → AreApart (edges_out ts t)
-apart_out ts of t =
+apart_out : (keys : KeyOrder) (ts : List Transaction) → AreOfHistory ts → (t : Transaction) → AreApart (edges_out keys ts t)
+apart_out keys ts of t =
     let from = t.invocation in
-    apart_append (flat_map (written_edges ts from) (installed_by t)) (flat_map (read_edges ts from) (each_once (read_by t)))
-    (apart_each (written_edges ts from) (installed_by t) (apart_installed t) (λ v i. apart_written ts of from v)
-    (λ v w e i j k l. sym (written_origin ts from v v e k).0 ∙ (written_origin ts from w v e l).0))
-    (apart_each (read_edges ts from) (each_once (read_by t)) (apart_once (read_by t)) (λ v i. apart_later ts of from (rw v) v (λ w x e. cc))
-    (λ v w e i j k l. sym (read_origin ts from v v e k).0 ∙ (read_origin ts from w v e l).0))
+    apart_append (flat_map (written_edges keys ts from) (installed_by t)) (flat_map (read_edges keys ts from) (each_once (read_by t)))
+    (apart_each (written_edges keys ts from) (installed_by t) (apart_installed t) (λ v i. apart_written keys ts of from v)
+    (λ v w e i j k l. sym (written_origin keys ts from v v e k).0 ∙ (written_origin keys ts from w v e l).0))
+    (apart_each (read_edges keys ts from) (each_once (read_by t)) (apart_once (read_by t)) (λ v i. apart_later keys ts of from (rw v) v (λ w x e. cc))
+    (λ v w e i j k l. sym (read_origin keys ts from v v e k).0 ∙ (read_origin keys ts from w v e l).0))
     (λ e i j.
-    let (v, _, k) = in_some (written_edges ts from) e (installed_by t) i in
-    let (w, _, l) = in_some (read_edges ts from) e (each_once (read_by t)) j in
-    false≢true (sym (written_origin ts from v v e k).1 ∙ (read_origin ts from w w e l).1))
+    let (v, _, k) = in_some (written_edges keys ts from) e (installed_by t) i in
+    let (w, _, l) = in_some (read_edges keys ts from) e (each_once (read_by t)) j in
+    false≢true (sym (written_origin keys ts from v v e k).1 ∙ (read_origin keys ts from w w e l).1))
 
 -- ---- the law
 
-pub leaving_edges : (ts : List Transaction) → AreOfHistory ts → (t : Transaction) → In t ts → AreEdgesFrom ts t (leaving ts t)
-leaving_edges ts of t i = record {
+pub leaving_edges : (keys : KeyOrder) (ts : List Transaction) → AreOfHistory ts → (t : Transaction) → In t ts → AreEdgesFrom keys ts t (leaving keys ts t)
+leaving_edges keys ts of t i = record {
   exactly = λ e. (
-    λ c. leaving_depends ts t e i (in_from_Contains e (leaving ts t) c),
-    λ (d, from). Contains_from_in e (leaving ts t) (all_leaving ts of t e i d from),
+    λ c. leaving_depends keys ts t e i (in_from_Contains e (leaving keys ts t) c),
+    λ (d, from). Contains_from_in e (leaving keys ts t) (all_leaving keys ts of t e i d from),
   );
-  once = none_twice (leaving ts t) (apart_if (is_node ts t) (edges_out ts t) (apart_out ts of t));
+  once = none_twice (leaving keys ts t) (apart_if (is_node ts t) (edges_out keys ts t) (apart_out keys ts of t));
 }
 
 -- what is found, behind what was there before
 pub adds_edges :
-    {E : Type 0} (r : Result (Unit {0}) E) (ts : List Transaction) (place : ℕ) (before after : List Edge)
+    (keys : KeyOrder) {E : Type 0} (r : Result (Unit {0}) E) (ts : List Transaction) (place : ℕ) (before after : List Edge)
     → AreOfHistory ts
     → In (txn_at ts place) ts
-    → OnOk r (after ≡ before ++ leaving ts (txn_at ts place))
-    → OnOk r (AddsEdgesFrom ts (txn_at ts place) before after)
-adds_edges (Ok x) ts place before after of i e = (leaving ts (txn_at ts place), e, leaving_edges ts of (txn_at ts place) i)
-adds_edges (Err x) ts place before after of i e = tt
+    → OnOk r (after ≡ before ++ leaving keys ts (txn_at ts place))
+    → OnOk r (AddsEdgesFrom keys ts (txn_at ts place) before after)
+adds_edges keys (Ok x) ts place before after of i e = (leaving keys ts (txn_at ts place), e, leaving_edges keys ts of (txn_at ts place) i)
+adds_edges keys (Err x) ts place before after of i e = tt

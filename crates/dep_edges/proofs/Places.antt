@@ -5,7 +5,8 @@ use Rattle.std.proofs.lemmas.List.Concat.{flat_map-append}
 use Rattle.std.proofs.lemmas.Option.{same_Some, slice_get-get_or}
 use Rattle.hist_types.specs.Atoms.{Value, integer, atom_eq}
 use Rattle.hist_types.specs.Transactions.{Transaction, Version, Open, installed_by, is_known_to_read, writes, wrote_intermediate}
-use Rattle.hist_types.specs.Versions.{nil_of, pair, is_change}
+use Rattle.hist_types.specs.Versions.{VersionPair, nil_of, pair, is_change, process_pairs}
+use Rattle.hist_types.specs.declared.types.KeyOrder.{KeyOrder}
 use Rattle.hist_types.proofs.Equality.{atom_eq-same}
 use Rattle.hist_types.proofs.Members.{In, in_append, in_mapped, in_map, in_filter, passes_filter}
 use Rattle.history_laws.proofs.VersionMembers.{has_from_in}
@@ -58,9 +59,9 @@ reader_place ts v p i =
 
 -- ---- versions behind another one
 
-pub behind_key : (u : Transaction) (v w : Version) → In w (installs_behind u v) → w.key ≡ v.key
-behind_key u v w i =
-    let followed = passes_filter (is_followed u v) w (installed_by u) i in
+pub behind_key : (steps : List VersionPair) (u : Transaction) (v w : Version) → In w (installs_behind steps u v) → w.key ≡ v.key
+behind_key steps u v w i =
+    let followed = passes_filter (is_followed steps u v) w (installed_by u) i in
     let changed = and_parts _ (is_change (pair v w)) followed in
     sym (atom_eq-same v.key w.key (and_parts (atom_eq v.key w.key) _ changed.1).0)
 
@@ -77,12 +78,12 @@ installed_some u w i = some_value w.value (nil_unwritten u w (installed_written 
 abbrev IsLater : List Transaction → Version → ℕ × Version → Type 0
 IsLater ts v p = (p.0 < length ts) × (p.1.key ≡ v.key) × IsSome p.1.value
 
-follower_is_later : (ts : List Transaction) (v : Version) (p : ℕ × Version) → In p (followers_of ts v) → IsLater ts v p
-follower_is_later ts v p i =
-    let (j, u, get, among) = from_some_place (λ place t. map (λ w. (place, w)) (installs_behind t v)) 0 ts p i in
-    let (w, behind, is) = in_map (λ w. (0 + j, w)) p (installs_behind u v) among in
+follower_is_later : (keys : KeyOrder) (ts : List Transaction) (v : Version) (p : ℕ × Version) → In p (followers_of keys ts v) → IsLater ts v p
+follower_is_later keys ts v p i =
+    let (j, u, get, among) = from_some_place (λ place t. map (λ w. (place, w)) (installs_behind (process_pairs keys ts) t v)) 0 ts p i in
+    let (w, behind, is) = in_map (λ w. (0 + j, w)) p (installs_behind (process_pairs keys ts) u v) among in
     let below = within_at ts j u get in
-    subst (IsLater ts v) is (omega (arith, below), behind_key u v w behind, installed_some u w (in_filter (is_followed u v) w (installed_by u) behind))
+    subst (IsLater ts v) is (omega (arith, below), behind_key (process_pairs keys ts) u v w behind, installed_some u w (in_filter (is_followed (process_pairs keys ts) u v) w (installed_by u) behind))
 
 -- ---- the table
 
@@ -118,34 +119,34 @@ numbers_of_followers versions (g ∷ fs) (p ∷ ps) e f (inr i) =
 -- what the table tells of a version
 
 pub told_followers :
-    (ts : List Transaction) (table : Table) (n : ℕ) (fs : List Follower)
-    → IsTableOf ts table
+    (keys : KeyOrder) (ts : List Transaction) (table : Table) (n : ℕ) (fs : List Follower)
+    → IsTableOf keys ts table
     → slice_get table.followers n ≡ Some fs
-    → followers_at table.versions fs ≡ map (λ (p : ℕ × Version). (p.0, Some p.1)) (followers_of ts (version_at table n))
-told_followers ts table n fs is at =
-    alike_at (followers_at table.versions) (λ v. map (λ (p : ℕ × Version). (p.0, Some p.1)) (followers_of ts v))
+    → followers_at table.versions fs ≡ map (λ (p : ℕ × Version). (p.0, Some p.1)) (followers_of keys ts (version_at table n))
+told_followers keys ts table n fs is at =
+    alike_at (followers_at table.versions) (λ v. map (λ (p : ℕ × Version). (p.0, Some p.1)) (followers_of keys ts v))
     table.followers table.versions n fs (nil_of (integer (pos 0))) is.followers at
 
 pub followers_told :
-    (ts : List Transaction) (table : Table) (n : ℕ) (fs : List Follower)
-    → IsTableOf ts table
+    (keys : KeyOrder) (ts : List Transaction) (table : Table) (n : ℕ) (fs : List Follower)
+    → IsTableOf keys ts table
     → slice_get table.followers n ≡ Some fs
-    → map (later_in table) fs ≡ followers_of ts (version_at table n)
-followers_told ts table n fs is at = followers_value table fs (followers_of ts (version_at table n)) (told_followers ts table n fs is at)
+    → map (later_in table) fs ≡ followers_of keys ts (version_at table n)
+followers_told keys ts table n fs is at = followers_value table fs (followers_of keys ts (version_at table n)) (told_followers keys ts table n fs is at)
 
 pub followers_behind :
-    (ts : List Transaction) (table : Table) (n : ℕ) (fs : List Follower)
-    → IsTableOf ts table
+    (keys : KeyOrder) (ts : List Transaction) (table : Table) (n : ℕ) (fs : List Follower)
+    → IsTableOf keys ts table
     → slice_get table.followers n ≡ Some fs
     → All (IsBehind ts table (version_at table n)) fs
-followers_behind ts table n fs is at =
+followers_behind keys ts table n fs is at =
     all_in (IsBehind ts table (version_at table n)) fs (λ f i.
-    let value = followers_told ts table n fs is at in
-    let among : In (later_in table f) (followers_of ts (version_at table n)) = subst (In (later_in table f)) value (in_mapped (later_in table) f fs i) in
-    let later = follower_is_later ts (version_at table n) (later_in table f) among in
+    let value = followers_told keys ts table n fs is at in
+    let among : In (later_in table f) (followers_of keys ts (version_at table n)) = subst (In (later_in table f)) value (in_mapped (later_in table) f fs i) in
+    let later = follower_is_later keys ts (version_at table n) (later_in table f) among in
     record {
       place = later.0;
-      number = numbers_of_followers table.versions fs (followers_of ts (version_at table n)) (told_followers ts table n fs is at) f i;
+      number = numbers_of_followers table.versions fs (followers_of keys ts (version_at table n)) (told_followers keys ts table n fs is at) f i;
       key = later.1;
       written = later.2;
     })
@@ -155,19 +156,19 @@ map_same [] = refl
 map_same (x ∷ xs) = ap (λ ys. x ∷ ys) (map_same xs)
 
 pub readers_told :
-    (ts : List Transaction) (table : Table) (n : ℕ) (rs : List ℕ)
-    → IsTableOf ts table
+    (keys : KeyOrder) (ts : List Transaction) (table : Table) (n : ℕ) (rs : List ℕ)
+    → IsTableOf keys ts table
     → slice_get table.readers n ≡ Some rs
     → rs ≡ readers_of ts (version_at table n)
-readers_told ts table n rs is at =
+readers_told keys ts table n rs is at =
     alike_at (λ (xs : List ℕ). xs) (readers_of ts) table.readers table.versions n rs (nil_of (integer (pos 0))) (map_same table.readers ∙ is.readers) at
 
 pub writer_told :
-    (ts : List Transaction) (table : Table) (n : ℕ) (r : Option Writer)
-    → IsTableOf ts table
+    (keys : KeyOrder) (ts : List Transaction) (table : Table) (n : ℕ) (r : Option Writer)
+    → IsTableOf keys ts table
     → slice_get table.writers n ≡ Some r
     → r ≡ writer_of ts (version_at table n)
-writer_told ts table n r is at =
+writer_told keys ts table n r is at =
     alike_at (λ (x : Option Writer). x) (writer_of ts) table.writers table.versions n r (nil_of (integer (pos 0))) (map_same table.writers ∙ is.writers) at
 
 pub readers_within : (ts : List Transaction) (v : Version) (rs : List ℕ) → rs ≡ readers_of ts v → All (IsPlace ts) rs
@@ -220,11 +221,11 @@ numbers_within f ts table lists place ns is at =
     all_in (IsNumber table) ns (places_within table.versions ns (f (txn_at ts place)) (told_at f ts table lists place ns is at))
 
 pub installed_are_written :
-    (ts : List Transaction) (table : Table) (place : ℕ) (ns : List ℕ)
-    → IsTableOf ts table
+    (keys : KeyOrder) (ts : List Transaction) (table : Table) (place : ℕ) (ns : List ℕ)
+    → IsTableOf keys ts table
     → slice_get table.installs place ≡ Some ns
     → All (IsWritten table) ns
-installed_are_written ts table place ns is at =
+installed_are_written keys ts table place ns is at =
     all_in (IsWritten table) ns (λ n i.
     installed_some (txn_at ts place) (version_at table n)
     (subst (In (version_at table n)) (versions_told installed_by ts table table.installs place ns is.installs at) (in_mapped (version_at table) n ns i)))
@@ -236,8 +237,8 @@ named_at table n below = at (slice_get table.versions n) refl
     at (Some v) e = e ∙ ap Some (sym (ap (λ o. unwrap_or o (nil_of (integer (pos 0)))) e))
     at None e = let none : ⊥ = cc (e, slice_get-get_or table.versions n (version_at table n) below) in elim none [ ]
 
-pub named_once : (ts : List Transaction) (table : Table) → IsTableOf ts table → AreNamedOnce table
-named_once ts table is m n first second same =
+pub named_once : (keys : KeyOrder) (ts : List Transaction) (table : Table) → IsTableOf keys ts table → AreNamedOnce table
+named_once keys ts table is m n first second same =
     same_Some m n
     (sym (is.distinct m (version_at table m) (named_at table m first))
     ∙ is.distinct n (version_at table m) (named_at table n second ∙ ap Some (sym same)))

@@ -8,6 +8,7 @@ use Rattle.hist_types.specs.Atoms.{Atom, atom_eq}
 use Rattle.hist_types.specs.Operations.{Mop, read, write}
 use Rattle.hist_types.specs.Phenomena.{for_each_read, first_of, bad_read, aborted_writers, intermediate_writers, is_stray, g1a, g1b, stray}
 use Rattle.hist_types.specs.Transactions.{Transaction, Version, is_ok, is_known_to_read, reads_after, external_reads, has_version}
+use Rattle.hist_types.specs.declared.types.KeyOrder.{KeyOrder}
 use Rattle.hist_types.proofs.Members.{In, in_from_Contains, Contains_from_in}
 use Rattle.history_laws.proofs.ThinningPaths.{any_passes}
 use Rattle.history_laws.proofs.VersionMembers.{in_from_has, has_from_in}
@@ -83,8 +84,8 @@ named_if_ok : (ok : Bool) (v : Version) (mops : List Mop) → In v (if ok then r
 named_if_ok true v mops i = named_read v [] mops i
 named_if_ok false v mops i = elim i [ ]
 
-among_versions : (ts : List Transaction) (table : Table) → IsTableOf ts table → (t : Transaction) (v : Version) → Contains ts t → Contains (read_by t) v → In v table.versions
-among_versions ts table told t v there seen =
+among_versions : (keys : KeyOrder) (ts : List Transaction) (table : Table) → IsTableOf keys ts table → (t : Transaction) (v : Version) → Contains ts t → Contains (read_by t) v → In v table.versions
+among_versions keys ts table told t v there seen =
     let named : In v (named_by t) = named_if_ok (is_ok t) v t.mops (in_from_Contains v (read_by t) seen) in
     in_from_has v table.versions
     (told.named v
@@ -93,14 +94,14 @@ among_versions ts table told t v there seen =
 
 -- all versions were looked at
 pub all_ruled :
-    (ts : List Transaction) (table : Table) (n : ℕ) (p : Possible)
-    → IsTableOf ts table
+    (keys : KeyOrder) (ts : List Transaction) (table : Table) (n : ℕ) (p : Possible)
+    → IsTableOf keys ts table
     → length table.versions ≤ n
     → All (RulesOutReadsOf ts p) (take n table.versions)
     → RulesOutReads ts p
-all_ruled ts table n p told over all = record {
+all_ruled keys ts table n p told over all = record {
   each = λ v t there seen.
-      let (k, below, here) = Contains_from_in v table.versions (among_versions ts table told t v there seen) in
+      let (k, below, here) = Contains_from_in v table.versions (among_versions keys ts table told t v there seen) in
       let each : All (RulesOutReadsOf ts p) table.versions = subst (All (RulesOutReadsOf ts p)) (take_all n table.versions over) all in
       subst (RulesOutReadsOf ts p) here (each k v below) t there seen;
 }

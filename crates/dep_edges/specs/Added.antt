@@ -26,24 +26,24 @@ wr_edges h from number = reader_edges h.txns from (version_at h.table number)
 -- the same, to those that install a version after it
 abbrev pub ww_edges : History → (from number : ℕ) → List Edge
 ww_edges h from number =
-    later_edges h.txns from (ww (version_at h.table number)) (version_at h.table number)
+    later_edges h.table.keys h.txns from (ww (version_at h.table number)) (version_at h.table number)
 
 -- out of a version that the transaction `from` reads, to those that install a version after it
 abbrev pub rw_edges : History → (from number : ℕ) → List Edge
-rw_edges h from number = read_edges h.txns from (version_at h.table number)
+rw_edges h from number = read_edges h.table.keys h.txns from (version_at h.table number)
 
 -- ---- out of the transaction at a place
 
 -- by the versions that it installs
 abbrev pub edges_of_installs : History → (from place : ℕ) → List Edge
 edges_of_installs h from place =
-    flat_map (written_edges h.txns from) (installed_by (txn_at h.txns place))
+    flat_map (written_edges h.table.keys h.txns from) (installed_by (txn_at h.txns place))
 
 -- by those that it reads, each once
 abbrev pub edges_of_reads : History → (from place : ℕ) → List Edge
 edges_of_reads h from place =
-    flat_map (read_edges h.txns from) (each_once (read_by (txn_at h.txns place)))
+    flat_map (read_edges h.table.keys h.txns from) (each_once (read_by (txn_at h.txns place)))
 
 -- by both; none where it is no node
 abbrev pub edges_at : History → (place : ℕ) → List Edge
-edges_at h place = leaving h.txns (txn_at h.txns place)
+edges_at h place = leaving h.table.keys h.txns (txn_at h.txns place)

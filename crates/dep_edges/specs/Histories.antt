@@ -15,4 +15,4 @@ pub record History : Type 0 where
 
 pub record IsHistory (ts : List Transaction) (table : Table) : Type 0 where
   pub kept : AreOfHistory ts
-  pub versions : IsTableOf ts table
+  pub versions : IsTableOf table.keys ts table

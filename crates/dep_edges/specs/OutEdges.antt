@@ -5,21 +5,23 @@
 use Rattle.std.specs.Prelude.{◌≡◌, ◌↔◌, ℕ, List, [], ◌∷◌, ◌++◌, ◌==◌, if◌then◌else◌, flat_map, Contains}
 use Rattle.hist_types.specs.Edges.{Label, ww, wr, rw, Edge, dependency_edges}
 use Rattle.hist_types.specs.Lists.{NoneTwice}
+use Rattle.hist_types.specs.Versions.{process_pairs}
 use Rattle.hist_types.specs.Transactions.{Transaction, Version, has_version, is_node, installed_by, is_known_to_read}
+use Rattle.hist_types.specs.declared.types.KeyOrder.{KeyOrder}
 use Rattle.key_versions.specs.Histories.{read_by, installs_behind}
 
 -- ---- what is promised
 
 -- exactly the dependency edges of the history that leave the transaction, none of them twice
-pub record AreEdgesFrom (ts : List Transaction) (t : Transaction) (es : List Edge) : Type 0 where
+pub record AreEdgesFrom (keys : KeyOrder) (ts : List Transaction) (t : Transaction) (es : List Edge) : Type 0 where
   pub exactly :
       (e : Edge)
-      → Contains es e ↔ (Contains (dependency_edges ts) e × (e.from ≡ t.invocation))
+      → Contains es e ↔ (Contains (dependency_edges keys ts) e × (e.from ≡ t.invocation))
   pub once : NoneTwice es
 
 -- these, after what was there before
-abbrev pub AddsEdgesFrom : List Transaction → Transaction → (before after : List Edge) → Type 0
-AddsEdgesFrom ts t before after = (es : List Edge) × (after ≡ before ++ es) × AreEdgesFrom ts t es
+abbrev pub AddsEdgesFrom : KeyOrder → List Transaction → Transaction → (before after : List Edge) → Type 0
+AddsEdgesFrom keys ts t before after = (es : List Edge) × (after ≡ before ++ es) × AreEdgesFrom keys ts t es
 
 -- ---- how they are found
 
@@ -40,30 +42,30 @@ reader_edges ts from v =
     (λ (u : Transaction). if is_known_to_read u v then node_edge ts from u (wr v) else []) ts
 
 -- to each node that installs a version after this one, labelled by that version
-abbrev pub later_edges : List Transaction → ℕ → (Version → Label) → Version → List Edge
-later_edges ts from label v =
+abbrev pub later_edges : KeyOrder → List Transaction → ℕ → (Version → Label) → Version → List Edge
+later_edges keys ts from label v =
     flat_map
-    (λ (u : Transaction). flat_map (λ w. node_edge ts from u (label w)) (installs_behind u v)) ts
+    (λ (u : Transaction). flat_map (λ w. node_edge ts from u (label w)) (installs_behind (process_pairs keys ts) u v)) ts
 
 -- out of a version that the transaction installs, and out of one that it reads
-abbrev pub written_edges : List Transaction → ℕ → Version → List Edge
-written_edges ts from v = reader_edges ts from v ++ later_edges ts from (ww v) v
+abbrev pub written_edges : KeyOrder → List Transaction → ℕ → Version → List Edge
+written_edges keys ts from v = reader_edges ts from v ++ later_edges keys ts from (ww v) v
 
-abbrev pub read_edges : List Transaction → ℕ → Version → List Edge
-read_edges ts from v = later_edges ts from (rw v) v
+abbrev pub read_edges : KeyOrder → List Transaction → ℕ → Version → List Edge
+read_edges keys ts from v = later_edges keys ts from (rw v) v
 
 -- each version once
 abbrev pub each_once : List Version → List Version
 each_once [] = []
 each_once (v ∷ vs) = if has_version vs v then each_once vs else v ∷ each_once vs
 
-abbrev pub edges_out : List Transaction → Transaction → List Edge
-edges_out ts t =
-    flat_map (written_edges ts t.invocation) (installed_by t)
-    ++ flat_map (read_edges ts t.invocation) (each_once (read_by t))
+abbrev pub edges_out : KeyOrder → List Transaction → Transaction → List Edge
+edges_out keys ts t =
+    flat_map (written_edges keys ts t.invocation) (installed_by t)
+    ++ flat_map (read_edges keys ts t.invocation) (each_once (read_by t))
 
-abbrev pub leaving : List Transaction → Transaction → List Edge
-leaving ts t = if is_node ts t then edges_out ts t else []
+abbrev pub leaving : KeyOrder → List Transaction → Transaction → List Edge
+leaving keys ts t = if is_node ts t then edges_out keys ts t else []
 
 -- more edges after those that were there
 abbrev pub Begins : (before after : List Edge) → Type 0

@@ -9,6 +9,7 @@ ghost use Rattle.dep_edges.specs.Histories.{AreOfHistory};
 ghost use Rattle.dep_edges.specs.Reads.{DecidesAborted, DecidesIntermediate};
 ghost use Rattle.dep_edges.specs.Tables.{IsPlace, IsNumber, IsWritten, AreNamedOnce, txn_at, version_at, IsWriterPlace, later_in, IsBehind};
 
+use hist_types::types::KeyOrder;
 use key_versions::table::Versions;
 use key_versions::types::{Follower, VersionRef, Writer};
 use op_view::atom::Atom;
@@ -42,7 +43,7 @@ pub struct Written<'a> {
 impl<'v, 'a> History<'v, 'a> {
     pub(crate) fn new(txns: &'v Txns<'a>, versions: &'v Versions<'a>) -> Self
         requires kept { AreOfHistory txns.now }
-        requires versions { IsTableOf txns.now versions.now }
+        requires versions { IsTableOf versions.now.keys txns.now versions.now }
         ensures { result ≡ record { txns = txns.now; table = versions.now } }
     {
         History { txns, versions }
@@ -55,10 +56,17 @@ impl<'v, 'a> History<'v, 'a> {
         self.txns.as_slice()
     }
 
+    /// How much is known of the order of each key's versions.
+    pub fn keys(&self) -> KeyOrder
+        ensures { result ≡ self.now.table.keys }
+    {
+        self.versions.keys()
+    }
+
     /// How many versions there are.
     pub fn versions(&self) -> usize
         ensures value { result ≡ length self.now.table.versions }
-        ensures table { IsTableOf self.now.txns self.now.table }
+        ensures table { IsTableOf self.now.table.keys self.now.txns self.now.table }
     {
         self.versions.len()
     }
@@ -116,7 +124,8 @@ impl<'v, 'a> History<'v, 'a> {
     pub fn followers(&self, number: usize) -> &'v [Follower]
         requires { IsNumber self.now.table number }
         ensures value { map (later_in self.now.table) result.now
-            ≡ followers_of self.now.txns (version_at self.now.table number) }
+            ≡ followers_of self.now.table.keys self.now.txns
+            (version_at self.now.table number) }
         ensures within { All
             (IsBehind self.now.txns self.now.table (version_at self.now.table number)) result.now }
     {

@@ -24,7 +24,7 @@ use std::alloc::Global;
 use txn_pairs::types::Txns;
 
 /// What the transactions depend on each other for. No edge is stored: the edges that leave a transaction are found from what
-/// it reads and installs, over the table of the versions. The time is linear in the history.
+/// it reads and installs, over the table of the versions, which has the order of the keys. The time is linear in the history.
 ///
 /// Only memory can run out.
 pub fn edges<'v, 'a>(
@@ -33,8 +33,8 @@ pub fn edges<'v, 'a>(
     versions: &'v Versions<'a>,
 ) -> Result<Deps<'v, 'a>, Fault>
     requires history { AreOfHistory txns.now }
-    requires versions { IsTableOf txns.now versions.now }
-    ensures ok { IfOk result (λ deps. deps ≡ txns.now) }
+    requires versions { IsTableOf versions.now.keys txns.now versions.now }
+    ensures ok { IfOk result (λ deps. deps ≡ record { txns = txns.now; table = versions.now }) }
     ensures err { IfErr result (λ fault. fault ≡ memory_fault) }
 {
     let history = History::new(txns, versions);

@@ -3,6 +3,7 @@ use Rattle.std.proofs.Common.{◌≡◌, ◌↔◌, ◌∙◌, ◌<◌, ◌+◌,
 use Rattle.std.proofs.lemmas.Bool.{false≢true, and_parts, and_from, cases_lt}
 use Rattle.std.proofs.lemmas.List.{get_or_default}
 use Rattle.std.proofs.lemmas.Option.{slice_get_within, get_or_from_slice_get}
+use Rattle.hist_types.specs.declared.types.KeyOrder.{KeyOrder}
 use Rattle.hist_types.specs.Edges.{Label, ww, wr, rw, process, realtime, edge, dependency_edges}
 use Rattle.hist_types.specs.Phenomena.{is_rw_label}
 use Rattle.hist_types.specs.Transactions.{Transaction, Version, is_known_to_read, installs, is_node, nodes}
@@ -70,17 +71,20 @@ no_rw (rw earlier later) is = absurd is
 no_rw (process number) is = refl
 no_rw (realtime completion invocation) is = refl
 
-module _ (deps : List Transaction) (history : History) (order : List Before) (rows : List Row) (turned : Turned) (made : IsMade deps history order rows turned) where
+module _ (deps history : History) (order : List Before) (rows : List Row) (turned : Turned) (made : IsMade deps history order rows turned) where
   abbrev ts : List Transaction
   ts = history.txns
 
   abbrev table : Table
   table = history.table
 
+  abbrev keys : KeyOrder
+  keys = table.keys
+
   abbrev kept : AreOfHistory ts
   kept = made.kept
 
-  abbrev told : IsTableOf ts table
+  abbrev told : IsTableOf keys ts table
   told = made.versions
 
   abbrev ordered : IsOrderOf ts order
@@ -90,7 +94,7 @@ module _ (deps : List Transaction) (history : History) (order : List Before) (ro
   are = made.rows
 
   abbrev parts : Parts
-  parts = record { txns = ts; order = order; versions = table.versions }
+  parts = record { keys = keys; txns = ts; order = order; versions = table.versions }
 
   -- ---- the vertex of a transaction
 
@@ -118,14 +122,14 @@ module _ (deps : List Transaction) (history : History) (order : List Before) (ro
         let row : IsTxnRow ts table v (row_at rows v) = are.txns v h in
         elim (led_from d (row_at rows v) w i) [
           | inl by_rw ↦ (
-              let (number, is, within, read) = read_vertex ts kept table told t (row_at rows v).rw row.rw w by_rw.1 in
+              let (number, is, within, read) = read_vertex keys ts kept table told t (row_at rows v).rw row.rw w by_rw.1 in
               (txn t, version (version_at table number), txn_vertex v h, (number, is, version_there table number within), (by_rw.0, read)))
           | inr others ↦ elim others [
             | inl by_wr ↦ (
-                let (k, x, c) = wr_from ts kept v w h (subst (In w) row.wr by_wr.1) in
+                let (k, x, c) = wr_from keys ts kept v w h (subst (In w) row.wr by_wr.1) in
                 (txn t, txn (txn_at ts w), txn_vertex v h, txn_vertex w k, directly t (txn_at ts w) (wr x) (inl c) by_wr.0 refl))
             | inr by_ww ↦ (
-                let (k, x, y, c) = ww_from ts kept v w h (subst (In w) row.ww by_ww.1) in
+                let (k, x, y, c) = ww_from keys ts kept v w h (subst (In w) row.ww by_ww.1) in
                 (txn t, txn (txn_at ts w), txn_vertex v h, txn_vertex w k, directly t (txn_at ts w) (ww x y) (inl c) by_ww.0 refl))
           ]
         ]
@@ -144,7 +148,7 @@ module _ (deps : List Transaction) (history : History) (order : List Before) (ro
         let x = version_at table number in
         elim (led_from d (row_at rows (length ts + number)) w i) [
           | inl by_rw ↦ (
-              let (k, node, y, paired, installed) = follower_from ts kept x w (subst (λ (row : Row). In w row.rw) (are.versions number h) by_rw.1) in
+              let (k, node, y, paired, installed) = follower_from keys ts kept x w (subst (λ (row : Row). In w row.rw) (are.versions number h) by_rw.1) in
               (version x, txn (txn_at ts w), version_vertex number h, txn_vertex w k, (by_rw.0, (node, y, paired, installed))))
           | inr others ↦ elim others [
             | inl by_wr ↦ absurd (subst (λ (row : Row). In w row.wr) (are.versions number h) by_wr.1)
@@ -172,17 +176,17 @@ module _ (deps : List Transaction) (history : History) (order : List Before) (ro
     -- ---- each arc of the graph is there
 
     direct_dependency :
-        (v w : ℕ) (label : Label) → v < length ts → w < length ts → Contains (dependency_edges ts) (edge (txn_at ts v) (txn_at ts w) label)
+        (v w : ℕ) (label : Label) → v < length ts → w < length ts → Contains (dependency_edges keys ts) (edge (txn_at ts v) (txn_at ts w) label)
         → includes kinds label ≡ true → not (is_rw_label label) ≡ true → In w (led_to d (row_at rows v))
     direct_dependency v w (ww x y) h k c included other =
-        led_by_ww d (row_at rows v) w included (subst (In w) (sym (are.txns v h).ww) (ww_to ts kept v w x y h k c))
+        led_by_ww d (row_at rows v) w included (subst (In w) (sym (are.txns v h).ww) (ww_to keys ts kept v w x y h k c))
     direct_dependency v w (wr x) h k c included other =
-        led_by_wr d (row_at rows v) w included (subst (In w) (sym (are.txns v h).wr) (wr_to ts kept v w x h k c))
+        led_by_wr d (row_at rows v) w included (subst (In w) (sym (are.txns v h).wr) (wr_to keys ts kept v w x h k c))
     direct_dependency v w (rw x y) h k c included other = absurd (false≢true other)
     direct_dependency v w (process number) h k c included other =
-        absurd (dependency_from ts kept (txn_at ts v) (txn_at ts w) (process number) (txn_in ts v h) (txn_in ts w k) c).depends
+        absurd (dependency_from keys ts kept (txn_at ts v) (txn_at ts w) (process number) (txn_in ts v h) (txn_in ts w k) c).depends
     direct_dependency v w (realtime completion invocation) h k c included other =
-        absurd (dependency_from ts kept (txn_at ts v) (txn_at ts w) (realtime completion invocation) (txn_in ts v h) (txn_in ts w k) c).depends
+        absurd (dependency_from keys ts kept (txn_at ts v) (txn_at ts w) (realtime completion invocation) (txn_in ts v h) (txn_in ts w k) c).depends
 
     direct_arc : (v w : ℕ) → v < length ts → w < length ts → LeadsDirectly parts kinds (txn_at ts v) (txn_at ts w) → In w (led_to d (row_at rows v) ++ later v)
     direct_arc v w h k (label, has, inc) =
@@ -213,7 +217,7 @@ module _ (deps : List Transaction) (history : History) (order : List Before) (ro
         let h = slice_get_within ts v t at in
         let k = slice_get_within table.versions number x at' in
         let there =
-        vertex_read ts kept table told (txn_at ts v) (row_at rows v).rw (are.txns v h).rw number k
+        vertex_read keys ts kept table told (txn_at ts v) (row_at rows v).rw (are.txns v h).rw number k
         (subst (λ u. is_known_to_read u (version_at table number) ≡ true) (sym (txn_of ts v t at)) (subst (λ y. is_known_to_read t y ≡ true) (sym (version_of_number table number x at')) read)) in (
           omega (arith, h, are.count),
           subst (λ n. In n (led_to d (row_at rows v) ++ later v)) (sym is)
@@ -224,9 +228,9 @@ module _ (deps : List Transaction) (history : History) (order : List Before) (ro
         let h = slice_get_within table.versions number x at in
         let one : txn_at ts w ≡ u = txn_of ts w u at' in
         let same : version_at table number ≡ x = version_of_number table number x at in
-        let there : In w (nodes_behind ts (version_at table number)) =
-        subst (λ z. In w (nodes_behind ts z)) (sym same)
-        (follower_to ts kept x y w k (subst (Contains (nodes ts)) (sym one) node) paired (subst (λ z. installs z y ≡ true) (sym one) installed)) in
+        let there : In w (nodes_behind keys ts (version_at table number)) =
+        subst (λ z. In w (nodes_behind keys ts z)) (sym same)
+        (follower_to keys ts kept x y w k (subst (Contains (nodes ts)) (sym one) node) paired (subst (λ z. installs z y ≡ true) (sym one) installed)) in
         let row : In w (row_at rows (length ts + number)).rw = subst (λ (row : Row). In w row.rw) (sym (are.versions number h)) there in
         subst (λ n. Arrives n w) (sym is) (
           omega (arith, h, are.count),
@@ -272,10 +276,10 @@ module _ (deps : List Transaction) (history : History) (order : List Before) (ro
 
   -- ---- rw edges, by way of versions
 
-  pub rw_by_versions : (t u : Transaction) → Contains ts t → Contains ts u → HasRw ts t u ↔ LeadsByVersion parts t u
+  pub rw_by_versions : (t u : Transaction) → Contains ts t → Contains ts u → HasRw keys ts t u ↔ LeadsByVersion parts t u
   rw_by_versions t u i j = (
     λ (x, y, c).
-        let is = dependency_from ts kept t u (rw x y) (in_from_Contains t ts i) (in_from_Contains u ts j) c in
+        let is = dependency_from keys ts kept t u (rw x y) (in_from_Contains t ts i) (in_from_Contains u ts j) c in
         let (paired, read, installed) = is.depends in
         let (place, h, at) = place_by ts t (in_from_Contains t ts i) in
         let (number, same, below) = named place h x (subst (λ v. is_known_to_read v x ≡ true) (sym at) read) in (
@@ -288,7 +292,7 @@ module _ (deps : List Transaction) (history : History) (order : List Before) (ro
     λ (other, x, there, read, (node, y, paired, installed)). (
       x,
       y,
-      dependency_to ts kept t u (rw x y) (in_from_Contains t ts i) (in_from_Contains u ts j) (record {
+      dependency_to keys ts kept t u (rw x y) (in_from_Contains t ts i) (in_from_Contains u ts j) (record {
         first = reader_is_node ts t x read;
         second = passes_filter (is_node ts) u ts (in_from_Contains u (nodes ts) node);
         other = other;

@@ -137,9 +137,9 @@ module _ (g : Parts) where
   at_places from to e begins ends = ap (λ n. edge_by n e.to e.label) begins ∙ ap (λ n. edge_by (inv g from) n e.label) ends
 
   -- the places of a dependency edge's ends
-  ends_of : (e : Edge) → Contains (dependency_edges g.txns) e → (from to : ℕ) × LeadsBetween g from to e
+  ends_of : (e : Edge) → Contains (dependency_edges g.keys g.txns) e → (from to : ℕ) × LeadsBetween g from to e
   ends_of e c =
-      let (t, u, first, second, other, is, depends) = (edges_by_versions g.txns e).0 c in
+      let (t, u, first, second, other, is, depends) = (edges_by_versions g.keys g.txns e).0 c in
       let (from, h, at) = place_by g.txns t (in_filter (is_node g.txns) t g.txns (in_from_Contains t (nodes g.txns) first)) in
       let (to, k, at') = place_by g.txns u (in_filter (is_node g.txns) u g.txns (in_from_Contains u (nodes g.txns) second)) in
       let invocation = λ (x : Transaction). x.invocation in (
@@ -183,14 +183,14 @@ module _ (g : Parts) where
     txn_contained : (place : ℕ) → IsPlace g.txns place → Contains g.txns (txn_at g.txns place)
     txn_contained place h = Contains_from_in (txn_at g.txns place) g.txns (txn_in g.txns place h)
 
-    way : (kinds : Kinds) (from to : ℕ) (e : Edge) → kinds.rw ≡ true → LeadsBetween g from to e → Contains (dependency_edges g.txns) e → is_rw e ≡ true → (version : ℕ) × IsWayByVersion g kinds from version to
+    way : (kinds : Kinds) (from to : ℕ) (e : Edge) → kinds.rw ≡ true → LeadsBetween g from to e → Contains (dependency_edges g.keys g.txns) e → is_rw e ≡ true → (version : ℕ) × IsWayByVersion g kinds from version to
     way kinds from to e allowed leads c is =
         let ts = g.txns in
         let t = txn_at ts from in
         let u = txn_at ts to in
         let (x, y, label) = rw_label e.label is in
-        let there : Contains (dependency_edges ts) (edge t u (rw x y)) =
-        subst (Contains (dependency_edges ts)) (at_places from to e leads.begins leads.ends ∙ ap (edge_at from to) label) c in
+        let there : Contains (dependency_edges g.keys ts) (edge t u (rw x y)) =
+        subst (Contains (dependency_edges g.keys ts)) (at_places from to e leads.begins leads.ends ∙ ap (edge_at from to) label) c in
         let (other, v, among, read, follows) = (by_versions t u (txn_contained from leads.first) (txn_contained to leads.last)).0 (x, y, there) in
         let (vertex, at) = version_vertex g v among in (
           vertex,
@@ -244,16 +244,16 @@ module _ (g : Parts) where
   read_at kinds from vertex (version v) y h none at at' leads = absurd (no_place g from v at h)
 
   pub follows_at : (kinds : Kinds) (vertex to : ℕ) (x y : Vertex) (v : Version) → IsPlace g.txns to → IsVertex g vertex (version v) → IsVertex g vertex x → IsVertex g to y → LeadsTo g kinds x y
-      → Follows g.txns v (txn_at g.txns to)
+      → Follows g.keys g.txns v (txn_at g.txns to)
   follows_at kinds vertex to (version w) (txn u) v k here at at' (allowed, follows) =
-      subst (λ z. Follows g.txns v z) (sym (txn_of g.txns to u at')) (subst (λ z. Follows g.txns z u) (sym (one_version g vertex v w here at)) follows)
+      subst (λ z. Follows g.keys g.txns v z) (sym (txn_of g.txns to u at')) (subst (λ z. Follows g.keys g.txns z u) (sym (one_version g vertex v w here at)) follows)
   follows_at kinds vertex to (version w) (version z) v k here at at' leads = absurd leads
   follows_at kinds vertex to (txn t) y v k here at at' leads = absurd (no_place g vertex v here (slice_get_within g.txns vertex t at))
 
   module _ (kept : AreOfHistory g.txns) (by_versions : RwByVersions g) (kinds : Kinds) where
     pub by_rw :
         (from to : ℕ) (v : Version) → IsPlace g.txns from → IsPlace g.txns to → (from ≡ to → ⊥) → Contains g.versions v → kinds.rw ≡ true
-        → is_known_to_read (txn_at g.txns from) v ≡ true → Follows g.txns v (txn_at g.txns to) → HasEdgeBetween g kinds from to
+        → is_known_to_read (txn_at g.txns from) v ≡ true → Follows g.keys g.txns v (txn_at g.txns to) → HasEdgeBetween g kinds from to
     by_rw from to v h k other among allowed read follows =
         let t = txn_at g.txns from in
         let u = txn_at g.txns to in

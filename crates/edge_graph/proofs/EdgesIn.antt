@@ -3,6 +3,7 @@ use Rattle.std.proofs.Common.{◌≡◌, ◌↔◌, ◌∙◌, ◌⊎◌, inl, i
 use Rattle.std.specs.List.{list_any}
 use Rattle.std.proofs.lemmas.Bool.{false≢true, or_cases, or_left, or_right, eqb-true, eq-eqb}
 use Rattle.history_laws.specs.Dependencies.{Depends}
+use Rattle.hist_types.specs.declared.types.KeyOrder.{KeyOrder}
 use Rattle.hist_types.specs.Edges.{Label, ww, wr, rw, process, realtime, Edge, edge, dependency_edges, order_labels, all_order_edges, order_edges, edges_at}
 use Rattle.hist_types.specs.ThinnedOrder.{thinned_labels, all_thinned_edges, thinned_edges}
 use Rattle.history_laws.specs.OrderEdges.{LeadsToOne}
@@ -48,7 +49,7 @@ leads_to ns e (u, c, same) = passes (λ (u : Transaction). e.to == u.invocation)
 
 pub listed : (g : Parts) (level : Level) (e : Edge) → Contains (edges_in g level) e ↔ HasEdge g level e
 listed g level e =
-    let dependencies = dependency_edges g.txns in
+    let dependencies = dependency_edges g.keys g.txns in
     let order = edges_of level g.order in
     let test = leads_to_one (nodes g.txns) in
     let some = filter test order in (
@@ -67,7 +68,7 @@ listed g level e =
 no_order : (order : List Before) (e : Edge) → In e (edges_of Plain order) → ⊥
 no_order order e i = (in_some (edges_to Plain) e order i).2
 
-pub plain : (g : Parts) (e : Edge) → Contains (edges_in g Plain) e ↔ Contains (dependency_edges g.txns) e
+pub plain : (g : Parts) (e : Edge) → Contains (edges_in g Plain) e ↔ Contains (dependency_edges g.keys g.txns) e
 plain g e = (
   λ c. elim ((listed g Plain e).0 c) [ inl d ↦ d | inr d ↦ absurd (no_order g.order e (in_from_Contains e (edges_of Plain g.order) d.0)) ],
   λ d. (listed g Plain e).1 (inl d),
@@ -96,15 +97,15 @@ order_labelled (rw earlier later) is = absurd is
 order_labelled (process number) is = refl
 order_labelled (realtime completion invocation) is = refl
 
-not_ordered : (ts : List Transaction) (t u : Transaction) (label : Label) → Depends ts t u label → is_order_label label ≡ false
-not_ordered ts t u (ww earlier later) d = refl
-not_ordered ts t u (wr v) d = refl
-not_ordered ts t u (rw earlier later) d = refl
-not_ordered ts t u (process number) d = absurd d
-not_ordered ts t u (realtime completion invocation) d = absurd d
+not_ordered : (keys : KeyOrder) (ts : List Transaction) (t u : Transaction) (label : Label) → Depends keys ts t u label → is_order_label label ≡ false
+not_ordered keys ts t u (ww earlier later) d = refl
+not_ordered keys ts t u (wr v) d = refl
+not_ordered keys ts t u (rw earlier later) d = refl
+not_ordered keys ts t u (process number) d = absurd d
+not_ordered keys ts t u (realtime completion invocation) d = absurd d
 
 -- an edge that is no order edge is a dependency edge
-pub dependency_of : (g : Parts) (level : Level) (e : Edge) → Contains (edges_in g level) e → is_order e ≡ false → Contains (dependency_edges g.txns) e
+pub dependency_of : (g : Parts) (level : Level) (e : Edge) → Contains (edges_in g level) e → is_order e ≡ false → Contains (dependency_edges g.keys g.txns) e
 dependency_of g level e c other =
     elim ((listed g level e).0 c) [
       | inl d ↦ d
@@ -117,29 +118,29 @@ pub levels : (g : Parts) (level : Level) (e : Edge) → Contains (edges_in g Pla
 levels g level e = (
   λ c.
       let d = (plain g e).0 c in
-      let (t, u, first, second, other, is, depends) = (edges_by_versions g.txns e).0 d in
-      ((listed g level e).1 (inl d), not_ordered g.txns t u e.label depends),
+      let (t, u, first, second, other, is, depends) = (edges_by_versions g.keys g.txns e).0 d in
+      ((listed g level e).1 (inl d), not_ordered g.keys g.txns t u e.label depends),
   λ (c, other). (plain g e).1 (dependency_of g level e c other),
 )
 
 -- ---- one kind
 
-module _ (ts : List Transaction) (t u : Transaction) where
-  of_ww : (label : Label) → Depends ts t u label → includes (kinds_of Ww Plain) label ≡ true → is_ww_label label ≡ true
+module _ (keys : KeyOrder) (ts : List Transaction) (t u : Transaction) where
+  of_ww : (label : Label) → Depends keys ts t u label → includes (kinds_of Ww Plain) label ≡ true → is_ww_label label ≡ true
   of_ww (ww earlier later) d k = refl
   of_ww (wr v) d k = absurd (false≢true k)
   of_ww (rw earlier later) d k = absurd (false≢true k)
   of_ww (process number) d k = absurd d
   of_ww (realtime completion invocation) d k = absurd d
 
-  of_wr : (label : Label) → Depends ts t u label → includes (kinds_of Wr Plain) label ≡ true → is_wr_label label ≡ true
+  of_wr : (label : Label) → Depends keys ts t u label → includes (kinds_of Wr Plain) label ≡ true → is_wr_label label ≡ true
   of_wr (ww earlier later) d k = absurd (false≢true k)
   of_wr (wr v) d k = refl
   of_wr (rw earlier later) d k = absurd (false≢true k)
   of_wr (process number) d k = absurd d
   of_wr (realtime completion invocation) d k = absurd d
 
-  of_rw : (label : Label) → Depends ts t u label → includes (kinds_of Rw Plain) label ≡ true → is_rw_label label ≡ true
+  of_rw : (label : Label) → Depends keys ts t u label → includes (kinds_of Rw Plain) label ≡ true → is_rw_label label ≡ true
   of_rw (ww earlier later) d k = absurd (false≢true k)
   of_rw (wr v) d k = absurd (false≢true k)
   of_rw (rw earlier later) d k = refl
@@ -148,22 +149,22 @@ module _ (ts : List Transaction) (t u : Transaction) where
 
 pub one_ww : (g : Parts) (e : Edge) → IsEdgeOf g (kinds_of Ww Plain) e → is_ww e ≡ true
 one_ww g e of =
-    let (t, u, first, second, other, is, depends) = (edges_by_versions g.txns e).0 ((plain g e).0 of.among) in
-    of_ww g.txns t u e.label depends of.kind
+    let (t, u, first, second, other, is, depends) = (edges_by_versions g.keys g.txns e).0 ((plain g e).0 of.among) in
+    of_ww g.keys g.txns t u e.label depends of.kind
 
 pub one_wr : (g : Parts) (e : Edge) → IsEdgeOf g (kinds_of Wr Plain) e → is_wr e ≡ true
 one_wr g e of =
-    let (t, u, first, second, other, is, depends) = (edges_by_versions g.txns e).0 ((plain g e).0 of.among) in
-    of_wr g.txns t u e.label depends of.kind
+    let (t, u, first, second, other, is, depends) = (edges_by_versions g.keys g.txns e).0 ((plain g e).0 of.among) in
+    of_wr g.keys g.txns t u e.label depends of.kind
 
 pub one_rw : (g : Parts) (e : Edge) → IsEdgeOf g (kinds_of Rw Plain) e → is_rw e ≡ true
 one_rw g e of =
-    let (t, u, first, second, other, is, depends) = (edges_by_versions g.txns e).0 ((plain g e).0 of.among) in
-    of_rw g.txns t u e.label depends of.kind
+    let (t, u, first, second, other, is, depends) = (edges_by_versions g.keys g.txns e).0 ((plain g e).0 of.among) in
+    of_rw g.keys g.txns t u e.label depends of.kind
 
 -- ---- of a history
 
-module _ (ts : List Transaction) (kept : AreOfHistory ts) (level : Level) (e : Edge) where
+module _ (keys : KeyOrder) (ts : List Transaction) (kept : AreOfHistory ts) (level : Level) (e : Edge) where
   inside : (t : Transaction) → In t (nodes ts) → In t ts
   inside t i = in_filter (is_node ts) t ts i
 
@@ -204,18 +205,18 @@ module _ (ts : List Transaction) (kept : AreOfHistory ts) (level : Level) (e : E
       let (t, u, i, j, other, among) = from in
       Contains_from_in e (all_thinned_edges level ts) (goes_to ts (thinned_labels level ts) e (t, u, inside t i, inside u j, other, among))
 
-  module _ (order : List Before) (g : Parts) (made : IsMadeOf ts order g) where
-    has_edge : HasEdge g level e ↔ (Contains (dependency_edges ts) e ⊎ (Contains (edges_of level order) e × LeadsToOne (nodes ts) e))
+  module _ (order : List Before) (g : Parts) (made : IsMadeOf keys ts order g) where
+    has_edge : HasEdge g level e ↔ (Contains (dependency_edges keys ts) e ⊎ (Contains (edges_of level order) e × LeadsToOne (nodes ts) e))
     has_edge =
-        let whole = λ (us : List Transaction) (o : List Before). Contains (dependency_edges us) e ⊎ (Contains (edges_of level o) e × LeadsToOne (nodes us) e) in (
-          λ has. subst (λ o. whole ts o) made.order (subst (λ us. whole us g.order) made.txns has),
-          λ has. subst (λ us. whole us g.order) (sym made.txns) (subst (λ o. whole ts o) (sym made.order) has),
+        let whole = λ (ks : KeyOrder) (us : List Transaction) (o : List Before). Contains (dependency_edges ks us) e ⊎ (Contains (edges_of level o) e × LeadsToOne (nodes us) e) in (
+          λ has. subst (λ o. whole keys ts o) made.order (subst (λ us. whole keys us g.order) made.txns (subst (λ ks. whole ks g.txns g.order) made.keys_are has)),
+          λ has. subst (λ ks. whole ks g.txns g.order) (sym made.keys_are) (subst (λ us. whole keys us g.order) (sym made.txns) (subst (λ o. whole keys ts o) (sym made.order) has)),
         )
 
     -- with any list of exactly the order edges between nodes
-    with_order : (es : List Edge) → ((Contains (edges_of level order) e × LeadsToOne (nodes ts) e) ↔ Contains es e) → Contains (edges_in g level) e ↔ Contains (dependency_edges ts ++ es) e
+    with_order : (es : List Edge) → ((Contains (edges_of level order) e × LeadsToOne (nodes ts) e) ↔ Contains es e) → Contains (edges_in g level) e ↔ Contains (dependency_edges keys ts ++ es) e
     with_order es exactly =
-        let dependencies = dependency_edges ts in (
+        let dependencies = dependency_edges keys ts in (
           λ c.
               Contains_from_in e (dependencies ++ es) (elim (has_edge.0 ((listed g level e).0 c)) [
                 | inl d ↦ in_front e dependencies es (in_from_Contains e dependencies d)
@@ -228,13 +229,13 @@ module _ (ts : List Transaction) (kept : AreOfHistory ts) (level : Level) (e : E
               ])),
         )
 
-    pub of_all_pairs : HasOrderEdges ts order → Contains (edges_in g level) e ↔ Contains (edges_at level ts) e
+    pub of_all_pairs : HasOrderEdges ts order → Contains (edges_in g level) e ↔ Contains (edges_at keys level ts) e
     of_all_pairs has = with_order (order_edges level ts) (
       λ (c, leads). order_to_node ((has level e).0 c) leads,
       λ c. ((has level e).1 (order_edges-all level ts e c), order_edges-lead level ts e c),
     )
 
-    pub of_thinned : HasThinnedEdges ts order → Contains (edges_in g level) e ↔ Contains (dependency_edges ts ++ thinned_edges level ts) e
+    pub of_thinned : HasThinnedEdges ts order → Contains (edges_in g level) e ↔ Contains (dependency_edges keys ts ++ thinned_edges level ts) e
     of_thinned has = with_order (thinned_edges level ts) (
       λ (c, leads). thinned_to_node ((has level e).0 c) leads,
       λ c. ((has level e).1 (thinned-all c), order_edges-lead level ts e (thinned_edges-order level ts e c)),

@@ -2,6 +2,7 @@
 use Rattle.std.proofs.Common.{◌≡◌, ◌∙◌, ◌<◌, inl, inr, ℕ, List, [], ◌∷◌, ◌++◌, length, filter, Bool, true, Option, Some, None, refl, sym, ap, subst}
 use Rattle.std.specs.Prelude.{⊤}
 use Rattle.history_laws.specs.Dependencies.{Depends}
+use Rattle.hist_types.specs.declared.types.KeyOrder.{KeyOrder}
 use Rattle.hist_types.specs.Edges.{Label, ww, wr, rw, process, realtime, realtime_label, Edge, edge}
 use Rattle.hist_types.specs.Transactions.{Transaction, Version}
 use Rattle.hist_types.specs.declared.types.Level.{Level}
@@ -50,21 +51,21 @@ order_included kinds (rw earlier later) is = absurd is
 order_included kinds (process number) is = refl
 order_included kinds (realtime completion invocation) is = refl
 
-pub no_dependency : (ts : List Transaction) (t u : Transaction) (label : Label) → IsOrderLabel label → Depends ts t u label → ⊥
-no_dependency ts t u (ww earlier later) is d = is
-no_dependency ts t u (wr version) is d = is
-no_dependency ts t u (rw earlier later) is d = is
-no_dependency ts t u (process number) is d = d
-no_dependency ts t u (realtime completion invocation) is d = d
+pub no_dependency : (keys : KeyOrder) (ts : List Transaction) (t u : Transaction) (label : Label) → IsOrderLabel label → Depends keys ts t u label → ⊥
+no_dependency keys ts t u (ww earlier later) is d = is
+no_dependency keys ts t u (wr version) is d = is
+no_dependency keys ts t u (rw earlier later) is d = is
+no_dependency keys ts t u (process number) is d = d
+no_dependency keys ts t u (realtime completion invocation) is d = d
 
 -- a list in which nothing is twice, either way said
 apart_from_none_twice : (es : List Edge) → NoneTwice es → AreApart es
 apart_from_none_twice [] once = tt
 apart_from_none_twice (e ∷ es) once = ((λ i. once.0 (Contains_from_in e es i)), apart_from_none_twice es once.1)
 
-module _ (ts : List Transaction) (order : List Before) (kept : AreOfHistory ts) (is : IsOrderOf ts order) (turned : Turned) (turned_are : AreTurned ts order turned) (versions : List Version) where
+module _ (keys : KeyOrder) (ts : List Transaction) (order : List Before) (kept : AreOfHistory ts) (is : IsOrderOf ts order) (turned : Turned) (turned_are : AreTurned ts order turned) (versions : List Version) where
   abbrev parts : Parts
-  parts = record { txns = ts; order = order; versions = versions }
+  parts = record { keys = keys; txns = ts; order = order; versions = versions }
 
   abbrev over : Kinds → ℕ → List Edge
   over kinds place = order_edges_over ts kinds.level place (list_at (lists_at kinds.level turned) place)
@@ -108,7 +109,7 @@ module _ (ts : List Transaction) (order : List Before) (kept : AreOfHistory ts) 
       one_place ts kept m n (to m i).0 (to n j).0 (ap (λ (d : Edge). d.to) (same ∙ sym same')))
 
   pub edges_out :
-      (kinds : Kinds) (place : ℕ) (es : List Edge) → place < length ts → out_edges.AreEdgesFrom ts (txn_at ts place) es
+      (kinds : Kinds) (place : ℕ) (es : List Edge) → place < length ts → out_edges.AreEdgesFrom keys ts (txn_at ts place) es
       → AreEdgesFrom parts kinds place (filter (included kinds) es ++ over kinds place)
   edges_out kinds place es h are =
       let t = txn_at ts place in
@@ -147,6 +148,6 @@ module _ (ts : List Transaction) (order : List Before) (kept : AreOfHistory ts) 
             (λ e i j.
             let (next, k, l, label, ordered, same, has) = over_from kinds place e h j in
             let dependency = ((are.exactly e).0 (Contains_from_in e es (in_filter (included kinds) e es i))).0 in
-            let (v, w, x, y, other, at, depends) = (edges_by_versions ts e).0 dependency in
-            no_dependency ts v w e.label (subst IsOrderLabel (sym (ap (λ (d : Edge). d.label) same)) ordered) depends));
+            let (v, w, x, y, other, at, depends) = (edges_by_versions keys ts e).0 dependency in
+            no_dependency keys ts v w e.label (subst IsOrderLabel (sym (ap (λ (d : Edge). d.label) same)) ordered) depends));
       }

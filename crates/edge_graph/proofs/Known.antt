@@ -1,7 +1,6 @@
 -- What a graph that is made knows, and what an answer of its edges says.
 use Rattle.std.proofs.Common.{◌≡◌, ℕ, List, Option, Some, None, IsSome, subst, refl}
 use Rattle.hist_types.specs.Edges.{Edge}
-use Rattle.hist_types.specs.Transactions.{Transaction}
 use Rattle.order_frontier.specs.Predecessors.{Before}
 use Rattle.dep_edges.specs.Histories.{AreOfHistory, History}
 use Rattle.edge_graph.specs.FlatRows.{Row}
@@ -14,10 +13,10 @@ use Rattle.edge_graph.specs.declared.types.Kinds.{Kinds}
 use Rattle.edge_graph.proofs.ArcsOut.{rw_by_versions}
 
 pub known :
-    (deps : List Transaction) (history : History) (order : List Before) (rows : List Row) (turned : Turned)
+    (deps history : History) (order : List Before) (rows : List Row) (turned : Turned)
     → IsMade deps history order rows turned
     → (g : Parts)
-    → record { txns = history.txns; order = order; versions = history.table.versions } ≡ g
+    → record { keys = history.table.keys; txns = history.txns; order = order; versions = history.table.versions } ≡ g
     → AreOfHistory g.txns × RwByVersions g
 known deps history order rows turned made g is =
     subst (λ (g : Parts). AreOfHistory g.txns × RwByVersions g) is (made.kept, rw_by_versions deps history order rows turned made)

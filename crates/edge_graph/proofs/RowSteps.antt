@@ -24,13 +24,13 @@ module _ (ts : List Transaction) (table : Table) where
 
   pub next_version :
       (count : ℕ) (rows : List Row) → AreFirstVersionRows ts table count rows
-      → AreFirstVersionRows ts table (count + 1) (rows ++ version_row ts (version_at table count) ∷ [])
+      → AreFirstVersionRows ts table (count + 1) (rows ++ version_row table.keys ts (version_at table count) ∷ [])
   next_version count rows are =
-      let row = version_row ts (version_at table count) in
+      let row = version_row table.keys ts (version_at table count) in
       record {
         count = omega (arith, are.count, length-append rows (row ∷ []));
         each =
-            below_more (λ number. row_at (rows ++ row ∷ []) number ≡ version_row ts (version_at table number)) count
+            below_more (λ number. row_at (rows ++ row ∷ []) number ≡ version_row table.keys ts (version_at table number)) count
             (λ number h. get_or_append_left rows (row ∷ []) no_row number (omega (arith, are.count, h)) ∙ are.each number h)
             (last_at rows row count are.count);
       }

@@ -4,8 +4,9 @@ use Rattle.std.specs.Prelude.{slice_get}
 use Rattle.std.proofs.lemmas.Bool.{cases_lt, and_from, and_parts, or_left}
 use Rattle.std.proofs.lemmas.Option.{none-some, same_Some, slice_get_within, slice_get-get_or, get_or_from_slice_get}
 use Rattle.hist_types.specs.Transactions.{Transaction, Version, is_ok, external_reads, has_version, is_known_to_read, is_node, Open}
-use Rattle.hist_types.specs.Versions.{nil_of}
+use Rattle.hist_types.specs.Versions.{nil_of, process_pairs}
 use Rattle.hist_types.specs.Atoms.{integer}
+use Rattle.hist_types.specs.declared.types.KeyOrder.{KeyOrder}
 use Rattle.hist_types.proofs.Members.{In, in_from_Contains, Contains_from_in, in_front, in_back, in_mapped, in_map, in_filter, in_filtered, passes_filter}
 use Rattle.history_laws.proofs.ThinningTimes.{invoked_in_order}
 use Rattle.history_laws.proofs.VersionMembers.{in_from_has, has_from_in}
@@ -113,34 +114,34 @@ abbrev at_place : ℕ × Version → ℕ
 at_place p = p.0
 
 pub node_behind :
-    (ts : List Transaction) (v : Version) (place : ℕ) → In place (nodes_behind ts v)
-    → (w : Version) × (place < length ts) × (is_node ts (txn_at ts place) ≡ true) × In w (installs_behind (txn_at ts place) v)
-node_behind ts v place i =
+    (keys : KeyOrder) (ts : List Transaction) (v : Version) (place : ℕ) → In place (nodes_behind keys ts v)
+    → (w : Version) × (place < length ts) × (is_node ts (txn_at ts place) ≡ true) × In w (installs_behind (process_pairs keys ts) (txn_at ts place) v)
+node_behind keys ts v place i =
     let test = λ (n : ℕ). is_node ts (txn_at ts n) in
-    let places = map at_place (followers_of ts v) in
-    let (p, among, same) = in_map at_place place (followers_of ts v) (in_filter test place places i) in
-    let (j, t, get, there) = from_some_place (λ place t. map (λ w. (place, w)) (installs_behind t v)) 0 ts p among in
-    let (w, behind, is) = in_map (λ (w : Version). (0 + j, w)) p (installs_behind t v) there in
+    let places = map at_place (followers_of keys ts v) in
+    let (p, among, same) = in_map at_place place (followers_of keys ts v) (in_filter test place places i) in
+    let (j, t, get, there) = from_some_place (λ place t. map (λ w. (place, w)) (installs_behind (process_pairs keys ts) t v)) 0 ts p among in
+    let (w, behind, is) = in_map (λ (w : Version). (0 + j, w)) p (installs_behind (process_pairs keys ts) t v) there in
     let here : j ≡ place = omega (arith, ap at_place is, same) in
     let found : slice_get ts place ≡ Some t = ap (slice_get ts) (sym here) ∙ get in (
       w,
       slice_get_within ts place t found,
       passes_filter test place places i,
-      subst (λ x. In w (installs_behind x v)) (sym (txn_of ts place t found)) behind,
+      subst (λ x. In w (installs_behind (process_pairs keys ts) x v)) (sym (txn_of ts place t found)) behind,
     )
 
 pub behind_node :
-    (ts : List Transaction) (v w : Version) (place : ℕ) → place < length ts → is_node ts (txn_at ts place) ≡ true → In w (installs_behind (txn_at ts place) v)
-    → In place (nodes_behind ts v)
-behind_node ts v w place h node behind =
+    (keys : KeyOrder) (ts : List Transaction) (v w : Version) (place : ℕ) → place < length ts → is_node ts (txn_at ts place) ≡ true → In w (installs_behind (process_pairs keys ts) (txn_at ts place) v)
+    → In place (nodes_behind keys ts v)
+behind_node keys ts v w place h node behind =
     let test = λ (n : ℕ). is_node ts (txn_at ts n) in
     let at : 0 + place ≡ place = omega arith in
     let t = txn_at ts place in
     let p : ℕ × Version = (place, w) in
-    let there : In p (followers_of ts v) =
-    to_place (λ place t. map (λ w. (place, w)) (installs_behind t v)) 0 ts place t p (txn_there ts place h)
-    (subst (λ n. In p (map (λ w. (n, w)) (installs_behind t v))) (sym at) (in_mapped (λ (w : Version). (place, w)) w (installs_behind t v) behind)) in
-    in_filtered test place (map at_place (followers_of ts v)) (in_mapped at_place p (followers_of ts v) there) node
+    let there : In p (followers_of keys ts v) =
+    to_place (λ place t. map (λ w. (place, w)) (installs_behind (process_pairs keys ts) t v)) 0 ts place t p (txn_there ts place h)
+    (subst (λ n. In p (map (λ w. (n, w)) (installs_behind (process_pairs keys ts) t v))) (sym at) (in_mapped (λ (w : Version). (place, w)) w (installs_behind (process_pairs keys ts) t v) behind)) in
+    in_filtered test place (map at_place (followers_of keys ts v)) (in_mapped at_place p (followers_of keys ts v) there) node
 
 -- ---- reads
 

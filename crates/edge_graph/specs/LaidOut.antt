@@ -1,6 +1,7 @@
 -- How the arcs of dependencies are laid out: a row for each transaction, and after them one for each version.
 use Rattle.std.specs.Prelude.{◌≡◌, ℕ, ◌+◌, ◌<◌, List, [], ◌++◌, length, not, ◌==◌, if◌then◌else◌, map, filter, flat_map, All}
 use Rattle.hist_types.specs.Transactions.{Transaction, Version, is_node, installed_by}
+use Rattle.hist_types.specs.declared.types.KeyOrder.{KeyOrder}
 use Rattle.key_versions.specs.Histories.{read_by, readers_of, followers_of}
 use Rattle.key_versions.specs.Tables.{Table}
 use Rattle.dep_edges.specs.Histories.{History}
@@ -9,13 +10,13 @@ use Rattle.edge_graph.specs.FlatRows.{Row, row_at, IsRowBehind}
 use Rattle.edge_graph.specs.declared.rows.Span.{Span}
 
 -- the places of the nodes that install a version after this one
-abbrev pub nodes_behind : List Transaction → Version → List ℕ
-nodes_behind ts v =
-    filter (λ place. is_node ts (txn_at ts place)) (map (λ p. p.0) (followers_of ts v))
+abbrev pub nodes_behind : KeyOrder → List Transaction → Version → List ℕ
+nodes_behind keys ts v =
+    filter (λ place. is_node ts (txn_at ts place)) (map (λ p. p.0) (followers_of keys ts v))
 
 -- the places of the nodes that install a version after the one with this number
 abbrev pub nodes_of : History → (number : ℕ) → List ℕ
-nodes_of h number = nodes_behind h.txns (version_at h.table number)
+nodes_of h number = nodes_behind h.table.keys h.txns (version_at h.table number)
 
 -- the places except one
 abbrev pub others : List ℕ → (place : ℕ) → List ℕ
@@ -27,8 +28,9 @@ readers_behind ts place =
     flat_map (λ v. others (readers_of ts v) place) (installed_by (txn_at ts place))
 
 -- the places of the nodes that install a version after one which this transaction installs
-abbrev pub writers_behind : List Transaction → ℕ → List ℕ
-writers_behind ts place = flat_map (nodes_behind ts) (installed_by (txn_at ts place))
+abbrev pub writers_behind : KeyOrder → List Transaction → ℕ → List ℕ
+writers_behind keys ts place =
+    flat_map (nodes_behind keys ts) (installed_by (txn_at ts place))
 
 abbrev pub if_node : List Transaction → ℕ → List ℕ → List ℕ
 if_node ts place places = if is_node ts (txn_at ts place) then places else []
@@ -53,7 +55,7 @@ AddsReads h place before after =
 pub record IsTxnRow (ts : List Transaction) (table : Table) (place : ℕ) (row : Row) : Type 0 where
   pub rw : AreVersionVertices ts table (read_by (txn_at ts place)) row.rw
   pub wr : row.wr ≡ if_node ts place (readers_behind ts place)
-  pub ww : row.ww ≡ if_node ts place (writers_behind ts place)
+  pub ww : row.ww ≡ if_node ts place (writers_behind table.keys ts place)
 
 -- such a row, after what was there before
 abbrev pub AddsTxnRow : History → (place : ℕ) → (before after : List ℕ) → Span → Type 0
@@ -61,13 +63,13 @@ AddsTxnRow h place before after s =
     (row : Row) × IsTxnRow h.txns h.table place row × IsRowBehind before after s row
 
 -- a version leads to who installs a version after it
-abbrev pub version_row : List Transaction → Version → Row
-version_row ts v = record { rw = nodes_behind ts v; wr = []; ww = [] }
+abbrev pub version_row : KeyOrder → List Transaction → Version → Row
+version_row keys ts v = record { rw = nodes_behind keys ts v; wr = []; ww = [] }
 
 -- such a row, after what was there before
 abbrev pub AddsVersionRow : History → (number : ℕ) → (before after : List ℕ) → Span → Type 0
 AddsVersionRow h number before after s =
-    IsRowBehind before after s (version_row h.txns (version_at h.table number))
+    IsRowBehind before after s (version_row h.table.keys h.txns (version_at h.table number))
 
 -- the rows of the first transactions
 pub record AreFirstTxnRows (ts : List Transaction) (table : Table) (places : ℕ)
@@ -82,7 +84,7 @@ pub record AreFirstVersionRows (ts : List Transaction) (table : Table) (numbers 
   pub each :
       (number : ℕ)
       → number < numbers
-      → row_at rows number ≡ version_row ts (version_at table number)
+      → row_at rows number ≡ version_row table.keys ts (version_at table number)
 
 -- the rows of all transactions
 abbrev pub AreTxnRows : History → (rows : List Row) → Type 0
@@ -99,4 +101,4 @@ pub record AreRows (ts : List Transaction) (table : Table) (rows : List Row) : T
   pub versions :
       (number : ℕ)
       → number < length table.versions
-      → row_at rows (length ts + number) ≡ version_row ts (version_at table number)
+      → row_at rows (length ts + number) ≡ version_row table.keys ts (version_at table number)

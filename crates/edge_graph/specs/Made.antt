@@ -17,28 +17,33 @@ use Rattle.edge_graph.specs.Successors.{Turned, AreTurned}
 use Rattle.edge_graph.specs.declared.types.Dependencies.{Dependencies}
 use Rattle.edge_graph.specs.declared.types.Kinds.{Kinds}
 
-pub record IsMade (deps : List Transaction) (history : History) (order : List Before)
+pub record IsMade (deps history : History) (order : List Before)
     (laid_out : List Row) (turned : Turned) : Type 0 where
-  pub txns : deps ≡ history.txns
+  pub keys : deps.table.keys ≡ history.table.keys
+  pub txns : deps.txns ≡ history.txns
   pub kept : AreOfHistory history.txns
-  pub versions : IsTableOf history.txns history.table
+  pub versions : IsTableOf history.table.keys history.txns history.table
   pub ordered : IsOrderOf history.txns order
   pub rows : AreRows history.txns history.table laid_out
   pub orders : AreTurned history.txns order turned
 
 abbrev pub parts_of : History → List Before → Parts
 parts_of history order =
-    record { txns = history.txns; order = order; versions = history.table.versions }
+    record {
+      keys = history.table.keys;
+      txns = history.txns;
+      order = order;
+      versions = history.table.versions;
+    }
 
 -- ---- dependency edges
 
 -- those of the kinds that leave the transaction at the place, after what was there before
-abbrev pub AddsDependencies : List Transaction → Kinds → (place : ℕ) → (before after : List Edge)
-    → Type 0
-AddsDependencies ts kinds place before after =
+abbrev pub AddsDependencies : History → Kinds → (place : ℕ) → (before after : List Edge) → Type 0
+AddsDependencies h kinds place before after =
     (es : List Edge)
     × (after ≡ before ++ filter (λ e. includes kinds e.label) es)
-    × out_edges.AreEdgesFrom ts (txn_at ts place) es
+    × out_edges.AreEdgesFrom h.table.keys h.txns (txn_at h.txns place) es
 
 -- ---- order edges
 

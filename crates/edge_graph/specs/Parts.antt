@@ -6,6 +6,7 @@ use Rattle.std.specs.List.{list_any}
 use Rattle.hist_types.specs.Edges.{Edge, dependency_edges, all_order_edges}
 use Rattle.history_laws.specs.OrderEdges.{LeadsToOne}
 use Rattle.hist_types.specs.Transactions.{Transaction, Version, has_version, nodes}
+use Rattle.hist_types.specs.declared.types.KeyOrder.{KeyOrder}
 use Rattle.hist_types.specs.declared.types.Level.{Level}
 use Rattle.key_versions.specs.Histories.{is_named}
 use Rattle.order_frontier.specs.Predecessors as predecessors
@@ -15,6 +16,7 @@ use Rattle.edge_graph.specs.Kinds.{includes}
 use Rattle.edge_graph.specs.declared.types.Kinds.{Kinds}
 
 pub record Parts : Type 0 where
+  pub keys : KeyOrder
   pub txns : List Transaction
   pub order : List Before
   -- the versions that the transactions name
@@ -29,7 +31,9 @@ pub record IsOrderOf (ts : List Transaction) (order : List Before) : Type 0 wher
       → Contains (all_order_edges level ts) e
   pub once : All predecessors.NoPredecessorTwice order
 
-pub record IsMadeOf (ts : List Transaction) (before : List Before) (g : Parts) : Type 0 where
+pub record IsMadeOf (keys : KeyOrder) (ts : List Transaction) (before : List Before)
+    (g : Parts) : Type 0 where
+  pub keys_are : g.keys ≡ keys
   pub txns : g.txns ≡ ts
   pub order : g.order ≡ before
   pub versions : (v : Version) → has_version g.versions v ≡ is_named ts v
@@ -42,13 +46,13 @@ leads_to_one ts e = list_any (λ (u : Transaction). e.to == u.invocation) ts
 
 abbrev pub edges_in : Parts → Level → List Edge
 edges_in g level =
-    dependency_edges g.txns ++ filter (leads_to_one (nodes g.txns)) (edges_of level g.order)
+    dependency_edges g.keys g.txns ++ filter (leads_to_one (nodes g.txns)) (edges_of level g.order)
 
 -- the same, said of one edge
 
 abbrev pub HasEdge : Parts → Level → Edge → Type 0
 HasEdge g level e =
-    Contains (dependency_edges g.txns) e
+    Contains (dependency_edges g.keys g.txns) e
     ⊎ (Contains (edges_of level g.order) e × LeadsToOne (nodes g.txns) e)
 
 -- the edge leaves the transaction at the place

@@ -8,6 +8,7 @@ use Rattle.graph_search.specs.Graphs.{Graph, HasArc}
 use Rattle.hist_types.specs.Edges.{Label, rw, edge, dependency_edges}
 use Rattle.hist_types.specs.Transactions.{Transaction, Version, nodes, is_known_to_read, installs}
 use Rattle.hist_types.specs.Versions.{pair, version_pairs}
+use Rattle.hist_types.specs.declared.types.KeyOrder.{KeyOrder}
 use Rattle.edge_graph.specs.Kinds.{includes_directly}
 use Rattle.edge_graph.specs.Parts.{Parts, HasEdge}
 use Rattle.edge_graph.specs.declared.types.Kinds.{Kinds}
@@ -23,11 +24,11 @@ IsVertex g vertex (version v) =
     (number : ℕ) × (vertex ≡ length g.txns + number) × (slice_get g.versions number ≡ Some v)
 
 -- the transaction is a node that installs a version after this one
-abbrev pub Follows : List Transaction → Version → Transaction → Type 0
-Follows ts v u =
+abbrev pub Follows : KeyOrder → List Transaction → Version → Transaction → Type 0
+Follows keys ts v u =
     Contains (nodes ts) u
     × (w : Version)
-    × Contains (version_pairs ts) (pair v w)
+    × Contains (version_pairs keys ts) (pair v w)
     × IsTrue (installs u w)
 
 -- some edge of the kinds other than rw joins the transactions
@@ -40,7 +41,7 @@ LeadsDirectly g kinds t u =
 abbrev pub LeadsTo : Parts → Kinds → Vertex → Vertex → Type 0
 LeadsTo g kinds (txn t) (txn u) = LeadsDirectly g kinds t u
 LeadsTo g kinds (txn t) (version v) = IsTrue kinds.rw × IsTrue (is_known_to_read t v)
-LeadsTo g kinds (version v) (txn u) = IsTrue kinds.rw × Follows g.txns v u
+LeadsTo g kinds (version v) (txn u) = IsTrue kinds.rw × Follows g.keys g.txns v u
 LeadsTo g kinds (version v) (version w) = ⊥
 
 -- the vertices at two numbers, of which the first leads to the second
@@ -58,11 +59,11 @@ pub record AreArcs (g : Parts) (kinds : Kinds) (lists : List (List ℕ)) : Type 
   pub arcs : (v w : ℕ) → HasArc (graph_by lists) v w ↔ IsArc g kinds v w
 
 -- some rw edge joins the transactions
-abbrev pub HasRw : List Transaction → Transaction → Transaction → Type 0
-HasRw ts t u =
+abbrev pub HasRw : KeyOrder → List Transaction → Transaction → Transaction → Type 0
+HasRw keys ts t u =
     (earlier : Version)
     × (later : Version)
-    × Contains (dependency_edges ts) (edge t u (rw earlier later))
+    × Contains (dependency_edges keys ts) (edge t u (rw earlier later))
 
 -- the one reads a version and the other one, another transaction, installs one after it
 abbrev pub LeadsByVersion : Parts → Transaction → Transaction → Type 0
@@ -71,7 +72,7 @@ LeadsByVersion g t u =
     × (v : Version)
     × Contains g.versions v
     × IsTrue (is_known_to_read t v)
-    × Follows g.txns v u
+    × Follows g.keys g.txns v u
 
 -- some rw edge joins two transactions exactly where one of the versions leads from the one to the other
 abbrev pub RwByVersions : Parts → Type 0
@@ -79,4 +80,4 @@ RwByVersions g =
     (t u : Transaction)
     → Contains g.txns t
     → Contains g.txns u
-    → HasRw g.txns t u ↔ LeadsByVersion g t u
+    → HasRw g.keys g.txns t u ↔ LeadsByVersion g t u

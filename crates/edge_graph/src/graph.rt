@@ -74,7 +74,7 @@ fn add_dependencies<'a>(
     kinds: Kinds,
     out: &mut Vec<Edge<'a>>,
 ) -> Result<(), AllocError>
-    requires { IsPlace deps.now place }
+    requires { IsPlace deps.now.txns place }
     ensures ok { OnOk result (AddsDependencies deps.now kinds place out.old.items out.new.items) }
     ensures err { OnErr result (Begins out.old.items out.new.items) }
 {
@@ -144,16 +144,16 @@ fn rows_and_orders_wide<'v, 'a, R: Threads + Sync>(
     history: &History<'v, 'a>,
     order: &Order,
 ) -> Result<(VertexRows, Orders), AllocError>
-    requires history { history.now.txns ≡ deps.now }
-    requires order { IsOrderOf deps.now order.now }
+    requires history { history.now.txns ≡ deps.now.txns }
+    requires order { IsOrderOf deps.now.txns order.now }
     ensures rows { IfOk result (λ made. AreRows history.now.txns history.now.table made.0) }
-    ensures orders { IfOk result (λ made. AreTurned deps.now order.now made.1) }
+    ensures orders { IfOk result (λ made. AreTurned deps.now.txns order.now made.1) }
 {
     try_join(
         rt,
         &mut || layout::rows_wide(rt, alloc, deps, history),
         &mut || -> Result<Orders, AllocError>
-            requires { IsSync R.row × IsOrderOf deps.now order.now }
+            requires { IsSync R.row × IsOrderOf deps.now.txns order.now }
         { Orders::new_wide(rt, alloc, deps, order) },
     )
 }
@@ -161,8 +161,8 @@ fn rows_and_orders_wide<'v, 'a, R: Threads + Sync>(
 impl<'g, 'v, 'a> Graph<'g, 'v, 'a> {
     /// The graph over the history's dependency edges and an order of its transactions, with all of their pairs or thinned.
     pub fn new(alloc: Global, deps: &'g Deps<'v, 'a>, order: &'g Order) -> Result<Self, Fault>
-        requires { IsOrderOf deps.now order.now }
-        ensures ok { IfOk result (IsMadeOf deps.now order.now) }
+        requires { IsOrderOf deps.now.txns order.now }
+        ensures ok { IfOk result (IsMadeOf deps.now.table.keys deps.now.txns order.now) }
         ensures err { IfErr result (λ fault. fault ≡ memory_fault) }
     {
         let history = deps.history();
@@ -178,8 +178,8 @@ impl<'g, 'v, 'a> Graph<'g, 'v, 'a> {
         deps: &'g Deps<'v, 'a>,
         order: &'g Order,
     ) -> Result<Self, Fault>
-        requires { IsOrderOf deps.now order.now }
-        ensures ok { IfOk result (IsMadeOf deps.now order.now) }
+        requires { IsOrderOf deps.now.txns order.now }
+        ensures ok { IfOk result (IsMadeOf deps.now.table.keys deps.now.txns order.now) }
         ensures err { IfErr result (λ fault. fault ≡ memory_fault) }
     {
         let history = deps.history();
@@ -196,7 +196,7 @@ impl<'g, 'v, 'a> Graph<'g, 'v, 'a> {
         orders: Orders,
     ) -> Self
         requires { IsMade deps.now history.now order.now rows orders }
-        ensures { IsMadeOf deps.now order.now result }
+        ensures { IsMadeOf deps.now.table.keys deps.now.txns order.now result }
     {
         Graph {
             alloc,

@@ -5,6 +5,7 @@ ghost use Rattle.hist_types.specs.Edges.{Edge, dependency_edges, edges_at};
 ghost use Rattle.hist_types.specs.ThinnedOrder.{thinned_edges};
 ghost use Rattle.hist_types.specs.Phenomena.{is_ww, is_wr, is_rw, is_order};
 ghost use Rattle.hist_types.specs.Transactions.{Transaction};
+ghost use Rattle.hist_types.specs.declared.types.KeyOrder.{KeyOrder};
 ghost use Rattle.hist_types.specs.declared.types.Level.{Level};
 ghost use Rattle.hist_types.specs.declared.types.Level.TheVariants.{Plain};
 ghost use Rattle.order_frontier.specs.Predecessors.{Before, HasOrderEdges, HasThinnedEdges, NoPredecessorTwice, name_of, names};
@@ -31,22 +32,22 @@ pub fn edges_listed()
     ensures listed { (g : Parts) → (level : Level) → (e : Edge)
         → Contains (edges_in g level) e ↔ HasEdge g level e }
     ensures plain { (g : Parts) → (e : Edge)
-        → Contains (edges_in g Plain) e ↔ Contains (dependency_edges g.txns) e }
+        → Contains (edges_in g Plain) e ↔ Contains (dependency_edges g.keys g.txns) e }
     ensures levels { (g : Parts) → (level : Level) → (e : Edge)
         → Contains (edges_in g Plain) e ↔ (Contains (edges_in g level) e × IsFalse (is_order e)) }
 {}
 
 /// The graph of a history has the edges that phenomena are defined by, or over a thinned order those that show the same ones.
 pub fn edges_of_a_history()
-    ensures all_pairs { (ts : List Transaction) → (order : List Before) → (g : Parts)
-        → AreOfHistory ts → IsMadeOf ts order g → HasOrderEdges ts order
+    ensures all_pairs { (keys : KeyOrder) (ts : List Transaction) → (order : List Before) → (g : Parts)
+        → AreOfHistory ts → IsMadeOf keys ts order g → HasOrderEdges ts order
         → (level : Level) → (e : Edge)
-        → Contains (edges_in g level) e ↔ Contains (edges_at level ts) e }
-    ensures thinned { (ts : List Transaction) → (order : List Before) → (g : Parts)
-        → AreOfHistory ts → IsMadeOf ts order g → HasThinnedEdges ts order
+        → Contains (edges_in g level) e ↔ Contains (edges_at keys level ts) e }
+    ensures thinned { (keys : KeyOrder) (ts : List Transaction) → (order : List Before) → (g : Parts)
+        → AreOfHistory ts → IsMadeOf keys ts order g → HasThinnedEdges ts order
         → (level : Level) → (e : Edge)
         → Contains (edges_in g level) e
-        ↔ Contains (dependency_edges ts ++ thinned_edges level ts) e }
+        ↔ Contains (dependency_edges keys ts ++ thinned_edges level ts) e }
 {}
 
 /// At plain the edges of one kind of dependencies are those that have its label.

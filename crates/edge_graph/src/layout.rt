@@ -16,7 +16,7 @@ use std::thread::Threads;
 struct Layout<'g, 'v, 'a> {
     deps: &'g Deps<'v, 'a>,
     history: &'g History<'v, 'a>,
-    ghost of_one: { history.now.txns ≡ deps.now },
+    ghost of_one: { history.now.txns ≡ deps.now.txns },
 }
 
 /// Adds the places except one.
@@ -75,7 +75,8 @@ impl<'g, 'v, 'a> Layout<'g, 'v, 'a> {
     fn push_writers(&self, place: usize, out: &mut Vec<u32>) -> Result<(), AllocError>
         requires { IsPlace self.now.history.now.txns place }
         ensures { OnOk result
-            (out.new.items ≡ out.old.items ++ writers_behind self.now.history.now.txns place) }
+            (out.new.items ≡ out.old.items ++ writers_behind self.now.history.now.table.keys
+            self.now.history.now.txns place) }
     {
         for version in self.history.installs(place) {
             self.push_nodes_behind(*version as usize, out)?;
@@ -178,7 +179,7 @@ pub fn rows<'v, 'a>(
     deps: &Deps<'v, 'a>,
     history: &History<'v, 'a>,
 ) -> Result<VertexRows, AllocError>
-    requires { history.now.txns ≡ deps.now }
+    requires { history.now.txns ≡ deps.now.txns }
     ensures { IfOk result (AreRows history.now.txns history.now.table) }
 {
     let layout = Layout { deps, history };
@@ -194,7 +195,7 @@ pub fn rows_wide<'v, 'a, R: Threads>(
     deps: &Deps<'v, 'a>,
     history: &History<'v, 'a>,
 ) -> Result<VertexRows, AllocError>
-    requires { history.now.txns ≡ deps.now }
+    requires { history.now.txns ≡ deps.now.txns }
     ensures { IfOk result (AreRows history.now.txns history.now.table) }
 {
     let layout = Layout { deps, history };

@@ -77,8 +77,8 @@ fn places(alloc: Global, txns: &[Txn<'_>]) -> Result<Vec<u32>, AllocError>
 
 /// The place of each transaction of a history, by the index of its invocation.
 fn places_of(alloc: Global, deps: &Deps<'_, '_>) -> Result<Vec<u32>, AllocError>
-    ensures kept { AreOfHistory deps.now }
-    ensures places { IfOk result (λ places. ArePlaces deps.now places.items) }
+    ensures kept { AreOfHistory deps.now.txns }
+    ensures places { IfOk result (λ places. ArePlaces deps.now.txns places.items) }
 {
     places(alloc, deps.history().txns())
 }
@@ -121,11 +121,11 @@ fn pairs(
     places: &[u32],
     level: Level,
 ) -> Result<Vec<(u32, u32)>, AllocError>
-    requires kept { AreOfHistory deps.now }
-    requires order { IsOrderOf deps.now order.now }
-    requires places { ArePlaces deps.now places.now }
+    requires kept { AreOfHistory deps.now.txns }
+    requires order { IsOrderOf deps.now.txns order.now }
+    requires places { ArePlaces deps.now.txns places.now }
     ensures { IfOk result
-        (λ pairs. AreFirstPairs deps.now order.now level (length deps.now) pairs.items) }
+        (λ pairs. AreFirstPairs deps.now.txns order.now level (length deps.now.txns) pairs.items) }
 {
     let mut pairs = Vec::new(alloc);
     for place in 0..order.len() {
@@ -149,10 +149,10 @@ fn turned(
     places: &[u32],
     level: Level,
 ) -> Result<LaterNodes, AllocError>
-    requires kept { AreOfHistory deps.now }
-    requires order { IsOrderOf deps.now order.now }
-    requires places { ArePlaces deps.now places.now }
-    ensures { IfOk result (λ later. AreSuccessors deps.now order.now level later) }
+    requires kept { AreOfHistory deps.now.txns }
+    requires order { IsOrderOf deps.now.txns order.now }
+    requires places { ArePlaces deps.now.txns places.now }
+    ensures { IfOk result (λ later. AreSuccessors deps.now.txns order.now level later) }
 {
     let pairs = pairs(alloc, deps, order, places, level)?;
     LaterNodes::of(alloc, order.len(), &pairs)
@@ -166,11 +166,11 @@ fn turned_wide<R: Threads + Sync>(
     order: &Order,
     places: &[u32],
 ) -> Result<(LaterNodes, LaterNodes), AllocError>
-    requires kept { AreOfHistory deps.now }
-    requires order { IsOrderOf deps.now order.now }
-    requires places { ArePlaces deps.now places.now }
-    ensures process { IfOk result (λ made. AreSuccessors deps.now order.now Process made.0) }
-    ensures realtime { IfOk result (λ made. AreSuccessors deps.now order.now Realtime made.1) }
+    requires kept { AreOfHistory deps.now.txns }
+    requires order { IsOrderOf deps.now.txns order.now }
+    requires places { ArePlaces deps.now.txns places.now }
+    ensures process { IfOk result (λ made. AreSuccessors deps.now.txns order.now Process made.0) }
+    ensures realtime { IfOk result (λ made. AreSuccessors deps.now.txns order.now Realtime made.1) }
 {
     try_join(
         rt,
@@ -201,8 +201,8 @@ impl Model for Orders {
 impl Orders {
     /// The order as successors at the two levels.
     pub fn new(alloc: Global, deps: &Deps<'_, '_>, order: &Order) -> Result<Self, AllocError>
-        requires { IsOrderOf deps.now order.now }
-        ensures { IfOk result (AreTurned deps.now order.now) }
+        requires { IsOrderOf deps.now.txns order.now }
+        ensures { IfOk result (AreTurned deps.now.txns order.now) }
     {
         let places = places_of(alloc, deps)?;
         let in_process = turned(alloc, deps, order, &places, Level::Process)?;
@@ -217,8 +217,8 @@ impl Orders {
         deps: &Deps<'_, '_>,
         order: &Order,
     ) -> Result<Self, AllocError>
-        requires { IsOrderOf deps.now order.now }
-        ensures { IfOk result (AreTurned deps.now order.now) }
+        requires { IsOrderOf deps.now.txns order.now }
+        ensures { IfOk result (AreTurned deps.now.txns order.now) }
     {
         let places = places_of(alloc, deps)?;
         let (in_process, in_realtime) = turned_wide(rt, alloc, deps, order, &places)?;

@@ -1,26 +1,24 @@
 -- Tokens that are found by looking ahead are those that calls give.
-use Rattle.std.proofs.Common.{◌≡◌, ℕ, zero, suc, ◌+◌, ◌-◌, ◌<◌, ◌≤◌, List, [], ◌∷◌, length, drop, take, get_or, Bool, true, false, cond, nat_le, Option, Some, None, Ok, refl, sym, ◌∙◌, ap, arith, subst, length-drop, IfSome, MatchOption, lit<, ◌++◌, map, not, ◌||◌, ◌==◌, nat_lt}
+use Rattle.std.proofs.Common.{◌≡◌, ℕ, zero, suc, ◌+◌, ◌-◌, ◌<◌, ◌≤◌, List, [], ◌∷◌, length, drop, take, get_or, Bool, true, false, cond, nat_le, Option, Some, None, Ok, refl, sym, ◌∙◌, ap, arith, subst, length-drop, IfSome, MatchOption, lit<, ◌++◌, not, ◌||◌, ◌==◌, nat_lt}
 use Rattle.std.specs.Prelude.{bytes_eq, codes, slice_range}
 use Rattle.std.specs.Str.{IsAscii}
 use Rattle.std.specs.Str.Lossy.{utf8_valid_len}
 use Rattle.std.proofs.lemmas.Bool.Decides.{nat_tests}
 use Rattle.std.proofs.lemmas.Bool.{and_from, and_parts, lt-ltb, ltb-true}
-use Rattle.std.specs.List.{slice_get, list_all}
+use Rattle.std.specs.List.{list_all}
 use Rattle.std.specs.Char.{is_ascii_digit}
-use Rattle.std.proofs.lemmas.List.{get_or-drop, reverse-append, length-reverse, length-map, length-append, take-append-drop}
+use Rattle.std.proofs.lemmas.List.{get_or-drop, length-append, take-append-drop}
 use Rattle.std.proofs.Math.Seq.{take-append_seam}
 use Rattle.std.proofs.lemmas.Str.{utf8_valid_len-IsUtf8, IsUtf8-from_ascii}
 use Rattle.hist_types.specs.Bytes.{is_blank, is_run_byte, zero_digit, open_square, close_square, open_brace, close_brace}
-use Rattle.hist_types.specs.Tokens.{ItemKind, Blank, Opener, Closer, Tag, Nil, True, False, Int, Keyword, Symbol, Other, first_byte, closer_of, front, is_token, is_int, is_keyword, is_symbol, run_of, run_len, run_kind, nesting_refusal, open_after}
+use Rattle.hist_types.specs.Tokens.{ItemKind, Blank, Opener, Closer, Nil, True, False, Int, Keyword, Symbol, Other, first_byte, closer_of, front, is_token, is_int, is_keyword, is_symbol, run_of, run_len, run_kind, nesting_refusal, open_after}
 use Rattle.hist_types.specs.declared.limits.TheConstants.{MAX_OPEN_COLLECTIONS}
 use Rattle.hist_types.specs.declared.types.Refusal.TheVariants.{TooDeep}
 use Rattle.edn_lex.specs.declared.types.Token.{Token}
 use Rattle.edn_lex.specs.declared.types.TokenKind.TheVariants as kinds
-use Rattle.edn_lex.specs.Ahead.{is_lone, going_at, IsGap, IsLoneAt, IsWord, GivesLone, HasGivenLone, GivesTag, GivesOpener, GivesCloser}
-use Rattle.edn_lex.specs.Collections.{closer_byte, closers_of}
-use Rattle.edn_lex.specs.declared.lexer.Collection.{Collection}
-use Rattle.edn_lex.specs.Kinds.{kind_of, is_low}
-use Rattle.edn_lex.specs.State.{State, GivesToken, Passes}
+use Rattle.edn_lex.specs.Ahead.{is_lone, going_at, IsGap, IsTokenAt, IsLoneAt, IsWord, GivesAhead, GivesLone, GivesOpener, GivesCloser}
+use Rattle.edn_lex.specs.Kinds.{kind_of, item_of, is_low}
+use Rattle.edn_lex.specs.State.{GivesToken, Passes}
 use Rattle.edn_lex.proofs.Flags.{IsAscii_from_low}
 use Rattle.edn_lex.proofs.Fronts.{front-run, run_len-cons}
 use Rattle.edn_lex.proofs.RunKinds.{digits_are, digits_low}
@@ -46,19 +44,50 @@ gapped text closers offset start low fits blanks =
 
 -- ---- an item behind them
 
+ascii_valid : (bytes : List ℕ) → IsAscii bytes → utf8_valid_len bytes ≡ length bytes
+ascii_valid bytes ascii = utf8_valid_len-IsUtf8 bytes (IsUtf8-from_ascii bytes ascii)
+
 -- the item at `start` is this token, where these collections are open before and after it
 given_at :
     (text : List ℕ) (offset start : ℕ) (xs : List ℕ) (kind : ItemKind) (len : ℕ) (t : Token) (closers after : List ℕ) →
     Gapped (going_at text offset closers) (going_at text start closers) → xs ≡ drop start text → start ≤ length text → 0 < len → len ≤ length xs →
-    front (first_byte xs) (drop 1 xs) ≡ (kind, Some len) → IsAscii (take len xs) → None ≡ nesting_refusal kind (take len xs) closers → after ≡ open_after kind (take len xs) closers →
+    front (first_byte xs) (drop 1 xs) ≡ (kind, Some len) → utf8_valid_len (take len xs) ≡ length (take len xs) → None ≡ nesting_refusal kind (take len xs) closers → after ≡ open_after kind (take len xs) closers →
     (kind_of t.kind ≡ kind) × (t.start ≡ start) × (t.end ≡ start + len) → GivesToken (going_at text offset closers) t (going_at text t.end after)
-given_at text offset start xs kind len t closers after gap same within some fits found ascii fine opens is =
+given_at text offset start xs kind len t closers after gap same within some fits found valid fine opens is =
     let s = going_at text start closers in
-    let valid : utf8_valid_len (take len xs) ≡ length (take len xs) = utf8_valid_len-IsUtf8 (take len xs) (IsUtf8-from_ascii (take len xs) ascii) in
     let passed : Passes s (Ok (Some t)) (going_at text (start + len) after) = passes s xs kind len same (omega arith) fits found after (Some t) within some valid fine opens is in
     GivesToken-from (going_at text offset closers) s (going_at text t.end after) t gap refl (subst (λ (k : ℕ). Passes s (Ok (Some t)) (going_at text k after)) (sym is.2) passed)
 
--- ---- runs
+-- the item at `start` is this token, wherever it may be
+pub token_given :
+    (text : List ℕ) (offset start : ℕ) (xs : List ℕ) (kind : ItemKind) (len : ℕ) (t : Token) → IsGap text offset start → xs ≡ drop start text → 0 < len → len ≤ length xs →
+    front (first_byte xs) (drop 1 xs) ≡ (kind, Some len) → utf8_valid_len (take len xs) ≡ length (take len xs) → (kind_of t.kind ≡ kind) × (t.start ≡ start) × (t.end ≡ start + len) → GivesAhead text offset t
+token_given text offset start xs kind len t gap same some fits found valid is =
+    let low = gap.low in
+    let within = gap.fits in
+    let start_is = is.1 in
+    let end_is = is.2 in
+    let all : length xs ≡ length text - start = ap length same ∙ length-drop start text in
+    let n : t.end - t.start ≡ len = omega arith in
+    let bytes : slice_range text t.start t.end ≡ take len xs = ap (λ (k : ℕ). take k (drop t.start text)) n ∙ ap (λ (k : ℕ). take len (drop k text)) start_is ∙ ap (take len) (sym same) in
+    record {
+      low = omega arith;
+      some = omega arith;
+      fits = omega arith;
+      gives = λ closers fine.
+          given_at text offset start xs kind len t closers (open_after (kind_of t.kind) (slice_range text t.start t.end) closers) (gapped text closers offset start low within gap.blanks) same within some fits found valid
+          (sym fine ∙ ap (λ (k : ItemKind). nesting_refusal k (slice_range text t.start t.end) closers) is.0 ∙ ap (λ (bs : List ℕ). nesting_refusal kind bs closers) bytes)
+          (ap (λ (k : ItemKind). open_after k (slice_range text t.start t.end) closers) is.0 ∙ ap (λ (bs : List ℕ). open_after kind bs closers) bytes) is;
+    }
+
+pub token_found :
+    (o : Option Token) (text : List ℕ) (start : ℕ) (xs : List ℕ) (kind : ItemKind) (len : ℕ) → xs ≡ drop start text → 0 < len → len ≤ length xs →
+    front (first_byte xs) (drop 1 xs) ≡ (kind, Some len) → utf8_valid_len (take len xs) ≡ length (take len xs) →
+    MatchOption o (is_token kind ≡ false) (λ t. (kind_of t.kind ≡ kind) × (t.start ≡ start) × (t.end ≡ start + len)) → IfSome o (IsTokenAt text start)
+token_found None text start xs kind len same some fits found valid is = tt
+token_found (Some t) text start xs kind len same some fits found valid is = λ offset gap. token_given text offset start xs kind len t gap same some fits found valid is
+
+-- ---- forms by themselves
 
 run_by : (nil yes_word no_word int key name : Bool) → is_lone (cond nil Nil (cond yes_word True (cond no_word False (cond int Int (cond key Keyword (cond name Symbol Other)))))) ≡ true
 run_by true yes_word no_word int key name = refl
@@ -81,33 +110,40 @@ lone_nests kind bytes closers = elim kind as (λ k. is_lone k ≡ true → (None
   | _ ↦ λ h. (refl, refl)
 ]
 
-pub lone_given :
-    (text : List ℕ) (offset start : ℕ) (xs run : List ℕ) (len : ℕ) (t : Token) → offset ≤ start → start ≤ length text → ((k : ℕ) → offset ≤ k → k < start → is_blank (get_or text k 0) ≡ true) →
-    xs ≡ drop start text → 0 < len → len ≤ length xs → front (first_byte xs) (drop 1 xs) ≡ (run_kind run, Some len) → IsAscii (take len xs) →
-    (kind_of t.kind ≡ run_kind run) × (t.start ≡ start) × (t.end ≡ start + len) → GivesLone text offset t
-lone_given text offset start xs run len t low within blanks same some fits found ascii is =
-    let lone : is_lone (run_kind run) ≡ true = lone_run run in
+pub lone_ahead : (text : List ℕ) (offset : ℕ) (t : Token) → is_lone (kind_of t.kind) ≡ true → GivesAhead text offset t → GivesLone text offset t
+lone_ahead text offset t lone g =
     record {
-      lone = ap is_lone is.0 ∙ lone;
+      lone = lone;
       gives = λ closers.
-          let nests = lone_nests (run_kind run) (take len xs) closers lone in
-          given_at text offset start xs (run_kind run) len t closers closers (gapped text closers offset start low within blanks) same within some fits found ascii nests.0 nests.1 is;
+          let nests = lone_nests (kind_of t.kind) (item_of text t).bytes closers lone in
+          subst (λ (cs : List ℕ). GivesToken (going_at text offset closers) t (going_at text t.end cs)) (sym nests.1) (g.gives closers (sym nests.0));
     }
 
-pub lone_at_found :
-    (o : Option Token) (text : List ℕ) (start : ℕ) (xs run : List ℕ) (kind : ItemKind) (len : ℕ) →
-    xs ≡ drop start text → 0 < len → len ≤ length xs → front (first_byte xs) (drop 1 xs) ≡ (run_kind run, Some len) → IsAscii (take len xs) → kind ≡ run_kind run →
-    MatchOption o (is_token kind ≡ false) (λ t. (kind_of t.kind ≡ kind) × (t.start ≡ start) × (t.end ≡ start + len)) → IfSome o (IsLoneAt text start)
-lone_at_found None text start xs run kind len same some fits found ascii kind_is is = tt
-lone_at_found (Some t) text start xs run kind len same some fits found ascii kind_is is = λ offset gap.
-    lone_given text offset start xs run len t gap.low gap.fits gap.blanks same some fits found ascii (is.0 ∙ kind_is, is.1, is.2)
+-- such a token may be anywhere
+pub ahead_lone : (text : List ℕ) (offset : ℕ) (t : Token) → GivesLone text offset t → GivesAhead text offset t
+ahead_lone text offset t g =
+    let first = g.gives [] in
+    record {
+      low = first.low;
+      some = first.some;
+      fits = first.fits;
+      gives = λ closers fine.
+          let nests = lone_nests (kind_of t.kind) (item_of text t).bytes closers g.lone in
+          subst (λ (cs : List ℕ). GivesToken (going_at text offset closers) t (going_at text t.end cs)) nests.1 (g.gives closers);
+    }
 
--- a test that is not passed is not false
-pub passed : (b : Bool) → not b ≡ false → b ≡ true
-passed true e = refl
-passed false e = cc
+run_given :
+    (text : List ℕ) (offset start : ℕ) (xs run : List ℕ) (len : ℕ) (t : Token) → IsGap text offset start → xs ≡ drop start text → 0 < len → len ≤ length xs →
+    front (first_byte xs) (drop 1 xs) ≡ (run_kind run, Some len) → IsAscii (take len xs) → (kind_of t.kind ≡ run_kind run) × (t.start ≡ start) × (t.end ≡ start + len) → GivesLone text offset t
+run_given text offset start xs run len t gap same some fits found ascii is =
+    lone_ahead text offset t (ap is_lone is.0 ∙ lone_run run) (token_given text offset start xs (run_kind run) len t gap same some fits found (ascii_valid (take len xs) ascii) is)
 
--- such a token is found behind blanks
+-- a token is found behind blanks
+pub token_behind : (o : Option Token) (text : List ℕ) (offset start : ℕ) → IsGap text offset start → IfSome o (IsTokenAt text start) → IfSome o (GivesAhead text offset)
+token_behind None text offset start gap h = tt
+token_behind (Some t) text offset start gap h = h offset gap
+
+-- and a form by itself is
 pub lone_behind : (o : Option Token) (text : List ℕ) (offset start : ℕ) → IsGap text offset start → IfSome o (IsLoneAt text start) → IfSome o (GivesLone text offset)
 lone_behind None text offset start gap h = tt
 lone_behind (Some t) text offset start gap h = h offset gap
@@ -141,7 +177,7 @@ word_found text start xs word rest kind t same split none is at = λ offset gap.
     front-run xs (omega arith) (λ e. other_byte (first_byte word) 92 is.4 (sym first ∙ e)) (λ e. other_byte (first_byte word) 35 is.3 (sym first ∙ e))
     ∙ ap (λ (r : List ℕ). (run_kind r, Some (run_len xs))) run ∙ ap (λ (n : ℕ). (run_kind word, Some n)) len in
     let bytes : take (length word) xs ≡ word = ap (take (length word)) split ∙ take-append_seam word rest in
-    lone_given text offset start xs word (length word) t gap.low gap.fits gap.blanks same some (let n = ap length split in omega (arith, length-append word rest)) found
+    run_given text offset start xs word (length word) t gap same some (let n = ap length split in omega (arith, length-append word rest)) found
     (subst IsAscii (sym bytes) (IsAscii_from_low word is.2)) (at.0 ∙ sym is.5, at.1, at.2)
 
 -- what is left of a text begins with it
@@ -184,25 +220,6 @@ number_word ds some digits leading =
       digits_are ds some digits leading,
     )
 
--- ---- tags
-
-pub tag_given :
-    (text : List ℕ) (offset start : ℕ) (xs : List ℕ) (len : ℕ) → IsGap text offset start → xs ≡ drop start text → 0 < len → len ≤ length xs → front (first_byte xs) (drop 1 xs) ≡ (Tag, Some len) → IsAscii (take len xs) →
-    GivesTag text offset (record { kind = kinds.Tag; start = start; end = start + len })
-tag_given text offset start xs len gap same some fits found ascii =
-    let t : Token = record { kind = kinds.Tag; start = start; end = start + len } in
-    record {
-      kind = refl;
-      gives = λ closers.
-          given_at text offset start xs Tag len t closers closers (gapped text closers offset start gap.low gap.fits gap.blanks) same gap.fits some fits found ascii refl refl (refl, refl, refl);
-    }
-
--- what a call gives
-pub lone_call : (s : State) (token : Token) → s.ended ≡ false → GivesLone s.text s.offset token → HasGivenLone s token (record s { offset = token.end })
-lone_call s token going g =
-    let P : Bool → Type 0 = λ b. HasGivenLone (record s { ended = b }) token (record s { offset = token.end; ended = b }) in
-    subst P (sym going) (record { lone = g.lone; gives = g.gives s.closers })
-
 -- ---- square brackets
 
 -- a text that begins with this byte
@@ -237,7 +254,7 @@ opens_by text offset start byte closer low within blanks ascii found waits =
       bytes = ap (λ n. take n xs) one ∙ found.1;
       gives = λ closers room.
           given_at text offset start xs Opener 1 t closers (closer ∷ closers) (gapped text closers offset start low (omega arith) blanks) refl (omega arith) (omega arith) (omega (arith, length-drop start text)) found.0
-          (subst IsAscii (sym found.1) (ascii_byte byte ascii))
+          (ascii_valid (take 1 xs) (subst IsAscii (sym found.1) (ascii_byte byte ascii)))
           (sym (ap (λ b. cond b (Some TooDeep) None) (room_is (length closers) room))) (sym (ap (λ bytes. closer_of bytes ∷ closers) found.1 ∙ ap (λ c. c ∷ closers) waits)) (refl, refl, refl);
     }
 
@@ -271,7 +288,7 @@ closes_by text offset start byte low within blanks ascii found fits =
       kind = refl;
       gives = λ closers.
           given_at text offset start xs Closer 1 t (byte ∷ closers) closers (gapped text (byte ∷ closers) offset start low (omega arith) blanks) refl (omega arith) (omega arith) (omega (arith, length-drop start text)) found.0
-          (subst IsAscii (sym found.1) (ascii_byte byte ascii))
+          (ascii_valid (take 1 xs) (subst IsAscii (sym found.1) (ascii_byte byte ascii)))
           (fits closers ∙ sym (ap (λ bytes. nesting_refusal Closer bytes (byte ∷ closers)) found.1)) refl (refl, refl, refl);
     }
 
@@ -292,18 +309,3 @@ pub map_closer_given :
 map_closer_given text offset start low within blanks e =
     let some : 0 < length (drop start text) = omega (arith, length-drop start text) in
     closes_by text offset start close_brace low within blanks (lit< tt) (closes_brace (drop start text) some (first_at text start close_brace e)) (λ closers. refl)
-
--- ---- the innermost collection
-
--- the last of the open collections waits for the first closer
-pub closers_last : (open_ones : List Collection) (c : Collection) → slice_get open_ones (length open_ones - 1) ≡ Some c → (outer : List ℕ) × (closers_of open_ones ≡ closer_byte c ∷ outer)
-closers_last [] c e = cc
-closers_last (x ∷ []) c e = let same : x ≡ c = cc in ([], ap (λ (y : Collection). closer_byte y ∷ []) same)
-closers_last (x ∷ y ∷ rest) c e =
-    let at : length (x ∷ y ∷ rest) - 1 ≡ suc (length (y ∷ rest) - 1) = omega arith in
-    let later : slice_get (y ∷ rest) (length (y ∷ rest) - 1) ≡ Some c = sym (ap (slice_get (x ∷ y ∷ rest)) at) ∙ e in
-    let last = closers_last (y ∷ rest) c later in
-    (last.0 ++ closer_byte x ∷ [], reverse-append (closer_byte x ∷ []) (map closer_byte (y ∷ rest)) ∙ ap (λ (cs : List ℕ). cs ++ closer_byte x ∷ []) last.1)
-
-pub closers_count : (open_ones : List Collection) → length (closers_of open_ones) ≡ length open_ones
-closers_count open_ones = length-reverse (map closer_byte open_ones) ∙ length-map open_ones closer_byte

@@ -1,9 +1,10 @@
 -- Tokens that are found by looking ahead.
-use Rattle.std.specs.Prelude.{◌≡◌, ℕ, ◌<◌, ◌+◌, ◌≤◌, ◌==◌, List, [], ◌∷◌, length, get_or, Bool, true, false, nat_lt, Option, MatchOption}
+use Rattle.std.specs.Prelude.{◌≡◌, ℕ, ◌<◌, ◌+◌, ◌≤◌, ◌==◌, List, [], ◌∷◌, length, get_or, Bool, true, false, nat_lt, None}
 use Rattle.std.specs.List.{list_all}
-use Rattle.hist_types.specs.Bytes.{open_square, close_square, close_brace, backslash, hash, is_blank, is_run_byte}
-use Rattle.hist_types.specs.Tokens.{ItemKind, Blank, Comment, Opener, Closer, Drop, Tag, first_byte, run_kind}
+use Rattle.hist_types.specs.Bytes.{open_square, close_square, backslash, hash, is_blank, is_run_byte}
+use Rattle.hist_types.specs.Tokens.{ItemKind, Blank, Comment, Opener, Closer, Drop, Tag, first_byte, run_kind, nesting_refusal, open_after}
 use Rattle.hist_types.specs.declared.limits.TheConstants.{MAX_OPEN_COLLECTIONS}
+use Rattle.edn_lex.specs.declared.ahead.TheConstants.{LEVELS_AHEAD}
 use Rattle.edn_lex.specs.declared.ahead.Triple.{Triple}
 use Rattle.edn_lex.specs.declared.types.Token.{Token}
 use Rattle.edn_lex.specs.Kinds.{kind_of, item_of, is_low}
@@ -24,6 +25,17 @@ abbrev pub going_at : List ℕ → ℕ → List ℕ → State
 going_at text offset closers =
     record { text = text; offset = offset; closers = closers; ended = false }
 
+-- the token that is given from the offset on, wherever it may be
+pub record GivesAhead (text : List ℕ) (offset : ℕ) (token : Token) : Type 0 where
+  pub low : offset ≤ token.start
+  pub some : token.start < token.end
+  pub fits : token.end ≤ length text
+  pub gives :
+      (closers : List ℕ) →
+      nesting_refusal (kind_of token.kind) (item_of text token).bytes closers ≡ None →
+      GivesToken (going_at text offset closers) token
+      (going_at text token.end (open_after (kind_of token.kind) (item_of text token).bytes closers))
+
 -- the token that is given from the offset on is a form by itself
 pub record GivesLone (text : List ℕ) (offset : ℕ) (token : Token) : Type 0 where
   pub lone : is_lone (kind_of token.kind) ≡ true
@@ -37,6 +49,10 @@ pub record IsGap (text : List ℕ) (offset start : ℕ) : Type 0 where
   pub fits : start ≤ length text
   pub blanks : (k : ℕ) → offset ≤ k → k < start → is_blank (get_or text k 0) ≡ true
 
+-- the token begins here
+abbrev pub IsTokenAt : List ℕ → ℕ → Token → Type 0
+IsTokenAt text start token = (offset : ℕ) → IsGap text offset start → GivesAhead text offset token
+
 -- the token begins here, and is a form by itself
 abbrev pub IsLoneAt : List ℕ → ℕ → Token → Type 0
 IsLoneAt text start token = (offset : ℕ) → IsGap text offset start → GivesLone text offset token
@@ -47,22 +63,6 @@ IsWord word kind =
     (nat_lt 0 (length word) ≡ true) × (list_all is_run_byte word ≡ true)
     × (list_all is_low word ≡ true) × ((first_byte word == hash) ≡ false)
     × ((first_byte word == backslash) ≡ false) × (run_kind word ≡ kind)
-
--- a call gave such a token
-pub record HasGivenLone (s : State) (token : Token) (t : State) : Type 0 where
-  pub lone : is_lone (kind_of token.kind) ≡ true
-  pub gives : GivesToken s token t
-
--- a call gave such a token, or changed nothing
-abbrev pub NextLone : State → Option Token → State → Type 0
-NextLone s found t = MatchOption found (t ≡ s) (λ token. HasGivenLone s token t)
-
--- the token that is given from the offset on is a tag
-pub record GivesTag (text : List ℕ) (offset : ℕ) (token : Token) : Type 0 where
-  pub kind : kind_of token.kind ≡ Tag
-  pub gives :
-      (closers : List ℕ) →
-      GivesToken (going_at text offset closers) token (going_at text token.end closers)
 
 -- the token that is given from the offset on is this one byte, and opens a collection that waits
 -- for the closer
@@ -88,27 +88,8 @@ pub record GivesTriple (text : List ℕ) (offset : ℕ) (triple : Triple) : Type
   pub third : GivesLone text triple.second.end triple.third
   pub closer : GivesCloser text triple.third.end close_square triple.closer
 
--- calls gave such a vector
-pub record HasGivenTriple (s : State) (triple : Triple) (t : State) : Type 0 where
-  pub room : length s.closers < MAX_OPEN_COLLECTIONS
-  pub going : s ≡ going_at s.text s.offset s.closers
-  pub gives : GivesTriple s.text s.offset triple
-  pub after : t ≡ going_at s.text triple.closer.end s.closers
-
--- calls gave such a vector, or changed nothing
-abbrev pub NextTriple : State → Option Triple → State → Type 0
-NextTriple s found t = MatchOption found (t ≡ s) (λ triple. HasGivenTriple s triple t)
-
--- a lexer goes on from the offset, and three more collections may be opened
+-- a lexer goes on from the offset, and so many more collections may be opened
 pub record LooksAhead (s : State) (offset : ℕ) : Type 0 where
   pub going : s ≡ going_at s.text offset s.closers
-  pub room : length s.closers + 3 ≤ MAX_OPEN_COLLECTIONS
-  pub within : offset ≤ length s.text
-
--- a lexer goes on from the offset in a map or a set, and two more collections may be opened
-pub record LooksAheadInMap (s : State) (offset : ℕ) : Type 0 where
-  pub going : s ≡ going_at s.text offset s.closers
-  pub outer : List ℕ
-  pub in_map : s.closers ≡ close_brace ∷ outer
-  pub room : length s.closers + 2 ≤ MAX_OPEN_COLLECTIONS
+  pub room : length s.closers + LEVELS_AHEAD ≤ MAX_OPEN_COLLECTIONS
   pub within : offset ≤ length s.text

@@ -32,10 +32,6 @@ state_at text offset = record { text = text; offset = offset; closers = []; ende
 abbrev pub state_at_start : List ℕ → State
 state_at_start text = state_at text 0
 
--- a lexer goes on at this offset, after the innermost open collection
-abbrev pub closed_at : State → ℕ → State
-closed_at s offset = record s { offset = offset; closers = drop 1 s.closers }
-
 -- the text that has not been passed
 abbrev pub left : State → List ℕ
 left s = drop s.offset s.text

@@ -1,15 +1,18 @@
-//! Tokens by looking ahead, as printers write most of them: runs of ASCII and square brackets, after blanks alone.
+//! Tokens by looking ahead, as printers write them: after blanks alone.
 
 ghost use Rattle.std.specs.Prelude.{◌≡◌, ◌≤◌, length, IfSome};
 ghost use Rattle.hist_types.specs.Bytes.{open_square, close_square, open_brace, close_brace};
-ghost use Rattle.edn_lex.specs.Ahead.{IsGap, IsWord, IsLoneAt, GivesLone, GivesTag, GivesOpener, GivesCloser, GivesTriple};
+ghost use Rattle.edn_lex.specs.Ahead.{is_lone, IsGap, IsWord, IsTokenAt, IsLoneAt, GivesAhead, GivesLone, GivesOpener, GivesCloser};
 ghost use Rattle.edn_lex.specs.Kinds.{kind_of, item_of};
-ghost use Rattle.edn_lex.specs.declared.types.TokenKind.TheVariants.{Int};
+ghost use Rattle.edn_lex.specs.declared.types.TokenKind.TheVariants.{Int, Tag};
 
-use crate::pieces::run_piece;
+use crate::pieces::first_piece;
 use crate::runs::has_no_leading_zero;
-use crate::scan::{begins_run, begins_tag, digits_len, ends_run, first_run, is_blank};
+use crate::scan::{digits_len, ends_run, is_blank, utf8_end};
 use crate::types::{Token, TokenKind};
+
+/// How many collections may be opened one within another in what is looked at ahead.
+pub const LEVELS_AHEAD: usize = 16;
 
 /// A vector of three tokens that are forms, with its brackets.
 #[derive(Clone, Copy)]
@@ -75,25 +78,48 @@ pub fn number_at(text: &[u8], start: usize) -> Option<Token>
     })
 }
 
-/// The token that begins here, if it is a run of ASCII.
-#[inline(always)]
-pub fn run_at(text: &[u8], start: usize) -> Option<Token>
+/// The token that begins here, if it is UTF-8. Whether it may be here is not looked at.
+pub fn token_at(text: &[u8], start: usize) -> Option<Token>
     requires { start ≤ length text.now }
-    ensures lone { IfSome result (IsLoneAt text.now start) }
+    ensures gives { IfSome result (IsTokenAt text.now start) }
     ensures fits { IfSome result (λ token. token.end ≤ length text.now) }
 {
     let rest = &text[start..];
-    if !begins_run(rest) {
+    if rest.is_empty() || is_blank(rest[0]) {
         return None;
     }
-    let piece = run_piece(rest);
-    if !piece.ascii {
+    let piece = first_piece(rest)?;
+    if utf8_end(&rest[..piece.len], piece.ascii).is_some() {
         return None;
     }
     piece.kind.token(start, start + piece.len)
 }
 
-/// The token that begins here, if it is a run of ASCII; often it is a number.
+/// Whether a token of this kind is a form by itself.
+fn is_form(kind: TokenKind) -> bool
+    ensures { result ≡ is_lone (kind_of kind) }
+{
+    !matches!(
+        kind,
+        TokenKind::Open | TokenKind::Close | TokenKind::Drop | TokenKind::Tag
+    )
+}
+
+/// The token that begins here, if it is a form by itself.
+pub fn form_at(text: &[u8], start: usize) -> Option<Token>
+    requires { start ≤ length text.now }
+    ensures lone { IfSome result (IsLoneAt text.now start) }
+    ensures fits { IfSome result (λ token. token.end ≤ length text.now) }
+{
+    let token = token_at(text, start)?;
+    if is_form(token.kind) {
+        Some(token)
+    } else {
+        None
+    }
+}
+
+/// The token that begins here, if it is a form by itself; often it is a number.
 #[inline(always)]
 pub fn lone_at(text: &[u8], start: usize) -> Option<Token>
     requires { start ≤ length text.now }
@@ -102,11 +128,11 @@ pub fn lone_at(text: &[u8], start: usize) -> Option<Token>
 {
     match number_at(text, start) {
         Some(token) => Some(token),
-        None => run_at(text, start),
+        None => form_at(text, start),
     }
 }
 
-/// The next token, if it is a run of ASCII.
+/// The next token, if it is a form by itself.
 #[inline(always)]
 pub fn lone_token(text: &[u8], offset: usize) -> Option<Token>
     requires { offset ≤ length text.now }
@@ -116,27 +142,32 @@ pub fn lone_token(text: &[u8], offset: usize) -> Option<Token>
     lone_at(text, behind_blanks(text, offset))
 }
 
-/// The next token, if it is a tag of ASCII.
+/// The next token, if no comment is before it and it is UTF-8; often it is a number.
+#[inline(always)]
+pub fn next_token(text: &[u8], offset: usize) -> Option<Token>
+    requires { offset ≤ length text.now }
+    ensures gives { IfSome result (GivesAhead text.now offset) }
+{
+    let start = behind_blanks(text, offset);
+    match number_at(text, start) {
+        Some(token) => Some(token),
+        None => token_at(text, start),
+    }
+}
+
+/// The next token, if it is a tag.
 #[inline(always)]
 pub fn tag_token(text: &[u8], offset: usize) -> Option<Token>
     requires { offset ≤ length text.now }
-    ensures gives { IfSome result (GivesTag text.now offset) }
+    ensures gives { IfSome result (GivesAhead text.now offset) }
+    ensures tag { IfSome result (λ token. token.kind ≡ Tag) }
     ensures fits { IfSome result (λ token. token.end ≤ length text.now) }
 {
-    let start = behind_blanks(text, offset);
-    let rest = &text[start..];
-    if !begins_tag(rest) {
-        return None;
+    let token = token_at(text, behind_blanks(text, offset))?;
+    match token.kind {
+        TokenKind::Tag => Some(token),
+        _ => None,
     }
-    let tag = first_run(rest);
-    if !tag.ascii {
-        return None;
-    }
-    Some(Token {
-        kind: TokenKind::Tag,
-        start,
-        end: start + tag.len,
-    })
 }
 
 /// The next token, if it opens a vector.
@@ -213,25 +244,4 @@ pub fn map_closer(text: &[u8], offset: usize) -> Option<Token>
     } else {
         None
     }
-}
-
-/// The next five tokens, if they are a vector of three runs of ASCII.
-#[inline(always)]
-pub fn three_tokens(text: &[u8], offset: usize) -> Option<Triple>
-    requires { offset ≤ length text.now }
-    ensures gives { IfSome result (GivesTriple text.now offset) }
-    ensures fits { IfSome result (λ triple. triple.closer.end ≤ length text.now) }
-{
-    let opener = vector_opener(text, offset)?;
-    let first = lone_token(text, opener.end)?;
-    let second = lone_token(text, first.end)?;
-    let third = lone_token(text, second.end)?;
-    let closer = vector_closer(text, third.end)?;
-    Some(Triple {
-        opener,
-        first,
-        second,
-        third,
-        closer,
-    })
 }

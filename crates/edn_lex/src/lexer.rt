@@ -4,10 +4,10 @@ ghost use Rattle.std.specs.Prelude.{◌≡◌, ◌<◌, length, get_or, false, I
 ghost use Rattle.hist_types.specs.Bytes.{is_blank as is_blank_byte};
 ghost use Rattle.hist_types.specs.Tokens.{closer_of, byte_fault, HasTokens, HasTokensFrom};
 ghost use Rattle.edn_lex.specs.Collections.{closer_byte, refusal_within, Nests};
-ghost use Rattle.edn_lex.specs.State.{state_at_start, state_at, closed_at, GivesOnly, GivesAll, Passes};
-ghost use Rattle.edn_lex.specs.Ahead.{NextLone, NextTriple, LooksAhead, LooksAheadInMap};
+ghost use Rattle.edn_lex.specs.State.{state_at_start, state_at, GivesOnly, GivesAll, Passes};
+ghost use Rattle.edn_lex.specs.Ahead.{LooksAhead};
 
-use crate::ahead::{Triple, lone_token, three_tokens};
+use crate::ahead::LEVELS_AHEAD;
 use crate::pieces::{PieceKind, first_piece};
 use crate::scan::{is_blank, utf8_end};
 use crate::types::{Token, TokenKind};
@@ -180,57 +180,16 @@ impl<'a> Lexer<'a> {
         }
     }
 
-    /// The next token, if it is a form by itself that needs no closer look: a run of ASCII after blanks. Else nothing changes.
-    #[inline(always)]
-    pub fn next_lone(&mut self) -> Option<Token>
-        ensures { NextLone self.old result self.new }
-    {
-        if self.ended {
-            return None;
-        }
-        let token = lone_token(self.text, self.offset)?;
-        self.offset = token.end;
-        Some(token)
-    }
-
-    /// The next five tokens, if they are a vector of three such tokens. Else nothing changes.
-    #[inline(always)]
-    pub fn next_triple(&mut self) -> Option<Triple>
-        ensures { NextTriple self.old result self.new }
-    {
-        if self.ended || self.collections.is_full() {
-            return None;
-        }
-        let triple = three_tokens(self.text, self.offset)?;
-        self.offset = triple.closer.end;
-        Some(triple)
-    }
-
-    /// The offset from which tokens can be looked for ahead: none after a fault, or where fewer than three more collections may
-    /// be opened.
+    /// The offset from which tokens can be looked for ahead: none after a fault, or where fewer than `LEVELS_AHEAD` more
+    /// collections may be opened.
     #[inline(always)]
     pub fn ahead(&self) -> Option<usize>
         ensures { IfSome result (LooksAhead self.now) }
     {
-        if self.ended || self.collections.len() + 3 > MAX_OPEN_COLLECTIONS {
+        if self.ended || self.collections.len() + LEVELS_AHEAD > MAX_OPEN_COLLECTIONS {
             None
         } else {
             Some(self.offset)
-        }
-    }
-
-    /// The offset from which the rest of a map can be looked for ahead: none after a fault, where the innermost open collection
-    /// is no map or set, or where fewer than two more may be opened.
-    #[inline(always)]
-    pub fn ahead_in_map(&self) -> Option<usize>
-        ensures { IfSome result (LooksAheadInMap self.now) }
-    {
-        if self.ended || self.collections.len() + 2 > MAX_OPEN_COLLECTIONS {
-            return None;
-        }
-        match self.collections.as_slice().last() {
-            Some(Collection::Brace) => Some(self.offset),
-            _ => None,
         }
     }
 
@@ -240,16 +199,6 @@ impl<'a> Lexer<'a> {
         requires { offset ≤ length self.old.text }
         ensures { self.new ≡ record self.old { offset = offset } }
     {
-        self.offset = offset;
-    }
-
-    /// Goes on from this offset, after the innermost open collection.
-    #[inline(always)]
-    pub fn leave(&mut self, offset: usize)
-        requires { offset ≤ length self.old.text }
-        ensures { self.new ≡ closed_at self.old offset }
-    {
-        self.collections.pop();
         self.offset = offset;
     }
 

@@ -70,6 +70,7 @@ pub(crate) fn run_piece(text: &[u8]) -> Piece
 }
 
 /// The item at the front of a text that begins with `#`.
+#[tactic(auto, using(crate::proofs::Flags::IsAscii_from_low))]
 fn hash_piece(text: &[u8]) -> Piece
     requires nonempty { 0 < length text.now }
     requires hash { first_byte text.now ≡ hash }
@@ -81,7 +82,10 @@ fn hash_piece(text: &[u8]) -> Piece
         Some(b'{') => token(TokenKind::Open, 2, true),
         Some(b'_') => token(TokenKind::Drop, 2, true),
         Some(b'#') => run_piece(text),
-        _ => token(TokenKind::Tag, first_run(text).len, false),
+        _ => {
+            let tag = first_run(text);
+            token(TokenKind::Tag, tag.len, tag.ascii)
+        }
     }
 }
 

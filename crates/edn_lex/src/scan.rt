@@ -4,12 +4,12 @@ ghost use Rattle.std.specs.Prelude.{◌≡◌, ◌<◌, ◌≤◌, ◌==◌, len
 ghost use Rattle.std.specs.Char.{is_ascii_digit};
 ghost use Rattle.std.specs.List.{prefix_len, list_all};
 ghost use Rattle.std.specs.Str.{IsAscii};
-ghost use Rattle.hist_types.specs.Bytes.{is_blank as is_blank_byte, is_run_byte, line_feed, hash, backslash};
+ghost use Rattle.hist_types.specs.Bytes.{is_blank as is_blank_byte, is_run_byte, line_feed};
 ghost use Rattle.edn_lex.specs.declared.scan.TheConstants.{NOT_DIGIT, PAST_ASCII, BLANK, ENDS_RUN};
-ghost use Rattle.edn_lex.specs.Ends.{BeginsWithTag, StopsBeingUtf8};
+ghost use Rattle.edn_lex.specs.Ends.{StopsBeingUtf8};
 ghost use Rattle.edn_lex.specs.Flags.{has_flag};
 ghost use Rattle.edn_lex.specs.Kinds.{is_low};
-ghost use Rattle.hist_types.specs.Tokens.{first_byte, run_len as longest_run, content_len as len_of_content, character_len as len_of_character};
+ghost use Rattle.hist_types.specs.Tokens.{run_len as longest_run, content_len as len_of_content, character_len as len_of_character};
 
 use memchr::{memchr, memchr2};
 
@@ -63,33 +63,6 @@ pub(crate) fn is_blank(b: u8) -> bool
     ensures { result ≡ is_blank_byte b }
 {
     flags_of(b) & BLANK != 0
-}
-
-/// Whether the text begins with a run: with no blank, bracket, quote or semicolon, and with no `#` and no backslash either.
-pub(crate) fn begins_run(text: &[u8]) -> bool
-    ensures run { result ≡ true → 0 < longest_run text.now }
-    ensures no_hash { result ≡ true → ¬ (first_byte text.now ≡ hash) }
-    ensures no_backslash { result ≡ true → ¬ (first_byte text.now ≡ backslash) }
-{
-    match text {
-        [] | [b'#' | b'\\', ..] => false,
-        [b, ..] => flags_of(*b) & ENDS_RUN == 0,
-    }
-}
-
-/// Whether the text begins with a tag.
-#[inline(always)]
-pub(crate) fn begins_tag(text: &[u8]) -> bool
-    ensures run { result ≡ true → 0 < longest_run text.now }
-    ensures tag { result ≡ true → BeginsWithTag text.now }
-{
-    if text.is_empty() || text[0] != b'#' {
-        return false;
-    }
-    match text.get(1) {
-        Some(b'{' | b'_' | b'#') => false,
-        _ => true,
-    }
 }
 
 /// Whether no run goes on here: a blank, a bracket, a quote or a semicolon comes first, or the text's end.

@@ -16,7 +16,7 @@ pub mod PassedOver
 pub mod Places
 pub mod Reached
 pub mod Triples
-pub mod Ahead
+pub mod FlatForms
 pub mod FlatMaps
 pub mod FlatPlaces
 pub mod ReadsBack

@@ -1,5 +1,5 @@
 -- Vectors of three plain tokens, read at once.
-use Rattle.std.proofs.Common.{◌≡◌, ◌≢◌, ℕ, ◌<◌, List, [], ◌∷◌, length, map, true, false, Some, None, Result, Ok, refl, sym, ap, arith, subst, ◌||◌}
+use Rattle.std.proofs.Common.{◌≡◌, ◌≢◌, ℕ, ◌<◌, List, [], ◌∷◌, length, map, true, false, Some, None, Result, Ok, refl, ap, subst, ◌||◌}
 use Rattle.std.specs.Prelude.{bytes_eq}
 use Rattle.std.specs.List.{AllByRecursion}
 use Rattle.hist_types.specs.Bytes.{open_square, open_round, close_square}
@@ -8,14 +8,14 @@ use Rattle.hist_types.specs.Forms.{Form, plain, collection, tagged, forms_of, pl
 use Rattle.hist_types.specs.Tokens.{Item, ItemKind, Opener, Closer, Drop, Tag}
 use Rattle.hist_types.specs.declared.limits.TheConstants.{MAX_OPEN_COLLECTIONS}
 use Rattle.hist_types.specs.declared.types.Fault.{Fault}
-use Rattle.edn_lex.specs.Ahead.{is_lone, going_at, HasGivenLone, GivesLone, GivesOpener, GivesCloser, GivesTriple, HasGivenTriple}
+use Rattle.edn_lex.specs.Ahead.{is_lone, going_at, GivesLone, GivesTriple}
 use Rattle.edn_lex.specs.Kinds.{kind_of, item_of}
-use Rattle.edn_lex.specs.State.{State}
+use Rattle.edn_lex.specs.State.{State, GivesToken}
 use Rattle.edn_lex.specs.declared.ahead.Triple.{Triple}
 use Rattle.edn_lex.specs.declared.types.Token.{Token}
-use Rattle.edn_ops.specs.Collections.{ReadsMember, ReadsMembers, PassesMember, AreFirstForms, ReadsMop}
+use Rattle.edn_ops.specs.Collections.{ReadsMember, ReadsMembers, PassesMember, AreFirstForms}
 use Rattle.edn_ops.specs.Fields.{mop_result}
-use Rattle.edn_ops.specs.Leads.{is_mark_kind, GivesMember}
+use Rattle.edn_ops.specs.Leads.{is_mark_kind}
 use Rattle.edn_ops.specs.Outlines.{outline, outline_of, IsTokenIn, IsOutlineIn}
 use Rattle.edn_ops.specs.declared.forms.Member.{Member}
 use Rattle.edn_ops.specs.declared.outline.Outline.{Outline}
@@ -40,9 +40,6 @@ lone_is kind = elim kind as (λ k. is_lone k ≡ true → (is_mark_kind k ≡ fa
 abbrev pub bare_token : Token → Member
 bare_token token = record { token = token; tag = None }
 
-pub lone_member : (s t : State) (token : Token) → HasGivenLone s token t → GivesMember s (bare_token token) t
-lone_member s t token h = GivesMember-first s t token h.gives (lone_is (kind_of token.kind) h.lone).0
-
 lone_of : (token : Token) → is_lone (kind_of token.kind) ≡ true → IsOf (bare_token token) (outlines.Plain token)
 lone_of token lone =
     record {
@@ -51,13 +48,10 @@ lone_of token lone =
       within = λ text h. h;
     }
 
-pub lone_passes : (s t : State) (token : Token) → HasGivenLone s token t → PassesMember s (Ok (outlines.Plain token)) t
-lone_passes s t token h =
-    let is = lone_is (kind_of token.kind) h.lone in
-    passes_plain s t (bare_token token) (outlines.Plain token) (lone_member s t token h) is.1 is.2 (lone_of token h.lone)
-
-given_lone : (text : List ℕ) (offset : ℕ) (token : Token) (closers : List ℕ) → GivesLone text offset token → HasGivenLone (going_at text offset closers) token (going_at text token.end closers)
-given_lone text offset token closers g = record { lone = g.lone; gives = g.gives closers }
+lone_passes : (s t : State) (token : Token) → is_lone (kind_of token.kind) ≡ true → GivesToken s token t → PassesMember s (Ok (outlines.Plain token)) t
+lone_passes s t token lone g =
+    let is = lone_is (kind_of token.kind) lone in
+    passes_plain s t (bare_token token) (outlines.Plain token) (GivesMember-first s t token g is.0) is.1 is.2 (lone_of token lone)
 
 -- it is a form by itself
 plain_is : (f : Form) (i : Item) → outline f ≡ plain i → f ≡ plain i
@@ -71,7 +65,7 @@ pub lone_reads :
 lone_reads text offset token closers g =
     let s = going_at text offset closers in
     let t = going_at text token.end closers in
-    let p = passed s t (outlines.Plain token) (lone_passes s t token (given_lone text offset token closers g)) in
+    let p = passed s t (outlines.Plain token) (lone_passes s t token g.lone (g.gives closers)) in
     subst (λ (f : Form). ReadsMember s f t) (plain_is p.form (item_of text token) p.has.outline_is) p.one
 
 pub lone_in : (text : List ℕ) (offset : ℕ) (token : Token) → GivesLone text offset token → IsTokenIn text token
@@ -93,19 +87,20 @@ triple_form text triple = collection (item_of text triple.opener) (item_of text 
 pub square_is : (item : Item) → item.bytes ≡ open_square ∷ [] → is_vector_or_list item ≡ true
 square_is item e = ap (λ (bs : List ℕ). bytes_eq bs (open_square ∷ []) || bytes_eq bs (open_round ∷ [])) e
 
--- a vector whose members were read
-pub vector_reads :
-    (text : List ℕ) (offset inner : ℕ) (opener closer : Token) (members : List Form) (closers : List ℕ) → length closers < MAX_OPEN_COLLECTIONS → GivesOpener text offset open_square close_square opener →
-    ReadsMembers (going_at text opener.end (close_square ∷ closers)) (item_of text opener) members (going_at text inner (close_square ∷ closers)) → GivesCloser text inner close_square closer →
+-- a collection whose members were read, and which waits for this closer
+pub collection_reads :
+    (text : List ℕ) (offset inner byte : ℕ) (opener closer : Token) (members : List Form) (closers : List ℕ) → kind_of opener.kind ≡ Opener →
+    GivesToken (going_at text offset closers) opener (going_at text opener.end (byte ∷ closers)) → ReadsMembers (going_at text opener.end (byte ∷ closers)) (item_of text opener) members (going_at text inner (byte ∷ closers)) →
+    kind_of closer.kind ≡ Closer → GivesToken (going_at text inner (byte ∷ closers)) closer (going_at text closer.end closers) →
     ReadsMember (going_at text offset closers) (collection (item_of text opener) (item_of text closer) (forms_of members)) (going_at text closer.end closers)
-vector_reads text offset inner opener closer members closers room opens read closes =
+collection_reads text offset inner byte opener closer members closers is_opener opens read is_closer closes =
     let s = going_at text offset closers in
-    let t = going_at text opener.end (close_square ∷ closers) in
-    let u = going_at text inner (close_square ∷ closers) in
+    let t = going_at text opener.end (byte ∷ closers) in
+    let u = going_at text inner (byte ∷ closers) in
     let v = going_at text closer.end closers in
-    let first = GivesMember-first s t opener (opens.gives closers room) (ap is_mark_kind opens.kind) in
-    let last = GivesMember-first u v closer (closes.gives closers) (ap is_mark_kind closes.kind) in
-    bare_member s t v (bare_token opener) (item_of text closer) members first refl opens.kind (closed t u v (bare_token closer) (item_of text opener) members read last closes.kind)
+    let first = GivesMember-first s t opener opens (ap is_mark_kind is_opener) in
+    let last = GivesMember-first u v closer closes (ap is_mark_kind is_closer) in
+    bare_member s t v (bare_token opener) (item_of text closer) members first refl is_opener (closed t u v (bare_token closer) (item_of text opener) members read last is_closer)
 
 pub triple_reads :
     (text : List ℕ) (offset : ℕ) (triple : Triple) (closers : List ℕ) → length closers < MAX_OPEN_COLLECTIONS → GivesTriple text offset triple →
@@ -123,7 +118,7 @@ triple_reads text offset triple closers room h =
     let one = one_read s1 s1 s2 i [] a (nothing_read s1 i) (lone_reads text triple.opener.end triple.first within h.first) in
     let two = one_read s1 s2 s3 i (a ∷ []) b one (lone_reads text triple.first.end triple.second within h.second) in
     let three = one_read s1 s3 s4 i (a ∷ b ∷ []) c two (lone_reads text triple.second.end triple.third within h.third) in
-    vector_reads text offset triple.third.end triple.opener triple.closer (a ∷ b ∷ c ∷ []) closers room h.opener three h.closer
+    collection_reads text offset triple.third.end close_square triple.opener triple.closer (a ∷ b ∷ c ∷ []) closers h.opener.kind (h.opener.gives closers room) three h.closer.kind (h.closer.gives closers)
 
 -- the micro-operation that it is
 pub triple_mop :
@@ -136,26 +131,7 @@ triple_mop text offset triple mop h is =
     let forms : AreFirstForms text (three_of triple) (three_forms text triple) = record { outlines_are = refl; within = within } in
     micro_op_is text mop triple.opener.start (three_of triple) (item_of text triple.opener) (item_of text triple.closer) (three_forms text triple) is forms (square_is (item_of text triple.opener) h.opener.bytes) refl
 
--- a vector that was read at once is a member of a transaction
-pub triple_read :
-    (s t : State) (triple : Triple) (mop : Result MopShape Fault) → HasGivenTriple s triple t →
-    mop ≡ mop_result (micro_op_of triple.opener.start (Some (map (outline_of s.text) (three_of triple)))) → ReadsMop s (Ok (triple.opener.start, mop)) t
-triple_read s t triple mop h is =
-    let form = triple_form s.text triple in
-    let u = going_at s.text triple.closer.end s.closers in
-    let reads : ReadsMember s form u = subst (λ (x : State). ReadsMember x form u) (sym h.going) (triple_reads s.text s.offset triple s.closers h.room h.gives) in
-    (form, subst (ReadsMember s form) (sym h.after) reads, refl, triple_mop s.text s.offset triple mop h.gives is)
-
 -- its tokens are in the text
 pub triple_in : (text : List ℕ) (offset : ℕ) (triple : Triple) → GivesTriple text offset triple → IsTokenIn text triple.first × IsTokenIn text triple.second × IsTokenIn text triple.third
 triple_in text offset triple h =
     (lone_in text triple.opener.end triple.first h.first, lone_in text triple.first.end triple.second h.second, lone_in text triple.second.end triple.third h.third)
-
--- it is not behind the text's end
-pub triple_some : (s t : State) (triple : Triple) → HasGivenTriple s triple t → s.offset < length s.text
-triple_some s t triple h =
-    let g = h.gives.opener.gives s.closers h.room in
-    let low = g.low in
-    let some = g.some in
-    let fits = g.fits in
-    omega arith

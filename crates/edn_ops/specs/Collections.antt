@@ -103,14 +103,6 @@ ReadsMop s (Ok found) t =
     × (found.1 ≡ mop_result (micro_op_of (place_of form) (elements_of form)))
 ReadsMop s (Err fault) t = StopsInside s fault
 
--- a call read members, which are these of a transaction
-abbrev pub ReadsFlat :
-    State → Result (Unit {0}) Fault → Result (List MopShape) Fault → State → Type 0
-ReadsFlat s (Ok done) shapes t =
-    (members : List Form) × ((opener : Item) → ReadsMembers s opener members t)
-    × (shapes ≡ mops_result (micro_ops_of 0 members))
-ReadsFlat s (Err fault) shapes t = fault ≡ memory_fault
-
 -- the transaction with one more member, which begins at the offset
 abbrev pub AddsMop :
     Result (List MopShape) Fault → ℕ → Result MopShape Fault → Result (List MopShape) Fault → Type 0
@@ -149,15 +141,3 @@ GathersMember s old (Ok done) new t =
     × ((members : List Form) → Gathers s.text old members →
     Gathers s.text new (members ++ form ∷ []))
 GathersMember s old (Err fault) new t = UnlessMemory fault (StopsInside s fault)
-
--- a call gathered members from s on
-pub record GathersAhead
-    (text : List ℕ) (s : State) (old : Fields) (new : Fields) (t : State) : Type 0 where
-  pub members : List Form
-  pub same : t.text ≡ s.text
-  pub forward : s.offset ≤ t.offset
-  pub reads :
-      (start : State) (opener : Item) (before : List Form) → ReadsMembers start opener before s →
-      ReadsMembers start opener (before ++ members) t
-  pub within : AreFieldsIn text new
-  pub more : (before : List Form) → Gathers text old before → Gathers text new (before ++ members)

@@ -1,8 +1,8 @@
 -- Maps as printers write them, read in one pass over their bytes.
-use Rattle.std.specs.Prelude.{◌≡◌, ◌⊎◌, ℕ, ℤ, ◌+◌, ◌≤◌, List, [], ◌∷◌, ◌++◌, length, Bool, true, false, codes, Option, Some, None, Result, Ok, Err}
+use Rattle.std.specs.Prelude.{◌≡◌, ◌⊎◌, ℕ, ℤ, ◌+◌, ◌<◌, ◌≤◌, List, [], ◌∷◌, ◌++◌, length, Bool, true, false, codes, Option, Some, None, IfSome, Result, Ok, Err}
 use Rattle.hist_types.specs.AtomTokens.{process_of}
 use Rattle.hist_types.specs.Bytes.{open_brace, close_brace}
-use Rattle.hist_types.specs.Entries.{entry_of, int_of, is_named, kind_of, micro_ops_of, transaction_of}
+use Rattle.hist_types.specs.Entries.{entry_of, int_of, is_named, kind_of, micro_ops_of, mops_of, transaction_of}
 use Rattle.hist_types.specs.Forms.{Form, plain}
 use Rattle.hist_types.specs.Refusals.{memory_fault}
 use Rattle.hist_types.specs.Tokens.{Item}
@@ -10,26 +10,38 @@ use Rattle.hist_types.specs.declared.limits.TheConstants.{MAX_OPEN_COLLECTIONS}
 use Rattle.hist_types.specs.declared.types.Fault.{Fault}
 use Rattle.hist_types.specs.declared.types.OpKind.{OpKind}
 use Rattle.hist_types.specs.declared.types.OpKind.TheVariants as kinds
-use Rattle.edn_lex.specs.Ahead.{going_at, GivesTag, GivesOpener, GivesCloser}
+use Rattle.smallvec.specs.SmallVec.{SmallVec}
+use Rattle.edn_lex.specs.Ahead.{going_at, GivesAhead, GivesOpener, GivesCloser}
 use Rattle.edn_lex.specs.Kinds.{item_of}
-use Rattle.edn_lex.specs.State.{State}
 use Rattle.edn_lex.specs.declared.types.Token.{Token}
+use Rattle.edn_lex.specs.declared.types.TokenKind.TheVariants as tokens
+use Rattle.edn_ops.specs.declared.flat.FlatEntry.{FlatEntry}
+use Rattle.edn_ops.specs.declared.flat.FlatEntry.TheVariants as entries
 use Rattle.edn_ops.specs.declared.flat.FlatFields.{FlatFields}
 use Rattle.edn_ops.specs.declared.flat.Name.{Name}
 use Rattle.edn_ops.specs.declared.flat.Name.TheVariants as names
+use Rattle.edn_ops.specs.declared.flat.Owner.{Owner}
+use Rattle.edn_ops.specs.declared.flat.Owner.TheVariants as owners
+use Rattle.edn_ops.specs.declared.flat.TheConstants.{VALUE_LEVELS}
 use Rattle.edn_ops.specs.declared.types.MopShape.{MopShape}
 use Rattle.edn_ops.specs.declared.types.OpShape.{OpShape}
-use Rattle.edn_ops.specs.Collections.{ReadsMember, ReadsMembers, ReadsMap}
+use Rattle.edn_ops.specs.Collections.{ReadsMember, ReadsMembers}
 use Rattle.edn_ops.specs.Fields.{IsEntry, fields_named, members_of, mops_result}
 
 -- ---- members
 
 -- From the offset up to the end the form is read, however many more collections may be opened.
 pub record ReadsAhead (text : List ℕ) (deep offset : ℕ) (form : Form) (end : ℕ) : Type 0 where
+  pub further : offset < end
   pub within : end ≤ length text
   pub reads :
       (closers : List ℕ) → length closers + deep ≤ MAX_OPEN_COLLECTIONS →
       ReadsMember (going_at text offset closers) form (going_at text end closers)
+
+-- a call passed over a form, up to the end that it gives
+abbrev pub PassesAhead : List ℕ → ℕ → ℕ → Option ℕ → Type 0
+PassesAhead text deep offset found =
+    IfSome found (λ end. (form : Form) × ReadsAhead text deep offset form end)
 
 -- a call read one more micro-operation, up to the end that it gives
 abbrev pub ReadsFlatMop :
@@ -61,30 +73,42 @@ HasKind None found = found ≡ []
 HasKind (Some kind) found =
     (pair : Form × Form) × (found ≡ pair ∷ []) × (Some kind ≡ kind_of pair.1)
 
--- the form is the integer that is the process's number
-abbrev pub NamesProcess : Form → ℕ → Type 0
-NamesProcess form process =
+-- the form is the process's number, or no integer
+abbrev pub NamesOwner : Form → Owner → Type 0
+NamesOwner form (owners.Client process) =
     (number : ℤ) × (int_of form ≡ Some number) × (process_of number ≡ Some process)
+NamesOwner form owners.NoClient = int_of form ≡ None
 
 -- the fields named `:process`
-abbrev pub HasProcess : Option ℕ → List (Form × Form) → Type 0
-HasProcess None found = found ≡ []
-HasProcess (Some process) found =
-    (pair : Form × Form) × (found ≡ pair ∷ []) × NamesProcess pair.1 process
+abbrev pub HasOwner : Option Owner → List (Form × Form) → Type 0
+HasOwner None found = found ≡ []
+HasOwner (Some owner) found =
+    (pair : Form × Form) × (found ≡ pair ∷ []) × NamesOwner pair.1 owner
 
 -- the fields named `:value`
 abbrev pub HasMops : Bool → List MopShape → List (Form × Form) → Type 0
-HasMops false shapes found = (found ≡ []) × (shapes ≡ [])
+HasMops false shapes found = found ≡ []
 HasMops true shapes found =
     (pair : Form × Form) × (found ≡ pair ∷ [])
     × (Ok shapes ≡ mops_result (transaction_of pair.1))
+
+-- what the kind is so far allows a transaction
+abbrev pub may_have_mops : Option OpKind → Bool
+may_have_mops None = true
+may_have_mops (Some kinds.Invoke) = true
+may_have_mops (Some kinds.Ok) = true
+may_have_mops (Some kinds.Fail) = false
+may_have_mops (Some kinds.Info) = false
 
 -- what is known of these fields
 pub record AreFlat
     (fields : FlatFields) (shapes : List MopShape) (pairs : List (Form × Form)) : Type 0 where
   pub kind : HasKind fields.kind (fields_named (codes ":type") pairs)
-  pub process : HasProcess fields.process (fields_named (codes ":process") pairs)
-  pub value : HasMops fields.has_value shapes (fields_named (codes ":value") pairs)
+  pub owner : HasOwner fields.owner (fields_named (codes ":process") pairs)
+  pub value :
+      may_have_mops fields.kind ≡ true →
+      HasMops fields.has_value shapes (fields_named (codes ":value") pairs)
+  pub empty : fields.has_value ≡ false → shapes ≡ []
 
 -- the same, with one more field
 abbrev pub AddsFlat : FlatFields → List MopShape → Form → Form → FlatFields → List MopShape → Type 0
@@ -105,7 +129,7 @@ IsName names.Other key =
 abbrev pub ReadsFlatValue : List ℕ → ℕ → Name → FlatFields → Option ℕ → FlatFields → Type 0
 ReadsFlatValue text offset name old None new = Unit {0}
 ReadsFlatValue text offset name old (Some end) new =
-    (value : Form) × ReadsAhead text 2 offset value end
+    (value : Form) × ReadsAhead text VALUE_LEVELS offset value end
     × ((key : Form) (shapes : List MopShape) → IsName name key →
     AddsFlat old shapes key value new shapes)
 
@@ -115,7 +139,7 @@ abbrev pub ReadsFlatField :
     Result (Option ℕ) Fault → FlatFields → List MopShape → Type 0
 ReadsFlatField text key old shapes (Ok None) new more = Unit {0}
 ReadsFlatField text key old shapes (Ok (Some end)) new more =
-    (value : Form) × ReadsAhead text 2 key.end value end
+    (value : Form) × ReadsAhead text VALUE_LEVELS key.end value end
     × AddsFlat old shapes (plain (item_of text key)) value new more
 ReadsFlatField text key old shapes (Err fault) new more = fault ≡ memory_fault
 
@@ -129,12 +153,13 @@ pub record ReadsFlatMap
   pub inner : ℕ
   pub closer : Token
   pub reads :
-      (opener : Item) (closers : List ℕ) → length closers + 2 ≤ MAX_OPEN_COLLECTIONS →
+      (opener : Item) (closers : List ℕ) → length closers + VALUE_LEVELS ≤ MAX_OPEN_COLLECTIONS →
       ReadsMembers (going_at text offset closers) opener (members_of pairs None)
       (going_at text inner closers)
   pub flat : AreFlat fields shapes pairs
   pub closes : GivesCloser text inner close_brace closer
   pub end_is : end ≡ closer.end
+  pub further : offset < end
   pub within : end ≤ length text
 
 -- a token of one byte opens a map: the one that is given from the offset on, or the one after a
@@ -142,12 +167,8 @@ pub record ReadsFlatMap
 abbrev pub OpensOperation : List ℕ → ℕ → Token → Type 0
 OpensOperation text offset opener =
     GivesOpener text offset open_brace close_brace opener
-    ⊎ ((tag : Token) × GivesTag text offset tag
+    ⊎ ((tag : Token) × GivesAhead text offset tag × (tag.kind ≡ tokens.Tag)
     × GivesOpener text tag.end open_brace close_brace opener)
-
--- an operation of this kind has a transaction
-abbrev pub HasTransaction : OpKind → Type 0
-HasTransaction kind = (kind ≡ kinds.Invoke) ⊎ (kind ≡ kinds.Ok)
 
 -- a call read a map's fields from the offset on
 abbrev pub GivesFlatMap : List ℕ → ℕ → Result (Option ℕ) Fault → FlatFields → List MopShape → Type 0
@@ -155,29 +176,45 @@ GivesFlatMap text offset (Ok None) fields shapes = Unit {0}
 GivesFlatMap text offset (Ok (Some end)) fields shapes = ReadsFlatMap text offset fields shapes end
 GivesFlatMap text offset (Err fault) fields shapes = fault ≡ memory_fault
 
--- after its opener a map gives an operation of this shape, which ends after its closer
-pub record IsFlatShape (text : List ℕ) (opener : Token) (shape : OpShape) : Type 0 where
+-- of fields with these micro-operations as their `:value` an operation of this kind has the others
+abbrev pub AreFlatMops : FlatFields → List MopShape → OpKind → List MopShape → Type 0
+AreFlatMops fields shapes kind given =
+    (pairs : List (Form × Form)) (start : ℕ) → AreFlat fields shapes pairs →
+    Ok given ≡ mops_result (mops_of kind start pairs)
+
+-- they are of this kind, and have a transaction exactly if the kind has one
+abbrev pub IsComplete : FlatFields → OpKind → Type 0
+IsComplete fields kind =
+    (fields.kind ≡ Some kind) × (fields.has_value ≡ may_have_mops (Some kind))
+
+-- after its opener a map gives this, and ends after its closer
+pub record IsFlatEntry
+    (text : List ℕ) (opener : Token) (shape : Option OpShape) (end : ℕ) : Type 0 where
   pub members : List Form
   pub inner : ℕ
   pub closer : Token
   pub reads :
-      (closers : List ℕ) → length closers + 2 ≤ MAX_OPEN_COLLECTIONS →
+      (closers : List ℕ) → length closers + VALUE_LEVELS ≤ MAX_OPEN_COLLECTIONS →
       ReadsMembers (going_at text opener.end closers) (item_of text opener) members
       (going_at text inner closers)
   pub closes : GivesCloser text inner close_brace closer
-  pub end_is : shape.span.end ≡ closer.end
-  pub within : shape.span.end ≤ length text
-  pub entry :
-      IsEntry (Ok (Some shape)) (entry_of (item_of text opener) (item_of text closer) members)
+  pub end_is : end ≡ closer.end
+  pub further : opener.end < end
+  pub within : end ≤ length text
+  pub entry : IsEntry (Ok shape) (entry_of (item_of text opener) (item_of text closer) members)
 
--- a call gave such a shape, or none
-abbrev pub GivesFlatShape : List ℕ → Token → Result (Option OpShape) Fault → Type 0
-GivesFlatShape text opener (Ok None) = Unit {0}
-GivesFlatShape text opener (Ok (Some shape)) = IsFlatShape text opener shape
-GivesFlatShape text opener (Err fault) = fault ≡ memory_fault
-
--- a call read the map of an operation, or left it
-abbrev pub ReadsFlatOperation : State → Item → Result (Option OpShape) Fault → State → Type 0
-ReadsFlatOperation s opener (Ok None) t = t ≡ s
-ReadsFlatOperation s opener (Ok (Some shape)) t = ReadsMap s opener (Ok (Some shape)) t
-ReadsFlatOperation s opener (Err fault) t = fault ≡ memory_fault
+-- a call gave what a map gives, or nothing
+abbrev pub GivesFlatEntry :
+    List ℕ → Token → Result (Option FlatEntry) Fault → SmallVec MopShape → Type 0
+GivesFlatEntry text opener (Ok None) mops = Unit {0}
+GivesFlatEntry text opener (Ok (Some (entries.Operation o))) mops =
+    IsFlatEntry text opener
+    (Some (record {
+      span = record { start = opener.start; end = o.end };
+      kind = o.kind;
+      process = o.process;
+      mops = mops;
+    }))
+    o.end
+GivesFlatEntry text opener (Ok (Some (entries.Skipped end))) mops = IsFlatEntry text opener None end
+GivesFlatEntry text opener (Err fault) mops = fault ≡ memory_fault

@@ -1,36 +1,64 @@
-//! Maps as printers write them, read in one pass over their bytes: keys and values are runs of ASCII, except for one vector of
-//! vectors of three.
+//! Maps as printers write them, read in one pass over their bytes: keys are forms by themselves, and there are no tags, no `#_`
+//! and no comments.
 
-ghost use Rattle.std.specs.Prelude.{◌≡◌, ◌≤◌, [], length, true, false, IfSome};
-ghost use Rattle.hist_types.specs.Forms.{plain, is_map};
+ghost use Rattle.std.specs.Prelude.{◌≡◌, ◌≤◌, [], length, true, false, Some, IfSome};
+ghost use Rattle.hist_types.specs.Forms.{plain};
 ghost use Rattle.edn_lex.specs.Ahead.{IsLoneAt, GivesLone, GivesTriple};
 ghost use Rattle.edn_lex.specs.Kinds.{item_of};
+ghost use Rattle.edn_ops.specs.declared.flat.TheConstants.{VALUE_LEVELS};
 ghost use Rattle.edn_ops.specs.Outlines.{outline_of, IsTokenIn, IsOutlineIn};
-ghost use Rattle.edn_ops.specs.Flat.{NamesKind, NamesProcess, ReadsFlatMop, ReadsFlatTransaction, AreFlat, IsName, ReadsFlatValue, ReadsFlatField, GivesFlatMap, OpensOperation, GivesFlatShape, ReadsFlatOperation, HasTransaction};
+ghost use Rattle.edn_ops.specs.Flat.{PassesAhead, NamesKind, NamesOwner, ReadsFlatMop, ReadsFlatTransaction, may_have_mops, AreFlat, IsName, ReadsFlatValue, ReadsFlatField, IsComplete, GivesFlatMap, OpensOperation, GivesFlatEntry};
 
 use crate::atoms;
 use crate::micro_ops::micro_op;
 use crate::outline::{Outline, bytes_of};
-use crate::types::{MopShape, OpShape, Span};
+use crate::passing::form_end;
+use crate::types::MopShape;
 use edn_lex::ahead::{
-    Triple, behind_blanks, lone_at, lone_token, map_closer, map_opener, number_at, run_at,
-    tag_token, vector_closer, vector_opener, word_at,
+    LEVELS_AHEAD, Triple, behind_blanks, form_at, lone_at, lone_token, map_closer, map_opener,
+    next_token, tag_token, vector_closer, vector_opener, word_at,
 };
-use edn_lex::lexer::Lexer;
 use edn_lex::types::{Token, TokenKind};
 use hist_types::limits::{MAX_MICRO_OPS, MAX_OPERATION_BYTES};
 use hist_types::types::{Fault, OpKind, Process};
 use smallvec::SmallVec;
-use std::alloc::Global;
 
-type Mops = SmallVec<MopShape, 4>;
+pub(crate) type Mops = SmallVec<MopShape, 4>;
+
+/// How many collections may be opened one within another in the value of a field.
+const VALUE_LEVELS: usize = LEVELS_AHEAD - 1;
+
+/// Whose operation a map is.
+#[derive(Clone, Copy)]
+pub(crate) enum Owner {
+    Client(Process),
+    /// Its process is no integer.
+    NoClient,
+}
 
 /// What the fields of a map say so far.
 #[derive(Clone, Copy)]
 pub(crate) struct FlatFields {
     kind: Option<OpKind>,
-    process: Option<Process>,
+    owner: Option<Owner>,
     has_value: bool,
+}
+
+/// A client's operation, without its micro-operations.
+#[derive(Clone, Copy)]
+pub(crate) struct FlatOperation {
+    pub(crate) kind: OpKind,
+    pub(crate) process: Process,
+    /// Where its map ends.
+    pub(crate) end: usize,
+}
+
+/// What a map gives.
+#[derive(Clone, Copy)]
+pub(crate) enum FlatEntry {
+    Operation(FlatOperation),
+    /// An operation that is skipped, by the map's end.
+    Skipped(usize),
 }
 
 /// The fields of a map that say something.
@@ -52,21 +80,26 @@ pub(crate) struct Key {
 
 /// Whether an operation of this kind has a transaction.
 fn has_transaction(kind: OpKind) -> bool
-    ensures { result ≡ true → HasTransaction kind }
+    ensures { result ≡ may_have_mops (Some kind) }
 {
     matches!(kind, OpKind::Invoke | OpKind::Ok)
 }
 
-/// The process that a value of `:process` names.
-fn process_of(text: &[u8], value: Outline) -> Option<Process>
+/// Whose operation a map is, by the value of its `:process`; none where the integer is no process.
+fn owner_of(text: &[u8], value: Outline) -> Option<Owner>
     requires { IsOutlineIn text.now value }
-    ensures { IfSome result (NamesProcess (outline_of text.now value)) }
+    ensures { IfSome result (NamesOwner (outline_of text.now value)) }
 {
-    let number = value.integer()?;
-    atoms::process_of(bytes_of(text, number))
+    match value.integer() {
+        Some(number) => {
+            let process = atoms::process_of(bytes_of(text, number))?;
+            Some(Owner::Client(process))
+        }
+        None => Some(Owner::NoClient),
+    }
 }
 
-/// The next token, if it is the kind of an operation that has a transaction.
+/// The next token, if it is the kind of an operation.
 #[inline(always)]
 fn flat_kind(text: &[u8], offset: usize) -> Option<(OpKind, Token)>
     requires { offset ≤ length text.now }
@@ -78,18 +111,24 @@ fn flat_kind(text: &[u8], offset: usize) -> Option<(OpKind, Token)>
     if let Some(token) = word_at(text, start, b":invoke", TokenKind::Keyword) {
         return Some((OpKind::Invoke, token));
     }
-    let token = word_at(text, start, b":ok", TokenKind::Keyword)?;
-    Some((OpKind::Ok, token))
+    if let Some(token) = word_at(text, start, b":ok", TokenKind::Keyword) {
+        return Some((OpKind::Ok, token));
+    }
+    if let Some(token) = word_at(text, start, b":info", TokenKind::Keyword) {
+        return Some((OpKind::Info, token));
+    }
+    let token = word_at(text, start, b":fail", TokenKind::Keyword)?;
+    Some((OpKind::Fail, token))
 }
 
-/// Passes over the value of a field that says nothing, up to the end that is given, if it is a run of ASCII.
+/// Passes over a value, up to the end that is given, if it can be read so.
 #[inline(always)]
-fn other_value(text: &[u8], offset: usize) -> Option<usize>
+fn passed_value(text: &[u8], offset: usize) -> Option<usize>
     requires { offset ≤ length text.now }
-    ensures { (old : FlatFields) → ReadsFlatValue text.now offset Name.Other old result old }
+    ensures { PassesAhead text.now VALUE_LEVELS offset result }
 {
-    let token = lone_token(text, offset)?;
-    Some(token.end)
+    let token = next_token(text, offset)?;
+    form_end(text, token, VALUE_LEVELS)
 }
 
 impl FlatFields {
@@ -98,7 +137,7 @@ impl FlatFields {
     {
         FlatFields {
             kind: None,
-            process: None,
+            owner: None,
             has_value: false,
         }
     }
@@ -119,17 +158,46 @@ impl FlatFields {
 
     /// Reads the first value of `:process`, up to the end that is given, if it can be read so.
     #[inline(always)]
-    fn read_process(&mut self, text: &[u8], offset: usize) -> Option<usize>
+    fn read_owner(&mut self, text: &[u8], offset: usize) -> Option<usize>
         requires { offset ≤ length text.now }
         ensures { ReadsFlatValue text.now offset Name.Process self.old result self.new }
     {
-        if self.process.is_some() {
+        if self.owner.is_some() {
             return None;
         }
-        let token = number_at(text, behind_blanks(text, offset))?;
-        let process = process_of(text, Outline::Plain(token))?;
-        self.process = Some(process);
+        let token = lone_token(text, offset)?;
+        let owner = owner_of(text, Outline::Plain(token))?;
+        self.owner = Some(owner);
         Some(token.end)
+    }
+
+    /// Whose operation it is, as far as it is known.
+    #[inline(always)]
+    fn owner(&self) -> Option<Owner>
+        ensures { result ≡ self.now.owner }
+    {
+        self.owner
+    }
+
+    /// Whether the operation may have a transaction, by what its kind is so far.
+    #[inline(always)]
+    fn may_have_mops(self) -> bool
+        ensures { result ≡ may_have_mops self.kind }
+    {
+        !matches!(self.kind, Some(OpKind::Fail | OpKind::Info))
+    }
+
+    /// The kind, if a transaction was read exactly if it has one.
+    #[inline(always)]
+    fn complete_kind(&self) -> Option<OpKind>
+        ensures { IfSome result (IsComplete self.now) }
+    {
+        let kind = self.kind?;
+        if self.has_value == has_transaction(kind) {
+            Some(kind)
+        } else {
+            None
+        }
     }
 }
 
@@ -146,7 +214,7 @@ fn mop_name(text: &[u8], start: usize) -> Option<Token>
     }
 }
 
-/// The next token, if it is a run of ASCII; often it is `nil`.
+/// The next token, if it is a form by itself; often it is `nil`.
 #[inline(always)]
 fn mop_value(text: &[u8], offset: usize) -> Option<Token>
     requires { offset ≤ length text.now }
@@ -160,7 +228,7 @@ fn mop_value(text: &[u8], offset: usize) -> Option<Token>
     }
 }
 
-/// The next five tokens, if they are a vector of `:w` or `:r` and two runs of ASCII.
+/// The next five tokens, if they are a vector of `:w` or `:r` and two forms by themselves.
 #[inline(always)]
 fn mop_tokens(text: &[u8], offset: usize) -> Option<Triple>
     requires { offset ≤ length text.now }
@@ -181,7 +249,7 @@ fn mop_tokens(text: &[u8], offset: usize) -> Option<Triple>
     })
 }
 
-/// Reads one more micro-operation, up to the end that is given, if it is a vector of three runs of ASCII without a fault.
+/// Reads one more micro-operation, up to the end that is given, if it is a vector of three forms by themselves without a fault.
 #[inline(always)]
 fn flat_mop(text: &[u8], offset: usize, mops: &mut Mops) -> Result<Option<usize>, Fault>
     requires { offset ≤ length text.now }
@@ -226,7 +294,29 @@ fn flat_transaction(text: &[u8], offset: usize, mops: &mut Mops) -> Result<Optio
     }
 }
 
-/// The next key, if it is a run of ASCII.
+/// The token that begins here, if it is a form by itself; often it is a name that printers write in front of the others.
+#[inline(always)]
+fn other_key(text: &[u8], start: usize) -> Option<Token>
+    requires { start ≤ length text.now }
+    ensures lone { IfSome result (IsLoneAt text.now start) }
+    ensures fits { IfSome result (λ token. token.end ≤ length text.now) }
+{
+    if text[start..].starts_with(b"}") {
+        return None;
+    }
+    if let Some(token) = word_at(text, start, b":f", TokenKind::Keyword) {
+        return Some(token);
+    }
+    if let Some(token) = word_at(text, start, b":time", TokenKind::Keyword) {
+        return Some(token);
+    }
+    match word_at(text, start, b":index", TokenKind::Keyword) {
+        Some(token) => Some(token),
+        None => form_at(text, start),
+    }
+}
+
+/// The next key, if it is a form by itself.
 #[inline(always)]
 fn next_key(text: &[u8], offset: usize) -> Option<Key>
     requires { offset ≤ length text.now }
@@ -252,7 +342,7 @@ fn next_key(text: &[u8], offset: usize) -> Option<Key>
             token,
         });
     }
-    let token = run_at(text, start)?;
+    let token = other_key(text, start)?;
     if is_other(text, token) {
         Some(Key {
             name: Name::Other,
@@ -291,9 +381,12 @@ fn flat_field(
     let offset = key.token.end;
     match key.name {
         Name::Kind => Ok(fields.read_kind(text, offset)),
-        Name::Process => Ok(fields.read_process(text, offset)),
-        Name::Other => Ok(other_value(text, offset)),
+        Name::Process => Ok(fields.read_owner(text, offset)),
+        Name::Other => Ok(passed_value(text, offset)),
         Name::Value => {
+            if !fields.may_have_mops() {
+                return Ok(passed_value(text, offset));
+            }
             if fields.has_value {
                 return Ok(None);
             }
@@ -304,6 +397,7 @@ fn flat_field(
 }
 
 /// Reads the fields of a map, up to the end that is given, if all can be read so.
+#[inline(never)]
 fn flat_map(
     text: &[u8],
     offset: usize,
@@ -340,64 +434,35 @@ pub(crate) fn operation_opener(text: &[u8], offset: usize) -> Option<Token>
     }
 }
 
-/// The operation that a map gives after this opener, if it can be read so.
+/// What a map gives after this opener, if it can be read so. Its micro-operations are read into the empty list.
 #[inline(always)]
-pub(crate) fn flat_shape(
-    alloc: Global,
+pub(crate) fn flat_entry(
     text: &[u8],
     opener: Token,
-) -> Result<Option<OpShape>, Fault>
-    requires { opener.end ≤ length text.now }
-    ensures { GivesFlatShape text.now opener result }
+    mops: &mut Mops,
+) -> Result<Option<FlatEntry>, Fault>
+    requires opener { opener.end ≤ length text.now }
+    requires empty { mops.old.items ≡ [] }
+    ensures { GivesFlatEntry text.now opener result mops.new }
 {
     let mut fields = FlatFields::new();
-    let mut mops = SmallVec::new(alloc);
-    let Some(end) = flat_map(text, opener.end, &mut fields, &mut mops)? else {
+    let Some(end) = flat_map(text, opener.end, &mut fields, mops)? else {
         return Ok(None);
     };
-    let (Some(kind), Some(process)) = (fields.kind, fields.process) else {
+    let Some(owner) = fields.owner() else {
         return Ok(None);
     };
-    if !has_transaction(kind) || !fields.has_value {
-        return Ok(None);
-    }
-    if end.saturating_sub(opener.start) > MAX_OPERATION_BYTES {
-        return Ok(None);
-    }
-    Ok(Some(OpShape {
-        span: Span {
-            start: opener.start,
-            end,
-        },
-        kind,
-        process,
-        mops,
-    }))
-}
-
-/// Reads the map of an operation, whose opener has just been given, if it can be read so and gives an operation. Else the lexer
-/// stays where it is.
-pub(crate) fn flat_operation(
-    alloc: Global,
-    lexer: &mut Lexer,
-    text: &[u8],
-    opener: Token,
-) -> Result<Option<OpShape>, Fault>
-    requires text { text.now ≡ lexer.old.text }
-    requires map { is_map (item_of text.now opener) ≡ true }
-    ensures { ReadsFlatOperation lexer.old (item_of text.now opener) result lexer.new }
-{
-    let Some(offset) = lexer.ahead_in_map() else {
-        return Ok(None);
-    };
-    if offset != opener.end {
-        return Ok(None);
-    }
-    match flat_shape(alloc, text, opener) {
-        Ok(Some(shape)) => {
-            lexer.leave(shape.span.end);
-            Ok(Some(shape))
+    match owner {
+        Owner::Client(process) => {
+            let Some(kind) = fields.complete_kind() else {
+                return Ok(None);
+            };
+            if end.saturating_sub(opener.start) > MAX_OPERATION_BYTES {
+                return Ok(None);
+            }
+            let operation = FlatOperation { kind, process, end };
+            Ok(Some(FlatEntry::Operation(operation)))
         }
-        other => other,
+        Owner::NoClient => Ok(Some(FlatEntry::Skipped(end))),
     }
 }

@@ -21,19 +21,7 @@ pub(crate) struct Member {
 /// The next member of the innermost open collection, or of the top level, where no tag and no `#_` waits; or the closer, or
 /// none at the text's end. `DanglingTag` is the fault of a closer or an end before which one waits, at the last that does.
 #[cycle(forms)]
-#[inline(always)]
 pub(crate) fn next_member(lexer: &mut Lexer) -> Result<Option<Member>, Fault>
-    ensures { NextMember lexer.old result lexer.new }
-{
-    if let Some(token) = lexer.next_lone() {
-        return Ok(Some(Member { token, tag: None }));
-    }
-    any_member(lexer)
-}
-
-/// The same, whatever the next token is.
-#[cycle(forms)]
-fn any_member(lexer: &mut Lexer) -> Result<Option<Member>, Fault>
     ensures { NextMember lexer.old result lexer.new }
 {
     match lexer.next() {
@@ -49,7 +37,7 @@ fn any_member(lexer: &mut Lexer) -> Result<Option<Member>, Fault>
     }
 }
 
-/// The same, once the first tag or `#_` has been given.
+/// The next member, once the first tag or `#_` has been given.
 #[cycle(forms)]
 fn member_behind(lexer: &mut Lexer, mark: Token) -> Result<Option<Member>, Fault>
     requires mark { is_mark_kind (kind_of mark.kind) ≡ true }

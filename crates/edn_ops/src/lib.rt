@@ -12,6 +12,7 @@ mod marks;
 mod members;
 mod micro_ops;
 mod outline;
+mod passing;
 pub mod reader;
 pub mod types;
 pub mod write;

@@ -5,14 +5,13 @@ ghost use Rattle.hist_types.specs.Forms.{is_map};
 ghost use Rattle.hist_types.specs.Tokens.{Closer};
 ghost use Rattle.edn_lex.specs.Kinds.{kind_of, item_of};
 ghost use Rattle.edn_lex.specs.State.{State};
-ghost use Rattle.edn_ops.specs.Collections.{GathersMember, GathersAhead, ReadsMap};
+ghost use Rattle.edn_ops.specs.Collections.{GathersMember, ReadsMap};
 ghost use Rattle.edn_ops.specs.Fields.{AreFieldsIn};
 ghost use Rattle.edn_ops.specs.Leads.{GivesMember};
 ghost use Rattle.edn_ops.specs.Outlines.{IsTokenIn};
 
 use crate::faults::fault_at;
 use crate::fields::Fields;
-use crate::flat::flat_operation;
 use crate::forms::{Member, next_member};
 use crate::members::pass_member;
 use crate::micro_ops::transaction;
@@ -59,20 +58,6 @@ fn add_member(
     }
 }
 
-/// Gathers the members that come next, as long as they are tokens as printers write most of them, up to the first `:value`.
-fn gather_ahead(lexer: &mut Lexer, text: &[u8], fields: &mut Fields)
-    requires text { text.now ≡ lexer.old.text }
-    requires fields { AreFieldsIn text.now fields.old }
-    ensures { GathersAhead text.now lexer.old fields.old fields.new lexer.new }
-{
-    while !fields.awaits_transaction(text) {
-        let Some(token) = lexer.next_lone() else {
-            return;
-        };
-        fields.add(text, Outline::Plain(token));
-    }
-}
-
 /// Reads the map of an operation, whose opener has just been given, up to after its closer: the operation, or none where it
 /// is skipped.
 pub(crate) fn read_map(
@@ -85,27 +70,7 @@ pub(crate) fn read_map(
     requires map { is_map (item_of text.now opener) ≡ true }
     ensures { ReadsMap lexer.old (item_of text.now opener) result lexer.new }
 {
-    match flat_operation(alloc, lexer, text, opener) {
-        Ok(Some(shape)) => Ok(Some(shape)),
-        Ok(None) => read_any_map(alloc, lexer, text, opener),
-        Err(fault) => Err(fault),
-    }
-}
-
-/// The operation of a map, whatever its members are.
-#[inline(never)]
-fn read_any_map(
-    alloc: Global,
-    lexer: &mut Lexer,
-    text: &[u8],
-    opener: Token,
-) -> Result<Option<OpShape>, Fault>
-    requires text { text.now ≡ lexer.old.text }
-    requires map { is_map (item_of text.now opener) ≡ true }
-    ensures { ReadsMap lexer.old (item_of text.now opener) result lexer.new }
-{
     let mut fields = Fields::new(alloc);
-    gather_ahead(lexer, text, &mut fields);
     while let Some(member) = next_member(lexer)? {
         match member.token.kind {
             TokenKind::Close => {
@@ -118,7 +83,6 @@ fn read_any_map(
             _ => {}
         }
         add_member(alloc, lexer, text, &mut fields, member)?;
-        gather_ahead(lexer, text, &mut fields);
     }
     Err(fault_at(Refusal::Unclosed, opener.start))
 }

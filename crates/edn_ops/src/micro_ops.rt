@@ -8,7 +8,7 @@ ghost use Rattle.hist_types.specs.Refusals.{memory_fault};
 ghost use Rattle.hist_types.specs.Tokens.{Closer};
 ghost use Rattle.edn_lex.specs.Kinds.{kind_of, item_of};
 ghost use Rattle.edn_lex.specs.State.{State};
-ghost use Rattle.edn_ops.specs.Collections.{outlined_mop, AddsMop, ReadsMop, ReadsFlat, ReadsTransaction};
+ghost use Rattle.edn_ops.specs.Collections.{outlined_mop, AddsMop, ReadsMop, ReadsTransaction};
 ghost use Rattle.edn_ops.specs.Fields.{mops_result, shapes_result};
 ghost use Rattle.edn_ops.specs.Leads.{GivesMember};
 ghost use Rattle.edn_ops.specs.Outlines.{outline_of, IsTokenIn, IsOutlineIn};
@@ -147,30 +147,6 @@ fn add_micro_op(
     }
 }
 
-/// Reads the first members of a transaction, as long as they are vectors of three tokens as printers write them.
-fn flat_micro_ops(
-    lexer: &mut Lexer,
-    text: &[u8],
-    transaction: &mut Result<SmallVec<MopShape, 4>, Fault>,
-) -> Result<(), Fault>
-    requires text { text.now ≡ lexer.old.text }
-    requires empty { shapes_result transaction.old ≡ Ok [] }
-    ensures { ReadsFlat lexer.old result (shapes_result transaction.new) lexer.new }
-{
-    while let Some(triple) = lexer.next_triple() {
-        let start = triple.opener.start;
-        let micro_op = micro_op(
-            text,
-            start,
-            Outline::Plain(triple.first),
-            Outline::Plain(triple.second),
-            Outline::Plain(triple.third),
-        );
-        add_micro_op(transaction, start, micro_op)?;
-    }
-    Ok(())
-}
-
 /// Reads a transaction, whose opener has just been given: its micro-operations, or the first fault among its members.
 #[inline(always)]
 pub(crate) fn transaction(
@@ -183,7 +159,6 @@ pub(crate) fn transaction(
     ensures { ReadsTransaction lexer.old (item_of text.now opener) result lexer.new }
 {
     let mut transaction = Ok(SmallVec::new(alloc));
-    flat_micro_ops(lexer, text, &mut transaction)?;
     while let Some(member) = next_member(lexer)? {
         match member.token.kind {
             TokenKind::Close => return Ok(transaction),

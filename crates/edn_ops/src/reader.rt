@@ -11,14 +11,15 @@ ghost use Rattle.edn_ops.specs.Places.{NextOp, FlatOp};
 ghost use Rattle.edn_ops.specs.Shapes.{IsShapeIn};
 
 use crate::faults::fault_at;
-use crate::flat::{flat_shape, operation_opener};
+use crate::flat::{FlatEntry, flat_entry, operation_opener};
 use crate::forms::next_member;
 use crate::maps::read_map;
 use crate::marks::{closes, opens};
-use crate::types::OpShape;
+use crate::types::{OpShape, Span};
 use edn_lex::lexer::Lexer;
 use edn_lex::types::Token;
 use hist_types::types::{Fault, Refusal};
+use smallvec::SmallVec;
 use std::alloc::Global;
 use std::marker::Model;
 
@@ -78,26 +79,43 @@ impl<'a> Place<'a> {
         }
     }
 
-    /// The next operation, if it is a map that can be read in one pass, or such a map after a tag. Else the place stays the same,
-    /// and out of memory too.
+    /// The next operation, if it and those that are skipped before it are maps that can be read in one pass, perhaps after tags.
+    /// Else the place stays the same, and out of memory too.
     fn flat_op(&mut self, alloc: Global) -> Result<Option<OpShape>, Fault>
         requires { self.old.skipped ≤ self.old.lexer.offset }
         ensures { FlatOp self.old result self.new }
     {
-        let Some(offset) = self.lexer.ahead() else {
+        let Some(start) = self.lexer.ahead() else {
             return Ok(None);
         };
         let text = self.lexer.text();
-        let Some(opener) = operation_opener(text, offset) else {
-            return Ok(None);
-        };
-        match flat_shape(alloc, text, opener) {
-            Ok(Some(shape)) => {
-                self.lexer.jump(shape.span.end);
-                Ok(Some(shape))
+        let mut offset = start;
+        let mut skipped = self.skipped;
+        while let Some(opener) = operation_opener(text, offset) {
+            let mut mops = SmallVec::new(alloc);
+            match flat_entry(text, opener, &mut mops)? {
+                Some(FlatEntry::Operation(operation)) => {
+                    self.lexer.jump(operation.end);
+                    self.skipped = skipped;
+                    let span = Span {
+                        start: opener.start,
+                        end: operation.end,
+                    };
+                    return Ok(Some(OpShape {
+                        span,
+                        kind: operation.kind,
+                        process: operation.process,
+                        mops,
+                    }));
+                }
+                Some(FlatEntry::Skipped(end)) => {
+                    offset = end;
+                    skipped = with_one_more(skipped, opener);
+                }
+                None => return Ok(None),
             }
-            other => other,
         }
+        Ok(None)
     }
 
     /// The next operation, or none at the text's end. After a fault the place is of no use.
@@ -207,7 +225,7 @@ impl<'a> OpReader<'a> {
         }
     }
 
-    /// The next operation, if it is a map that can be read in one pass. Else the reader is unchanged.
+    /// The next operation, if it can be read in one pass. Else the reader is unchanged.
     fn flat_op(&mut self) -> Result<Option<OpShape>, Fault>
         ensures { FlatNext self.old result self.new }
     {

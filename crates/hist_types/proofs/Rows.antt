@@ -19,3 +19,4 @@ pub mod Handed
 pub mod LegalAnswers
 pub mod Interleavings
 pub mod Sessions
+pub mod Sequential

@@ -14,6 +14,7 @@ use Rattle.hist_types.specs.Transactions.{Transaction, Version, is_ok, nodes, in
 use Rattle.hist_types.specs.Versions.{VersionPair, version_pairs}
 use Rattle.hist_types.specs.declared.types.Level.{Level}
 use Rattle.hist_types.specs.declared.types.Level.TheVariants.{Plain, Process, Realtime}
+use Rattle.hist_types.specs.declared.types.KeyOrder.{KeyOrder}
 
 -- why there is an edge
 pub data Label : Type 0 where
@@ -58,8 +59,8 @@ between_each ts f =
     flat_map (λ (t : Transaction). flat_map (λ (u : Transaction).
     if t.invocation == u.invocation then [] else map (edge t u) (f t u)) ts) ts
 
-abbrev pub dependency_edges : List Transaction → List Edge
-dependency_edges ts = between_each (nodes ts) (dependency_labels (version_pairs ts))
+abbrev pub dependency_edges : KeyOrder → List Transaction → List Edge
+dependency_edges keys ts = between_each (nodes ts) (dependency_labels (version_pairs keys ts))
 
 -- ---- order edges
 
@@ -98,5 +99,5 @@ abbrev pub order_edges : Level → List Transaction → List Edge
 order_edges level ts = between_each (nodes ts) (order_labels level)
 
 -- all edges that a cycle at the level may use
-abbrev pub edges_at : Level → List Transaction → List Edge
-edges_at level ts = dependency_edges ts ++ order_edges level ts
+abbrev pub edges_at : KeyOrder → Level → List Transaction → List Edge
+edges_at keys level ts = dependency_edges keys ts ++ order_edges level ts

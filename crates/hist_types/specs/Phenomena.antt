@@ -22,6 +22,7 @@ use Rattle.hist_types.specs.declared.types.Level.{Level}
 use Rattle.hist_types.specs.declared.types.Level.TheVariants.{Plain, Process, Realtime}
 use Rattle.hist_types.specs.declared.types.Phenomenon.{Phenomenon}
 use Rattle.hist_types.specs.declared.types.Phenomenon.TheVariants.{G0, G1c, GSingle, G2Item}
+use Rattle.hist_types.specs.declared.types.KeyOrder.{KeyOrder}
 
 -- ---- walks
 
@@ -77,8 +78,8 @@ abbrev pub IsShownBy : Phenomenon → List Edge → Type 0
 IsShownBy phenomenon es = (walk : List Edge) × Shows phenomenon es walk
 
 -- the phenomenon is there at the level
-abbrev pub IsThere : Phenomenon → Level → List Transaction → Type 0
-IsThere phenomenon level ts = IsShownBy phenomenon (edges_at level ts)
+abbrev pub IsThere : KeyOrder → Phenomenon → Level → List Transaction → Type 0
+IsThere keys phenomenon level ts = IsShownBy phenomenon (edges_at keys level ts)
 
 -- plain is the lowest level, and realtime the highest
 abbrev pub height : Level → ℕ
@@ -87,11 +88,11 @@ height Process = 1
 height Realtime = 2
 
 -- the lowest level at which the phenomenon is there, or none
-abbrev pub IsLowestLevel : Phenomenon → List Transaction → Option Level → Type 0
-IsLowestLevel phenomenon ts None = (level : Level) → ¬ IsThere phenomenon level ts
-IsLowestLevel phenomenon ts (Some level) =
-    IsThere phenomenon level ts
-    × ((lower : Level) → height lower < height level → ¬ IsThere phenomenon lower ts)
+abbrev pub IsLowestLevel : KeyOrder → Phenomenon → List Transaction → Option Level → Type 0
+IsLowestLevel keys phenomenon ts None = (level : Level) → ¬ IsThere keys phenomenon level ts
+IsLowestLevel keys phenomenon ts (Some level) =
+    IsThere keys phenomenon level ts
+    × ((lower : Level) → height lower < height level → ¬ IsThere keys phenomenon lower ts)
 
 -- ---- reads of versions that should not have been seen
 
@@ -153,7 +154,7 @@ stray ts = length (stray_reads ts)
 -- ---- any of the six
 
 -- some phenomenon is there: a cycle shows it at some level, or a read does
-abbrev pub HasPhenomenon : List Transaction → Type 0
-HasPhenomenon ts =
-    ((phenomenon : Phenomenon) × (level : Level) × IsThere phenomenon level ts)
+abbrev pub HasPhenomenon : KeyOrder → List Transaction → Type 0
+HasPhenomenon keys ts =
+    ((phenomenon : Phenomenon) × (level : Level) × IsThere keys phenomenon level ts)
     ⊎ IsTrue (is_some (g1a ts) || is_some (g1b ts))

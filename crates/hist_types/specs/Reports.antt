@@ -3,7 +3,8 @@
 -- A verdict reports how many events and transactions there are, for each phenomenon that cycles show
 -- its lowest level with a witness, the first reads that show G1a and G1b, and how many reads are
 -- stray. Where it reports a phenomenon, the history is refuted: it has no strict serial explanation.
--- Two shorter reports give the reads alone and the dependency edges.
+-- Two shorter reports give the reads alone and the dependency edges. Cycles and edges are those of
+-- basic or of sequential keys, as is asked for.
 use Rattle.std.specs.Prelude.{◌≡◌, ℕ, List, length, Bool, ◌||◌, if◌then◌else◌, Option, None, is_some}
 use Rattle.hist_types.specs.Operations.{Operation}
 use Rattle.hist_types.specs.Transactions.{Transaction, transactions_of}
@@ -16,6 +17,7 @@ use Rattle.hist_types.specs.declared.types.Phenomenon.{Phenomenon}
 use Rattle.hist_types.specs.declared.types.Phenomenon.TheVariants.{G0, G1c, GSingle, G2Item}
 use Rattle.hist_types.specs.declared.types.Strict.{Strict}
 use Rattle.hist_types.specs.declared.types.Strict.TheVariants.{Refuted, Open}
+use Rattle.hist_types.specs.declared.types.KeyOrder.{KeyOrder}
 
 -- ---- a verdict
 
@@ -31,9 +33,9 @@ finding found G1c = found.g1c
 finding found GSingle = found.single
 finding found G2Item = found.item
 
-abbrev pub AreFindings : List Transaction → Findings → Type 0
-AreFindings ts found =
-    (phenomenon : Phenomenon) → IsFinding phenomenon ts (finding found phenomenon)
+abbrev pub AreFindings : KeyOrder → List Transaction → Findings → Type 0
+AreFindings keys ts found =
+    (phenomenon : Phenomenon) → IsFinding keys phenomenon ts (finding found phenomenon)
 
 abbrev pub no_findings : Findings
 no_findings = record { g0 = None; g1c = None; single = None; item = None }
@@ -47,10 +49,10 @@ pub record Report : Type 0 where
   pub g1b : Option BadRead
   pub stray : ℕ
 
-pub record IsVerdictOf (events : List Operation) (r : Report) : Type 0 where
+pub record IsVerdictOf (keys : KeyOrder) (events : List Operation) (r : Report) : Type 0 where
   pub prefix : r.prefix ≡ length events
   pub txns : r.txns ≡ length (transactions_of events)
-  pub findings : AreFindings (transactions_of events) r.findings
+  pub findings : AreFindings keys (transactions_of events) r.findings
   pub g1a : r.g1a ≡ phenomena.g1a (transactions_of events)
   pub g1b : r.g1b ≡ phenomena.g1b (transactions_of events)
   pub stray : r.stray ≡ phenomena.stray (transactions_of events)
@@ -98,11 +100,11 @@ pub record EdgesReport : Type 0 where
   -- in the order in which they are printed
   pub edges : List Edge
 
-abbrev pub edges_report : List Operation → EdgesReport
-edges_report events =
+abbrev pub edges_report : KeyOrder → List Operation → EdgesReport
+edges_report keys events =
     let ts = transactions_of events in
     record {
       prefix = length events;
       txns = length ts;
-      edges = in_order (dependency_edges ts);
+      edges = in_order (dependency_edges keys ts);
     }

@@ -34,6 +34,7 @@ use Rattle.hist_types.specs.declared.limits.TheConstants.{MAX_LINE_BYTES}
 use Rattle.hist_types.specs.declared.types.Fault.{Fault}
 use Rattle.hist_types.specs.declared.types.Refusal.{Refusal}
 use Rattle.hist_types.specs.declared.types.Refusal.TheVariants.{BlockFull, EmptyImport}
+use Rattle.hist_types.specs.declared.types.KeyOrder.{KeyOrder}
 
 -- ---- lines
 
@@ -184,18 +185,21 @@ AreReplies answers lines replies old new = ⊥
 -- A session of the seat, in a row of n cells, that reads these bytes gives these replies, and its
 -- seat has the old view at first and the new one at last.
 abbrev pub IsSession :
-    (cells seat : ℕ) → (bytes : List ℕ) → (replies : List (List ℕ)) → (old new : View) → Type 0
-IsSession cells seat bytes replies old new =
-    AreReplies (IsLegal cells seat) (served_lines bytes) replies old new
+    (keys : KeyOrder) (cells seat : ℕ) → (bytes : List ℕ) → (replies : List (List ℕ))
+    → (old new : View) → Type 0
+IsSession keys cells seat bytes replies old new =
+    AreReplies (IsLegal keys cells seat) (served_lines bytes) replies old new
 
 -- Such a session gives these replies at first, and perhaps more after them.
 abbrev pub IsSessionSoFar :
-    (cells seat : ℕ) → (bytes : List ℕ) → (replies : List (List ℕ)) → (old new : View) → Type 0
-IsSessionSoFar cells seat bytes replies old new =
-    AreReplies (IsLegal cells seat) (take (length replies) (served_lines bytes)) replies old new
+    (keys : KeyOrder) (cells seat : ℕ) → (bytes : List ℕ) → (replies : List (List ℕ))
+    → (old new : View) → Type 0
+IsSessionSoFar keys cells seat bytes replies old new =
+    AreReplies (IsLegal keys cells seat) (take (length replies) (served_lines bytes)) replies old new
 
 -- Such a session gives these replies where its seat sees no blocks but its own.
 abbrev pub IsSessionAlone :
-    (cells seat : ℕ) → (bytes : List ℕ) → (replies : List (List ℕ)) → (old new : View) → Type 0
-IsSessionAlone cells seat bytes replies old new =
-    AreReplies (IsLegalAt cells seat) (served_lines bytes) replies old new
+    (keys : KeyOrder) (cells seat : ℕ) → (bytes : List ℕ) → (replies : List (List ℕ))
+    → (old new : View) → Type 0
+IsSessionAlone keys cells seat bytes replies old new =
+    AreReplies (IsLegalAt keys cells seat) (served_lines bytes) replies old new

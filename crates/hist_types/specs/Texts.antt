@@ -19,6 +19,7 @@ use Rattle.hist_types.specs.declared.types.Strict.{Strict}
 use Rattle.hist_types.specs.declared.types.Strict.TheVariants.{Refuted, Open}
 use Rattle.hist_types.specs.Refusals.{number_of, name_of}
 use Rattle.hist_types.specs.CanonicalText.{atom_text, value_text}
+use Rattle.hist_types.specs.declared.types.KeyOrder.{KeyOrder}
 
 -- ---- lines
 
@@ -123,9 +124,9 @@ verdict_text r =
     ++ line (strict_text (strict_of r))
 
 -- the text of a verdict of the events; any witness of the right form fits
-abbrev pub IsVerdictText : List Operation → List ℕ → Type 0
-IsVerdictText events text =
-    (r : Report) × IsVerdictOf events r × (text ≡ verdict_text r)
+abbrev pub IsVerdictText : KeyOrder → List Operation → List ℕ → Type 0
+IsVerdictText keys events text =
+    (r : Report) × IsVerdictOf keys events r × (text ≡ verdict_text r)
 
 -- ---- the line of a refusal
 

@@ -10,6 +10,7 @@ use Rattle.hist_types.specs.Edges.{Edge, edges_at}
 use Rattle.hist_types.specs.Phenomena.{Shows, is_order, IsLowestLevel}
 use Rattle.hist_types.specs.declared.types.Level.{Level}
 use Rattle.hist_types.specs.declared.types.Phenomenon.{Phenomenon}
+use Rattle.hist_types.specs.declared.types.KeyOrder.{KeyOrder}
 
 -- the transactions of a closed walk, in order
 abbrev pub stations : List Edge → List ℕ
@@ -31,10 +32,10 @@ abbrev pub begins_least : List ℕ → Bool
 begins_least [] = true
 begins_least (n ∷ ns) = list_all (nat_le n) ns
 
-pub record IsWitness
+pub record IsWitness (keys : KeyOrder)
     (phenomenon : Phenomenon) (level : Level) (ts : List Transaction) (walk : List Edge)
     : Type 0 where
-  pub shows : Shows phenomenon (edges_at level ts) walk
+  pub shows : Shows phenomenon (edges_at keys level ts) walk
   pub different : IsDistinct nat_eq (stations walk)
   pub apart : IsTrue (alternates (ends_in_order walk) walk)
   pub least : IsTrue (begins_least (stations walk))
@@ -44,7 +45,7 @@ pub record Finding : Type 0 where
   pub level : Level
   pub walk : List Edge
 
-abbrev pub IsFinding : Phenomenon → List Transaction → Option Finding → Type 0
-IsFinding phenomenon ts found =
-    IsLowestLevel phenomenon ts (option_map (λ (f : Finding). f.level) found)
-    × IfSome found (λ f. IsWitness phenomenon f.level ts f.walk)
+abbrev pub IsFinding : KeyOrder → Phenomenon → List Transaction → Option Finding → Type 0
+IsFinding keys phenomenon ts found =
+    IsLowestLevel keys phenomenon ts (option_map (λ (f : Finding). f.level) found)
+    × IfSome found (λ f. IsWitness keys phenomenon f.level ts f.walk)

@@ -46,6 +46,15 @@ pub enum Phenomenon {
     G2Item,
 }
 
+/// What is known of the order in which clients see the versions of a key.
+#[derive(Clone, Copy, Debug, PartialEq, Eq)]
+pub enum KeyOrder {
+    /// Nothing but what each transaction shows by itself.
+    Basic,
+    /// Each register is sequentially consistent for each client, so what a process saw of a key comes before what it sees next.
+    Sequential,
+}
+
 /// What a report says of strict serializability.
 #[derive(Clone, Copy, Debug, PartialEq, Eq)]
 pub enum Strict {

@@ -1,6 +1,6 @@
 //! Whole inputs and outputs.
 
-ghost use Rattle.std.specs.Prelude.{◌≡◌, ◌<◌, OnOk, OnErr, IfOk, IfErr, IfSome, vec_len};
+ghost use Rattle.std.specs.Prelude.{◌≡◌, ◌<◌, ◌≤◌, take, OnOk, OnErr, IfOk, IfErr, IfSome, vec_len};
 ghost use Rattle.std.specs.Io.KnownBytes.{IsAtEnd};
 ghost use Rattle.hist_types.specs.Pieces.{HasTaken, HasTakenInPart, IsCounted};
 
@@ -53,10 +53,17 @@ impl From<AllocError> for ReadFault {
     }
 }
 
-fn room_for_a_piece(alloc: Global) -> Result<Vec<u8>, AllocError>
-    ensures { IfOk result (λ room. 0 < vec_len room) }
+/// Makes the vector longer, unless it has room after its first `read` bytes.
+fn make_room(bytes: &mut Vec<u8>, read: usize) -> Result<(), AllocError>
+    requires { read ≤ vec_len bytes.old }
+    ensures kept { OnOk result (take read bytes.new.items ≡ take read bytes.old.items) }
+    ensures room { OnOk result (read < vec_len bytes.new) }
 {
-    vec![in alloc; 0; PIECE]
+    if read < bytes.len() {
+        return Ok(());
+    }
+    let len = read.checked_add(PIECE).ok_or(AllocError)?;
+    bytes.resize(len, 0)
 }
 
 /// All that a source has left to give.
@@ -68,14 +75,16 @@ pub fn read_all<S: Source>(alloc: Global, source: &mut S) -> Result<Vec<u8>, Rea
     ensures fault { IfErr result
         (λ fault. IsCounted fault (S.failures source.old) (S.failures source.new)) }
 {
-    let mut taken = Vec::new(alloc);
-    let mut room = room_for_a_piece(alloc)?;
+    let mut bytes = Vec::new(alloc);
+    let mut read = 0;
     for _ in 0..u64::MAX {
-        let count = source.read(&mut room)?;
+        make_room(&mut bytes, read)?;
+        let count = source.read(&mut bytes[read..])?;
         if count == 0 {
-            return Ok(taken);
+            bytes.truncate(read);
+            return Ok(bytes);
         }
-        taken.extend_from_slice(&room[..count])?;
+        read += count;
     }
     Err(ReadFault::Memory)
 }

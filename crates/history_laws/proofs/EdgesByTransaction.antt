@@ -24,6 +24,7 @@ use Rattle.hist_types.specs.EdgeOrder.{label_cmp, edge_cmp, in_order}
 use Rattle.history_laws.specs.Times.{AreInvokedInOrder}
 use Rattle.hist_types.specs.Transactions.{Transaction, transactions_of, is_node, nodes}
 use Rattle.hist_types.specs.Versions.{version_pairs}
+use Rattle.hist_types.specs.declared.types.KeyOrder.{KeyOrder}
 use Rattle.history_laws.proofs.EdgeOrder.{edge_cmp_total, in_order-rise, in_order-among}
 use Rattle.hist_types.proofs.Members.{In, in_from_Contains, Contains_from_in, in_append, in_each, in_some, in_map, in_filter, in_filtered, passes_filter}
 use Rattle.history_laws.proofs.OrderEdges.{Comes, comes_from}
@@ -131,10 +132,10 @@ by_transaction es ts r order from =
     let t = from e i in
     in_each (leaving es) e t.0 ts t.1 (in_filtered (λ (d : Edge). d.from == t.0.invocation) e es i (eq-eqb e.from t.0.invocation t.2)))
 
-leaves_one : (ts : List Transaction) (e : Edge) → In e (dependency_edges ts) → (t : Transaction) × In t ts × (e.from ≡ t.invocation)
-leaves_one ts e i =
-    let c : Comes (nodes ts) (dependency_labels (version_pairs ts)) e = comes_from (nodes ts) (dependency_labels (version_pairs ts)) e i in
-    let found = in_map (edge c.0 c.1) e (dependency_labels (version_pairs ts) c.0 c.1) c.5 in
+leaves_one : (keys : KeyOrder) (ts : List Transaction) (e : Edge) → In e (dependency_edges keys ts) → (t : Transaction) × In t ts × (e.from ≡ t.invocation)
+leaves_one keys ts e i =
+    let c : Comes (nodes ts) (dependency_labels (version_pairs keys ts)) e = comes_from (nodes ts) (dependency_labels (version_pairs keys ts)) e i in
+    let found = in_map (edge c.0 c.1) e (dependency_labels (version_pairs keys ts) c.0 c.1) c.5 in
     (c.0, in_filter (is_node ts) c.0 ts c.2, ap (λ (d : Edge). d.from) (sym found.2))
 
 among : (es : List Edge) (e : Edge) → In e (in_order es) → In e es
@@ -142,26 +143,26 @@ among es e i = in_from_Contains e es (in_order-among es e (Contains_from_in e (i
 
 -- all dependency edges of a history in order
 pub in_order-by_transaction :
-    (events : List Operation)
-    → flat_map (leaving (in_order (dependency_edges (transactions_of events)))) (transactions_of events) ≡ in_order (dependency_edges (transactions_of events))
-in_order-by_transaction events =
+    (keys : KeyOrder) (events : List Operation)
+    → flat_map (leaving (in_order (dependency_edges keys (transactions_of events)))) (transactions_of events) ≡ in_order (dependency_edges keys (transactions_of events))
+in_order-by_transaction keys events =
     let ts : List Transaction = transactions_of events in
-    let es : List Edge = dependency_edges ts in
-    by_transaction (in_order es) ts (rises (in_order es) (in_order-rise es)) (invoked_in_order events) (λ e i. leaves_one ts e (among es e i))
+    let es : List Edge = dependency_edges keys ts in
+    by_transaction (in_order es) ts (rises (in_order es) (in_order-rise es)) (invoked_in_order events) (λ e i. leaves_one keys ts e (among es e i))
 
 -- those that leave one transaction, if they rise
 rising_leaving :
-    (events : List Operation) (t : Transaction) (fs : List Edge)
+    (keys : KeyOrder) (events : List Operation) (t : Transaction) (fs : List Edge)
     → Rises fs
-    → ((e : Edge) → Contains fs e ↔ (Contains (dependency_edges (transactions_of events)) e × (e.from ≡ t.invocation)))
-    → fs ≡ leaving (in_order (dependency_edges (transactions_of events))) t
-rising_leaving events t fs r exactly =
-    let es : List Edge = dependency_edges (transactions_of events) in
+    → ((e : Edge) → Contains fs e ↔ (Contains (dependency_edges keys (transactions_of events)) e × (e.from ≡ t.invocation)))
+    → fs ≡ leaving (in_order (dependency_edges keys (transactions_of events))) t
+rising_leaving keys events t fs r exactly =
+    let es : List Edge = dependency_edges keys (transactions_of events) in
     let p : Edge → Bool = λ e. e.from == t.invocation in
     same_rising fs (leaving (in_order es) t) r (rises_filter p (in_order es) (rises (in_order es) (in_order-rise es)))
     (λ e i.
     let both = (exactly e).0 (Contains_from_in e fs i) in
-    in_filtered p e (in_order es) (in_from_Contains e (in_order es) (in_order-all events e both.0)) (eq-eqb e.from t.invocation both.1))
+    in_filtered p e (in_order es) (in_from_Contains e (in_order es) (in_order-all keys events e both.0)) (eq-eqb e.from t.invocation both.1))
     (λ e i.
     in_from_Contains e fs ((exactly e).1 (
       Contains_from_in e es (among es e (in_filter p e (in_order es) i)),
@@ -241,24 +242,24 @@ rises_sorted (e ∷ es) sorted few = (λ f i. by f i (edge_cmp e f) refl, rises_
 
 -- the dependency edges that leave a transaction, none twice, are those in order once they are sorted
 pub sorted_leaving :
-    (events : List Operation) (t : Transaction) (es sorted : List Edge)
-    → ((e : Edge) → Contains es e ↔ (Contains (dependency_edges (transactions_of events)) e × (e.from ≡ t.invocation)))
+    (keys : KeyOrder) (events : List Operation) (t : Transaction) (es sorted : List Edge)
+    → ((e : Edge) → Contains es e ↔ (Contains (dependency_edges keys (transactions_of events)) e × (e.from ≡ t.invocation)))
     → NoneTwice es
     → IsPermutation es sorted
     → IsSortedBy (λ a b. is_lt (edge_cmp a b)) sorted
-    → sorted ≡ leaving (in_order (dependency_edges (transactions_of events))) t
-sorted_leaving events t es sorted exactly once moved up =
-    rising_leaving events t sorted (rises_sorted sorted up few) (λ e. (λ c. (exactly e).0 (back e c), λ c. Contains-permutation es sorted e moved ((exactly e).1 c)))
+    → sorted ≡ leaving (in_order (dependency_edges keys (transactions_of events))) t
+sorted_leaving keys events t es sorted exactly once moved up =
+    rising_leaving keys events t sorted (rises_sorted sorted up few) (λ e. (λ c. (exactly e).0 (back e c), λ c. Contains-permutation es sorted e moved ((exactly e).1 c)))
   where
     back : (e : Edge) → Contains sorted e → Contains es e
     back e c = Contains-permutation sorted es e (IsPermutation-sym es sorted moved) c
 
-    of_history : (e : Edge) → In e es → In e (dependency_edges (transactions_of events))
-    of_history e i = in_from_Contains e (dependency_edges (transactions_of events)) ((exactly e).0 (Contains_from_in e es i)).0
+    of_history : (e : Edge) → In e es → In e (dependency_edges keys (transactions_of events))
+    of_history e i = in_from_Contains e (dependency_edges keys (transactions_of events)) ((exactly e).0 (Contains_from_in e es i)).0
 
     few : (e : Edge) → In e sorted → sum_by (tie e) sorted ≤ 1
     few e i =
         let j : In e es = in_from_Contains e es (back e (Contains_from_in e sorted i)) in
         let counted : sum_by (tie e) sorted ≡ sum_by (tie e) es = sum_by-IsPermutation (tie e) es sorted moved in
-        let most : sum_by (tie e) es ≤ 1 = one_tie e es (λ f k same. one_edge events e f (of_history e j) (of_history f k) same) once in
+        let most : sum_by (tie e) es ≤ 1 = one_tie e es (λ f k same. one_edge keys events e f (of_history e j) (of_history f k) same) once in
         omega (arith, counted, most)

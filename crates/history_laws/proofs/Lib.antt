@@ -4,6 +4,7 @@ pub mod Processes
 pub mod Externals
 pub mod OrderEdges
 pub mod EdgeOrder
+pub mod ProcessPairs
 pub mod VersionMembers
 pub mod DependencyEdges
 pub mod PrintedEdges

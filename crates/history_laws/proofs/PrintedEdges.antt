@@ -14,6 +14,7 @@ use Rattle.hist_types.specs.Operations.{Operation}
 use Rattle.hist_types.specs.EdgeOrder.{version_cmp, label_cmp, edge_cmp, in_order}
 use Rattle.hist_types.specs.Transactions.{Transaction, Indexed, Version, version_of, completion_in, transaction_by, transactions_from, transactions_of, is_node, nodes, has_key, last_writes, external_writes, installed_by, installs}
 use Rattle.hist_types.specs.Versions.{VersionPair, pair, version_pairs}
+use Rattle.hist_types.specs.declared.types.KeyOrder.{KeyOrder}
 use Rattle.history_laws.proofs.DependencyEdges.{label_depends}
 use Rattle.history_laws.proofs.EdgeOrder.{in_order-among, in_order-places}
 use Rattle.hist_types.proofs.Equality.{atom_eq-itself, same_version}
@@ -116,13 +117,13 @@ one_label u (process p) b i j e = elim i [ ]
 one_label u (realtime c d) b i j e = elim i [ ]
 one_label u a b i j e = elim (false≢true (ap is_eq e)) [ ]
 
-installed : (ts : List Transaction) (t u : Transaction) (l : Label) → In l (dependency_labels (version_pairs ts) t u) → IsInstalled u l
-installed ts t u l i = from l (label_depends ts t u l i)
+installed : (keys : KeyOrder) (ts : List Transaction) (t u : Transaction) (l : Label) → In l (dependency_labels (version_pairs keys ts) t u) → IsInstalled u l
+installed keys ts t u l i = from l (label_depends keys ts t u l i)
   where
-    from : (l : Label) → Depends ts t u l → IsInstalled u l
-    from (ww v w) d = (pair_of_one_key ts (pair v w) (in_from_Contains (pair v w) (version_pairs ts) d.0), in_from_has w (installed_by u) d.2)
+    from : (l : Label) → Depends keys ts t u l → IsInstalled u l
+    from (ww v w) d = (pair_of_one_key keys ts (pair v w) (in_from_Contains (pair v w) (version_pairs keys ts) d.0), in_from_has w (installed_by u) d.2)
     from (wr v) d = tt
-    from (rw v w) d = (pair_of_one_key ts (pair v w) (in_from_Contains (pair v w) (version_pairs ts) d.0), in_from_has w (installed_by u) d.2)
+    from (rw v w) d = (pair_of_one_key keys ts (pair v w) (in_from_Contains (pair v w) (version_pairs keys ts) d.0), in_from_has w (installed_by u) d.2)
     from (process p) d = d
     from (realtime c e) d = d
 
@@ -172,10 +173,10 @@ one_transaction index (event ∷ events) t u i j same =
 abbrev the_edge : ℕ → ℕ → Label → Edge
 the_edge from to label = record { from = from; to = to; label = label }
 
-pub one_edge : (events : List Operation) (e f : Edge) → In e (dependency_edges (transactions_of events)) → In f (dependency_edges (transactions_of events)) → edge_cmp e f ≡ Equal → e ≡ f
-one_edge events e f i j same =
+pub one_edge : (keys : KeyOrder) (events : List Operation) (e f : Edge) → In e (dependency_edges keys (transactions_of events)) → In f (dependency_edges keys (transactions_of events)) → edge_cmp e f ≡ Equal → e ≡ f
+one_edge keys events e f i j same =
     let ts : List Transaction = transactions_of events in
-    let pairs : List VersionPair = version_pairs ts in
+    let pairs : List VersionPair = version_pairs keys ts in
     let a : Comes (nodes ts) (dependency_labels pairs) e = comes_from (nodes ts) (dependency_labels pairs) e i in
     let b : Comes (nodes ts) (dependency_labels pairs) f = comes_from (nodes ts) (dependency_labels pairs) f j in
     let l = in_map (edge a.0 a.1) e (dependency_labels pairs a.0 a.1) a.5 in
@@ -187,14 +188,14 @@ one_edge events e f i j same =
     let first : e.to ≡ a.1.invocation = ap (λ (d : Edge). d.to) (sym l.2) in
     let second : f.to ≡ b.1.invocation = ap (λ (d : Edge). d.to) (sym m.2) in
     let one : b.1 ≡ a.1 = one_transaction 0 events b.1 a.1 (in_filter (is_node ts) b.1 ts b.3) (in_filter (is_node ts) a.1 ts a.3) (sym second ∙ (sym to ∙ first)) in
-    let here : IsInstalled a.1 e.label = subst (IsInstalled a.1) (ap (λ (d : Edge). d.label) l.2) (installed ts a.0 a.1 l.0 l.1) in
-    let there : IsInstalled b.1 f.label = subst (IsInstalled b.1) (ap (λ (d : Edge). d.label) m.2) (installed ts b.0 b.1 m.0 m.1) in
+    let here : IsInstalled a.1 e.label = subst (IsInstalled a.1) (ap (λ (d : Edge). d.label) l.2) (installed keys ts a.0 a.1 l.0 l.1) in
+    let there : IsInstalled b.1 f.label = subst (IsInstalled b.1) (ap (λ (d : Edge). d.label) m.2) (installed keys ts b.0 b.1 m.0 m.1) in
     let label : e.label ≡ f.label = one_label a.1 e.label f.label here (subst (λ u. IsInstalled u f.label) one there) further.1 in
     ap (λ n. the_edge n e.to e.label) from ∙ (ap (λ n. the_edge f.from n e.label) to ∙ ap (the_edge f.from f.to) label)
 
-pub in_order-all : (events : List Operation) (e : Edge) → Contains (dependency_edges (transactions_of events)) e → Contains (in_order (dependency_edges (transactions_of events))) e
-in_order-all events e c =
-    let es : List Edge = dependency_edges (transactions_of events) in
+pub in_order-all : (keys : KeyOrder) (events : List Operation) (e : Edge) → Contains (dependency_edges keys (transactions_of events)) e → Contains (in_order (dependency_edges keys (transactions_of events))) e
+in_order-all keys events e c =
+    let es : List Edge = dependency_edges keys (transactions_of events) in
     let found = in_order-places es e c in
-    let same : e ≡ found.0 = one_edge events e found.0 (in_from_Contains e es c) (in_from_Contains found.0 es (in_order-among es found.0 found.1)) found.2 in
+    let same : e ≡ found.0 = one_edge keys events e found.0 (in_from_Contains e es c) (in_from_Contains found.0 es (in_order-among es found.0 found.1)) found.2 in
     subst (Contains (in_order es)) (sym same) found.1

@@ -15,6 +15,7 @@ use Rattle.hist_types.specs.declared.types.Level.{Level}
 use Rattle.hist_types.specs.declared.types.Level.TheVariants.{Plain, Process, Realtime}
 use Rattle.hist_types.specs.declared.types.Phenomenon.{Phenomenon}
 use Rattle.hist_types.specs.declared.types.Phenomenon.TheVariants.{G0, G1c, GSingle, G2Item}
+use Rattle.hist_types.specs.declared.types.KeyOrder.{KeyOrder}
 use Rattle.hist_types.proofs.Members.{In, Contains_from_in, in_front, in_back, in_append}
 use Rattle.history_laws.proofs.ThinningPaths.{Ordered, ends_of, edge_between, ordered_from_label, label_from_ordered, one_edge, leads_on, all_of_both}
 use Rattle.history_laws.proofs.ThinningWalks.{AreReplaced, alike, carry_over, has_carried, has_thinned, uncounted_edge, nothing_counts, within_in, within_contains, closed_leads, count-append, count_yes, any_counted, none_counted, all_uncounted}
@@ -75,12 +76,12 @@ carried_up lower higher ns ds up =
     carry_over (ds ++ order_edges_between lower ns) (ds ++ order_edges_between higher ns) (has_twins lower higher ns ds up)
 
 pub has_above :
-    (phenomenon : Phenomenon) (lower higher : Level) (ts : List Transaction)
+    (keys : KeyOrder) (phenomenon : Phenomenon) (lower higher : Level) (ts : List Transaction)
     → height lower ≤ height higher
-    → IsThere phenomenon lower ts
-    → IsThere phenomenon higher ts
-has_above phenomenon lower higher ts up h =
-    has_carried phenomenon (edges_at lower ts) (edges_at higher ts) (carried_up lower higher (nodes ts) (dependency_edges ts) up) h
+    → IsThere keys phenomenon lower ts
+    → IsThere keys phenomenon higher ts
+has_above keys phenomenon lower higher ts up h =
+    has_carried phenomenon (edges_at keys lower ts) (edges_at keys higher ts) (carried_up lower higher (nodes ts) (dependency_edges keys ts) up) h
 
 -- ---- a walk about one of its edges
 
@@ -245,9 +246,9 @@ pub closed_by_one : (phenomenon : Phenomenon) (es : List Edge) → IsShownBy phe
 closed_by_one phenomenon es = (returns_to_one phenomenon es, one_closes phenomenon es)
 
 pub when_thinned :
-    (phenomenon : Phenomenon) (level : Level) (events : List Operation)
-    → IsThere phenomenon level (transactions_of events) ↔ HasWayBack phenomenon (dependency_edges (transactions_of events) ++ thinned_edges level (transactions_of events))
-when_thinned phenomenon level events =
-    let thinned = has_thinned phenomenon level events in
-    let one = closed_by_one phenomenon (dependency_edges (transactions_of events) ++ thinned_edges level (transactions_of events)) in
+    (keys : KeyOrder) (phenomenon : Phenomenon) (level : Level) (events : List Operation)
+    → IsThere keys phenomenon level (transactions_of events) ↔ HasWayBack phenomenon (dependency_edges keys (transactions_of events) ++ thinned_edges level (transactions_of events))
+when_thinned keys phenomenon level events =
+    let thinned = has_thinned keys phenomenon level events in
+    let one = closed_by_one phenomenon (dependency_edges keys (transactions_of events) ++ thinned_edges level (transactions_of events)) in
     (λ h. one.0 (thinned.0 h), λ r. thinned.1 (one.1 r))

@@ -15,6 +15,7 @@ use Rattle.hist_types.specs.declared.types.Level.{Level}
 use Rattle.hist_types.specs.declared.types.Level.TheVariants.{Plain, Process, Realtime}
 use Rattle.hist_types.specs.declared.types.Phenomenon.{Phenomenon}
 use Rattle.hist_types.specs.declared.types.Phenomenon.TheVariants.{G0, G1c, GSingle, G2Item}
+use Rattle.hist_types.specs.declared.types.KeyOrder.{KeyOrder}
 use Rattle.hist_types.proofs.Members.{In, in_from_Contains, Contains_from_in, in_front, in_back, in_append}
 use Rattle.history_laws.proofs.ThinningPaths.{Way, one_edge, thinned_in_order, AreNodes, are_nodes, nodes_included, ends_of, thinned_way_of, leads_on, not_empty, all_of_both}
 
@@ -410,8 +411,8 @@ has_kept phenomenon level events ns ds included =
     )
 
 pub has_thinned :
-    (phenomenon : Phenomenon) (level : Level) (events : List Operation)
-    → IsThere phenomenon level (transactions_of events) ↔ IsShownBy phenomenon (dependency_edges (transactions_of events) ++ thinned_edges level (transactions_of events))
-has_thinned phenomenon level events =
+    (keys : KeyOrder) (phenomenon : Phenomenon) (level : Level) (events : List Operation)
+    → IsThere keys phenomenon level (transactions_of events) ↔ IsShownBy phenomenon (dependency_edges keys (transactions_of events) ++ thinned_edges level (transactions_of events))
+has_thinned keys phenomenon level events =
     let ts : List Transaction = transactions_of events in
-    has_kept phenomenon level events (nodes ts) (dependency_edges ts) (nodes_included ts)
+    has_kept phenomenon level events (nodes ts) (dependency_edges keys ts) (nodes_included ts)

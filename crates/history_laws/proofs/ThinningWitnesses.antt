@@ -20,6 +20,7 @@ use Rattle.hist_types.specs.Witness.{stations, alternates, ends_in_order, IsWitn
 use Rattle.hist_types.specs.declared.types.Level.{Level}
 use Rattle.hist_types.specs.declared.types.Phenomenon.{Phenomenon}
 use Rattle.hist_types.specs.declared.types.Phenomenon.TheVariants.{G0, G1c, GSingle, G2Item}
+use Rattle.hist_types.specs.declared.types.KeyOrder.{KeyOrder}
 use Rattle.hist_types.proofs.Members.{In, in_from_Contains, in_front, in_back, in_append, in_map}
 use Rattle.history_laws.proofs.ThinningPaths.{are_nodes, nodes_included, ends_of, two_in_one, leads_on, all_of_both}
 use Rattle.history_laws.proofs.ThinningWalks.{Uncounted, uncounted_edge, within_in, within_contains, closed_from, count-append, makes_alike}
@@ -183,18 +184,18 @@ dependency_label pairs t u label i = elim (in_append label (ww_labels pairs t u 
       subst IsDependency found.2 refl
 ]
 
-pub dependency_edge : (ts : List Transaction) (e : Edge) → In e (dependency_edges ts) → is_order e ≡ false
-dependency_edge ts e i =
-    let (t, u, label, ends) = ends_of (nodes ts) (dependency_labels (version_pairs ts)) e i in
-    subst (λ (d : Edge). is_order d ≡ false) (sym ends.is) (dependency_label (version_pairs ts) t u label ends.labelled)
+pub dependency_edge : (keys : KeyOrder) (ts : List Transaction) (e : Edge) → In e (dependency_edges keys ts) → is_order e ≡ false
+dependency_edge keys ts e i =
+    let (t, u, label, ends) = ends_of (nodes ts) (dependency_labels (version_pairs keys ts)) e i in
+    subst (λ (d : Edge). is_order d ≡ false) (sym ends.is) (dependency_label (version_pairs keys ts) t u label ends.labelled)
 
 pub order_edge :
-    (level : Level) (ts : List Transaction) (e : Edge)
-    → In e (edges_at level ts)
+    (keys : KeyOrder) (level : Level) (ts : List Transaction) (e : Edge)
+    → In e (edges_at keys level ts)
     → is_order e ≡ true
     → In e (order_edges_between level (nodes ts))
-order_edge level ts e i order = elim (in_append e (dependency_edges ts) (order_edges level ts) i) [
-  | inl j ↦ absurd (false≢true (sym (dependency_edge ts e j) ∙ order))
+order_edge keys level ts e i order = elim (in_append e (dependency_edges keys ts) (order_edges level ts) i) [
+  | inl j ↦ absurd (false≢true (sym (dependency_edge keys ts e j) ∙ order))
   | inr j ↦ j
 ]
 
@@ -219,14 +220,14 @@ order_may GSingle e order no_rw = not_from_false (is_rw e) no_rw
 order_may G2Item e order no_rw = refl
 
 edges_join :
-    (phenomenon : Phenomenon) (level : Level) (events : List Operation)
-    → Joins (edges_at level (transactions_of events)) (may_lead_back phenomenon)
-edges_join phenomenon level events e f i j order order' meet =
+    (keys : KeyOrder) (phenomenon : Phenomenon) (level : Level) (events : List Operation)
+    → Joins (edges_at keys level (transactions_of events)) (may_lead_back phenomenon)
+edges_join keys phenomenon level events e f i j order order' meet =
     let ts : List Transaction = transactions_of events in
-    let (d, k, from, end) = two_in_one level ts (nodes ts) e f (are_nodes events (nodes ts) (nodes_included ts)) (order_edge level ts e i order) (order_edge level ts f j order') meet in
+    let (d, k, from, end) = two_in_one level ts (nodes ts) e f (are_nodes events (nodes ts) (nodes_included ts)) (order_edge keys level ts e i order) (order_edge keys level ts f j order') meet in
     let u : Uncounted d.label = uncounted_edge level (nodes ts) d k in
     let is : is_order d ≡ true = none_of_three (is_ww d) (is_wr d) (is_rw d) u.no_ww u.no_wr u.no_rw in
-    (d, in_back d (dependency_edges ts) (order_edges level ts) k, from, end, is, order_may phenomenon d is u.no_rw)
+    (d, in_back d (dependency_edges keys ts) (order_edges level ts) k, from, end, is, order_may phenomenon d is u.no_rw)
 
 -- ---- round walks
 
@@ -280,13 +281,13 @@ round_of_simple phenomenon es e walk i needed s =
     }
 
 round_walk :
-    (phenomenon : Phenomenon) (level : Level) (events : List Operation)
-    → HasWayBack phenomenon (edges_at level (transactions_of events))
-    → (walk : List Edge) × IsRound phenomenon (edges_at level (transactions_of events)) walk
-round_walk phenomenon level events r =
-    let es : List Edge = edges_at level (transactions_of events) in
+    (keys : KeyOrder) (phenomenon : Phenomenon) (level : Level) (events : List Operation)
+    → HasWayBack phenomenon (edges_at keys level (transactions_of events))
+    → (walk : List Edge) × IsRound phenomenon (edges_at keys level (transactions_of events)) walk
+round_walk keys phenomenon level events r =
+    let es : List Edge = edges_at keys level (transactions_of events) in
     let e : Edge = r.0 in
-    let (walk, s) = simple_way es (may_lead_back phenomenon) e.to e.from r.3 (edges_join phenomenon level events) r.4.leads (within_in es r.3 r.4.within) (passes_list (may_lead_back phenomenon) r.3 r.4.kinds) in
+    let (walk, s) = simple_way es (may_lead_back phenomenon) e.to e.from r.3 (edges_join keys phenomenon level events) r.4.leads (within_in es r.3 r.4.within) (passes_list (may_lead_back phenomenon) r.3 r.4.kinds) in
     (e ∷ walk, round_of_simple phenomenon es e walk (in_from_Contains e es r.1) r.2 s)
 
 -- ---- turned to begin at the least
@@ -428,12 +429,12 @@ all_later n (d ∷ walk) each =
 
 -- a round walk about its edge that begins no later than any, told from that edge
 pub turned_witness :
-    (phenomenon : Phenomenon) (level : Level) (ts : List Transaction) (front : List Edge) (e : Edge) (back : List Edge)
-    → IsRound phenomenon (edges_at level ts) (front ++ e ∷ back)
+    (keys : KeyOrder) (phenomenon : Phenomenon) (level : Level) (ts : List Transaction) (front : List Edge) (e : Edge) (back : List Edge)
+    → IsRound phenomenon (edges_at keys level ts) (front ++ e ∷ back)
     → ((d : Edge) → In d (front ++ e ∷ back) → e.from ≤ d.from)
-    → IsWitness phenomenon level ts (e ∷ back ++ front)
-turned_witness phenomenon level ts front e back r least =
-    let es : List Edge = edges_at level ts in
+    → IsWitness keys phenomenon level ts (e ∷ back ++ front)
+turned_witness keys phenomenon level ts front e back r least =
+    let es : List Edge = edges_at keys level ts in
     let turned : IsRound phenomenon es (e ∷ back ++ front) = turned_round phenomenon es front e back r in
     let later = λ (c : Edge) (i : In c (back ++ front)). least c (elim (in_append c back front i) [
       | inl j ↦ in_back c front (e ∷ back) (inr j)
@@ -446,22 +447,22 @@ turned_witness phenomenon level ts front e back r least =
     }
 
 witness_of_round :
-    (phenomenon : Phenomenon) (level : Level) (ts : List Transaction) (walk : List Edge)
-    → IsRound phenomenon (edges_at level ts) walk
-    → (other : List Edge) × IsWitness phenomenon level ts other
-witness_of_round phenomenon level ts [] r = elim r.closed [ ]
-witness_of_round phenomenon level ts (d ∷ walk) r =
-    let es : List Edge = edges_at level ts in
+    (keys : KeyOrder) (phenomenon : Phenomenon) (level : Level) (ts : List Transaction) (walk : List Edge)
+    → IsRound phenomenon (edges_at keys level ts) walk
+    → (other : List Edge) × IsWitness keys phenomenon level ts other
+witness_of_round keys phenomenon level ts [] r = elim r.closed [ ]
+witness_of_round keys phenomenon level ts (d ∷ walk) r =
+    let es : List Edge = edges_at keys level ts in
     let (front, e, back, l) = least_of d walk in
-    (e ∷ back ++ front, turned_witness phenomenon level ts front e back (subst (IsRound phenomenon es) l.is r) (λ c i. l.least c (subst (In c) (sym l.is) i)))
+    (e ∷ back ++ front, turned_witness keys phenomenon level ts front e back (subst (IsRound phenomenon es) l.is r) (λ c i. l.least c (subst (In c) (sym l.is) i)))
 
 pub has_witness :
-    (phenomenon : Phenomenon) (level : Level) (events : List Operation)
-    → IsThere phenomenon level (transactions_of events) ↔ HasWitness phenomenon level (transactions_of events)
-has_witness phenomenon level events =
+    (keys : KeyOrder) (phenomenon : Phenomenon) (level : Level) (events : List Operation)
+    → IsThere keys phenomenon level (transactions_of events) ↔ HasWitness keys phenomenon level (transactions_of events)
+has_witness keys phenomenon level events =
     let ts : List Transaction = transactions_of events in (
       λ h.
-          let round = round_walk phenomenon level events ((closed_by_one phenomenon (edges_at level ts)).0 h) in
-          witness_of_round phenomenon level ts round.0 round.1,
+          let round = round_walk keys phenomenon level events ((closed_by_one phenomenon (edges_at keys level ts)).0 h) in
+          witness_of_round keys phenomenon level ts round.0 round.1,
       λ w. (w.0, w.1.shows),
     )

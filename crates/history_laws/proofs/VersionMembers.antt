@@ -1,12 +1,14 @@
 -- The pairs of versions by what transactions read and install.
-use Rattle.std.proofs.Common.{◌≡◌, ◌↔◌, inl, inr, List, [], ◌∷◌, true, false, not, ◌||◌, filter, map, flat_map, Contains, refl, sym, ◌∙◌, ap, subst}
+use Rattle.std.proofs.Common.{◌≡◌, ◌↔◌, inl, inr, List, [], ◌∷◌, ◌++◌, true, false, not, ◌||◌, filter, map, flat_map, Contains, refl, sym, ◌∙◌, ap, subst}
 use Rattle.std.proofs.lemmas.Bool.{false≢true, and_parts, and_from, or_cases, or_right, cases_Bool, not-true}
 use Rattle.hist_types.specs.Atoms.{atom_eq, value_eq}
 use Rattle.history_laws.specs.Dependencies.{IsNilPair, IsUpdatePair, IsVersionPair}
 use Rattle.hist_types.specs.Transactions.{Transaction, Version, version_eq, has_version, is_ok, nodes, external_reads, installed_by}
-use Rattle.hist_types.specs.Versions.{VersionPair, pair, nil_before, is_change, each_with_each, first_pairs, update_pairs, version_pairs}
+use Rattle.hist_types.specs.Versions.{VersionPair, pair, nil_before, is_change, each_with_each, first_pairs, update_pairs, process_pairs, version_pairs}
+use Rattle.hist_types.specs.declared.types.KeyOrder.{KeyOrder}
 use Rattle.hist_types.proofs.Equality.{atom_eq-same, atom_eq-itself, value_eq-same, value_eq-itself, version_eq-same, version_eq-itself, same_version}
 use Rattle.hist_types.proofs.Members.{In, in_from_Contains, Contains_from_in, in_front, in_back, in_append, in_each, in_some, in_mapped, in_map, in_filter, in_filtered, passes_filter}
+use Rattle.history_laws.proofs.ProcessPairs.{is_step_of, of_one_key}
 
 -- ---- versions in lists
 
@@ -71,12 +73,6 @@ update_from ts p i =
       has_from_in p.later (installed_by t) ends.1,
     )
 
-pub pair_of_one_key : (ts : List Transaction) (p : VersionPair) → In p (version_pairs ts) → p.earlier.key ≡ p.later.key
-pair_of_one_key ts p i = elim (in_append p (first_pairs ts) (flat_map update_pairs (filter is_ok ts)) i) [
-  | inl j ↦ ap (λ (v : Version). v.key) (first_from ts p j).0
-  | inr j ↦ (update_from ts p j).0
-]
-
 update_to : (ts : List Transaction) (p : VersionPair) → IsUpdatePair ts p → In p (flat_map update_pairs (filter is_ok ts))
 update_to ts p (same, differ, t, among, read, installed) =
     let parts = and_parts (is_ok t) (has_version (external_reads t) p.earlier) read in
@@ -94,16 +90,41 @@ update_to ts p (same, differ, t, among, read, installed) =
     in_each update_pairs p t (filter is_ok ts) (in_filtered is_ok t ts (in_from_Contains t ts among) parts.0)
     (in_filtered is_change p all member change)
 
+-- ---- each pair
+
+abbrev the_updates : List Transaction → List VersionPair
+the_updates ts = flat_map update_pairs (filter is_ok ts)
+
+pair_from : (keys : KeyOrder) (ts : List Transaction) (p : VersionPair) → In p (version_pairs keys ts) → IsVersionPair keys ts p
+pair_from keys ts p i = elim (in_append p (first_pairs ts ++ the_updates ts) (process_pairs keys ts) i) [
+  | inl j ↦ elim (in_append p (first_pairs ts) (the_updates ts) j) [
+    | inl first ↦ inl (first_from ts p first)
+    | inr update ↦ inr (inl (update_from ts p update))
+  ]
+  | inr step ↦ inr (inr (Contains_from_in p (process_pairs keys ts) step))
+]
+
+pair_to : (keys : KeyOrder) (ts : List Transaction) (p : VersionPair) → IsVersionPair keys ts p → In p (version_pairs keys ts)
+pair_to keys ts p (inl first) =
+    in_front p (first_pairs ts ++ the_updates ts) (process_pairs keys ts) (in_front p (first_pairs ts) (the_updates ts) (first_to ts p first))
+pair_to keys ts p (inr (inl update)) =
+    in_front p (first_pairs ts ++ the_updates ts) (process_pairs keys ts) (in_back p (first_pairs ts) (the_updates ts) (update_to ts p update))
+pair_to keys ts p (inr (inr step)) =
+    in_back p (first_pairs ts ++ the_updates ts) (process_pairs keys ts) (in_from_Contains p (process_pairs keys ts) step)
+
+pub pair_of_one_key : (keys : KeyOrder) (ts : List Transaction) (p : VersionPair) → In p (version_pairs keys ts) → p.earlier.key ≡ p.later.key
+pair_of_one_key keys ts p i = elim (pair_from keys ts p i) [
+  | inl first ↦ ap (λ (v : Version). v.key) first.0
+  | inr others ↦ elim others [
+    | inl update ↦ update.0
+    | inr step ↦ atom_eq-same p.earlier.key p.later.key (of_one_key p (is_step_of keys ts p step))
+  ]
+]
+
 -- ---- the law
 
-pub pairs_by_membership : (ts : List Transaction) (p : VersionPair) → Contains (version_pairs ts) p ↔ IsVersionPair ts p
-pairs_by_membership ts p = (
-  λ c. elim (in_append p (first_pairs ts) (flat_map update_pairs (filter is_ok ts)) (in_from_Contains p (version_pairs ts) c)) [
-    | inl i ↦ inl (first_from ts p i)
-    | inr i ↦ inr (update_from ts p i)
-  ],
-  λ c. Contains_from_in p (version_pairs ts) (elim c [
-    | inl first ↦ in_front p (first_pairs ts) (flat_map update_pairs (filter is_ok ts)) (first_to ts p first)
-    | inr update ↦ in_back p (first_pairs ts) (flat_map update_pairs (filter is_ok ts)) (update_to ts p update)
-  ]),
+pub pairs_by_membership : (keys : KeyOrder) (ts : List Transaction) (p : VersionPair) → Contains (version_pairs keys ts) p ↔ IsVersionPair keys ts p
+pairs_by_membership keys ts p = (
+  λ c. pair_from keys ts p (in_from_Contains p (version_pairs keys ts) c),
+  λ is. Contains_from_in p (version_pairs keys ts) (pair_to keys ts p is),
 )

@@ -5,6 +5,7 @@ use Rattle.hist_types.specs.Operations.{Operation}
 use Rattle.hist_types.specs.Transactions.{transactions_of}
 use Rattle.hist_types.specs.Edges.{Edge, dependency_edges}
 use Rattle.hist_types.specs.EdgeOrder.{edge_cmp, in_order}
+use Rattle.hist_types.specs.declared.types.KeyOrder.{KeyOrder}
 
 -- each edge comes before all after it
 abbrev pub Rise : List Edge → Type 0
@@ -17,8 +18,8 @@ abbrev pub HasOneAtItsPlace : List Edge → Edge → Type 0
 HasOneAtItsPlace es e = (f : Edge) × Contains es f × (edge_cmp e f ≡ Equal)
 
 -- none of the history's dependency edges is lost where they are put in order
-abbrev pub HasAllDependenciesInOrder : List Operation → Type 0
-HasAllDependenciesInOrder events =
+abbrev pub HasAllDependenciesInOrder : KeyOrder → List Operation → Type 0
+HasAllDependenciesInOrder keys events =
     (e : Edge)
-    → Contains (dependency_edges (transactions_of events)) e
-    → Contains (in_order (dependency_edges (transactions_of events))) e
+    → Contains (dependency_edges keys (transactions_of events)) e
+    → Contains (in_order (dependency_edges keys (transactions_of events))) e

@@ -8,6 +8,7 @@ pub mod OpenAtOnce
 pub mod Shown
 pub mod WaysBack
 pub mod Dependencies
+pub mod ProcessPairs
 pub mod Writers
 pub mod BadReads
 pub mod EdgesInOrder

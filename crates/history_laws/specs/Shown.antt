@@ -8,20 +8,21 @@ use Rattle.hist_types.specs.Phenomena.{makes, IsThere, IsShownBy}
 use Rattle.hist_types.specs.Witness.{IsWitness}
 use Rattle.hist_types.specs.declared.types.Phenomenon.{Phenomenon}
 use Rattle.hist_types.specs.ThinnedOrder.{thinned_edges}
+use Rattle.hist_types.specs.declared.types.KeyOrder.{KeyOrder}
 use Rattle.history_laws.specs.Paths.{IncludesAllOk, order_edges_between, thinned_edges_between}
 use Rattle.history_laws.specs.Walks.{SameCounts}
 use Rattle.history_laws.specs.WaysBack.{HasWayBack}
 
-abbrev pub HasWitness : Phenomenon → Level → List Transaction → Type 0
-HasWitness phenomenon level ts = (walk : List Edge) × IsWitness phenomenon level ts walk
+abbrev pub HasWitness : KeyOrder → Phenomenon → Level → List Transaction → Type 0
+HasWitness keys phenomenon level ts = (walk : List Edge) × IsWitness keys phenomenon level ts walk
 
 -- this is true of the transactions of any events
 abbrev pub InEachHistory : (List Transaction → Type 0) → Type 0
 InEachHistory IsSo = (events : List Operation) → IsSo (transactions_of events)
 
 -- the edges that a cycle at the level may use, but of order edges only the thinned ones
-abbrev pub thinned_edges_at : Level → List Transaction → List Edge
-thinned_edges_at level ts = dependency_edges ts ++ thinned_edges level ts
+abbrev pub thinned_edges_at : KeyOrder → Level → List Transaction → List Edge
+thinned_edges_at keys level ts = dependency_edges keys ts ++ thinned_edges level ts
 
 -- whether a walk makes the phenomenon depends only on how many ww, wr and rw edges it has
 abbrev pub IsMadeByCounts : Phenomenon → Type 0
@@ -46,10 +47,10 @@ ThinningKeepsIt phenomenon level =
     → ShowAlikeBeside phenomenon (order_edges_between level ns) (thinned_edges_between level ts ns)
 
 -- a history has the phenomenon at the level exactly where its edges with thinned order show it
-abbrev pub ThinnedEdgesShowIt : Phenomenon → Level → Type 0
-ThinnedEdgesShowIt phenomenon level =
+abbrev pub ThinnedEdgesShowIt : KeyOrder → Phenomenon → Level → Type 0
+ThinnedEdgesShowIt keys phenomenon level =
     InEachHistory
-    (λ ts. IsThere phenomenon level ts ↔ IsShownBy phenomenon (thinned_edges_at level ts))
+    (λ ts. IsThere keys phenomenon level ts ↔ IsShownBy phenomenon (thinned_edges_at keys level ts))
 
 -- edges show the phenomenon exactly where one of them has a way back
 abbrev pub AnyEdgesShowItByAWayBack : Phenomenon → Type 0
@@ -57,19 +58,20 @@ AnyEdgesShowItByAWayBack phenomenon =
     (es : List Edge) → IsShownBy phenomenon es ↔ HasWayBack phenomenon es
 
 -- a history has it there exactly where one of its edges with thinned order has a way back
-abbrev pub ThinnedEdgesHaveAWayBack : Phenomenon → Level → Type 0
-ThinnedEdgesHaveAWayBack phenomenon level =
+abbrev pub ThinnedEdgesHaveAWayBack : KeyOrder → Phenomenon → Level → Type 0
+ThinnedEdgesHaveAWayBack keys phenomenon level =
     InEachHistory
-    (λ ts. IsThere phenomenon level ts ↔ HasWayBack phenomenon (thinned_edges_at level ts))
+    (λ ts. IsThere keys phenomenon level ts
+    ↔ HasWayBack phenomenon (thinned_edges_at keys level ts))
 
 -- a history has the phenomenon at the level exactly where it has a witness of it there
-abbrev pub IsThereWithAWitness : Phenomenon → Level → Type 0
-IsThereWithAWitness phenomenon level =
-    InEachHistory (λ ts. IsThere phenomenon level ts ↔ HasWitness phenomenon level ts)
+abbrev pub IsThereWithAWitness : KeyOrder → Phenomenon → Level → Type 0
+IsThereWithAWitness keys phenomenon level =
+    InEachHistory (λ ts. IsThere keys phenomenon level ts ↔ HasWitness keys phenomenon level ts)
 
 -- a phenomenon that is there at the lower level is there at the higher one
-abbrev pub PhenomenaRise : (lower higher : Level) → Type 0
-PhenomenaRise lower higher =
+abbrev pub PhenomenaRise : (keys : KeyOrder) (lower higher : Level) → Type 0
+PhenomenaRise keys lower higher =
     (phenomenon : Phenomenon) (ts : List Transaction)
-    → IsThere phenomenon lower ts
-    → IsThere phenomenon higher ts
+    → IsThere keys phenomenon lower ts
+    → IsThere keys phenomenon higher ts

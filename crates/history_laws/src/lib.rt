@@ -12,6 +12,7 @@ ghost use Rattle.history_laws.specs.ReadsAndWrites.{ReadsFirst, WritesLast};
 ghost use Rattle.history_laws.specs.OrderEdges.{AreSubEdges, LeaveNodes, LeadToNodes, HaveRealtimeTwins, OrderEdgesJoinAllPairs};
 ghost use Rattle.history_laws.specs.EdgesInOrder.{Rise, HasOneAtItsPlace, HasAllDependenciesInOrder};
 ghost use Rattle.history_laws.specs.Dependencies.{IsVersionPair, LabelsAreDependencies, IsDependency};
+ghost use Rattle.history_laws.specs.ProcessPairs.{IsProcessStep, IsStepBetweenTwo};
 ghost use Rattle.history_laws.specs.BadReads.{IsAbortedRead, IsIntermediateRead, SomeoneWrote, NobodyWrote, IsStrayRead, WriterDecidesG1a, WriterDecidesG1b, HasNoIntermediateWriter};
 ghost use Rattle.history_laws.specs.Writers.{WriteNoneTwice, HaveOneWriterEach, NoneBothInstalledAndIntermediate, InstallsOrWroteIntermediate, InstallsOneOfAKey};
 ghost use Rattle.hist_types.specs.Operations.{Operation};
@@ -23,7 +24,9 @@ ghost use Rattle.history_laws.specs.OpenAtOnce.{open_at, most_open, LimitsPredec
 ghost use Rattle.history_laws.specs.Walks.{WalksCarryToThinned, WalksCarryToOrder, WalksCarryUp};
 ghost use Rattle.history_laws.specs.Shown.{IsMadeByCounts, ThinningKeepsIt, ThinnedEdgesShowIt, AnyEdgesShowItByAWayBack, ThinnedEdgesHaveAWayBack, IsThereWithAWitness, PhenomenaRise};
 ghost use Rattle.hist_types.specs.Transactions.{Transaction, transactions_of, Version, external_reads, external_writes, writes, nodes};
-ghost use Rattle.hist_types.specs.Versions.{version_pairs};
+ghost use Rattle.hist_types.specs.Versions.{process_pairs, version_pairs};
+ghost use Rattle.hist_types.specs.declared.types.KeyOrder.{KeyOrder};
+ghost use Rattle.hist_types.specs.declared.types.KeyOrder.TheVariants.{Basic, Sequential};
 ghost use Rattle.hist_types.specs.declared.types.Level.{Level};
 ghost use Rattle.hist_types.specs.declared.types.Level.TheVariants.{Process, Realtime};
 ghost use Rattle.hist_types.specs.declared.types.Phenomenon.{Phenomenon};
@@ -91,8 +94,8 @@ pub fn thinning_keeps_phenomena()
     ensures order { (level : Level) (ts : List Transaction) → WalksCarryToOrder level ts }
     ensures counts { (phenomenon : Phenomenon) → IsMadeByCounts phenomenon }
     ensures nodes { (phenomenon : Phenomenon) (level : Level) → ThinningKeepsIt phenomenon level }
-    ensures history { (phenomenon : Phenomenon) (level : Level)
-        → ThinnedEdgesShowIt phenomenon level }
+    ensures history { (keys : KeyOrder) (phenomenon : Phenomenon) (level : Level)
+        → ThinnedEdgesShowIt keys phenomenon level }
 {}
 
 /// No transaction has more thinned predecessors in real time than transactions were ever open at once, or more than one within
@@ -109,21 +112,22 @@ pub fn thinning_leaves_few()
 pub fn levels_rise()
     ensures walks { (lower higher : Level)
         → height lower ≤ height higher → WalksCarryUp lower higher }
-    ensures phenomena { (lower higher : Level)
-        → height lower ≤ height higher → PhenomenaRise lower higher }
+    ensures phenomena { (keys : KeyOrder) (lower higher : Level)
+        → height lower ≤ height higher → PhenomenaRise keys lower higher }
 {}
 
 /// A phenomenon is there exactly where some edge of its kind has a way back from its second end to its first, along the kinds of
 /// edges that the phenomenon allows.
 pub fn cycles_by_one_edge()
     ensures edges { (phenomenon : Phenomenon) → AnyEdgesShowItByAWayBack phenomenon }
-    ensures thinned { (phenomenon : Phenomenon) (level : Level)
-        → ThinnedEdgesHaveAWayBack phenomenon level }
+    ensures thinned { (keys : KeyOrder) (phenomenon : Phenomenon) (level : Level)
+        → ThinnedEdgesHaveAWayBack keys phenomenon level }
 {}
 
 /// A phenomenon that is there at a level has a witness there, and a phenomenon with a witness is there.
 pub fn phenomena_have_witnesses()
-    ensures { (phenomenon : Phenomenon) (level : Level) → IsThereWithAWitness phenomenon level }
+    ensures { (keys : KeyOrder) (phenomenon : Phenomenon) (level : Level)
+        → IsThereWithAWitness keys phenomenon level }
 {}
 
 /// Edges in order are those that were given, one for each place, and they rise. All dependency edges of a history are there.
@@ -131,20 +135,35 @@ pub fn edges_in_order()
     ensures among { (es : List Edge) → (e : Edge) → Contains (in_order es) e → Contains es e }
     ensures places { (es : List Edge) → All (HasOneAtItsPlace (in_order es)) es }
     ensures rising { (es : List Edge) → Rise (in_order es) }
-    ensures dependencies { (events : List Operation) → HasAllDependenciesInOrder events }
+    ensures dependencies { (keys : KeyOrder) (events : List Operation)
+        → HasAllDependenciesInOrder keys events }
 {}
 
-/// A pair of versions is known exactly where the earlier version is nil and a node installs the later one, or where one
-/// transaction reads the one and installs the other.
+/// A pair of versions is known exactly where the earlier version is nil and a node installs the later one, where one transaction
+/// reads the one and installs the other, or where keys are sequential and a process went from the one to the other.
 pub fn versions_by_membership()
-    ensures { (ts : List Transaction) → HasExactly (version_pairs ts) (IsVersionPair ts) }
+    ensures { (keys : KeyOrder) (ts : List Transaction)
+        → HasExactly (version_pairs keys ts) (IsVersionPair keys ts) }
+{}
+
+/// Where keys are sequential, a process goes from one version of a key to a later one exactly where an ok transaction meets the
+/// later one, and of all that the process saw of the key before, the earlier one came last. Then an ok transaction of the process
+/// read or wrote it by its last micro-operation on the key, and the process saw nothing of the key between the two transactions.
+/// Where keys are basic, no process orders any versions.
+pub fn pairs_of_a_process()
+    ensures steps { (ts : List Transaction)
+        → HasExactly (process_pairs Sequential ts) (IsProcessStep ts) }
+    ensures between_two { (ts : List Transaction)
+        → HasExactly (process_pairs Sequential ts) (IsStepBetweenTwo ts) }
+    ensures basic { (ts : List Transaction) → process_pairs Basic ts ≡ [] }
 {}
 
 /// A dependency edge joins two different nodes exactly where they install and read the versions of its label: for a ww or an rw,
 /// a pair that is known.
 pub fn edges_by_versions()
-    ensures labels { (ts : List Transaction) → LabelsAreDependencies ts }
-    ensures edges { (ts : List Transaction) → HasExactly (dependency_edges ts) (IsDependency ts) }
+    ensures labels { (keys : KeyOrder) (ts : List Transaction) → LabelsAreDependencies keys ts }
+    ensures edges { (keys : KeyOrder) (ts : List Transaction)
+        → HasExactly (dependency_edges keys ts) (IsDependency keys ts) }
 {}
 
 /// Where the rules are kept, no version of a key is written twice, by two transactions or by one. A transaction installs each

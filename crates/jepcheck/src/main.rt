@@ -40,9 +40,9 @@ fn main(rt: HostRuntime) -> ExitCode {
     let mut errors = StreamSink::new(rt.stderr());
     let alloc = rt.alloc();
     let status = match asked(&rt) {
-        Ok(Asked::Serve { cells, paths }) => {
+        Ok(Asked::Serve { cells, keys, paths }) => {
             let opened = open_pairs(&rt, alloc, &paths);
-            serve(&rt, alloc, cells, opened, &mut sink, &mut errors)
+            serve(&rt, alloc, cells, keys, opened, &mut sink, &mut errors)
         }
         Ok(Asked::Run(command)) => dispatch(
             &rt,

@@ -3,7 +3,7 @@
 use command_run::answer::Status;
 use command_run::run::print_memory;
 use hist_types::device::{Sink, StreamSink, StreamSource};
-use hist_types::types::{Fault, Refusal};
+use hist_types::types::{Fault, KeyOrder, Refusal};
 use hist_types::whole::write_all;
 use live_journal::journal::Journal;
 use std::alloc::Global;
@@ -45,14 +45,15 @@ fn status_of(ends: &[Result<Ended, SessionFault>]) -> Status {
     Status::NoPhenomenon
 }
 
-/// A session for each client, all at a journal of this many cells.
+/// A session for each client, all at a journal of this many cells and with keys of this order.
 fn serve_clients<R: Threads + Wait + Sync>(
     rt: &R,
     alloc: Global,
     cells: usize,
+    keys: KeyOrder,
     clients: Vec<FileClient>,
 ) -> Result<Status, Fault> {
-    let journal = Journal::new(alloc, cells)?;
+    let journal = Journal::new(alloc, cells, keys)?;
     let ends = sessions(rt, alloc, &journal, clients)?;
     Ok(status_of(&ends))
 }
@@ -63,6 +64,7 @@ pub fn serve<R: Threads + Wait + Sync, T: Sink, E: Sink>(
     rt: &R,
     alloc: Global,
     cells: usize,
+    keys: KeyOrder,
     opened: io::Result<Vec<FileClient>>,
     sink: &mut T,
     errors: &mut E,
@@ -75,7 +77,7 @@ pub fn serve<R: Threads + Wait + Sync, T: Sink, E: Sink>(
             return Status::DeviceFault;
         }
     };
-    match serve_clients(rt, alloc, cells, clients) {
+    match serve_clients(rt, alloc, cells, keys, clients) {
         Ok(Status::DeviceFault) => {
             let _ = write_all(errors, b"device fault\n");
             Status::DeviceFault

@@ -3,7 +3,7 @@
 use crate::devices::{Awaiting, Dripping, Flagging, Sipping};
 use hist_types::device::{MemorySink, MemorySource, Sink, Source};
 use hist_types::limits::MAX_LINE_BYTES;
-use hist_types::types::Fault;
+use hist_types::types::{Fault, KeyOrder};
 use live_journal::journal::Journal;
 use std::alloc::Global;
 use std::hash::{BuildHasherDefault, FoldHasher};
@@ -125,7 +125,7 @@ fn serve<R: Wait, S: Source, T: Sink>(
     source: &mut S,
     sink: &mut T,
 ) -> Result<Result<Ended, SessionFault>, Fault> {
-    let journal = Journal::new(alloc, 2)?;
+    let journal = Journal::new(alloc, 2, KeyOrder::Basic)?;
     serve_at(rt, alloc, &journal, 0, source, sink)
 }
 
@@ -157,7 +157,7 @@ fn serve_in_turn<R: Wait>(
     second: &[u8],
     sink: &mut Sipping,
 ) -> Result<[Result<Ended, SessionFault>; 2], Fault> {
-    let journal = Journal::new(alloc, 4)?;
+    let journal = Journal::new(alloc, 4, KeyOrder::Basic)?;
     let mut source = MemorySource::new(first);
     let earlier = serve_at(rt, alloc, &journal, 0, &mut source, sink)?;
     source = MemorySource::new(second);
@@ -176,7 +176,7 @@ fn a_session_goes_on_where_another_ended(rt: HostRuntime) -> Result<(), Fail> {
 
 #[test]
 fn a_refused_line_fills_no_cell(rt: HostRuntime) -> Result<(), Fail> {
-    let journal = Journal::new(rt.alloc(), 1)?;
+    let journal = Journal::new(rt.alloc(), 1, KeyOrder::Basic)?;
     let mut source = MemorySource::new(LINES_FOR_ONE_CELL);
     let mut sink = Sipping::new(512, 512);
     let end = serve_at(&rt, rt.alloc(), &journal, 7, &mut source, &mut sink)?;
@@ -271,7 +271,7 @@ fn crossed<'a>(own: &'a AtomicBool, other: &'a AtomicBool) -> Client<Awaiting<'a
 #[test]
 fn sessions_run_side_by_side(rt: HostRuntime) -> Result<(), Fail> {
     let (left, right) = (AtomicBool::new(false), AtomicBool::new(false));
-    let journal = Journal::new(rt.alloc(), 1)?;
+    let journal = Journal::new(rt.alloc(), 1, KeyOrder::Basic)?;
     let clients = Vec::from_array(rt.alloc(), [crossed(&left, &right), crossed(&right, &left)])?;
     let ends = sessions(&rt, rt.alloc(), &journal, clients)?;
     assert!(rt; ends.len() == 2);

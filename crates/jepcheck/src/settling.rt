@@ -7,7 +7,7 @@ ghost use Rattle.hist_types.specs.Transactions.{transactions_of};
 use block_reader::reading::read_blocks;
 use clean_order::settles;
 use dep_edges::edges;
-use hist_types::types::Fault;
+use hist_types::types::{Fault, KeyOrder};
 use journal_core::journal::Core;
 use journal_core::prefix::Prefix;
 use key_versions::versions;
@@ -49,7 +49,12 @@ fn do_settle<'a>(alloc: Global, prefix: &Prefix<'a>, txns: &Txns<'a>) -> Result<
 {
     // Called for its clause that the events keep the rules, which the proof cites.
     let _rules = prefix.events();
-    let versions = versions(alloc, txns, BuildHasherDefault::<FoldHasher>::new())?;
+    let versions = versions(
+        alloc,
+        txns,
+        BuildHasherDefault::<FoldHasher>::new(),
+        KeyOrder::Basic,
+    )?;
     let deps = edges(alloc, txns, &versions)?;
     settles(alloc, &deps)
 }
@@ -58,7 +63,7 @@ fn do_settle<'a>(alloc: Global, prefix: &Prefix<'a>, txns: &Txns<'a>) -> Result<
 fn clean_histories_settle(rt: HostRuntime) -> Result<(), Fail> {
     let alloc = rt.alloc();
     for (text, clean) in [(CLEAN, true), (SKEWED, false), (STALE, false)] {
-        let blocks = read_blocks(&rt, alloc, text)?;
+        let blocks = read_blocks(&rt, alloc, Vec::from_slice(alloc, text)?)?;
         let mut core = Core::new(alloc);
         for block in &blocks {
             core.judge(block)?;

@@ -1,14 +1,14 @@
 -- What a transaction reads and writes, with one micro-operation more.
 use Rattle.std.proofs.Common.{◌≡◌, inl, inr, ℕ, List, [], ◌∷◌, ◌++◌, map, Bool, true, false, cond, Some, refl, sym, ◌∙◌, ap, subst}
-use Rattle.std.specs.Prelude.{slice_get, ◌==◌, ◌||◌}
+use Rattle.std.specs.Prelude.{slice_get, not, ◌==◌, ◌||◌}
 use Rattle.std.specs.List.{list_any}
 use Rattle.std.proofs.lemmas.Bool.{cases_Bool, or_cases, true≢false, false≢true, false_from_ne_true, eqb-true, eq-eqb}
-use Rattle.std.proofs.lemmas.List.{append_assoc, append-nil}
+use Rattle.std.proofs.lemmas.List.{append_assoc, append-nil, map_push}
 use Rattle.hist_types.specs.Atoms.{Atom, Value, atom_eq}
 use Rattle.hist_types.specs.Operations.{Mop, read, write}
 use Rattle.hist_types.specs.Journal.{writes_of}
 use Rattle.hist_types.specs.Transactions.{Version, version_eq, version_of, has_version, reads_after}
-use Rattle.hist_types.specs.Versions.{nil_of}
+use Rattle.hist_types.specs.Versions.{nil_of, version_in}
 use Rattle.hist_types.proofs.Equality.{atom_eq-same, atom_eq-itself, version_eq-same, version_eq-itself}
 use Rattle.atom_index.specs.Numbers.{number_in, with_item, AreNumbered}
 use Rattle.atom_index.proofs.Pushed.{inserted_numbered}
@@ -17,7 +17,7 @@ use Rattle.op_view.specs.Mops.{key_of, value_of}
 use Rattle.key_versions.specs.declared.pending.Access.{Access}
 use Rattle.key_versions.specs.Histories.{known_in, named_in}
 use Rattle.key_versions.specs.Numbering.{version_with, with_versions, IsAccess, AreAccesses}
-use Rattle.key_versions.specs.Rows.{has_nil}
+use Rattle.key_versions.specs.Rows.{has_nil, with_access, with_read}
 use Rattle.key_versions.proofs.Places.{same_item, slice_get-with_item}
 
 -- ---- versions that are inserted
@@ -274,3 +274,53 @@ taken_unknown base numbered is_ok ms vs us ws rs (read key value) old grown read
       writes = subst (λ (xs : List Version). AreAccesses us xs ws) (sym (writes-read ms key value)) kept.0;
       reads = subst (λ b. AreAccesses us (cond b (reads_after [] (ms ++ m ∷ [])) []) rs) (sym unknown) before;
     }
+
+-- ---- what is added
+
+or_right_is : (b : Bool) → (b || false) ≡ true → b ≡ true
+or_right_is true e = refl
+or_right_is false e = absurd (false≢true e)
+
+-- a write, or a read of an ok transaction
+pub taken_added :
+    (base : List Version) (numbered : AreNumbered version_eq base) (is_ok : Bool) (ms : List Mop) (vs us : List Version) (ws rs : List Access) (m : Mop) (a : Access)
+    → AreTaken base is_ok ms vs ws rs → IsAccessed vs us m → IsAccess us (version_with (key_of m) (value_of m)) a
+    → (is_ok || is_write m) ≡ true → AreTaken base is_ok (ms ++ m ∷ []) us (with_access (is_write m) a ws) (with_read (is_write m) a ws rs)
+taken_added base numbered is_ok ms vs us ws rs (write key value) a old grown is known =
+    taken_write base numbered is_ok ms vs us ws rs (write key value) a old grown is refl
+taken_added base numbered is_ok ms vs us ws rs (read key value) a old grown is known = by (has_nil a.nil ws) refl
+  where
+    ok : is_ok ≡ true
+    ok = or_right_is is_ok known
+
+    by : (b : Bool) → has_nil a.nil ws ≡ b → AreTaken base is_ok (ms ++ read key value ∷ []) us ws (with_access (not b) a rs)
+    by true e = taken_own base numbered is_ok ms vs us ws rs (read key value) a old grown is refl ok e
+    by false e = taken_read base numbered is_ok ms vs us ws rs (read key value) a old grown is refl ok e
+
+version_of_mop : (m : Mop) → version_in m ≡ version_with (key_of m) (value_of m)
+version_of_mop (read key value) = refl
+version_of_mop (write key value) = refl
+
+-- what an ok transaction reads and writes, where that is kept
+pub seen_added :
+    (keeps : Bool) (ms : List Mop) (vs us : List Version) (ss : List Access) (m : Mop) (a : Access)
+    → ((n : ℕ) (v : Version) → slice_get vs n ≡ Some v → slice_get us n ≡ Some v)
+    → AreAccesses vs (cond keeps (map version_in ms) []) ss → IsAccess us (version_with (key_of m) (value_of m)) a
+    → AreAccesses us (cond keeps (map version_in (ms ++ m ∷ [])) []) (with_access keeps a ss)
+seen_added false ms vs us ss m a stay old is = accesses_stay vs us stay [] ss old
+seen_added true ms vs us ss m a stay old is =
+    subst (λ (xs : List Version). AreAccesses us xs (ss ++ a ∷ [])) (sym (map_push version_in ms m))
+    (accesses_push us (map version_in ms) ss (version_in m) a (accesses_stay vs us stay (map version_in ms) ss old)
+    (subst (λ (v : Version). IsAccess us v a) (sym (version_of_mop m)) is))
+
+pub accessed_stay : (vs us : List Version) (m : Mop) → IsAccessed vs us m → (n : ℕ) (v : Version) → slice_get vs n ≡ Some v → slice_get us n ≡ Some v
+accessed_stay vs us m grown n v h =
+    ap (λ (xs : List Version). slice_get xs n) grown ∙ versions_stay vs (nil_of (key_of m) ∷ version_with (key_of m) (value_of m) ∷ []) n v h
+
+-- where nothing is kept
+pub seen_unknown :
+    (keeps : Bool) (vs us : List Version) (seen seen' : List Version) (ss : List Access) → keeps ≡ false → AreAccesses vs (cond keeps seen []) ss
+    → AreAccesses us (cond keeps seen' []) ss
+seen_unknown true vs us seen seen' ss none are = absurd (true≢false none)
+seen_unknown false vs us seen seen' [] none are = tt
+seen_unknown false vs us seen seen' (a ∷ ss) none are = absurd are

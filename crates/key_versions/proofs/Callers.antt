@@ -3,6 +3,7 @@ use Rattle.std.proofs.Common.{◌≡◌, ℕ, List, map, Option, Some, option_ma
 use Rattle.std.specs.Prelude.{slice_get}
 use Rattle.std.proofs.lemmas.Option.{slice_get-map}
 use Rattle.hist_types.specs.Transactions.{Transaction, Version, installed_by}
+use Rattle.hist_types.specs.declared.types.KeyOrder.{KeyOrder}
 use Rattle.key_versions.specs.Histories.{read_by, writer_of, readers_of, followers_of}
 use Rattle.key_versions.specs.Tables.{Table, IsTableOf, versions_at, followers_at}
 use Rattle.key_versions.specs.declared.types.Writer.{Writer}
@@ -10,7 +11,7 @@ use Rattle.key_versions.specs.declared.types.Follower.{Follower}
 use Rattle.key_versions.proofs.Lists.{agree_at}
 use Rattle.key_versions.proofs.Places.{same_item}
 
-module _ (ts : List Transaction) (table : Table) (is : IsTableOf ts table) where
+module _ (keys : KeyOrder) (ts : List Transaction) (table : Table) (is : IsTableOf keys ts table) where
   module _ (n : ℕ) (v : Version) (at : slice_get table.versions n ≡ Some v) where
     pub writer_told : (writer : Option Writer) → slice_get table.writers n ≡ Some writer → writer ≡ writer_of ts v
     writer_told writer h =
@@ -24,8 +25,8 @@ module _ (ts : List Transaction) (table : Table) (is : IsTableOf ts table) where
 
     pub followers_told :
         (followers : List Follower) → slice_get table.followers n ≡ Some followers
-        → followers_at table.versions followers ≡ map (λ p. (p.0, Some p.1)) (followers_of ts v)
-    followers_told followers h = agree_at (followers_at table.versions) (λ u. map (λ p. (p.0, Some p.1)) (followers_of ts u)) table.followers table.versions is.followers n followers v h at
+        → followers_at table.versions followers ≡ map (λ p. (p.0, Some p.1)) (followers_of keys ts v)
+    followers_told followers h = agree_at (followers_at table.versions) (λ u. map (λ p. (p.0, Some p.1)) (followers_of keys ts u)) table.followers table.versions is.followers n followers v h at
 
   module _ (place : ℕ) (t : Transaction) (at : slice_get ts place ≡ Some t) where
     pub reads_told : (reads : List ℕ) → slice_get table.reads place ≡ Some reads → versions_at table.versions reads ≡ map Some (read_by t)

@@ -2,19 +2,21 @@
 use Rattle.std.proofs.Common.{◌≡◌, ℕ, List, length, map, Option, sym, ◌∙◌, ap}
 use Rattle.std.proofs.lemmas.List.{length-map}
 use Rattle.hist_types.specs.Atoms.{Atom}
-use Rattle.hist_types.specs.Transactions.{Version}
+use Rattle.hist_types.specs.Transactions.{Transaction, Version}
+use Rattle.hist_types.specs.declared.types.KeyOrder.{KeyOrder}
 use Rattle.key_versions.specs.declared.pending.Written.{Written}
 use Rattle.key_versions.specs.declared.types.Writer.{Writer}
 use Rattle.key_versions.specs.declared.types.Follower.{Follower}
 use Rattle.key_versions.specs.Numbering.{AreInRange, version_by, versions_in}
 use Rattle.key_versions.specs.Pending.{writer_in}
 use Rattle.key_versions.specs.Rows.{Known, Accessed}
-use Rattle.key_versions.specs.Tables.{Table}
-use Rattle.key_versions.specs.Views.{table_by, table_of, AreVersions}
+use Rattle.key_versions.specs.Tables.{Table, IsTableOf}
+use Rattle.key_versions.specs.Views.{table_by, table_of, with_order, AreVersions}
 
-abbrev table_with : List Version → List (Option Writer) → List (List ℕ) → List (List Follower) → List Accessed → Table
-table_with versions writers readers followers accesses =
+abbrev table_with : KeyOrder → List Version → List (Option Writer) → List (List ℕ) → List (List Follower) → List Accessed → Table
+table_with order versions writers readers followers accesses =
     record {
+      keys = order;
       versions = versions;
       writers = writers;
       readers = readers;
@@ -35,9 +37,22 @@ module _ (keys values : List Atom) (pairs : List (ℕ × Option ℕ)) (versions 
         followers_of_each = ap length by_follower ∙ length-map rows (λ (k : Known). k.followers) ∙ count_rows;
       }
 
-  pub table_same : (accesses : List Accessed) → table_of (versions_in keys values pairs) writers readers followers accesses ≡ table_by versions rows accesses
-  table_same accesses =
-      ap (λ vs. table_with vs (map writer_in writers) readers followers accesses) numbered
-      ∙ ap (λ ws. table_with versions ws readers followers accesses) by_writer
-      ∙ ap (λ rs. table_with versions (map (λ (k : Known). k.writer) rows) rs followers accesses) by_reader
-      ∙ ap (λ fs. table_with versions (map (λ (k : Known). k.writer) rows) (map (λ (k : Known). k.readers) rows) fs accesses) by_follower
+  pub table_same : (order : KeyOrder) (accesses : List Accessed) → table_of order (versions_in keys values pairs) writers readers followers accesses ≡ with_order (table_by versions rows accesses) order
+  table_same order accesses =
+      ap (λ vs. table_with order vs (map writer_in writers) readers followers accesses) numbered
+      ∙ ap (λ ws. table_with order versions ws readers followers accesses) by_writer
+      ∙ ap (λ rs. table_with order versions (map (λ (k : Known). k.writer) rows) rs followers accesses) by_reader
+      ∙ ap (λ fs. table_with order versions (map (λ (k : Known). k.writer) rows) (map (λ (k : Known). k.readers) rows) fs accesses) by_follower
+
+-- a table says the same of the transactions, whatever order of keys it bears
+pub same_table : (keys order : KeyOrder) (ts : List Transaction) (table : Table) → IsTableOf keys ts table → IsTableOf keys ts (with_order table order)
+same_table keys order ts table is =
+    record {
+      distinct = is.distinct;
+      named = is.named;
+      writers = is.writers;
+      readers = is.readers;
+      followers = is.followers;
+      reads = is.reads;
+      installs = is.installs;
+    }

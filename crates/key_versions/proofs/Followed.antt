@@ -38,11 +38,11 @@ filtered vs place p q (w ∷ wr) (a ∷ accesses) agree are =
 filtered vs place p q [] (a ∷ accesses) agree are = absurd are
 filtered vs place p q (w ∷ wr) [] agree are = absurd are
 
-none_pass : {A : Type 0} (xs : List A) → filter (λ (x : A). false) xs ≡ []
+pub none_pass : {A : Type 0} (xs : List A) → filter (λ (x : A). false) xs ≡ []
 none_pass [] = refl
 none_pass (x ∷ xs) = none_pass xs
 
-same_filter : {A : Type 0} (p q : A → Bool) → ((x : A) → p x ≡ q x) → (xs : List A) → filter p xs ≡ filter q xs
+pub same_filter : {A : Type 0} (p q : A → Bool) → ((x : A) → p x ≡ q x) → (xs : List A) → filter p xs ≡ filter q xs
 same_filter p q same [] = refl
 same_filter {A} p q same (x ∷ xs) = ap (λ b. cond b (x ∷ filter p xs) (filter p xs)) (same x) ∙ ap (λ (ys : List A). cond (q x) (x ∷ ys) ys) (same_filter p q same xs)
 

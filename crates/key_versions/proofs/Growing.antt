@@ -5,6 +5,7 @@ use Rattle.std.specs.List.{list_any}
 use Rattle.std.specs.Option.{option_or}
 use Rattle.std.proofs.lemmas.List.{append_assoc, append-nil}
 use Rattle.hist_types.specs.Transactions.{Transaction, Version, is_known_to_read, writes, wrote_intermediate, has_version}
+use Rattle.hist_types.specs.declared.types.KeyOrder.TheVariants.{Basic}
 use Rattle.key_versions.specs.Histories.{from_place, named_by, is_named, writer_of, readers_of, followers_of, installs_behind}
 use Rattle.key_versions.specs.declared.types.Writer.{Writer}
 
@@ -54,9 +55,9 @@ with_place place w = (place, w)
 
 pub followers-push :
     (ts : List Transaction) (t : Transaction) (v : Version)
-    → followers_of (ts ++ t ∷ []) v ≡ followers_of ts v ++ map (with_place (length ts)) (installs_behind t v)
+    → followers_of Basic (ts ++ t ∷ []) v ≡ followers_of Basic ts v ++ map (with_place (length ts)) (installs_behind [] t v)
 followers-push ts t v =
-    let f = λ (place : ℕ) (t : Transaction). map (with_place place) (installs_behind t v) in
+    let f = λ (place : ℕ) (t : Transaction). map (with_place place) (installs_behind [] t v) in
     from_place-push f 0 ts t ∙ ap (λ n. from_place f 0 ts ++ f n t) (from_zero (length ts))
 
 any-push : {A : Type 0} (p : A → Bool) (xs : List A) (x : A) → list_any p (xs ++ x ∷ []) ≡ (list_any p xs || p x)

@@ -13,4 +13,9 @@ mod Joined
 mod Followed
 mod Told
 pub mod Callers
+mod ByPlace
 mod Pairs
+mod Seen
+mod Stepping
+mod Interleaved
+mod Sequenced

@@ -16,6 +16,7 @@ use Rattle.hist_types.proofs.Equality.{version_eq-same, version_eq-itself}
 use Rattle.op_view.specs.Mops.{key_of}
 use Rattle.atom_index.specs.Numbers.{number_in, with_item, AreNumbered}
 use Rattle.atom_index.proofs.Pushed.{has_number as number_there}
+use Rattle.hist_types.specs.declared.types.KeyOrder.TheVariants.{Basic}
 use Rattle.key_versions.specs.declared.pending.Access.{Access}
 use Rattle.key_versions.specs.declared.types.Writer.{Writer}
 use Rattle.key_versions.specs.declared.types.Follower.{Follower}
@@ -170,9 +171,9 @@ as_found p = (p.0, Some p.1)
 pub record IsRowOf (ts : List Transaction) (vs : List Version) (v : Version) (x : Known) : Type 0 where
   pub writer : x.writer ≡ writer_of ts v
   pub readers : x.readers ≡ readers_of ts v
-  pub followers : followers_at vs x.followers ≡ map as_found (followers_of ts v)
+  pub followers : followers_at vs x.followers ≡ map as_found (followers_of Basic ts v)
 
-row_count : (ts : List Transaction) (vs : List Version) (rows : List Known) (accesses : List Accessed) → IsTableOf ts (table_by vs rows accesses) → length rows ≡ length vs
+pub row_count : (ts : List Transaction) (vs : List Version) (rows : List Known) (accesses : List Accessed) → IsTableOf Basic ts (table_by vs rows accesses) → length rows ≡ length vs
 row_count ts vs rows accesses is = sym (length-map rows (λ (r : Known). r.writer)) ∙ ap length is.writers ∙ length-map vs (writer_of ts)
 
 -- A version behind those that were there was not among them.
@@ -193,7 +194,7 @@ followers_in o = option_map (λ (r : Known). r.followers) o
 
 -- a row that was there, or one for a version that is new
 old_row :
-    (ts : List Transaction) (vs ws : List Version) (rows : List Known) (accesses : List Accessed) → IsTableOf ts (table_by vs rows accesses)
+    (ts : List Transaction) (vs ws : List Version) (rows : List Known) (accesses : List Accessed) → IsTableOf Basic ts (table_by vs rows accesses)
     → (m n : ℕ) (v : Version) (x : Known) → slice_get (with_versions vs ws) n ≡ Some v → slice_get (grown m rows) n ≡ Some x
     → IsRowOf ts (with_versions vs ws) v x
 old_row ts vs ws rows accesses is m n v x at row = elim (grown_row m rows n x row) [
@@ -206,9 +207,9 @@ old_row ts vs ws rows accesses is m n v x at row = elim (grown_row m rows n x ro
         writer = agree_at (λ (r : Known). r.writer) (writer_of ts) rows vs is.writers n x v there here;
         readers = agree_at (λ (r : Known). r.readers) (readers_of ts) rows vs is.readers n x v there here;
         followers =
-            let old = agree_at (followers_at vs) (λ u. map as_found (followers_of ts u)) (map (λ (r : Known). r.followers) rows) vs is.followers n x.followers v
+            let old = agree_at (followers_at vs) (λ u. map as_found (followers_of Basic ts u)) (map (λ (r : Known). r.followers) rows) vs is.followers n x.followers v
             (slice_get-map (λ (r : Known). r.followers) rows n ∙ ap followers_in there) here in
-            followers_stay vs (with_versions vs ws) (versions_stay vs ws) x.followers (followers_of ts v) old;
+            followers_stay vs (with_versions vs ws) (versions_stay vs ws) x.followers (followers_of Basic ts v) old;
       })
   | inr past ↦ (
       let unnamed : is_named ts v ≡ false = sym (is.named v) ∙ false_from_ne_true (has_version vs v) (λ has. new_version vs ws (versions_numbered vs is.distinct ws) n v at (subst (λ k. k ≤ n) (row_count ts vs rows accesses is) past.0) has) in
@@ -224,7 +225,7 @@ old_row ts vs ws rows accesses is m n v x at row = elim (grown_row m rows n x ro
 abbrev found_at : List Version → Follower → ℕ × Option Version
 found_at vs f = (f.txn, slice_get vs f.version)
 
-access_count : (ts : List Transaction) (vs : List Version) (rows : List Known) (accesses : List Accessed) → IsTableOf ts (table_by vs rows accesses) → length accesses ≡ length ts
+access_count : (ts : List Transaction) (vs : List Version) (rows : List Known) (accesses : List Accessed) → IsTableOf Basic ts (table_by vs rows accesses) → length accesses ≡ length ts
 access_count ts vs rows accesses is =
     sym (length-map accesses (λ (a : Accessed). a.reads)) ∙ sym (length-map (map (λ (a : Accessed). a.reads) accesses) (versions_at vs)) ∙ ap length is.reads
     ∙ length-map ts (λ t. map Some (read_by t))
@@ -263,7 +264,7 @@ module _
 
   added_is :
       (place n nil : ℕ) (key : Atom) (value : Value) → slice_get vs n ≡ Some (version_with key value) → slice_get vs nil ≡ Some (version_with key None)
-      → added place n nil (is_known_to_read t (version_with key value)) ≡ map (install_at place) (installs_behind t (version_with key value))
+      → added place n nil (is_known_to_read t (version_with key value)) ≡ map (install_at place) (installs_behind [] t (version_with key value))
   added_is place n nil key None at there =
       behind_nil vs numbered n nil place (last_writes (writes_of t.mops)) (lasts ws) (lasts_are vs numbered (writes_of t.mops) ws wrote) key
       (is_known_to_read t (version_with key None)) (is_known_to_read t (version_with key None)) at there
@@ -296,9 +297,9 @@ module _
             ∙ ap (λ (ps : List (ℕ × Option Version)). ps ++ followers_at vs second) (map-append (found_at vs) x.followers first)
             ∙ append_assoc (followers_at vs x.followers) (followers_at vs first) (followers_at vs second)
             ∙ ap (λ (ps : List (ℕ × Option Version)). ps ++ (followers_at vs first ++ followers_at vs second)) old.followers
-            ∙ ap (λ b. map as_found (followers_of ts v) ++ added place n nil b) is_read
-            ∙ ap (λ (ps : List (ℕ × Option Version)). map as_found (followers_of ts v) ++ ps) (added_is place n nil v.key v.value at there ∙ map_twice place (installs_behind t v))
-            ∙ sym (ap (map as_found) (followers-push ts t v) ∙ map-append as_found (followers_of ts v) (map (with_place place) (installs_behind t v)));
+            ∙ ap (λ b. map as_found (followers_of Basic ts v) ++ added place n nil b) is_read
+            ∙ ap (λ (ps : List (ℕ × Option Version)). map as_found (followers_of Basic ts v) ++ ps) (added_is place n nil v.key v.value at there ∙ map_twice place (installs_behind [] t v))
+            ∙ sym (ap (map as_found) (followers-push ts t v) ∙ map-append as_found (followers_of Basic ts v) (map (with_place place) (installs_behind [] t v)));
       }
 
 -- the number of the nil version of a version's key
@@ -336,9 +337,9 @@ grown_enough n rows = omega (arith, length-append rows (replicate (n - length ro
 -- The table of one transaction more tells of it.
 pub told :
     (ts : List Transaction) (t : Transaction) (vs us : List Version) (rows : List Known) (accesses : List Accessed) (rs ws : List Access)
-    → IsTableOf ts (table_by vs rows accesses) → us ≡ with_versions vs (named_by t)
+    → IsTableOf Basic ts (table_by vs rows accesses) → us ≡ with_versions vs (named_by t)
     → AreAccesses us (read_by t) rs → AreAccesses us (map version_of (writes_of t.mops)) ws
-    → IsTableOf (ts ++ t ∷ []) (table_by us (rows_after (length accesses) rs ws (grown (length us) rows)) (accesses ++ accessed rs ws ∷ []))
+    → IsTableOf Basic (ts ++ t ∷ []) (table_by us (rows_after (length accesses) rs ws (grown (length us) rows)) (accesses ++ accessed rs ws ∷ []))
 told ts t vs us rows accesses rs ws is grew read wrote =
     let numbered : AreNumbered version_eq us = subst (AreNumbered version_eq) (sym grew) (versions_numbered vs is.distinct (named_by t)) in
     let place : length accesses ≡ length ts = access_count ts vs rows accesses is in
@@ -366,7 +367,7 @@ told ts t vs us rows accesses rs ws is grew read wrote =
       readers = maps_agree (λ (r : Known). r.readers) (readers_of (ts ++ t ∷ [])) rows_now us count (λ n y v row at. (each n y v row at).readers);
       followers =
           map_both (followers_at us) (λ (r : Known). r.followers) rows_now
-          ∙ maps_agree (λ (r : Known). followers_at us r.followers) (λ v. map as_found (followers_of (ts ++ t ∷ []) v)) rows_now us count (λ n y v row at. (each n y v row at).followers);
+          ∙ maps_agree (λ (r : Known). followers_at us r.followers) (λ v. map as_found (followers_of Basic (ts ++ t ∷ []) v)) rows_now us count (λ n y v row at. (each n y v row at).followers);
       reads = one_more vs us stay read_by ts t (map (λ (a : Accessed). a.reads) accesses) (λ (a : Accessed). a.reads) accesses (accessed rs ws) refl is.reads (numbers_are us (read_by t) rs read);
       installs =
           one_more vs us stay installed_by ts t (map (λ (a : Accessed). a.installs) accesses) (λ (a : Accessed). a.installs) accesses (accessed rs ws) refl is.installs

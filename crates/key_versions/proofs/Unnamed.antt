@@ -10,6 +10,7 @@ use Rattle.hist_types.specs.Journal.{Write, writes_of}
 use Rattle.hist_types.specs.Transactions.{Transaction, Version, version_eq, version_of, has_version, has_key, is_ok, reads_after, last_writes, installed_by, is_known_to_read, writes, wrote_intermediate}
 use Rattle.hist_types.specs.Versions.{nil_of, pair, is_change}
 use Rattle.op_view.specs.Mops.{key_of}
+use Rattle.hist_types.specs.declared.types.KeyOrder.TheVariants.{Basic}
 use Rattle.key_versions.specs.declared.types.Writer.{Writer}
 use Rattle.key_versions.specs.Histories.{known_in, named_in, named_by, is_named, is_followed, installs_behind, from_place, writer_of, readers_of, followers_of}
 use Rattle.key_versions.specs.Numbering.{version_with}
@@ -82,7 +83,7 @@ not_read t v none = by (is_ok t) t.mops v none
     by false ms v none = refl
 
 -- A version that is nil follows nothing, and one that nobody reads is followed behind nil alone.
-not_followed : (t : Transaction) (key : Atom) (value : Value) (w : Version) → is_known_to_read t (record { key = key; value = value }) ≡ false → is_nil_of (record { key = key; value = value }) w ≡ false → is_followed t (record { key = key; value = value }) w ≡ false
+not_followed : (t : Transaction) (key : Atom) (value : Value) (w : Version) → is_known_to_read t (record { key = key; value = value }) ≡ false → is_nil_of (record { key = key; value = value }) w ≡ false → is_followed [] t (record { key = key; value = value }) w ≡ false
 not_followed t key (Some x) w unread apart = ap (λ b. b && is_change (pair (record { key = key; value = Some x }) w)) unread
 not_followed t key None w unread apart =
     let keys : atom_eq key w.key ≡ false = sym (and_true (atom_eq key w.key)) ∙ apart in
@@ -92,9 +93,9 @@ not_followed t key None w unread apart =
     and_true true = refl
     and_true false = refl
 
-no_followers : (t : Transaction) (v : Version) → has_version (named_by t) v ≡ false → installs_behind t v ≡ []
+no_followers : (t : Transaction) (v : Version) → has_version (named_by t) v ≡ false → installs_behind [] t v ≡ []
 no_followers t v none =
-    none_filtered (is_nil_of v) (is_followed t v) (λ w apart. not_followed t v.key v.value w (not_read t v none) apart) (installed_by t)
+    none_filtered (is_nil_of v) (is_followed [] t v) (λ w apart. not_followed t v.key v.value w (not_read t v none) apart) (installed_by t)
     (none_last (is_nil_of v) (writes_of t.mops) (no_nils v (is_ok t) t.mops none))
 
 -- ---- in no transaction
@@ -120,6 +121,6 @@ unnamed_readers ts v none =
 abbrev with_place : ℕ → Version → ℕ × Version
 with_place place w = (place, w)
 
-pub unnamed_followers : (ts : List Transaction) (v : Version) → is_named ts v ≡ false → followers_of ts v ≡ []
+pub unnamed_followers : (ts : List Transaction) (v : Version) → is_named ts v ≡ false → followers_of Basic ts v ≡ []
 unnamed_followers ts v none =
-    nothing (λ place t. map (with_place place) (installs_behind t v)) v (λ place t h. ap (map (with_place place)) (no_followers t v h)) 0 ts none
+    nothing (λ place t. map (with_place place) (installs_behind [] t v)) v (λ place t h. ap (map (with_place place)) (no_followers t v h)) 0 ts none

@@ -6,3 +6,5 @@ pub mod Numbering
 pub mod Views
 pub mod Pending
 pub mod Pairs
+pub mod Steps
+pub mod Stepped

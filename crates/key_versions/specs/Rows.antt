@@ -30,6 +30,11 @@ change f n [] = []
 change f zero (x ∷ xs) = f x ∷ xs
 change f (suc n) (x ∷ xs) = x ∷ change f n xs
 
+-- ---- micro-operations
+
+abbrev pub with_access : (adds : Bool) → Access → List Access → List Access
+with_access adds access accesses = if adds then accesses ++ access ∷ [] else accesses
+
 -- ---- writes
 
 abbrev pub with_writer : Writer → Known → Known
@@ -46,6 +51,11 @@ is_of_key nil access = access.nil == nil
 
 abbrev pub has_nil : ℕ → List Access → Bool
 has_nil nil accesses = list_any (is_of_key nil) accesses
+
+-- the external reads after a micro-operation, where these were the writes before it
+abbrev pub with_read : (is_write : Bool) → Access → (writes reads : List Access) → List Access
+with_read is_write access writes reads =
+    with_access (not is_write && not (has_nil access.nil writes)) access reads
 
 -- the writes with no later one of their key
 abbrev pub lasts : List Access → List Access

@@ -2,6 +2,8 @@
 use Rattle.std.specs.Prelude.{◌≡◌, List, map, length, ℕ, Option}
 use Rattle.hist_types.specs.Atoms.{Atom}
 use Rattle.hist_types.specs.Transactions.{Version}
+use Rattle.hist_types.specs.declared.types.KeyOrder.{KeyOrder}
+use Rattle.hist_types.specs.declared.types.KeyOrder.TheVariants.{Basic}
 use Rattle.key_versions.specs.Numbering.{AreInRange}
 use Rattle.key_versions.specs.Rows.{Known, Accessed}
 use Rattle.key_versions.specs.Tables.{Table}
@@ -12,6 +14,7 @@ use Rattle.key_versions.specs.declared.types.Follower.{Follower}
 abbrev pub table_by : List Version → List Known → List Accessed → Table
 table_by versions rows accesses =
     record {
+      keys = Basic;
       versions = versions;
       writers = map (λ (r : Known). r.writer) rows;
       readers = map (λ (r : Known). r.readers) rows;
@@ -20,11 +23,25 @@ table_by versions rows accesses =
       installs = map (λ (a : Accessed). a.installs) accesses;
     }
 
--- the table that is put together
-abbrev pub table_of : List Version → List Written → List (List ℕ) → List (List Follower)
-    → List Accessed → Table
-table_of versions writers readers followers accesses =
+-- the table, of keys of this order
+abbrev pub with_order : Table → KeyOrder → Table
+with_order table keys =
     record {
+      keys = keys;
+      versions = table.versions;
+      writers = table.writers;
+      readers = table.readers;
+      followers = table.followers;
+      reads = table.reads;
+      installs = table.installs;
+    }
+
+-- the table that is put together
+abbrev pub table_of : KeyOrder → List Version → List Written → List (List ℕ) → List (List Follower)
+    → List Accessed → Table
+table_of keys versions writers readers followers accesses =
+    record {
+      keys = keys;
       versions = versions;
       writers = map writer_in writers;
       readers = readers;

@@ -7,16 +7,19 @@ ghost use Rattle.key_versions.specs.Tables.{IsTableOf};
 
 mod accesses;
 mod building;
+mod interleaving;
 pub mod laws;
 mod numbering;
 mod pending;
 mod rows;
+mod sequential;
+mod steps;
 pub mod table;
 pub mod types;
 
 use crate::building::Building;
 use crate::table::Versions;
-use hist_types::types::Fault;
+use hist_types::types::{Fault, KeyOrder};
 use std::alloc::Global;
 use std::hash::BuildHasher;
 use std::thread::Threads;
@@ -26,21 +29,31 @@ use txn_pairs::types::Txns;
 /// the reads of other transactions hold is not known, so it is left out. They borrow the journal's blocks. No answer depends on
 /// the hasher.
 ///
+/// A version's followers are the transactions known to install a later version of its key. Where keys are basic, those are the
+/// transactions that read the version and install another one, and after nil all that install a version of the key. Where keys
+/// are sequential, a process is taken to see the versions of a key in their order: what it reads or writes in one ok transaction
+/// comes before the different version that the next one reads first, or writes without reading the key. Whoever installs the
+/// later version then follows the earlier one, even if the transaction is of another process and read nothing. So a version may
+/// then have followers that didn't read it, and several of them.
+///
 /// The time is linear in their micro-operations, except for the square of the length of one transaction. The only error is out
 /// of memory.
 pub fn versions<'a, S: BuildHasher + Copy>(
     alloc: Global,
     txns: &Txns<'a>,
     hasher: S,
+    keys: KeyOrder,
 ) -> Result<Versions<'a>, Fault>
-    ensures ok { IfOk result (IsTableOf txns.now) }
+    ensures ok { IfOk result (IsTableOf keys txns.now) }
+    ensures keys { IfOk result (λ versions. versions.keys ≡ keys) }
     ensures err { IfErr result (λ fault. fault ≡ memory_fault) }
 {
-    let building = Building::of(alloc, hasher, txns.as_slice())?;
-    Ok(building.finish(alloc)?)
+    let building = Building::of(alloc, hasher, txns.as_slice(), keys)?;
+    Ok(building.finish(alloc, keys)?)
 }
 
-/// The table that `versions` makes, put together by two threads, where another can be made.
+/// The table that `versions` makes, put together by two threads, where another can be made. The steps of sequential keys are
+/// followed on one thread.
 ///
 /// The only error is out of memory.
 pub fn versions_wide<'a, R: Threads, S: BuildHasher + Copy>(
@@ -48,10 +61,12 @@ pub fn versions_wide<'a, R: Threads, S: BuildHasher + Copy>(
     alloc: Global,
     txns: &Txns<'a>,
     hasher: S,
+    keys: KeyOrder,
 ) -> Result<Versions<'a>, Fault>
-    ensures ok { IfOk result (IsTableOf txns.now) }
+    ensures ok { IfOk result (IsTableOf keys txns.now) }
+    ensures keys { IfOk result (λ versions. versions.keys ≡ keys) }
     ensures err { IfErr result (λ fault. fault ≡ memory_fault) }
 {
-    let building = Building::of(alloc, hasher, txns.as_slice())?;
-    Ok(building.finish_wide(rt, alloc)?)
+    let building = Building::of(alloc, hasher, txns.as_slice(), keys)?;
+    Ok(building.finish_wide(rt, alloc, keys)?)
 }

@@ -6,13 +6,15 @@ ghost use Rattle.hist_types.specs.Atoms.{atom_eq};
 ghost use Rattle.hist_types.specs.Journal.{writes_of};
 ghost use Rattle.hist_types.specs.Transactions.{Version, version_of, version_eq};
 ghost use Rattle.hist_types.specs.Versions.{nil_of};
-ghost use Rattle.key_versions.specs.Histories.{named_by, read_by};
+ghost use Rattle.key_versions.specs.Histories.{named_by, read_by, seen_in};
+ghost use Rattle.key_versions.specs.Rows.{with_access, with_read};
 ghost use Rattle.key_versions.specs.Numbering.{Numbers, key_at, version_with, versions_in, versions_of, AreInRange, with_versions, IsAccess, AreAccesses};
 
 use crate::pending::Access;
 use crate::rows::{has_key, number_of};
 use atom_index::atoms::AtomIndex;
 use atom_index::pairs::PairIndex;
+use hist_types::types::KeyOrder;
 use op_view::atom::Atom;
 use smallvec::SmallVec;
 use std::alloc::{AllocError, Global};
@@ -24,6 +26,8 @@ use txn_pairs::types::{Status, Txn};
 pub(crate) struct Accessed {
     pub reads: SmallVec<Access, 4>,
     pub writes: SmallVec<Access, 4>,
+    /// Where keys are sequential, what each micro-operation of an ok transaction reads or writes.
+    pub seen: SmallVec<Access, 4>,
 }
 
 // Written out, as what is derived is repeated wherever one is dropped.
@@ -32,7 +36,31 @@ impl Drop for Accessed {
         let Accessed {
             reads: _,
             writes: _,
+            seen: _,
         } = self;
+    }
+}
+
+impl Accessed {
+    /// Adds the access of a micro-operation. A read of a key that the transaction wrote before isn't external.
+    fn add(&mut self, access: Access, is_write: bool, keeps_seen: bool) -> Result<(), AllocError>
+        ensures reads { OnOk result
+            (self.new.reads.items
+            ≡ with_read is_write access self.old.writes.items self.old.reads.items) }
+        ensures writes { OnOk result
+            (self.new.writes.items ≡ with_access is_write access self.old.writes.items) }
+        ensures seen { OnOk result
+            (self.new.seen.items ≡ with_access keeps_seen access self.old.seen.items) }
+    {
+        if keeps_seen {
+            self.seen.push(access)?;
+        }
+        if is_write {
+            self.writes.push(access)?;
+        } else if !has_key(self.writes.as_slice(), access.nil) {
+            self.reads.push(access)?;
+        }
+        Ok(())
     }
 }
 
@@ -49,6 +77,7 @@ pub(crate) struct Numbering<'a, S: BuildHasher> {
 }
 
 impl<'a, S: BuildHasher> Model for Numbering<'a, S> {
+    ghost use Rattle.key_versions.specs.Rows.{with_access, with_read};
     ghost use Rattle.key_versions.specs.Numbering.{Numbers, IsNumbering};
 
     ghost Value = { Numbers };
@@ -150,7 +179,7 @@ impl<'a, S: BuildHasher> Numbering<'a, S> {
     }
 
     /// Numbers the versions that a transaction names. Of a read of one that is not ok, that is the nil version of the key alone.
-    pub fn take(&mut self, txn: &Txn<'a>) -> Result<Accessed, AllocError>
+    pub fn take(&mut self, txn: &Txn<'a>, keys: KeyOrder) -> Result<Accessed, AllocError>
         ensures versions { OnOk result
             (versions_of self.new ≡ with_versions (versions_of self.old) (named_by txn.now)) }
         ensures reads { IfOk result
@@ -158,21 +187,22 @@ impl<'a, S: BuildHasher> Numbering<'a, S> {
         ensures writes { IfOk result
             (λ a. AreAccesses (versions_of self.new)
             (map version_of (writes_of txn.now.mops)) a.writes.items) }
+        ensures seen { IfOk result
+            (λ a. AreAccesses (versions_of self.new) (seen_in keys txn.now) a.seen.items) }
     {
         let is_ok = txn.status() == Status::Ok;
+        let keeps_seen = is_ok && keys == KeyOrder::Sequential;
         let mut accessed = Accessed {
             reads: SmallVec::new(self.alloc),
             writes: SmallVec::new(self.alloc),
+            seen: SmallVec::new(self.alloc),
         };
         for mop in txn.mops() {
-            if mop.is_write() {
-                let write = self.access(mop.key(), mop.value())?;
-                accessed.writes.push(write)?;
-            } else if is_ok {
-                let read = self.access(mop.key(), mop.value())?;
-                if !has_key(accessed.writes.as_slice(), read.nil) {
-                    accessed.reads.push(read)?;
-                }
+            let is_write = mop.is_write();
+            let is_known = is_ok || is_write;
+            if is_known {
+                let access = self.access(mop.key(), mop.value())?;
+                accessed.add(access, is_write, keeps_seen)?;
             } else {
                 self.key(mop.key())?;
             }

@@ -1,10 +1,13 @@
 //! What is known of each version while transactions are taken, and how it is put together.
 
-ghost use Rattle.std.specs.Prelude.{◌≡◌, ◌<◌, ◌++◌, ◌∷◌, [], Some, length, map, IfOk, OnOk};
+ghost use Rattle.std.specs.Prelude.{◌≡◌, ◌<◌, ◌++◌, ◌∷◌, [], Some, length, map, All, IfOk, OnOk};
 ghost use Rattle.std.specs.Option.{option_or};
 ghost use Rattle.key_versions.specs.Pending.{writer_in};
 ghost use Rattle.key_versions.specs.Rows.{Known, change, is_behind, unknown, with_follower, with_place, with_reader, with_writer};
+ghost use Rattle.key_versions.specs.Steps.{stepped_rows, FollowersArePlaced, InstallsAreBelow, AreBelow};
 
+use crate::accesses::Accesses;
+use crate::interleaving::with_steps;
 use crate::types::{Follower, Writer};
 use flat_groups::groups::Groups;
 use std::alloc::{AllocError, Global};
@@ -160,6 +163,22 @@ impl Pending {
                 )?;
             }
         }
+        Ok(())
+    }
+
+    /// Adds what each transaction installs, after the earlier versions that each version has by steps of processes.
+    pub fn follow_steps(
+        &mut self,
+        alloc: Global,
+        accesses: &Accesses,
+        earlier: &Groups<u32>,
+    ) -> Result<(), AllocError>
+        requires followers { All (FollowersArePlaced (length accesses.now)) self.old }
+        requires installs { All (InstallsAreBelow (length earlier.now)) accesses.now }
+        requires earlier { All (AreBelow (length self.old)) earlier.now }
+        ensures { OnOk result (self.new ≡ stepped_rows earlier.now accesses.now 0 self.old) }
+    {
+        self.followers = with_steps(alloc, self.followers.as_slice(), accesses, earlier)?;
         Ok(())
     }
 

@@ -9,12 +9,14 @@ use crate::numbering::Numbered;
 use crate::pending::{Grouped, Written};
 use crate::types::{Follower, VersionRef, Writer};
 use flat_groups::groups::Groups;
+use hist_types::types::KeyOrder;
 use op_view::atom::Atom;
 use std::marker::Model;
 
 /// The versions that a history names, with what its transactions do with each. Versions go by number, transactions by their
 /// place in the history. No call takes memory.
 pub struct Versions<'a> {
+    order: KeyOrder,
     keys: Vec<Atom<'a>>,
     values: Vec<Atom<'a>>,
     /// The key and the value of each version, by their numbers. None is nil.
@@ -29,6 +31,7 @@ pub struct Versions<'a> {
 impl Drop for Versions<'_> {
     fn drop(self) {
         let Versions {
+            order: _,
             keys: _,
             values: _,
             pairs: _,
@@ -47,7 +50,7 @@ impl<'a> Model for Versions<'a> {
 
     ghost Value = { Table };
 
-    ghost view = { λ v. table_of (versions_in v.keys.items v.values.items v.pairs.items)
+    ghost view = { λ v. table_of v.order (versions_in v.keys.items v.values.items v.pairs.items)
         v.writers.items v.readers v.followers v.accesses };
 
     ghost invariant = { λ v. AreVersions v.keys.items v.values.items v.pairs.items
@@ -56,15 +59,21 @@ impl<'a> Model for Versions<'a> {
 
 impl<'a> Versions<'a> {
     /// The versions with these keys and values, and what is known of each.
-    pub(crate) fn new(numbered: Numbered<'a>, known: Grouped, accesses: Accesses) -> Self
+    pub(crate) fn new(
+        order: KeyOrder,
+        numbered: Numbered<'a>,
+        known: Grouped,
+        accesses: Accesses,
+    ) -> Self
         requires { AreVersions numbered.keys.items numbered.values.items numbered.pairs.items
             known.writers.items known.readers known.followers }
-        ensures { result ≡ table_of
+        ensures { result ≡ table_of order
             (versions_in
             numbered.entry.keys.items numbered.entry.values.items numbered.entry.pairs.items)
             known.writers.items known.readers known.followers accesses }
     {
         Versions {
+            order,
             keys: numbered.keys,
             values: numbered.values,
             pairs: numbered.pairs,
@@ -73,6 +82,13 @@ impl<'a> Versions<'a> {
             followers: known.followers,
             accesses,
         }
+    }
+
+    /// How the versions of each key are ordered.
+    pub fn keys(&self) -> KeyOrder
+        ensures { result ≡ self.now.keys }
+    {
+        self.order
     }
 
     /// How many versions there are.

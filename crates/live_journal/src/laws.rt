@@ -8,44 +8,45 @@ ghost use Rattle.hist_types.specs.LegalAnswers.{StampedBlock, row_events, counti
 ghost use Rattle.live_journal.specs.Steps.{AddsNoBlock, IsAnsweredBySteps};
 ghost use Rattle.hist_types.specs.Operations.{Operation};
 ghost use Rattle.hist_types.specs.declared.types.Fault.{Fault};
+ghost use Rattle.hist_types.specs.declared.types.KeyOrder.{KeyOrder};
 
 /// Whatever steps seats take, each has seen a beginning of the row, each position of the row is an own one of exactly one seat,
 /// and no two blocks of a seat have the same stamp. Where what fills a cell counted after what its seat had seen, all blocks
 /// count, and the answers, by how many blocks their seats had seen, are those of one sequential journal, each seat's in its own
 /// order.
 pub fn interleavings()
-    ensures agreed { (cells : ℕ) (steps : List Step) (w : World)
-        → IsOutcomeOf cells at_first steps w → AreAgreed w }
-    ensures room { (cells : ℕ) (steps : List Step) (w : World)
-        → IsOutcomeOf cells at_first steps w → length w.row ≤ cells }
-    ensures stamps { (cells : ℕ) (steps : List Step) (w : World)
-        → IsOutcomeOf cells at_first steps w → HaveRisingCalls w.row }
-    ensures history { (cells : ℕ) (steps : List Step) (w : World)
-        → IsOutcomeOf cells at_first steps w → AreJudged cells at_first steps
-        → IsOneHistory cells w }
+    ensures agreed { (keys : KeyOrder) (cells : ℕ) (steps : List Step) (w : World)
+        → IsOutcomeOf keys cells at_first steps w → AreAgreed w }
+    ensures room { (keys : KeyOrder) (cells : ℕ) (steps : List Step) (w : World)
+        → IsOutcomeOf keys cells at_first steps w → length w.row ≤ cells }
+    ensures stamps { (keys : KeyOrder) (cells : ℕ) (steps : List Step) (w : World)
+        → IsOutcomeOf keys cells at_first steps w → HaveRisingCalls w.row }
+    ensures history { (keys : KeyOrder) (cells : ℕ) (steps : List Step) (w : World)
+        → IsOutcomeOf keys cells at_first steps w → AreJudged keys cells at_first steps
+        → IsOneHistory keys cells w }
 {}
 
 /// After what a seat has seen no block is its own. So where a call finds its own block in the next cell, this call has put it
 /// there.
 pub fn found_blocks_are_anothers()
-    ensures others { (cells : ℕ) (steps : List Step) (w : World)
-        → IsOutcomeOf cells at_first steps w → AreOthersAfterSeen w }
-    ensures next { (cells : ℕ) (steps : List Step) (w : World)
-        → IsOutcomeOf cells at_first steps w → FindsNoOwnBlock w }
+    ensures others { (keys : KeyOrder) (cells : ℕ) (steps : List Step) (w : World)
+        → IsOutcomeOf keys cells at_first steps w → AreOthersAfterSeen w }
+    ensures next { (keys : KeyOrder) (cells : ℕ) (steps : List Step) (w : World)
+        → IsOutcomeOf keys cells at_first steps w → FindsNoOwnBlock w }
 {}
 
 /// A seat gives each legal answer by steps of its own: it looks until it has seen the blocks of others that it has then seen,
 /// and then replies, or fills a cell. So it is where what it has then seen begins the row, or, if it fills a cell, is the whole
 /// row and its own block.
 pub fn legal_answers_are_steps()
-    ensures reply { (cells seat : ℕ) (request : Request) (answer : Answer) (w : World) (new : View)
-        → IsLegal cells seat request answer (w.views seat) new
+    ensures reply { (keys : KeyOrder) (cells seat : ℕ) (request : Request) (answer : Answer) (w : World) (new : View)
+        → IsLegal keys cells seat request answer (w.views seat) new
         → AddsNoBlock answer → IsPrefix new.seen w.row
-        → IsAnsweredBySteps cells w seat request answer new w.row }
-    ensures fill { (cells seat : ℕ) (os : List Operation) (index : ℕ) (w : World) (new : View)
-        → IsLegal cells seat (write (Ok os)) (accepted index) (w.views seat) new
+        → IsAnsweredBySteps keys cells w seat request answer new w.row }
+    ensures fill { (keys : KeyOrder) (cells seat : ℕ) (os : List Operation) (index : ℕ) (w : World) (new : View)
+        → IsLegal keys cells seat (write (Ok os)) (accepted index) (w.views seat) new
         → new.seen ≡ w.row ++ next_block seat (w.views seat) os ∷ [] → length w.row < cells
-        → IsAnsweredBySteps cells w seat (write (Ok os)) (accepted index) new new.seen }
+        → IsAnsweredBySteps keys cells w seat (write (Ok os)) (accepted index) new new.seen }
 {}
 
 /// The blocks of a row that count have all of its events, and each of them counts after those before it.

@@ -5,7 +5,7 @@ use crate::seen::{Seen, boxed_copy, write_through};
 use block_reader::one_block::block_of_call;
 use cell_row::known::Known;
 use cell_row::row::{Fill, Row};
-use hist_types::types::{At, Fault, OpKind, Process, Refusal};
+use hist_types::types::{At, Fault, KeyOrder, OpKind, Process, Refusal};
 use op_block::block::Block;
 use op_block::stamp::Stamp;
 use std::alloc::{AllocError, Global};
@@ -67,7 +67,7 @@ fn begin_raced_by(alloc: Global, zero: Process, number: Process) -> Result<u64, 
         row: &row,
         other,
     };
-    let mut seen = Seen::new(alloc, 0, row.known(alloc)?);
+    let mut seen = Seen::new(alloc, 0, KeyOrder::Basic, row.known(alloc)?);
     let block = block_of_call(alloc, OpKind::Invoke, zero, &[], seen.next_stamp())?;
     write_through(&cells, &mut seen, &block)
 }

@@ -2,19 +2,25 @@
 use Rattle.std.proofs.Common.{◌≡◌, ◌⊎◌, inl, inr, List, true, Contains, sym, ap, subst}
 use Rattle.hist_types.specs.Operations.{Operation}
 use Rattle.hist_types.specs.Transactions.{Transaction, Version, transactions_of, is_known_to_read, installs, nodes}
-use Rattle.hist_types.specs.Versions.{VersionPair, pair, version_pairs}
+use Rattle.hist_types.specs.Versions.{VersionPair, pair, process_pairs, version_pairs}
 use Rattle.hist_types.specs.Edges.{Label, ww, wr, rw, process, realtime, Edge, is_ok_before, order_labels, dependency_edges, order_edges}
 use Rattle.hist_types.specs.Explanation.{all_nil}
 use Rattle.hist_types.specs.declared.types.Level.{Level}
+use Rattle.hist_types.specs.declared.types.KeyOrder.{KeyOrder}
+use Rattle.hist_types.specs.declared.types.KeyOrder.TheVariants.{Basic, Sequential}
+use Rattle.hist_types.proofs.Equality.{atom_eq-same}
 use Rattle.hist_types.proofs.Members.{In, in_from_Contains}
-use Rattle.history_laws.specs.Dependencies.{IsNilPair, IsUpdatePair, Depends}
+use Rattle.history_laws.specs.Dependencies.{IsNilPair, IsUpdatePair, IsProcessPair, Depends}
+use Rattle.history_laws.specs.ProcessPairs.{IsStepBetweenTwo}
 use Rattle.history_laws.proofs.DependencyEdges.{edges_by_versions}
+use Rattle.history_laws.proofs.ProcessPairs.{is_step_of, of_one_key, process_pairs-between}
 use Rattle.history_laws.proofs.ThinningPaths.{ends_of, ordered_from_label, ordered_in_time}
 use Rattle.history_laws.proofs.VersionMembers.{pairs_by_membership}
 use Rattle.history_laws.proofs.WrittenOnce.{one_writer, nil_unwritten}
 use Rattle.report_laws.proofs.ExplainedOrders.{Before, first_in, one_before, none_back, IsForward}
 use Rattle.report_laws.proofs.ExplainedRegisters.{WritesKey, HeldFrom, IsHeld, writes_key}
 use Rattle.report_laws.proofs.ExplainedReads.{IsExplained, installed_is_written, chosen_in, held_in, writer_before, node_in_order}
+use Rattle.report_laws.proofs.ExplainedSteps.{writers_of_step}
 
 -- the transaction is ok and reads the version, or installs it
 abbrev pub ReadsOrInstalls : Transaction → Version → Type 0
@@ -104,54 +110,81 @@ update_forward events order h p (same, differ, r, among, read, installed) t u i 
       | inr e ↦ source t i e
     ]
 
+-- ---- a process goes from one version to the next
+
+of_two : (keys : KeyOrder) (ts : List Transaction) (p : VersionPair) → IsProcessPair keys ts p → IsStepBetweenTwo ts p
+of_two Basic ts p step = elim (in_from_Contains p (process_pairs Basic ts) step) [ ]
+of_two Sequential ts p step = (process_pairs-between ts p).0 step
+
+step_forward :
+    (keys : KeyOrder) (events : List Operation) (order : List Transaction)
+    → IsExplained events order
+    → (p : VersionPair)
+    → IsProcessPair keys (transactions_of events) p
+    → PairGoesForward order p
+step_forward keys events order h p step t u i j other touches later =
+    let ts : List Transaction = transactions_of events in
+    let same : p.earlier.key ≡ p.later.key =
+    atom_eq-same p.earlier.key p.later.key (of_one_key p (is_step_of keys ts p step)) in
+    let source : (w : Transaction) → In w order → installs w p.earlier ≡ true → Before order w u =
+    λ w k e. writers_of_step events order h p (of_two keys ts p step) w u k j e later in
+    elim touches [
+      | inl reads ↦ reader_before events order h t u p.earlier i j other reads (writes_key_of u p same later)
+          (λ w from. source w (first_in order w t from.before) from.installed)
+      | inr e ↦ source t i e
+    ]
+
 -- ---- each pair
 
 pub pair_forward :
-    (events : List Operation) (order : List Transaction)
+    (keys : KeyOrder) (events : List Operation) (order : List Transaction)
     → IsExplained events order
     → (p : VersionPair)
-    → Contains (version_pairs (transactions_of events)) p
+    → Contains (version_pairs keys (transactions_of events)) p
     → PairGoesForward order p
-pair_forward events order h p c =
-    elim ((pairs_by_membership (transactions_of events) p).0 c) [
+pair_forward keys events order h p c =
+    elim ((pairs_by_membership keys (transactions_of events) p).0 c) [
       | inl first ↦ nil_forward events order h p first
-      | inr update ↦ update_forward events order h p update
+      | inr others ↦ elim others [
+        | inl update ↦ update_forward events order h p update
+        | inr step ↦ step_forward keys events order h p step
+      ]
     ]
 
 -- ---- edges
 
 depends_forward :
-    (events : List Operation) (order : List Transaction)
+    (keys : KeyOrder) (events : List Operation) (order : List Transaction)
     → IsExplained events order
     → (t u : Transaction) (l : Label)
     → Contains (transactions_of events) t × In t order
     → Contains (transactions_of events) u × In u order
     → ¬ (t ≡ u)
-    → Depends (transactions_of events) t u l
+    → Depends keys (transactions_of events) t u l
     → Before order t u
-depends_forward events order h t u (ww v w) first second other d =
-    pair_forward events order h (pair v w) d.0 t u first.1 second.1 other (inr d.1) d.2
-depends_forward events order h t u (rw v w) first second other d =
-    pair_forward events order h (pair v w) d.0 t u first.1 second.1 other (inl d.1) d.2
-depends_forward events order h t u (wr v) first second other d =
+depends_forward keys events order h t u (ww v w) first second other d =
+    pair_forward keys events order h (pair v w) d.0 t u first.1 second.1 other (inr d.1) d.2
+depends_forward keys events order h t u (rw v w) first second other d =
+    pair_forward keys events order h (pair v w) d.0 t u first.1 second.1 other (inl d.1) d.2
+depends_forward keys events order h t u (wr v) first second other d =
     (writer_before events order h u t v second.0 first.0 d.1 (installed_is_written t v d.0)).before
-depends_forward events order h t u (process p) first second other d = elim d [ ]
-depends_forward events order h t u (realtime c i) first second other d = elim d [ ]
+depends_forward keys events order h t u (process p) first second other d = elim d [ ]
+depends_forward keys events order h t u (realtime c i) first second other d = elim d [ ]
 
 pub dependency_forward :
-    (events : List Operation) (order : List Transaction)
+    (keys : KeyOrder) (events : List Operation) (order : List Transaction)
     → IsExplained events order
     → (e : Edge)
-    → Contains (dependency_edges (transactions_of events)) e
+    → Contains (dependency_edges keys (transactions_of events)) e
     → IsForward order e
-dependency_forward events order h e c =
+dependency_forward keys events order h e c =
     let ts : List Transaction = transactions_of events in
-    let (t, u, first, second, apart, is, depends) = (edges_by_versions ts e).0 c in (
+    let (t, u, first, second, apart, is, depends) = (edges_by_versions keys ts e).0 c in (
       t,
       u,
       ap (λ (d : Edge). d.from) is,
       ap (λ (d : Edge). d.to) is,
-      depends_forward events order h t u e.label (node_in_order events order h t (in_from_Contains t (nodes ts) first))
+      depends_forward keys events order h t u e.label (node_in_order events order h t (in_from_Contains t (nodes ts) first))
           (node_in_order events order h u (in_from_Contains u (nodes ts) second)) (λ same. apart (ap (λ (x : Transaction). x.invocation) same)) depends,
     )
 

@@ -51,6 +51,19 @@ pub before_further :
 before_further z zs x y apart i (inl here) = elim (apart.0 (subst (λ w. In w zs) (sym here.0) i)) [ ]
 before_further z zs x y apart i (inr b) = b
 
+-- what comes before one that comes before another
+pub before_both :
+    {X : Type 0} (xs : List X) (x y z : X)
+    → AreApart xs
+    → Before xs x y
+    → Before xs y z
+    → Before xs x z
+before_both [] x y z apart first second = first
+before_both (w ∷ ws) x y z apart (inl here) second =
+    inl (here.0, second_in ws y z (before_further w ws y z apart here.1 second))
+before_both (w ∷ ws) x y z apart (inr first) second =
+    inr (before_both ws x y z apart.1 first (before_further w ws y z apart (second_in ws x y first) second))
+
 in_parts :
     (xs : List Transaction) (t u : Transaction)
     → Before xs t u

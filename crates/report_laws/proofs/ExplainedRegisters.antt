@@ -83,7 +83,7 @@ set_here true registers k v key mops e left =
 set_here false registers k v key mops e left =
     inl (left.0 ∙ ap (λ b. if b then Some v else registers key) e, ap (λ b. b || has_key key (writes_of mops)) e ∙ left.1)
 
-left_or_set : (registers : Registers) (mops : List Mop) (key : Atom) → IsLeft registers mops key ⊎ IsSet registers mops key
+pub left_or_set : (registers : Registers) (mops : List Mop) (key : Atom) → IsLeft registers mops key ⊎ IsSet registers mops key
 left_or_set registers [] key = inl (refl, refl)
 left_or_set registers (read k v ∷ mops) key = left_or_set registers mops key
 left_or_set registers (write k v ∷ mops) key =
@@ -96,7 +96,7 @@ left_or_set registers (write k v ∷ mops) key =
       )
     ]
 
-set_installs :
+pub set_installs :
     (registers : Registers) (t : Transaction) (v : Version)
     → after_mops registers t.mops v.key ≡ v.value
     → IsSet registers t.mops v.key

@@ -11,6 +11,7 @@ use Rattle.hist_types.specs.declared.types.Phenomenon.{Phenomenon}
 use Rattle.hist_types.specs.declared.types.Phenomenon.TheVariants.{G0, G1c, GSingle, G2Item}
 use Rattle.hist_types.specs.declared.types.Strict.{Strict}
 use Rattle.hist_types.specs.declared.types.Strict.TheVariants.{Refuted, Open}
+use Rattle.hist_types.specs.declared.types.KeyOrder.{KeyOrder}
 use Rattle.history_laws.proofs.Blocks.{events_of-kept}
 use Rattle.report_laws.specs.Explained.{RefutesExplanations}
 use Rattle.report_laws.proofs.ExplainedPhenomena.{refuted}
@@ -25,36 +26,36 @@ named r says = elim (cases_Bool (names_phenomenon r)) [
   | inr e ↦ elim (false≢true (sym (ap (λ b. is_refuted (if b then Refuted else Open)) e) ∙ ap is_refuted says)) [ ]
 ]
 
-is_there : (phenomenon : Phenomenon) (ts : List Transaction) (found : Option Finding) → IsFinding phenomenon ts found → is_some found ≡ true → HasPhenomenon ts
-is_there phenomenon ts None is e = elim (false≢true e) [ ]
-is_there phenomenon ts (Some found) is e = inl (phenomenon, found.level, is.0.0)
+is_there : (keys : KeyOrder) (phenomenon : Phenomenon) (ts : List Transaction) (found : Option Finding) → IsFinding keys phenomenon ts found → is_some found ≡ true → HasPhenomenon keys ts
+is_there keys phenomenon ts None is e = elim (false≢true e) [ ]
+is_there keys phenomenon ts (Some found) is e = inl (phenomenon, found.level, is.0.0)
 
-cycle_there : (ts : List Transaction) (found : Findings) → AreFindings ts found → names_cycle found ≡ true → HasPhenomenon ts
-cycle_there ts found are e =
+cycle_there : (keys : KeyOrder) (ts : List Transaction) (found : Findings) → AreFindings keys ts found → names_cycle found ≡ true → HasPhenomenon keys ts
+cycle_there keys ts found are e =
     elim (or_cases (is_some found.g0 || is_some found.g1c || is_some found.single) (is_some found.item) e) [
-      | inr item ↦ is_there G2Item ts found.item (are G2Item) item
+      | inr item ↦ is_there keys G2Item ts found.item (are G2Item) item
       | inl others ↦ elim (or_cases (is_some found.g0 || is_some found.g1c) (is_some found.single) others) [
-        | inr single ↦ is_there GSingle ts found.single (are GSingle) single
+        | inr single ↦ is_there keys GSingle ts found.single (are GSingle) single
         | inl others ↦ elim (or_cases (is_some found.g0) (is_some found.g1c) others) [
-          | inl g0 ↦ is_there G0 ts found.g0 (are G0) g0
-          | inr g1c ↦ is_there G1c ts found.g1c (are G1c) g1c
+          | inl g0 ↦ is_there keys G0 ts found.g0 (are G0) g0
+          | inr g1c ↦ is_there keys G1c ts found.g1c (are G1c) g1c
         ]
       ]
     ]
 
-phenomenon_there : (events : List Operation) (r : Report) → IsVerdictOf events r → names_phenomenon r ≡ true → HasPhenomenon (transactions_of events)
-phenomenon_there events r is e =
+phenomenon_there : (keys : KeyOrder) (events : List Operation) (r : Report) → IsVerdictOf keys events r → names_phenomenon r ≡ true → HasPhenomenon keys (transactions_of events)
+phenomenon_there keys events r is e =
     let ts : List Transaction = transactions_of events in
     elim (or_cases (names_cycle r.findings) (is_some r.g1a || is_some r.g1b) e) [
-      | inl cycle ↦ cycle_there ts r.findings is.findings cycle
+      | inl cycle ↦ cycle_there keys ts r.findings is.findings cycle
       | inr reads ↦ elim (or_cases (is_some r.g1a) (is_some r.g1b) reads) [
         | inl aborted ↦ inr (or_left (is_some (g1a ts)) (is_some (g1b ts)) (sym (ap (λ (o : Option BadRead). is_some o) is.g1a) ∙ aborted))
         | inr intermediate ↦ inr (or_right (is_some (g1a ts)) (is_some (g1b ts)) (sym (ap (λ (o : Option BadRead). is_some o) is.g1b) ∙ intermediate))
       ]
     ]
 
-pub verdict_refutes : (events : List Operation) (r : Report) → KeepsRules events → IsVerdictOf events r → RefutesExplanations events r
-verdict_refutes events r kept is says = refuted events kept (phenomenon_there events r is (named r says))
+pub verdict_refutes : (keys : KeyOrder) (events : List Operation) (r : Report) → KeepsRules events → IsVerdictOf keys events r → RefutesExplanations events r
+verdict_refutes keys events r kept is says = refuted keys events kept (phenomenon_there keys events r is (named r says))
 
-pub verdict_of_run_refutes : (blocks : List (List Operation)) (r : Report) → IsVerdictOf (events_of blocks) r → RefutesExplanations (events_of blocks) r
-verdict_of_run_refutes blocks r = verdict_refutes (events_of blocks) r (events_of-kept blocks)
+pub verdict_of_run_refutes : (keys : KeyOrder) (blocks : List (List Operation)) (r : Report) → IsVerdictOf keys (events_of blocks) r → RefutesExplanations (events_of blocks) r
+verdict_of_run_refutes keys blocks r = verdict_refutes keys (events_of blocks) r (events_of-kept blocks)

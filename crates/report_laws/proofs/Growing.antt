@@ -49,7 +49,7 @@ failed_is_there ts laters grow t i failed =
 
 -- ---- more events
 
-completion_stays :
+pub completion_stays :
     (process index : ℕ) (events more : List Operation) (found : Indexed)
     → completion_in process index events ≡ Some found
     → completion_in process index (events ++ more) ≡ Some found

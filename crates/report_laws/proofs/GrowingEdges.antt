@@ -9,6 +9,7 @@ use Rattle.hist_types.specs.Transactions.{Open, Transaction, Version, version_of
 use Rattle.hist_types.specs.Versions.{VersionPair, version_pairs}
 use Rattle.hist_types.specs.declared.types.Level.{Level}
 use Rattle.hist_types.specs.declared.types.Level.TheVariants.{Plain, Process, Realtime}
+use Rattle.hist_types.specs.declared.types.KeyOrder.{KeyOrder}
 use Rattle.hist_types.proofs.Members.{In, in_from_Contains, Contains_from_in, in_front, in_back, in_append, in_mapped, in_map, in_filter, in_filtered, passes_filter}
 use Rattle.history_laws.specs.Dependencies.{IsVersionPair, Depends}
 use Rattle.history_laws.proofs.BadReads.{aborted_by_writer}
@@ -17,6 +18,7 @@ use Rattle.history_laws.proofs.OrderEdges.{comes_from, goes_to}
 use Rattle.history_laws.proofs.ThinningPaths.{some_passes, any_passes}
 use Rattle.history_laws.proofs.VersionMembers.{has_from_in, pairs_by_membership}
 use Rattle.report_laws.proofs.Growing.{Grows, GrowsInto, AllGrow, ok_stays, ok_is_there}
+use Rattle.report_laws.proofs.GrowingSteps.{ProcessPairsStay}
 
 -- ---- what a transaction installs and reads
 
@@ -109,38 +111,44 @@ nodes_grow ts laters grow none t i =
 -- ---- version pairs
 
 -- the version pairs of the first ones are pairs of the later ones
-abbrev pub PairsStay : (ts laters : List Transaction) → Type 0
-PairsStay ts laters = (p : VersionPair) → Contains (version_pairs ts) p → Contains (version_pairs laters) p
+abbrev pub PairsStay : (keys : KeyOrder) (ts laters : List Transaction) → Type 0
+PairsStay keys ts laters = (p : VersionPair) → Contains (version_pairs keys ts) p → Contains (version_pairs keys laters) p
 
-pub pairs_stay : (ts laters : List Transaction) → AllGrow ts laters → NodesGrow ts laters → PairsStay ts laters
-pairs_stay ts laters grow nodes_too p c = (pairs_by_membership laters p).1 (is_pair ((pairs_by_membership ts p).0 c))
+pub pairs_stay :
+    (keys : KeyOrder) (ts laters : List Transaction)
+    → AllGrow ts laters
+    → NodesGrow ts laters
+    → ProcessPairsStay keys ts laters
+    → PairsStay keys ts laters
+pairs_stay keys ts laters grow nodes_too steps p c = (pairs_by_membership keys laters p).1 (is_pair ((pairs_by_membership keys ts p).0 c))
   where
-    is_pair : IsVersionPair ts p → IsVersionPair laters p
+    is_pair : IsVersionPair keys ts p → IsVersionPair keys laters p
     is_pair (inl (nil, t, node, installed)) =
         let (later, j, g) = nodes_too t (in_from_Contains t (nodes ts) node) in
         inl (nil, later, Contains_from_in later (nodes laters) j, installs_stay t later g p.later installed)
-    is_pair (inr (one_key, differ, t, among, read, installed)) =
+    is_pair (inr (inl (one_key, differ, t, among, read, installed))) =
         let (later, j, g) = grow t (in_from_Contains t ts among) in
-        inr (one_key, differ, later, Contains_from_in later laters j, reads_stay t later g p.earlier read, installs_stay t later g p.later installed)
+        inr (inl (one_key, differ, later, Contains_from_in later laters j, reads_stay t later g p.earlier read, installs_stay t later g p.later installed))
+    is_pair (inr (inr step)) = inr (inr (steps p step))
 
 -- ---- dependency edges
 
 depends_stays :
-    (ts laters : List Transaction)
-    → PairsStay ts laters
+    (keys : KeyOrder) (ts laters : List Transaction)
+    → PairsStay keys ts laters
     → (t later_t u later_u : Transaction)
     → Grows t later_t
     → Grows u later_u
     → (label : Label)
-    → Depends ts t u label
-    → Depends laters later_t later_u label
-depends_stays ts laters pairs t later_t u later_u g h (ww v w) (known, first, second) =
+    → Depends keys ts t u label
+    → Depends keys laters later_t later_u label
+depends_stays keys ts laters pairs t later_t u later_u g h (ww v w) (known, first, second) =
     (pairs (record { earlier = v; later = w }) known, installs_stay t later_t g v first, installs_stay u later_u h w second)
-depends_stays ts laters pairs t later_t u later_u g h (wr v) (first, second) = (installs_stay t later_t g v first, reads_stay u later_u h v second)
-depends_stays ts laters pairs t later_t u later_u g h (rw v w) (known, first, second) =
+depends_stays keys ts laters pairs t later_t u later_u g h (wr v) (first, second) = (installs_stay t later_t g v first, reads_stay u later_u h v second)
+depends_stays keys ts laters pairs t later_t u later_u g h (rw v w) (known, first, second) =
     (pairs (record { earlier = v; later = w }) known, reads_stay t later_t g v first, installs_stay u later_u h w second)
-depends_stays ts laters pairs t later_t u later_u g h (process p) d = elim d [ ]
-depends_stays ts laters pairs t later_t u later_u g h (realtime c i) d = elim d [ ]
+depends_stays keys ts laters pairs t later_t u later_u g h (process p) d = elim d [ ]
+depends_stays keys ts laters pairs t later_t u later_u g h (realtime c i) d = elim d [ ]
 
 same_edge : (t later_t u later_u : Transaction) (label : Label) → Grows t later_t → Grows u later_u → edge t u label ≡ edge later_t later_u label
 same_edge t later_t u later_u label g h =
@@ -148,24 +156,24 @@ same_edge t later_t u later_u label g h =
     ∙ ap (λ to. record { from = later_t.invocation; to = to; label = label }) h.invocation
 
 dependency_edges_stay :
-    (ts laters : List Transaction)
+    (keys : KeyOrder) (ts laters : List Transaction)
     → NodesGrow ts laters
-    → PairsStay ts laters
+    → PairsStay keys ts laters
     → (e : Edge)
-    → Contains (dependency_edges ts) e
-    → Contains (dependency_edges laters) e
-dependency_edges_stay ts laters nodes_too pairs e c =
-    let (t, u, first, second, apart, is, depends) = (edges_by_versions ts e).0 c in
+    → Contains (dependency_edges keys ts) e
+    → Contains (dependency_edges keys laters) e
+dependency_edges_stay keys ts laters nodes_too pairs e c =
+    let (t, u, first, second, apart, is, depends) = (edges_by_versions keys ts e).0 c in
     let (later_t, i, g) = nodes_too t (in_from_Contains t (nodes ts) first) in
     let (later_u, j, h) = nodes_too u (in_from_Contains u (nodes ts) second) in
-    (edges_by_versions laters e).1 (
+    (edges_by_versions keys laters e).1 (
       later_t,
       later_u,
       Contains_from_in later_t (nodes laters) i,
       Contains_from_in later_u (nodes laters) j,
       λ same. apart (g.invocation ∙ same ∙ sym h.invocation),
       is ∙ same_edge t later_t u later_u e.label g h,
-      depends_stays ts laters pairs t later_t u later_u g h e.label depends,
+      depends_stays keys ts laters pairs t later_t u later_u g h e.label depends,
     )
 
 -- ---- order edges
@@ -227,18 +235,18 @@ order_edges_stay level ts laters nodes_too e c =
 -- ---- all edges of a level
 
 pub edges_stay :
-    (level : Level) (ts laters : List Transaction)
+    (keys : KeyOrder) (level : Level) (ts laters : List Transaction)
     → NodesGrow ts laters
-    → PairsStay ts laters
+    → PairsStay keys ts laters
     → (e : Edge)
-    → Contains (edges_at level ts) e
-    → Contains (edges_at level laters) e
-edges_stay level ts laters nodes_too pairs e c =
-    Contains_from_in e (edges_at level laters) (elim (in_append e (dependency_edges ts) (order_edges level ts) (in_from_Contains e (edges_at level ts) c)) [
+    → Contains (edges_at keys level ts) e
+    → Contains (edges_at keys level laters) e
+edges_stay keys level ts laters nodes_too pairs e c =
+    Contains_from_in e (edges_at keys level laters) (elim (in_append e (dependency_edges keys ts) (order_edges level ts) (in_from_Contains e (edges_at keys level ts) c)) [
       | inl i ↦
-          in_front e (dependency_edges laters) (order_edges level laters)
-          (in_from_Contains e (dependency_edges laters) (dependency_edges_stay ts laters nodes_too pairs e (Contains_from_in e (dependency_edges ts) i)))
+          in_front e (dependency_edges keys laters) (order_edges level laters)
+          (in_from_Contains e (dependency_edges keys laters) (dependency_edges_stay keys ts laters nodes_too pairs e (Contains_from_in e (dependency_edges keys ts) i)))
       | inr i ↦
-          in_back e (dependency_edges laters) (order_edges level laters)
+          in_back e (dependency_edges keys laters) (order_edges level laters)
           (in_from_Contains e (order_edges level laters) (order_edges_stay level ts laters nodes_too e (Contains_from_in e (order_edges level ts) i)))
     ])

@@ -11,12 +11,14 @@ use Rattle.hist_types.specs.Phenomena.{IsThere, BadRead, first_of, aborted_reads
 use Rattle.hist_types.specs.Transactions.{Transaction, Version, version_of, has_version, is_ok, external_reads, earlier_writes, transactions_of, is_known_to_read}
 use Rattle.hist_types.specs.declared.types.Level.{Level}
 use Rattle.hist_types.specs.declared.types.Phenomenon.{Phenomenon}
+use Rattle.hist_types.specs.declared.types.KeyOrder.{KeyOrder}
 use Rattle.hist_types.proofs.Members.{in_from_Contains, Contains_from_in}
 use Rattle.history_laws.proofs.BadReads.{aborted_by_writer, intermediate_by_writer}
 use Rattle.history_laws.proofs.Blocks.{events_of-kept}
 use Rattle.report_laws.specs.Growing.{PhenomenaStay}
 use Rattle.report_laws.proofs.Growing.{AllGrow, ok_is_there, failed_is_there, all_grow}
 use Rattle.report_laws.proofs.GrowingEdges.{NodesGrow, nodes_grow, pairs_stay, edges_stay}
+use Rattle.report_laws.proofs.GrowingSteps.{ProcessPairsStay, process_pairs_stay}
 
 -- ---- aborted and intermediate reads
 
@@ -73,36 +75,43 @@ g1b_stays ts laters grow e =
 -- ---- cycles
 
 cycle_stays :
-    (ts laters : List Transaction)
+    (keys : KeyOrder) (ts laters : List Transaction)
     → AllGrow ts laters
+    → ProcessPairsStay keys ts laters
     → is_some (g1a laters) ≡ false
     → (phenomenon : Phenomenon) (level : Level)
-    → IsThere phenomenon level ts
-    → IsThere phenomenon level laters
-cycle_stays ts laters grow none phenomenon level (walk, shows) =
+    → IsThere keys phenomenon level ts
+    → IsThere keys phenomenon level laters
+cycle_stays keys ts laters grow steps none phenomenon level (walk, shows) =
     let nodes_too : NodesGrow ts laters = nodes_grow ts laters grow (λ r c. false≢true (sym none ∙ first_some (aborted_reads laters) r c)) in (
       walk,
       record {
         closed = shows.closed;
-        within = All-weaker (Contains (edges_at level ts)) (Contains (edges_at level laters)) (edges_stay level ts laters nodes_too (pairs_stay ts laters grow nodes_too)) walk shows.within;
+        within = All-weaker (Contains (edges_at keys level ts)) (Contains (edges_at keys level laters)) (edges_stay keys level ts laters nodes_too (pairs_stay keys ts laters grow nodes_too steps)) walk shows.within;
         kinds = shows.kinds;
       },
     )
 
-stays : (ts laters : List Transaction) → AllGrow ts laters → HasPhenomenon ts → HasPhenomenon laters
-stays ts laters grow (inl (phenomenon, level, there)) = elim (cases_Bool (is_some (g1a laters))) [
+stays :
+    (keys : KeyOrder) (ts laters : List Transaction)
+    → AllGrow ts laters
+    → ProcessPairsStay keys ts laters
+    → HasPhenomenon keys ts
+    → HasPhenomenon keys laters
+stays keys ts laters grow steps (inl (phenomenon, level, there)) = elim (cases_Bool (is_some (g1a laters))) [
   | inl aborted ↦ inr (or_left (is_some (g1a laters)) (is_some (g1b laters)) aborted)
-  | inr none ↦ inl (phenomenon, level, cycle_stays ts laters grow none phenomenon level there)
+  | inr none ↦ inl (phenomenon, level, cycle_stays keys ts laters grow steps none phenomenon level there)
 ]
-stays ts laters grow (inr bad) = elim (or_cases (is_some (g1a ts)) (is_some (g1b ts)) bad) [
+stays keys ts laters grow steps (inr bad) = elim (or_cases (is_some (g1a ts)) (is_some (g1b ts)) bad) [
   | inl e ↦ inr (or_left (is_some (g1a laters)) (is_some (g1b laters)) (g1a_stays ts laters grow e))
   | inr e ↦ inr (or_right (is_some (g1a laters)) (is_some (g1b laters)) (g1b_stays ts laters grow e))
 ]
 
 -- ---- the law
 
-pub stay_after_more : (events more : List Operation) → KeepsRules (events ++ more) → PhenomenaStay events (events ++ more)
-stay_after_more events more kept = stays (transactions_of events) (transactions_of (events ++ more)) (all_grow events more kept)
+pub stay_after_more : (keys : KeyOrder) (events more : List Operation) → KeepsRules (events ++ more) → PhenomenaStay keys events (events ++ more)
+stay_after_more keys events more kept =
+    stays keys (transactions_of events) (transactions_of (events ++ more)) (all_grow events more kept) (process_pairs_stay keys events more)
 
 -- blocks add events, or none
 adds : (test : Bool) (events block : List Operation) → (rest : List Operation) × ((if test then events ++ block else events) ≡ events ++ rest)
@@ -116,9 +125,9 @@ add events (block ∷ blocks) =
     let (back, further) = add (events_after events block) blocks in
     (front ++ back, further ∙ (ap (λ es. es ++ back) first ∙ append_assoc events front back))
 
-pub stay_after_blocks : (blocks more : List (List Operation)) → PhenomenaStay (events_of blocks) (events_of (blocks ++ more))
-stay_after_blocks blocks more =
+pub stay_after_blocks : (keys : KeyOrder) (blocks more : List (List Operation)) → PhenomenaStay keys (events_of blocks) (events_of (blocks ++ more))
+stay_after_blocks keys blocks more =
     let (rest, added) = add (events_of blocks) more in
     let is : events_of (blocks ++ more) ≡ events_of blocks ++ rest = fold-append events_after [] blocks more ∙ added in
-    subst (PhenomenaStay (events_of blocks)) (sym is)
-    (stay_after_more (events_of blocks) rest (subst KeepsRules is (events_of-kept (blocks ++ more))))
+    subst (PhenomenaStay keys (events_of blocks)) (sym is)
+    (stay_after_more keys (events_of blocks) rest (subst KeepsRules is (events_of-kept (blocks ++ more))))

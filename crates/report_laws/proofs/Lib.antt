@@ -1,9 +1,11 @@
 pub mod ExplainedOrders
 pub mod ExplainedRegisters
 pub mod ExplainedReads
+pub mod ExplainedSteps
 pub mod ExplainedEdges
 pub mod ExplainedPhenomena
 pub mod ExplainedVerdicts
 pub mod Growing
+pub mod GrowingSteps
 pub mod GrowingEdges
 pub mod GrowingPhenomena

@@ -12,6 +12,7 @@ use Rattle.hist_types.specs.Explanation.{Explains, AreExplained}
 use Rattle.hist_types.specs.Phenomena.{BadRead, HasPhenomenon}
 use Rattle.hist_types.specs.Reports.{Report, strict_of}
 use Rattle.hist_types.specs.declared.types.Strict.TheVariants.{Refuted}
+use Rattle.hist_types.specs.declared.types.KeyOrder.{KeyOrder}
 
 -- both transactions are in the order, the first one before the second one
 abbrev pub ComesBefore : List Transaction → Transaction → Transaction → Type 0
@@ -47,10 +48,10 @@ IsNoneIfExplained reported events =
     AreExplained ts → reported ts ≡ None
 
 -- if the history has a phenomenon, no order explains it
-abbrev pub PhenomenaRefute : List Operation → Type 0
-PhenomenaRefute events =
+abbrev pub PhenomenaRefute : KeyOrder → List Operation → Type 0
+PhenomenaRefute keys events =
     let ts = transactions_of events in
-    HasPhenomenon ts → ¬ AreExplained ts
+    HasPhenomenon keys ts → ¬ AreExplained ts
 
 -- if the report says that the history is refuted, no order explains it
 abbrev pub RefutesExplanations : List Operation → Report → Type 0

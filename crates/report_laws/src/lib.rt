@@ -6,15 +6,18 @@ ghost use Rattle.std.specs.Prelude.{List};
 ghost use Rattle.hist_types.specs.Journal.{KeepsRules, events_of};
 ghost use Rattle.hist_types.specs.Operations.{Operation};
 ghost use Rattle.hist_types.specs.Reports.{Report, IsVerdictOf};
+ghost use Rattle.hist_types.specs.declared.types.KeyOrder.{KeyOrder};
 ghost use Rattle.report_laws.specs.Explained.{PhenomenaRefute, RefutesExplanations};
 
-/// A history that keeps the rules and has a phenomenon has no strict serial explanation: it isn't strictly serializable. So it is
-/// for each history, and for each prefix of a live run, of which a verdict says that it is refuted.
+/// A history that keeps the rules and has a phenomenon, whether its keys are basic or sequential, has no strict serial explanation:
+/// it isn't strictly serializable. So it is for each history, and for each prefix of a live run, of which a verdict says that it is
+/// refuted.
 pub fn phenomena_refute()
-    ensures phenomena { (events : List Operation) → KeepsRules events → PhenomenaRefute events }
-    ensures verdict { (events : List Operation) (report : Report)
-        → KeepsRules events → IsVerdictOf events report → RefutesExplanations events report }
-    ensures run { (blocks : List (List Operation)) (report : Report)
-        → IsVerdictOf (events_of blocks) report
+    ensures phenomena { (keys : KeyOrder) (events : List Operation)
+        → KeepsRules events → PhenomenaRefute keys events }
+    ensures verdict { (keys : KeyOrder) (events : List Operation) (report : Report)
+        → KeepsRules events → IsVerdictOf keys events report → RefutesExplanations events report }
+    ensures run { (keys : KeyOrder) (blocks : List (List Operation)) (report : Report)
+        → IsVerdictOf keys (events_of blocks) report
         → RefutesExplanations (events_of blocks) report }
 {}

@@ -17,9 +17,10 @@ fn find_leaving<'a>(
     place: usize,
     leaving: &mut Vec<Edge<'a>>,
 ) -> Result<(), AllocError>
-    requires history { AreOfHistory deps.now }
-    requires place { IsPlace deps.now place }
-    ensures { OnOk result (leaving.new.items ≡ edges_leaving deps.now (txn_at deps.now place)) }
+    requires history { AreOfHistory deps.now.txns }
+    requires place { IsPlace deps.now.txns place }
+    ensures { OnOk result (leaving.new.items
+        ≡ edges_leaving deps.now.table.keys deps.now.txns (txn_at deps.now.txns place)) }
 {
     leaving.clear();
     deps.edges_from(place, leaving)?;
@@ -34,9 +35,10 @@ pub fn append_all_edges(
     txns: usize,
     out: &mut Vec<u8>,
 ) -> Result<u64, AllocError>
-    requires history { AreOfHistory deps.now }
-    requires txns { txns ≡ length deps.now }
-    ensures { IfOk result (IsContinuedByAll deps.now out.old.items out.new.items) }
+    requires history { AreOfHistory deps.now.txns }
+    requires txns { txns ≡ length deps.now.txns }
+    ensures { IfOk result (IsContinuedByAll deps.now.table.keys deps.now.txns
+        out.old.items out.new.items) }
 {
     let mut leaving = Vec::new(alloc);
     let mut count = 0;

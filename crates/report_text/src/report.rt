@@ -164,21 +164,21 @@ impl<'d, 'v, 'a> Model for EdgesReport<'d, 'v, 'a> {
     ghost view = { λ r. record {
       prefix = r.prefix;
       txns = r.txns;
-      edges = in_order (dependency_edges r.deps.now);
+      edges = in_order (dependency_edges r.deps.now.table.keys r.deps.now.txns);
     } };
 
-    ghost invariant = { λ r. AreOfHistory r.deps.now × (r.txns ≡ length r.deps.now) };
+    ghost invariant = { λ r. AreOfHistory r.deps.now.txns × (r.txns ≡ length r.deps.now.txns) };
 }
 
 impl<'d, 'v, 'a> EdgesReport<'d, 'v, 'a> {
     /// Of so many events and transactions.
     pub fn new(prefix: u64, txns: usize, deps: &'d Deps<'v, 'a>) -> Self
-        requires history { AreOfHistory deps.now }
-        requires txns { txns ≡ length deps.now }
+        requires history { AreOfHistory deps.now.txns }
+        requires txns { txns ≡ length deps.now.txns }
         ensures { result ≡ record {
           prefix = prefix;
           txns = txns;
-          edges = in_order (dependency_edges deps.now);
+          edges = in_order (dependency_edges deps.now.table.keys deps.now.txns);
         } }
     {
         EdgesReport { prefix, txns, deps }

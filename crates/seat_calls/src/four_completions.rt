@@ -8,7 +8,7 @@ use crate::pair::{Pair, count_of};
 use crate::stopped::Stopped;
 use crate::texts::number_text;
 use crate::times::write_of;
-use hist_types::types::{At, Fault, Outcome, Process, Refusal};
+use hist_types::types::{At, Fault, KeyOrder, Outcome, Process, Refusal};
 use live_journal::journal::Journal;
 use op_view::mops::Mop;
 use std::alloc::Global;
@@ -96,11 +96,11 @@ fn print_account_of_all<'j, R: Print>(
     left: Pair<'j>,
     right: Pair<'j>,
 ) -> io::Result<()>
-    requires zeroth { first.row ≡ journal.now }
-    requires first { left.one.row ≡ journal.now }
-    requires second { left.two.row ≡ journal.now }
-    requires third { right.one.row ≡ journal.now }
-    requires fourth { right.two.row ≡ journal.now }
+    requires zeroth { first.row ≡ journal.now.row }
+    requires first { left.one.row ≡ journal.now.row }
+    requires second { left.two.row ≡ journal.now.row }
+    requires third { right.one.row ≡ journal.now.row }
+    requires fourth { right.two.row ≡ journal.now.row }
 {
     print_account(
         rt,
@@ -118,11 +118,11 @@ fn calls<'j, R: Print + Threads + Sync>(
     mut right: Pair<'j>,
     mop: &Mop<'_>,
 ) -> Result<(), Stopped>
-    requires zeroth { first.row ≡ journal.now }
-    requires first { left.one.row ≡ journal.now }
-    requires second { left.two.row ≡ journal.now }
-    requires third { right.one.row ≡ journal.now }
-    requires fourth { right.two.row ≡ journal.now }
+    requires zeroth { first.row ≡ journal.now.row }
+    requires first { left.one.row ≡ journal.now.row }
+    requires second { left.two.row ≡ journal.now.row }
+    requires third { right.one.row ≡ journal.now.row }
+    requires fourth { right.two.row ≡ journal.now.row }
 {
     first.begin(Process::new(0).unwrap(), slice::from_ref(mop))?;
     let answers = complete_by_four(rt, &mut left, &mut right, mop);
@@ -134,7 +134,7 @@ fn calls<'j, R: Print + Threads + Sync>(
 
 /// Lets four seats of a new journal of two cells complete one transaction, and prints what they return.
 pub fn run<R: Print + Threads + Sync>(rt: &R, alloc: Global) -> Result<(), Stopped> {
-    let journal = Journal::new(alloc, 2)?;
+    let journal = Journal::new(alloc, 2, KeyOrder::Basic)?;
     let value = number_text(alloc, 1)?;
     let first = journal.seat(0)?;
     let (left, right) = (Pair::new(&journal, 1)?, Pair::new(&journal, 3)?);

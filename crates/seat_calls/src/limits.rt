@@ -3,7 +3,7 @@
 use crate::lines::{PlainSeat, print_answer};
 use crate::stopped::Stopped;
 use crate::texts::idle_transactions;
-use hist_types::types::Process;
+use hist_types::types::{KeyOrder, Process};
 use live_journal::journal::Journal;
 use std::alloc::Global;
 
@@ -27,7 +27,7 @@ fn import_too_many<R: Print>(
 
 /// Imports full blocks until the journal has as many events as it may have, and tries one more.
 pub fn run<R: Print>(rt: &R, alloc: Global) -> Result<(), Stopped> {
-    let journal = Journal::new(alloc, 1_025)?;
+    let journal = Journal::new(alloc, 1_025, KeyOrder::Basic)?;
     let mut seat = journal.seat(0)?;
     import_too_many(rt, alloc, &mut seat)?;
     let text = idle_transactions(alloc, TRANSACTIONS)?;

@@ -5,7 +5,7 @@ ghost use Rattle.live_journal.specs.Seats.{Seat as ASeat, IsSameSeat};
 
 use crate::stopped::Stopped;
 use hist_types::device::MemorySink;
-use hist_types::types::{Fault, Outcome, Process};
+use hist_types::types::{Fault, KeyOrder, Outcome, Process};
 use journal_core::prefix::Prefix;
 use journal_core::range::EventRange;
 use live_journal::journal::Journal;
@@ -129,7 +129,7 @@ pub fn print_account<R: Print>(
     journal: &PlainJournal,
     seats: &[PlainSeat<'_>],
 ) -> io::Result<()>
-    requires { All (λ (seat : ASeat). seat.row ≡ journal.now) seats.now }
+    requires { All (λ (seat : ASeat). seat.row ≡ journal.now.row) seats.now }
 {
     match journal.account(seats) {
         Ok(()) => println!(rt; "accounted for"),
@@ -145,8 +145,8 @@ fn calls<'j, R: Input + Print>(
     first: &mut PlainSeat<'j>,
     second: &mut PlainSeat<'j>,
 ) -> Result<(), Stopped>
-    requires first { first.old.row ≡ journal.now }
-    requires second { second.old.row ≡ journal.now }
+    requires first { first.old.row ≡ journal.now.row }
+    requires second { second.old.row ≡ journal.now.row }
     ensures first { IsSameSeat first.old first.new }
     ensures second { IsSameSeat second.old second.new }
 {
@@ -167,15 +167,15 @@ fn print_account_of_both<'j, R: Print>(
     first: PlainSeat<'j>,
     second: PlainSeat<'j>,
 ) -> io::Result<()>
-    requires first { first.row ≡ journal.now }
-    requires second { second.row ≡ journal.now }
+    requires first { first.row ≡ journal.now.row }
+    requires second { second.row ≡ journal.now.row }
 {
     print_account(rt, journal, &[first, second])
 }
 
 /// Makes the calls of two seats of a new journal, and prints what they return.
 pub fn run<R: Input + Print>(rt: &R, alloc: Global) -> Result<(), Stopped> {
-    let journal = Journal::new(alloc, CELLS)?;
+    let journal = Journal::new(alloc, CELLS, KeyOrder::Basic)?;
     let mut first = journal.seat(0)?;
     let mut second = journal.seat(1)?;
     calls(rt, alloc, &journal, &mut first, &mut second)?;

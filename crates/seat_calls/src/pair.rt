@@ -17,8 +17,8 @@ pub struct Pair<'j> {
 impl<'j> Pair<'j> {
     /// Two new seats, with this number and the next.
     pub fn new(journal: &'j PlainJournal, number: u32) -> Result<Pair<'j>, Fault>
-        ensures one { IfOk result (λ pair. pair.one.row ≡ journal.now) }
-        ensures two { IfOk result (λ pair. pair.two.row ≡ journal.now) }
+        ensures one { IfOk result (λ pair. pair.one.row ≡ journal.now.row) }
+        ensures two { IfOk result (λ pair. pair.two.row ≡ journal.now.row) }
     {
         Ok(Pair {
             one: journal.seat(number)?,

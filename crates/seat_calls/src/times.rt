@@ -4,7 +4,7 @@ use crate::lines::{PlainJournal, PlainSeat};
 use crate::stopped::Stopped;
 use crate::texts::{number_text, transactions};
 use hist_types::limits::{MAX_CELLS, MAX_EVENTS};
-use hist_types::types::{At, Fault, Outcome, Process, Refusal};
+use hist_types::types::{At, Fault, KeyOrder, Outcome, Process, Refusal};
 use live_journal::journal::Journal;
 use op_view::atom::Atom;
 use op_view::mops::Mop;
@@ -143,7 +143,7 @@ pub fn of_many_calls<R: Print + Clock + Threads + Sync>(
     seats: u8,
     events: u64,
 ) -> Result<(), Stopped> {
-    let journal = Journal::new(alloc, events as usize)?;
+    let journal = Journal::new(alloc, events as usize, KeyOrder::Basic)?;
     let mut workers = workers(alloc, &journal, seats)?;
     print_times(rt, alloc, &mut workers, events / u64::from(seats.max(1)))
 }
@@ -179,7 +179,7 @@ fn begin_all(seat: &mut PlainSeat<'_>, values: &[String]) -> Result<(), Fault> {
 
 /// How long begins take after this many events.
 pub fn of_begins<R: Print + Clock>(rt: &R, alloc: Global, events: u64) -> Result<(), Stopped> {
-    let journal = Journal::new(alloc, MAX_CELLS)?;
+    let journal = Journal::new(alloc, MAX_CELLS, KeyOrder::Basic)?;
     let mut seat = journal.seat(0)?;
     let values = new_values(alloc)?;
     let start = Instant::now(rt)?;

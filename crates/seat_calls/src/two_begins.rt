@@ -8,7 +8,7 @@ use crate::pair::{Pair, count_of};
 use crate::stopped::Stopped;
 use crate::texts::number_text;
 use crate::times::write_of;
-use hist_types::types::{Fault, Process};
+use hist_types::types::{Fault, KeyOrder, Process};
 use live_journal::journal::Journal;
 use op_view::mops::Mop;
 use std::alloc::Global;
@@ -56,8 +56,8 @@ fn learn_from_each_other(pair: &mut Pair<'_>) -> Result<(), Fault>
 
 /// Prints whether the first seat alone and both seats account for what they have seen.
 fn print_accounts<R: Print>(rt: &R, journal: &PlainJournal, pair: Pair<'_>) -> io::Result<()>
-    requires one { pair.one.row ≡ journal.now }
-    requires two { pair.two.row ≡ journal.now }
+    requires one { pair.one.row ≡ journal.now.row }
+    requires two { pair.two.row ≡ journal.now.row }
 {
     let alone = journal.account(slice::from_ref(&pair.one)).is_ok();
     println!(rt; "alone: {alone}")?;
@@ -72,8 +72,8 @@ fn calls<R: Print + Threads + Sync>(
     first: &Mop<'_>,
     second: &Mop<'_>,
 ) -> Result<(), Stopped>
-    requires one { pair.one.row ≡ journal.now }
-    requires two { pair.two.row ≡ journal.now }
+    requires one { pair.one.row ≡ journal.now.row }
+    requires two { pair.two.row ≡ journal.now.row }
 {
     let answers = begin_by_two(rt, &mut pair, first, second);
     let (zeros, ones) = (count_of(&answers, Ok(0)), count_of(&answers, Ok(1)));
@@ -88,7 +88,7 @@ fn calls<R: Print + Threads + Sync>(
 
 /// Two seats of a new journal of two cells fill it, and what they return is printed.
 pub fn run<R: Print + Threads + Sync>(rt: &R, alloc: Global) -> Result<(), Stopped> {
-    let journal = Journal::new(alloc, 2)?;
+    let journal = Journal::new(alloc, 2, KeyOrder::Basic)?;
     let (one, two) = (number_text(alloc, 1)?, number_text(alloc, 2)?);
     let pair = Pair::new(&journal, 0)?;
     calls(rt, &journal, pair, &write_of(&one)?, &write_of(&two)?)

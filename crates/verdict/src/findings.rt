@@ -43,7 +43,7 @@ impl<'a> Model for Lowest<'a> {
 /// weakest isolation rules out; where it isn't made, that says nothing.
 fn is_ruled_out(graph: &RankedGraph<'_, '_, '_, '_>, phenomenon: Phenomenon) -> Result<bool, Fault>
     requires { IsThinned graph.now }
-    ensures ok { IfOk result (λ out. OnTrue out (IsLowest phenomenon graph.now.txns None)) }
+    ensures ok { IfOk result (λ out. OnTrue out (IsLowest graph.now.keys phenomenon graph.now.txns None)) }
     ensures err { IfErr result (λ fault. fault ≡ memory_fault) }
 {
     match phenomenon {
@@ -59,7 +59,7 @@ fn find_lowest<'a>(
     phenomenon: Phenomenon,
 ) -> Result<Option<Lowest<'a>>, Fault>
     requires { IsThinned graph.now }
-    ensures ok { IfOk result (IsLowest phenomenon graph.now.txns) }
+    ensures ok { IfOk result (IsLowest graph.now.keys phenomenon graph.now.txns) }
     ensures err { IfErr result (λ fault. fault ≡ memory_fault) }
 {
     if is_ruled_out(graph, phenomenon)? {
@@ -94,7 +94,7 @@ fn find_phenomenon<'a>(
     phenomenon: Phenomenon,
 ) -> Result<Option<Finding<'a>>, Fault>
     requires { IsThinned graph.now }
-    ensures ok { IfOk result (IsFinding phenomenon graph.now.txns) }
+    ensures ok { IfOk result (IsFinding graph.now.keys phenomenon graph.now.txns) }
     ensures err { IfErr result (λ fault. fault ≡ memory_fault) }
 {
     let Some(lowest) = find_lowest(graph, phenomenon)? else {
@@ -110,7 +110,7 @@ fn find_phenomenon<'a>(
 /// What is found of the four phenomena.
 fn find_four<'a>(alloc: Global, graph: &RankedGraph<'_, '_, '_, 'a>) -> Result<Findings<'a>, Fault>
     requires { IsThinned graph.now }
-    ensures ok { IfOk result (AreFindings graph.now.txns) }
+    ensures ok { IfOk result (AreFindings graph.now.keys graph.now.txns) }
     ensures err { IfErr result (λ fault. fault ≡ memory_fault) }
 {
     Ok(Findings {
@@ -130,7 +130,7 @@ fn find_two_wide<'a, R: Threads>(
     second: Phenomenon,
 ) -> Result<(Option<Finding<'a>>, Option<Finding<'a>>), Fault>
     requires { IsThinned graph.now }
-    ensures ok { IfOk result (AreFindingsOfTwo first second graph.now.txns) }
+    ensures ok { IfOk result (AreFindingsOfTwo graph.now.keys first second graph.now.txns) }
     ensures err { IfErr result (λ fault. fault ≡ memory_fault) }
 {
     try_join(
@@ -147,7 +147,7 @@ fn find_four_wide<'a, R: Threads + Sync>(
     graph: &RankedGraph<'_, '_, '_, 'a>,
 ) -> Result<Findings<'a>, Fault>
     requires { IsThinned graph.now }
-    ensures ok { IfOk result (AreFindings graph.now.txns) }
+    ensures ok { IfOk result (AreFindings graph.now.keys graph.now.txns) }
     ensures err { IfErr result (λ fault. fault ≡ memory_fault) }
 {
     let ((g0, g1c), (single, item)) = try_join(
@@ -166,7 +166,7 @@ fn find_four_wide<'a, R: Threads + Sync>(
 /// What is found of each phenomenon.
 fn find_each<'a>(alloc: Global, graph: &Graph<'_, '_, 'a>) -> Result<Findings<'a>, Fault>
     requires { IsThinned graph.now }
-    ensures ok { IfOk result (AreFindings graph.now.txns) }
+    ensures ok { IfOk result (AreFindings graph.now.keys graph.now.txns) }
     ensures err { IfErr result (λ fault. fault ≡ memory_fault) }
 {
     let graph = RankedGraph::new(alloc, graph)?;
@@ -183,7 +183,7 @@ fn find_each_wide<'a, R: Threads + Sync>(
     graph: &Graph<'_, '_, 'a>,
 ) -> Result<Findings<'a>, Fault>
     requires { IsThinned graph.now }
-    ensures ok { IfOk result (AreFindings graph.now.txns) }
+    ensures ok { IfOk result (AreFindings graph.now.keys graph.now.txns) }
     ensures err { IfErr result (λ fault. fault ≡ memory_fault) }
 {
     let graph = RankedGraph::new_wide(rt, alloc, graph)?;
@@ -201,9 +201,9 @@ fn findings_in_graph<'a>(
     order: &Order,
 ) -> Result<Findings<'a>, Fault>
     requires history { AreOfHistory txns.now }
-    requires deps { deps.now ≡ txns.now }
+    requires deps { deps.now.txns ≡ txns.now }
     requires order { IsThinnedOrder txns.now order.now }
-    ensures ok { IfOk result (AreFindings txns.now) }
+    ensures ok { IfOk result (AreFindings deps.now.table.keys txns.now) }
     ensures err { IfErr result (λ fault. fault ≡ memory_fault) }
 {
     let graph = Graph::new(alloc, deps, order)?;
@@ -219,9 +219,9 @@ fn findings_in_graph_wide<'a, R: Threads + Sync>(
     order: &Order,
 ) -> Result<Findings<'a>, Fault>
     requires history { AreOfHistory txns.now }
-    requires deps { deps.now ≡ txns.now }
+    requires deps { deps.now.txns ≡ txns.now }
     requires order { IsThinnedOrder txns.now order.now }
-    ensures ok { IfOk result (AreFindings txns.now) }
+    ensures ok { IfOk result (AreFindings deps.now.table.keys txns.now) }
     ensures err { IfErr result (λ fault. fault ≡ memory_fault) }
 {
     let graph = Graph::new_wide(rt, alloc, deps, order)?;
@@ -235,8 +235,8 @@ pub fn findings_of<'a>(
     deps: &Deps<'_, 'a>,
 ) -> Result<Findings<'a>, Fault>
     requires history { AreOfHistory txns.now }
-    requires deps { deps.now ≡ txns.now }
-    ensures ok { IfOk result (AreFindings txns.now) }
+    requires deps { deps.now.txns ≡ txns.now }
+    ensures ok { IfOk result (AreFindings deps.now.table.keys txns.now) }
     ensures err { IfErr result (λ fault. fault ≡ memory_fault) }
 {
     if settles(alloc, deps)? {
@@ -254,8 +254,8 @@ pub fn findings_of_wide<'a, R: Threads + Sync>(
     deps: &Deps<'_, 'a>,
 ) -> Result<Findings<'a>, Fault>
     requires history { AreOfHistory txns.now }
-    requires deps { deps.now ≡ txns.now }
-    ensures ok { IfOk result (AreFindings txns.now) }
+    requires deps { deps.now.txns ≡ txns.now }
+    ensures ok { IfOk result (AreFindings deps.now.table.keys txns.now) }
     ensures err { IfErr result (λ fault. fault ≡ memory_fault) }
 {
     if settles(alloc, deps)? {

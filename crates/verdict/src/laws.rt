@@ -3,13 +3,14 @@
 ghost use Rattle.std.specs.Prelude.{List, ◌++◌};
 ghost use Rattle.hist_types.specs.Journal.{KeepsRules, events_of};
 ghost use Rattle.hist_types.specs.Operations.{Operation};
+ghost use Rattle.hist_types.specs.declared.types.KeyOrder.{KeyOrder};
 ghost use Rattle.report_laws.specs.Growing.{PhenomenaStay};
 
 /// A history that has a phenomenon has one whatever comes after it, so of a run that goes on no report is ever taken back. It may
 /// be another one: once an open transaction fails, the cycles through it are gone, but a read of what it wrote is then a G1a.
 pub fn monotone()
-    ensures prefix { (events more : List Operation)
-        → KeepsRules (events ++ more) → PhenomenaStay events (events ++ more) }
-    ensures run { (blocks more : List (List Operation))
-        → PhenomenaStay (events_of blocks) (events_of (blocks ++ more)) }
+    ensures prefix { (keys : KeyOrder) (events more : List Operation)
+        → KeepsRules (events ++ more) → PhenomenaStay keys events (events ++ more) }
+    ensures run { (keys : KeyOrder) (blocks more : List (List Operation))
+        → PhenomenaStay keys (events_of blocks) (events_of (blocks ++ more)) }
 {}

@@ -24,7 +24,7 @@ use crate::types::Verdict;
 use dep_edges::deps::Deps;
 use dep_edges::edges;
 use hist_types::device::{Failed, Sink};
-use hist_types::types::Fault;
+use hist_types::types::{Fault, KeyOrder};
 use hist_types::whole::write_all;
 use journal_core::events::Events;
 use journal_core::prefix::Prefix;
@@ -44,9 +44,9 @@ fn reported<'a>(
 ) -> Result<Verdict<'a>, Fault>
     requires rules { KeepsRules events.now }
     requires txns { txns.now ≡ transactions_of events.now }
-    requires deps { deps.now ≡ txns.now }
-    requires findings { AreFindings txns.now findings }
-    ensures ok { IfOk result (IsVerdictOf events.now) }
+    requires deps { deps.now.txns ≡ txns.now }
+    requires findings { AreFindings deps.now.table.keys txns.now findings }
+    ensures ok { IfOk result (IsVerdictOf deps.now.table.keys events.now) }
     ensures err { IfErr result (λ fault. fault ≡ memory_fault) }
 {
     let report = VerdictReport {
@@ -69,8 +69,8 @@ pub fn verdict_from<'a>(
     tables: &Tables<'a>,
 ) -> Result<Verdict<'a>, Fault>
     requires rules { KeepsRules events.now }
-    requires tables { AreTablesOf events.now tables.now }
-    ensures ok { IfOk result (IsVerdictOf events.now) }
+    requires tables { AreTablesOf tables.now.versions.keys events.now tables.now }
+    ensures ok { IfOk result (IsVerdictOf tables.now.versions.keys events.now) }
     // Where the verdict says refuted, no order explains the events; where it says open, that says nothing.
     ensures strict { IfOk result (RefutesExplanations events.now) }
     ensures err { IfErr result (λ fault. fault ≡ memory_fault) }
@@ -89,8 +89,8 @@ pub fn verdict_from_wide<'a, R: Threads + Sync>(
     tables: &Tables<'a>,
 ) -> Result<Verdict<'a>, Fault>
     requires rules { KeepsRules events.now }
-    requires tables { AreTablesOf events.now tables.now }
-    ensures ok { IfOk result (IsVerdictOf events.now) }
+    requires tables { AreTablesOf tables.now.versions.keys events.now tables.now }
+    ensures ok { IfOk result (IsVerdictOf tables.now.versions.keys events.now) }
     // Where the verdict says refuted, no order explains the events; where it says open, that says nothing.
     ensures strict { IfOk result (RefutesExplanations events.now) }
     ensures err { IfErr result (λ fault. fault ≡ memory_fault) }
@@ -108,8 +108,9 @@ pub fn verdict<'a, S: BuildHasher + Copy>(
     alloc: Global,
     prefix: &Prefix<'a>,
     hasher: S,
+    keys: KeyOrder,
 ) -> Result<Verdict<'a>, Fault>
-    ensures ok { IfOk result (IsVerdictOf prefix.now) }
+    ensures ok { IfOk result (IsVerdictOf keys prefix.now) }
     // Where the verdict says refuted, no order explains the events; where it says open, that says nothing.
     ensures strict { IfOk result (RefutesExplanations prefix.now) }
     ensures err { IfErr result (λ fault. fault ≡ memory_fault) }
@@ -117,7 +118,7 @@ pub fn verdict<'a, S: BuildHasher + Copy>(
     let events = prefix.as_events();
     // Called for its clause that the events keep the rules, which the proof cites.
     let _rules = prefix.events();
-    let tables = tables_of(alloc, events, hasher)?;
+    let tables = tables_of(alloc, events, hasher, keys)?;
     verdict_from(alloc, events, &tables)
 }
 

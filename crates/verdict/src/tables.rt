@@ -4,7 +4,7 @@ ghost use Rattle.std.specs.Prelude.{◌≡◌, IfOk, IfErr};
 ghost use Rattle.hist_types.specs.Refusals.{memory_fault};
 ghost use Rattle.verdict.specs.Lowest.{AreTablesOf};
 
-use hist_types::types::Fault;
+use hist_types::types::{Fault, KeyOrder};
 use journal_core::events::Events;
 use key_versions::table::Versions;
 use key_versions::{versions, versions_wide};
@@ -28,12 +28,13 @@ pub fn tables_of<'a, S: BuildHasher + Copy>(
     alloc: Global,
     events: &Events<'a>,
     hasher: S,
+    keys: KeyOrder,
 ) -> Result<Tables<'a>, Fault>
-    ensures ok { IfOk result (AreTablesOf events.now) }
+    ensures ok { IfOk result (AreTablesOf keys events.now) }
     ensures err { IfErr result (λ fault. fault ≡ memory_fault) }
 {
     let txns = pair(alloc, events)?;
-    let versions = versions(alloc, &txns, hasher)?;
+    let versions = versions(alloc, &txns, hasher, keys)?;
     Ok(Tables { txns, versions })
 }
 
@@ -43,11 +44,12 @@ pub fn tables_of_wide<'a, R: Threads + Sync, S: BuildHasher + Copy>(
     alloc: Global,
     events: &Events<'a>,
     hasher: S,
+    keys: KeyOrder,
 ) -> Result<Tables<'a>, Fault>
-    ensures ok { IfOk result (AreTablesOf events.now) }
+    ensures ok { IfOk result (AreTablesOf keys events.now) }
     ensures err { IfErr result (λ fault. fault ≡ memory_fault) }
 {
     let txns = pair(alloc, events)?;
-    let versions = versions_wide(rt, alloc, &txns, hasher)?;
+    let versions = versions_wide(rt, alloc, &txns, hasher, keys)?;
     Ok(Tables { txns, versions })
 }

@@ -5,6 +5,7 @@ use Rattle.std.proofs.lemmas.List.Elements.{Contains-append_cases}
 use Rattle.hist_types.specs.LegalAnswers as journal
 use Rattle.hist_types.specs.LegalAnswers.{StampedBlock, View, with_more, with_own, Request, Answer, IsLegal, IsLegalAt}
 use Rattle.hist_types.specs.Sessions.{Saying, overlong, quit, verdict, read, import, saying_of, IsReply, AreReplies}
+use Rattle.hist_types.specs.declared.types.KeyOrder.{KeyOrder}
 use Rattle.verdict_serve.specs.Alone.{HasSeenItsOwn}
 
 -- ---- what a call changes
@@ -14,20 +15,20 @@ abbrev HasChanged : View → List StampedBlock → View → Type 0
 HasChanged old more new = (new ≡ with_more old more) ⊎ ((b : StampedBlock) × (new ≡ with_own (with_more old more) b))
 
 changed :
-    (cells seat : ℕ) (request : Request) (answer : Answer) (old new : View) (more : List StampedBlock)
-    → IsLegalAt cells seat request answer (with_more old more) new
+    (keys : KeyOrder) (cells seat : ℕ) (request : Request) (answer : Answer) (old new : View) (more : List StampedBlock)
+    → IsLegalAt keys cells seat request answer (with_more old more) new
     → HasChanged old more new
-changed cells seat (journal.write (Ok os)) (journal.accepted index) old new more legal = inr (_, legal.2)
-changed cells seat (journal.write (Ok os)) (journal.returned events) old new more legal = inl legal.1
-changed cells seat (journal.write (Ok os)) (journal.counted blocks) old new more legal = inl legal.1
-changed cells seat (journal.write (Ok os)) (journal.reported report) old new more legal = inl legal.1
-changed cells seat (journal.write (Ok os)) journal.learnt old new more legal = inl legal.1
-changed cells seat (journal.write (Ok os)) (journal.refused fault) old new more legal = inl legal.1
-changed cells seat (journal.write (Err handed)) answer old new more legal = inl legal.1
-changed cells seat (journal.read from to) answer old new more legal = inl legal.1
-changed cells seat journal.snapshot answer old new more legal = inl legal.1
-changed cells seat journal.verdict answer old new more legal = inl legal.1
-changed cells seat (journal.learn known) answer old new more legal = inl legal.1
+changed keys cells seat (journal.write (Ok os)) (journal.accepted index) old new more legal = inr (_, legal.2)
+changed keys cells seat (journal.write (Ok os)) (journal.returned events) old new more legal = inl legal.1
+changed keys cells seat (journal.write (Ok os)) (journal.counted blocks) old new more legal = inl legal.1
+changed keys cells seat (journal.write (Ok os)) (journal.reported report) old new more legal = inl legal.1
+changed keys cells seat (journal.write (Ok os)) journal.learnt old new more legal = inl legal.1
+changed keys cells seat (journal.write (Ok os)) (journal.refused fault) old new more legal = inl legal.1
+changed keys cells seat (journal.write (Err handed)) answer old new more legal = inl legal.1
+changed keys cells seat (journal.read from to) answer old new more legal = inl legal.1
+changed keys cells seat journal.snapshot answer old new more legal = inl legal.1
+changed keys cells seat journal.verdict answer old new more legal = inl legal.1
+changed keys cells seat (journal.learn known) answer old new more legal = inl legal.1
 
 -- ---- positions
 
@@ -91,78 +92,78 @@ new_anothers old new b more seen (inr own) = subst (λ (v : View). IsAnothers v 
 
 -- what holds of the view before a line and after it
 reply_keeps :
-    (cells seat : ℕ) (P : View → Type 0)
-    → ((request : Request) (answer : Answer) (v w : View) → IsLegal cells seat request answer v w → P v → P w)
+    (keys : KeyOrder) (cells seat : ℕ) (P : View → Type 0)
+    → ((request : Request) (answer : Answer) (v w : View) → IsLegal keys cells seat request answer v w → P v → P w)
     → (saying : Saying) (reply : List ℕ) (old new : View)
-    → IsReply (IsLegal cells seat) saying reply old new
+    → IsReply (IsLegal keys cells seat) saying reply old new
     → P old
     → P new
-reply_keeps cells seat P keeps overlong reply old new is p = subst P (sym is.1) p
-reply_keeps cells seat P keeps quit reply old new is p = subst P (sym is.1) p
-reply_keeps cells seat P keeps verdict reply old new is p = keeps journal.verdict is.0 old new is.1 p
-reply_keeps cells seat P keeps (read from to) reply old new is p = keeps (journal.read from to) is.0 old new is.1 p
-reply_keeps cells seat P keeps (import text) reply old new is p = keeps (journal.write is.0) is.2.0 old new is.2.1 p
+reply_keeps keys cells seat P keeps overlong reply old new is p = subst P (sym is.1) p
+reply_keeps keys cells seat P keeps quit reply old new is p = subst P (sym is.1) p
+reply_keeps keys cells seat P keeps verdict reply old new is p = keeps journal.verdict is.0 old new is.1 p
+reply_keeps keys cells seat P keeps (read from to) reply old new is p = keeps (journal.read from to) is.0 old new is.1 p
+reply_keeps keys cells seat P keeps (import text) reply old new is p = keeps (journal.write is.0) is.2.0 old new is.2.1 p
 
 replies_keep :
-    (cells seat : ℕ) (P : View → Type 0)
-    → ((request : Request) (answer : Answer) (v w : View) → IsLegal cells seat request answer v w → P v → P w)
+    (keys : KeyOrder) (cells seat : ℕ) (P : View → Type 0)
+    → ((request : Request) (answer : Answer) (v w : View) → IsLegal keys cells seat request answer v w → P v → P w)
     → (lines replies : List (List ℕ)) (old new : View)
-    → AreReplies (IsLegal cells seat) lines replies old new
+    → AreReplies (IsLegal keys cells seat) lines replies old new
     → P old
     → P new
-replies_keep cells seat P keeps [] [] old new are p = subst P (sym are) p
-replies_keep cells seat P keeps [] (r ∷ replies) old new are p = absurd are
-replies_keep cells seat P keeps (l ∷ lines) [] old new are p = absurd are
-replies_keep cells seat P keeps (l ∷ lines) (r ∷ replies) old new are p =
-    replies_keep cells seat P keeps lines replies are.0 new are.2 (reply_keeps cells seat P keeps (saying_of l) r old are.0 are.1 p)
+replies_keep keys cells seat P keeps [] [] old new are p = subst P (sym are) p
+replies_keep keys cells seat P keeps [] (r ∷ replies) old new are p = absurd are
+replies_keep keys cells seat P keeps (l ∷ lines) [] old new are p = absurd are
+replies_keep keys cells seat P keeps (l ∷ lines) (r ∷ replies) old new are p =
+    replies_keep keys cells seat P keeps lines replies are.0 new are.2 (reply_keeps keys cells seat P keeps (saying_of l) r old are.0 are.1 p)
 
 -- a call that saw no more
 call_alone :
-    (cells seat : ℕ) (request : Request) (answer : Answer) (old new : View)
+    (keys : KeyOrder) (cells seat : ℕ) (request : Request) (answer : Answer) (old new : View)
     → OwnAreSeen old
     → ((k : ℕ) → ¬ IsAnothers new k)
-    → IsLegal cells seat request answer old new
-    → IsLegalAt cells seat request answer old new
-call_alone cells seat request answer old new seen none legal = by_more legal.0 legal.1
+    → IsLegal keys cells seat request answer old new
+    → IsLegalAt keys cells seat request answer old new
+call_alone keys cells seat request answer old new seen none legal = by_more legal.0 legal.1
   where
-    by_more : (more : List StampedBlock) → IsLegalAt cells seat request answer (with_more old more) new → IsLegalAt cells seat request answer old new
-    by_more [] at = subst (λ (blocks : List StampedBlock). IsLegalAt cells seat request answer (record { seen = blocks; own = old.own }) new) (append-nil old.seen) at
-    by_more (b ∷ more) at = absurd (none (length old.seen) (new_anothers old new b more seen (changed cells seat request answer old new (b ∷ more) at)))
+    by_more : (more : List StampedBlock) → IsLegalAt keys cells seat request answer (with_more old more) new → IsLegalAt keys cells seat request answer old new
+    by_more [] at = subst (λ (blocks : List StampedBlock). IsLegalAt keys cells seat request answer (record { seen = blocks; own = old.own }) new) (append-nil old.seen) at
+    by_more (b ∷ more) at = absurd (none (length old.seen) (new_anothers old new b more seen (changed keys cells seat request answer old new (b ∷ more) at)))
 
 reply_alone :
-    (cells seat : ℕ) (saying : Saying) (reply : List ℕ) (old new : View)
+    (keys : KeyOrder) (cells seat : ℕ) (saying : Saying) (reply : List ℕ) (old new : View)
     → OwnAreSeen old
     → ((k : ℕ) → ¬ IsAnothers new k)
-    → IsReply (IsLegal cells seat) saying reply old new
-    → IsReply (IsLegalAt cells seat) saying reply old new
-reply_alone cells seat overlong reply old new seen none is = is
-reply_alone cells seat quit reply old new seen none is = is
-reply_alone cells seat verdict reply old new seen none is = (is.0, call_alone cells seat journal.verdict is.0 old new seen none is.1, is.2)
-reply_alone cells seat (read from to) reply old new seen none is = (is.0, call_alone cells seat (journal.read from to) is.0 old new seen none is.1, is.2)
-reply_alone cells seat (import text) reply old new seen none is = (is.0, is.1, (is.2.0, call_alone cells seat (journal.write is.0) is.2.0 old new seen none is.2.1, is.2.2))
+    → IsReply (IsLegal keys cells seat) saying reply old new
+    → IsReply (IsLegalAt keys cells seat) saying reply old new
+reply_alone keys cells seat overlong reply old new seen none is = is
+reply_alone keys cells seat quit reply old new seen none is = is
+reply_alone keys cells seat verdict reply old new seen none is = (is.0, call_alone keys cells seat journal.verdict is.0 old new seen none is.1, is.2)
+reply_alone keys cells seat (read from to) reply old new seen none is = (is.0, call_alone keys cells seat (journal.read from to) is.0 old new seen none is.1, is.2)
+reply_alone keys cells seat (import text) reply old new seen none is = (is.0, is.1, (is.2.0, call_alone keys cells seat (journal.write is.0) is.2.0 old new seen none is.2.1, is.2.2))
 
 replies_alone :
-    (cells seat : ℕ) (lines replies : List (List ℕ)) (old new : View)
+    (keys : KeyOrder) (cells seat : ℕ) (lines replies : List (List ℕ)) (old new : View)
     → OwnAreSeen old
     → ((k : ℕ) → ¬ IsAnothers new k)
-    → AreReplies (IsLegal cells seat) lines replies old new
-    → AreReplies (IsLegalAt cells seat) lines replies old new
-replies_alone cells seat [] [] old new seen none are = are
-replies_alone cells seat [] (r ∷ replies) old new seen none are = absurd are
-replies_alone cells seat (l ∷ lines) [] old new seen none are = absurd are
-replies_alone cells seat (l ∷ lines) (r ∷ replies) old new seen none are =
+    → AreReplies (IsLegal keys cells seat) lines replies old new
+    → AreReplies (IsLegalAt keys cells seat) lines replies old new
+replies_alone keys cells seat [] [] old new seen none are = are
+replies_alone keys cells seat [] (r ∷ replies) old new seen none are = absurd are
+replies_alone keys cells seat (l ∷ lines) [] old new seen none are = absurd are
+replies_alone keys cells seat (l ∷ lines) (r ∷ replies) old new seen none are =
     let next : View = are.0 in
     let none_next : (k : ℕ) → ¬ IsAnothers next k = λ k is.
-    none k (replies_keep cells seat (λ (v : View). IsAnothers v k) (λ request answer v w legal. stays_anothers v w legal.0 k (changed cells seat request answer v w legal.0 legal.1)) lines replies next new are.2 is) in
+    none k (replies_keep keys cells seat (λ (v : View). IsAnothers v k) (λ request answer v w legal. stays_anothers v w legal.0 k (changed keys cells seat request answer v w legal.0 legal.1)) lines replies next new are.2 is) in
     let seen_next : OwnAreSeen next =
-    reply_keeps cells seat OwnAreSeen (λ request answer v w legal p. stay_seen v w legal.0 p (changed cells seat request answer v w legal.0 legal.1)) (saying_of l) r old next are.1 seen in
-    (next, reply_alone cells seat (saying_of l) r old next seen none_next are.1, replies_alone cells seat lines replies next new seen_next none are.2)
+    reply_keeps keys cells seat OwnAreSeen (λ request answer v w legal p. stay_seen v w legal.0 p (changed keys cells seat request answer v w legal.0 legal.1)) (saying_of l) r old next are.1 seen in
+    (next, reply_alone keys cells seat (saying_of l) r old next seen none_next are.1, replies_alone keys cells seat lines replies next new seen_next none are.2)
 
 -- at first there is nothing to be seen, and at last nothing of others
 pub session_alone :
-    (cells seat : ℕ) (lines replies : List (List ℕ)) (new : View)
+    (keys : KeyOrder) (cells seat : ℕ) (lines replies : List (List ℕ)) (new : View)
     → HasSeenItsOwn new
-    → AreReplies (IsLegal cells seat) lines replies (record { seen = []; own = [] }) new
-    → AreReplies (IsLegalAt cells seat) lines replies (record { seen = []; own = [] }) new
-session_alone cells seat lines replies new own are =
-    replies_alone cells seat lines replies _ new (λ k c. absurd (omega (arith, c.1))) (λ k is. is.1 (own k is.0)) are
+    → AreReplies (IsLegal keys cells seat) lines replies (record { seen = []; own = [] }) new
+    → AreReplies (IsLegalAt keys cells seat) lines replies (record { seen = []; own = [] }) new
+session_alone keys cells seat lines replies new own are =
+    replies_alone keys cells seat lines replies _ new (λ k c. absurd (omega (arith, c.1))) (λ k is. is.1 (own k is.0)) are

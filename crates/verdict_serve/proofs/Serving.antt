@@ -59,17 +59,18 @@ says_with bytes lines l rest cut none e =
 
 -- the legal answers to a seat
 abbrev legal_to : Seat → Answering
-legal_to seat = IsLegal (length seat.row) seat.number
+legal_to seat = IsLegal seat.keys (length seat.row) seat.number
 
 -- answers to a seat in the same place
 legal_there : (old seat new : Seat) (saying : Saying) (reply : List ℕ) → IsSameSeat old seat → IsLegalReply saying reply seat new
     → IsReply (legal_to old) saying reply seat.view new.view
 legal_there old seat new saying reply same legal =
-    let row = subst (λ (row : List ℕ). IsReply (IsLegal (length row) seat.number) saying reply seat.view new.view) same.0 legal in
-    subst (λ (n : ℕ). IsReply (IsLegal (length old.row) n) saying reply seat.view new.view) same.1 row
+    let row = subst (λ (row : List ℕ). IsReply (IsLegal seat.keys (length row) seat.number) saying reply seat.view new.view) same.0 legal in
+    let number = subst (λ (n : ℕ). IsReply (IsLegal seat.keys (length old.row) n) saying reply seat.view new.view) same.1 row in
+    subst (λ keys. IsReply (IsLegal keys (length old.row) old.number) saying reply seat.view new.view) same.2 number
 
 pub same_there : (old seat new : Seat) → IsSameSeat old seat → IsSameSeat seat new → IsSameSeat old new
-same_there old seat new first second = (second.0 ∙ first.0, second.1 ∙ first.1)
+same_there old seat new first second = (second.0 ∙ first.0, second.1 ∙ first.1, second.2 ∙ first.2)
 
 module _ {S T : Type 0} (reads : Source S) (prints : Sink T) (old : Seat) (source : S) (sink : T) where
   -- lines were answered of which none said quit
@@ -96,7 +97,7 @@ module _ {S T : Type 0} (reads : Source S) (prints : Sink T) (old : Seat) (sourc
     replies_are = refl;
     printed = record { taken = none_appended (prints.contents sink); no_failure = refl };
     answered_are = refl;
-    same = (refl, refl);
+    same = (refl, refl, refl);
   }
 
   -- the replies with one more

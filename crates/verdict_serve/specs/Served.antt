@@ -32,7 +32,7 @@ pub record HasServed {S T : Type 0} (reads : Source S) (prints : Sink T) (ended 
   pub bytes : List ℕ
   pub replies : List (List ℕ)
   pub given : HasGiven reads source source' bytes
-  pub session : IsSession (length old.row) old.number bytes replies old.view new.view
+  pub session : IsSession old.keys (length old.row) old.number bytes replies old.view new.view
   pub printed : HasTaken prints sink sink' (joined replies)
   pub ended_so : HasEnded ended bytes (reads.remaining source')
 
@@ -43,7 +43,8 @@ pub record HasLostSource {S T : Type 0} (reads : Source S) (prints : Sink T) (an
   pub bytes : List ℕ
   pub replies : List (List ℕ)
   pub failed : HasFailedAfter reads source source' bytes
-  pub session : IsSessionSoFar (length old.row) old.number bytes replies old.view new.view
+  pub session :
+      IsSessionSoFar old.keys (length old.row) old.number bytes replies old.view new.view
   pub printed : HasTaken prints sink sink' (joined replies)
   pub answered_are : answered ≡ counted replies
 
@@ -56,7 +57,8 @@ pub record HasLostSink {S T : Type 0} (reads : Source S) (prints : Sink T) (answ
   pub count : ℕ
   pub given : HasGiven reads source source' bytes
   pub session :
-      IsSessionSoFar (length old.row) old.number bytes (replies ++ next ∷ []) old.view new.view
+      IsSessionSoFar old.keys (length old.row) old.number bytes
+      (replies ++ next ∷ []) old.view new.view
   pub printed :
       Appends (prints.contents sink) (prints.contents sink') (joined replies ++ take count next)
   pub failed : CountsFailure (prints.failures sink) (prints.failures sink')

@@ -27,7 +27,7 @@ IsPrinted prints result sink sink' reply =
 -- the reply is one to a line that says this, by a legal answer to the seat
 abbrev pub IsLegalReply : ASaying → (reply : List ℕ) → (old new : Seat) → Type 0
 IsLegalReply saying reply old new =
-    IsReply (IsLegal (length old.row) old.number) saying reply old.view new.view
+    IsReply (IsLegal old.keys (length old.row) old.number) saying reply old.view new.view
 
 -- the seat answered a line that says this, and the reply was printed
 pub record HasAnswered {T : Type 0} (prints : Sink T) (saying : ASaying)

@@ -9,12 +9,12 @@ use Rattle.cycle_show.proofs.Tightening.{tightened}
 use Rattle.cycle_show.proofs.tighten.Goals as goal
 
 pub returns-clause-witness : goal.returns-clause-witness
-returns-clause-witness c phenomenon level events shows =
+returns-clause-witness c keys phenomenon level events shows =
     let path : List Edge = c.in_ok-edges.edges.items in
     let least : ℕ = c.least_place.result in
     let IsLeast : List Edge → Type 0 = λ es. (k : ℕ) → k < length (stations es) → slice_index (stations es) least ≤ slice_index (stations es) k in
-    subst (IsWitness phenomenon level (transactions_of events)) (sym (c.new.ensures ∙ c.rotate_left.ensures.items))
-    (tightened phenomenon level events c.args.walk.now path least
+    subst (IsWitness keys phenomenon level (transactions_of events)) (sym (c.new.ensures ∙ c.rotate_left.ensures.items))
+    (tightened keys phenomenon level events c.args.walk.now path least
     (c.in_ok-edges.ensures ∙ ap short_round c.edges.ensures)
     (subst (λ (es : List Edge). least ≤ length es - 1) c.deref.ensures.value c.least_place.ensures.within)
     (subst IsLeast c.deref.ensures.value c.least_place.ensures.least)

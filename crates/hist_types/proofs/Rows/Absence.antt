@@ -12,6 +12,7 @@ use Rattle.hist_types.specs.declared.types.Level.{Level}
 use Rattle.hist_types.specs.declared.types.Level.TheVariants.{Plain, Process, Realtime}
 use Rattle.hist_types.specs.declared.types.Phenomenon.{Phenomenon}
 use Rattle.hist_types.specs.declared.types.Phenomenon.TheVariants.{G0, G1c, GSingle, G2Item}
+use Rattle.hist_types.specs.declared.types.KeyOrder.TheVariants.{Basic}
 
 each_passes : (p : Edge → Bool) (es : List Edge) → list_all p es ≡ true → AllByRecursion (λ e. p e ≡ true) es
 each_passes p [] e = tt
@@ -48,10 +49,10 @@ not_closed f (e ∷ es) down closed =
 
 pub no_cycle :
     (phenomenon : Phenomenon) (level : Level) (ts : List Transaction) (f : ℕ → ℕ)
-    → list_all (leads_down f) (edges_at level ts) ≡ true
-    → ¬ IsThere phenomenon level ts
+    → list_all (leads_down f) (edges_at Basic level ts) ≡ true
+    → ¬ IsThere Basic phenomenon level ts
 no_cycle phenomenon level ts f down has =
-    not_closed f has.0 (walk_passes (leads_down f) (edges_at level ts) has.0 down has.1.within) has.1.closed
+    not_closed f has.0 (walk_passes (leads_down f) (edges_at Basic level ts) has.0 down has.1.within) has.1.closed
 
 -- ---- edges without the kind that is needed
 
@@ -68,24 +69,24 @@ none_counted p (e ∷ es) none =
     sum_by-cons (λ d. cond (p d) 1 0) e es
     ∙ (ap (λ b. cond b 1 0 + count_by p es) (not-true (p e) none.0) ∙ ap (λ n. 0 + n) (none_counted p es none.1))
 
-pub no_ww : (level : Level) (ts : List Transaction) → list_all (λ e. not (is_ww e)) (edges_at level ts) ≡ true → ¬ IsThere G0 level ts
+pub no_ww : (level : Level) (ts : List Transaction) → list_all (λ e. not (is_ww e)) (edges_at Basic level ts) ≡ true → ¬ IsThere Basic G0 level ts
 no_ww level ts none has =
-    without is_ww has.0 (walk_passes (λ e. not (is_ww e)) (edges_at level ts) has.0 none has.1.within)
+    without is_ww has.0 (walk_passes (λ e. not (is_ww e)) (edges_at Basic level ts) has.0 none has.1.within)
     (and_parts (list_all (λ e. is_ww e || is_order e) has.0) (list_any is_ww has.0) has.1.kinds).1
 
-pub no_wr : (level : Level) (ts : List Transaction) → list_all (λ e. not (is_wr e)) (edges_at level ts) ≡ true → ¬ IsThere G1c level ts
+pub no_wr : (level : Level) (ts : List Transaction) → list_all (λ e. not (is_wr e)) (edges_at Basic level ts) ≡ true → ¬ IsThere Basic G1c level ts
 no_wr level ts none has =
-    without is_wr has.0 (walk_passes (λ e. not (is_wr e)) (edges_at level ts) has.0 none has.1.within)
+    without is_wr has.0 (walk_passes (λ e. not (is_wr e)) (edges_at Basic level ts) has.0 none has.1.within)
     (and_parts (list_all (λ e. is_ww e || is_wr e || is_order e) has.0) (list_any is_wr has.0) has.1.kinds).1
 
-pub no_rw : (level : Level) (ts : List Transaction) → list_all (λ e. not (is_rw e)) (edges_at level ts) ≡ true → ¬ IsThere G2Item level ts
+pub no_rw : (level : Level) (ts : List Transaction) → list_all (λ e. not (is_rw e)) (edges_at Basic level ts) ≡ true → ¬ IsThere Basic G2Item level ts
 no_rw level ts none has =
-    without is_rw has.0 (walk_passes (λ e. not (is_rw e)) (edges_at level ts) has.0 none has.1.within) has.1.kinds
+    without is_rw has.0 (walk_passes (λ e. not (is_rw e)) (edges_at Basic level ts) has.0 none has.1.within) has.1.kinds
 
-pub no_single_rw : (level : Level) (ts : List Transaction) → list_all (λ e. not (is_rw e)) (edges_at level ts) ≡ true → ¬ IsThere GSingle level ts
+pub no_single_rw : (level : Level) (ts : List Transaction) → list_all (λ e. not (is_rw e)) (edges_at Basic level ts) ≡ true → ¬ IsThere Basic GSingle level ts
 no_single_rw level ts none has =
     let one : count_by is_rw has.0 ≡ 1 = eqb-true (count_by is_rw has.0) 1 has.1.kinds in
-    omega (arith, one, none_counted is_rw has.0 (walk_passes (λ e. not (is_rw e)) (edges_at level ts) has.0 none has.1.within))
+    omega (arith, one, none_counted is_rw has.0 (walk_passes (λ e. not (is_rw e)) (edges_at Basic level ts) has.0 none has.1.within))
 
 -- ---- edges that lead down, but for the rw edges
 
@@ -105,11 +106,11 @@ down_without_rw f (e ∷ es) passes g1c = (
 )
 
 -- A G1c uses no rw edge.
-pub no_g1c_cycle : (level : Level) (ts : List Transaction) (f : ℕ → ℕ) → list_all (λ e. is_rw e || leads_down f e) (edges_at level ts) ≡ true → ¬ IsThere G1c level ts
+pub no_g1c_cycle : (level : Level) (ts : List Transaction) (f : ℕ → ℕ) → list_all (λ e. is_rw e || leads_down f e) (edges_at Basic level ts) ≡ true → ¬ IsThere Basic G1c level ts
 no_g1c_cycle level ts f passes has =
     not_closed f has.0
     (down_without_rw f has.0
-    (walk_passes (λ e. is_rw e || leads_down f e) (edges_at level ts) has.0 passes has.1.within)
+    (walk_passes (λ e. is_rw e || leads_down f e) (edges_at Basic level ts) has.0 passes has.1.within)
     (each_passes (λ e. is_ww e || is_wr e || is_order e) has.0
     (and_parts (list_all (λ e. is_ww e || is_wr e || is_order e) has.0) (list_any is_wr has.0) has.1.kinds).0))
     has.1.closed
@@ -136,50 +137,50 @@ more_than_one (e ∷ d ∷ es) all closed one =
     )
 
 -- A closed walk of rw edges between different transactions has two of them at least.
-pub only_rw : (level : Level) (ts : List Transaction) → list_all is_proper_rw (edges_at level ts) ≡ true → ¬ IsThere GSingle level ts
+pub only_rw : (level : Level) (ts : List Transaction) → list_all is_proper_rw (edges_at Basic level ts) ≡ true → ¬ IsThere Basic GSingle level ts
 only_rw level ts all has =
-    more_than_one has.0 (walk_passes is_proper_rw (edges_at level ts) has.0 all has.1.within) has.1.closed
+    more_than_one has.0 (walk_passes is_proper_rw (edges_at Basic level ts) has.0 all has.1.within) has.1.closed
     (eqb-true (count_by is_rw has.0) 1 has.1.kinds)
 
 -- ---- findings
 
 no_level :
     (phenomenon : Phenomenon) (ts : List Transaction)
-    → ¬ IsThere phenomenon Plain ts
-    → ¬ IsThere phenomenon Process ts
-    → ¬ IsThere phenomenon Realtime ts
-    → IsLowestLevel phenomenon ts None
+    → ¬ IsThere Basic phenomenon Plain ts
+    → ¬ IsThere Basic phenomenon Process ts
+    → ¬ IsThere Basic phenomenon Realtime ts
+    → IsLowestLevel Basic phenomenon ts None
 no_level phenomenon ts plain process realtime Plain = plain
 no_level phenomenon ts plain process realtime Process = process
 no_level phenomenon ts plain process realtime Realtime = realtime
 
-pub at_no_level : (phenomenon : Phenomenon) (ts : List Transaction) → ¬ IsThere phenomenon Plain ts → ¬ IsThere phenomenon Process ts → ¬ IsThere phenomenon Realtime ts → IsFinding phenomenon ts None
+pub at_no_level : (phenomenon : Phenomenon) (ts : List Transaction) → ¬ IsThere Basic phenomenon Plain ts → ¬ IsThere Basic phenomenon Process ts → ¬ IsThere Basic phenomenon Realtime ts → IsFinding Basic phenomenon ts None
 at_no_level phenomenon ts plain process realtime = (no_level phenomenon ts plain process realtime, tt)
 
 -- a level with a witness, and no lower one
 pub at_level :
     (phenomenon : Phenomenon) (ts : List Transaction) (found : Finding)
-    → IsWitness phenomenon found.level ts found.walk
-    → ((lower : Level) → height lower < height found.level → ¬ IsThere phenomenon lower ts)
-    → IsFinding phenomenon ts (Some found)
+    → IsWitness Basic phenomenon found.level ts found.walk
+    → ((lower : Level) → height lower < height found.level → ¬ IsThere Basic phenomenon lower ts)
+    → IsFinding Basic phenomenon ts (Some found)
 at_level phenomenon ts found witness lower = (((found.walk, witness.shows), lower), witness)
 
 -- nothing is below plain
-pub below_plain : (phenomenon : Phenomenon) (ts : List Transaction) → (lower : Level) → height lower < height Plain → ¬ IsThere phenomenon lower ts
+pub below_plain : (phenomenon : Phenomenon) (ts : List Transaction) → (lower : Level) → height lower < height Plain → ¬ IsThere Basic phenomenon lower ts
 below_plain phenomenon ts lower below has = omega (arith, below)
 
-pub below_process : (phenomenon : Phenomenon) (ts : List Transaction) → ¬ IsThere phenomenon Plain ts → (lower : Level) → height lower < height Process → ¬ IsThere phenomenon lower ts
+pub below_process : (phenomenon : Phenomenon) (ts : List Transaction) → ¬ IsThere Basic phenomenon Plain ts → (lower : Level) → height lower < height Process → ¬ IsThere Basic phenomenon lower ts
 below_process phenomenon ts plain Plain below = plain
 below_process phenomenon ts plain Process below = λ has. omega (arith, below)
 below_process phenomenon ts plain Realtime below = λ has. omega (arith, below)
 
 pub below_realtime :
     (phenomenon : Phenomenon) (ts : List Transaction)
-    → ¬ IsThere phenomenon Plain ts
-    → ¬ IsThere phenomenon Process ts
+    → ¬ IsThere Basic phenomenon Plain ts
+    → ¬ IsThere Basic phenomenon Process ts
     → (lower : Level)
     → height lower < height Realtime
-    → ¬ IsThere phenomenon lower ts
+    → ¬ IsThere Basic phenomenon lower ts
 below_realtime phenomenon ts plain process Plain below = plain
 below_realtime phenomenon ts plain process Process below = process
 below_realtime phenomenon ts plain process Realtime below = λ has. omega (arith, below)

@@ -12,6 +12,7 @@ use Rattle.hist_types.specs.Reports.{edges_report}
 use Rattle.hist_types.specs.Texts.{edges_text, finding_lines}
 use Rattle.hist_types.specs.declared.types.Level.TheVariants.{Plain}
 use Rattle.hist_types.specs.declared.types.Phenomenon.TheVariants.{G0, G1c, GSingle, G2Item}
+use Rattle.hist_types.specs.declared.types.KeyOrder.TheVariants.{Basic}
 use Rattle.hist_types.proofs.Rows.History.{x, y, sets, gets, finds_nil, invoke, ok, committed, nil_then, pair, ww_edge, wr_edge, rw_nil_edge, names, witness}
 
 -- ---- two transactions that read each other's writes
@@ -42,11 +43,11 @@ crossed_reads-nodes : names (nodes (transactions_of crossed_reads)) ≡ 0 ∷ 1 
 crossed_reads-nodes = refl
 
 -- nil comes before each of the two writes, and nothing else is known of the versions.
-crossed_reads-pairs : version_pairs (transactions_of crossed_reads) ≡ nil_then x 1 ∷ nil_then y 1 ∷ []
+crossed_reads-pairs : version_pairs Basic (transactions_of crossed_reads) ≡ nil_then x 1 ∷ nil_then y 1 ∷ []
 crossed_reads-pairs = refl
 
 -- Each reads what the other wrote. Neither reads nil, so there is no rw edge.
-crossed_reads-edges : dependency_edges (transactions_of crossed_reads) ≡ wr_edge 0 1 x 1 ∷ wr_edge 1 0 y 1 ∷ []
+crossed_reads-edges : dependency_edges Basic (transactions_of crossed_reads) ≡ wr_edge 0 1 x 1 ∷ wr_edge 1 0 y 1 ∷ []
 crossed_reads-edges = refl
 
 -- from one to the other and back
@@ -54,9 +55,9 @@ abbrev pub crossed_reads_walk : List Edge
 crossed_reads_walk = wr_edge 0 1 x 1 ∷ wr_edge 1 0 y 1 ∷ []
 
 -- A cycle of wr edges is a G1c with no order between transactions needed.
-pub crossed_reads-witness : IsWitness G1c Plain (transactions_of crossed_reads) crossed_reads_walk
+pub crossed_reads-witness : IsWitness Basic G1c Plain (transactions_of crossed_reads) crossed_reads_walk
 crossed_reads-witness =
-    witness G1c Plain (transactions_of crossed_reads) (0 ∷ 1 ∷ []) crossed_reads_walk (refl, refl) (refl, refl, (refl, refl, tt)) refl refl refl refl
+    witness Basic G1c Plain (transactions_of crossed_reads) (0 ∷ 1 ∷ []) crossed_reads_walk (refl, refl) (refl, refl, (refl, refl, tt)) refl refl refl refl
 
 -- It is printed so.
 crossed_reads-witness-lines : finding_lines (codes "G1c") (Some (record { level = Plain; walk = crossed_reads_walk })) ≡ codes "G1c plain\n  T0 -wr :x 1-> T1\n  T1 -wr :y 1-> T0\n"
@@ -96,13 +97,13 @@ updates_of_nil-nodes = refl
 
 -- nil comes before each write, once since each is a node's, and once since each follows its reader's nil.
 updates_of_nil-pairs :
-    version_pairs (transactions_of updates_of_nil) ≡ nil_then x 1 ∷ nil_then x 2 ∷ nil_then x 1 ∷ nil_then x 2 ∷ []
+    version_pairs Basic (transactions_of updates_of_nil) ≡ nil_then x 1 ∷ nil_then x 2 ∷ nil_then x 1 ∷ nil_then x 2 ∷ []
 updates_of_nil-pairs = refl
 
 -- Each read nil, which came before the other's write. That nil came before its own write makes no edge. (Each rw edge
 -- stands twice in the list, as its version pair does; a list of edges is printed with each once.)
 updates_of_nil-edges :
-    dependency_edges (transactions_of updates_of_nil)
+    dependency_edges Basic (transactions_of updates_of_nil)
     ≡ rw_nil_edge 0 1 x 2
     ∷ rw_nil_edge 0 1 x 2
     ∷ rw_nil_edge 1 0 x 1
@@ -111,7 +112,7 @@ updates_of_nil-edges :
 updates_of_nil-edges = refl
 
 -- Each of the two edges is printed once.
-updates_of_nil-text : edges_text (edges_report updates_of_nil) ≡ codes "prefix 4\ntxns 2\nT0 -rw :x nil 2-> T1\nT1 -rw :x nil 1-> T0\nedges 2\n"
+updates_of_nil-text : edges_text (edges_report Basic updates_of_nil) ≡ codes "prefix 4\ntxns 2\nT0 -rw :x nil 2-> T1\nT1 -rw :x nil 1-> T0\nedges 2\n"
 unfolding digits
 updates_of_nil-text = refl
 
@@ -120,9 +121,9 @@ abbrev pub updates_of_nil_walk : List Edge
 updates_of_nil_walk = rw_nil_edge 0 1 x 2 ∷ rw_nil_edge 1 0 x 1 ∷ []
 
 -- A cycle with rw edges is a G2-item.
-pub updates_of_nil-witness : IsWitness G2Item Plain (transactions_of updates_of_nil) updates_of_nil_walk
+pub updates_of_nil-witness : IsWitness Basic G2Item Plain (transactions_of updates_of_nil) updates_of_nil_walk
 updates_of_nil-witness =
-    witness G2Item Plain (transactions_of updates_of_nil) (0 ∷ 2 ∷ []) updates_of_nil_walk (refl, refl) (refl, refl, (refl, refl, tt)) refl refl refl refl
+    witness Basic G2Item Plain (transactions_of updates_of_nil) (0 ∷ 2 ∷ []) updates_of_nil_walk (refl, refl) (refl, refl, (refl, refl, tt)) refl refl refl refl
 
 -- It is printed so.
 updates_of_nil-witness-lines : finding_lines (codes "G2-item") (Some (record { level = Plain; walk = updates_of_nil_walk })) ≡ codes "G2-item plain\n  T0 -rw :x nil 2-> T1\n  T1 -rw :x nil 1-> T0\n"
@@ -163,7 +164,7 @@ crossed_updates-nodes = refl
 -- nil comes before all four writes. A write follows what its transaction read of its key: 1 comes before 2 at both
 -- keys.
 crossed_updates-pairs :
-    version_pairs (transactions_of crossed_updates)
+    version_pairs Basic (transactions_of crossed_updates)
     ≡ nil_then x 1
     ∷ nil_then y 2
     ∷ nil_then y 1
@@ -175,7 +176,7 @@ crossed_updates-pairs = refl
 
 -- At x the first one's write comes before the second one's, which also read it; at y it is the other way round.
 crossed_updates-edges :
-    dependency_edges (transactions_of crossed_updates)
+    dependency_edges Basic (transactions_of crossed_updates)
     ≡ ww_edge 0 1 x 1 2
     ∷ wr_edge 0 1 x 1
     ∷ ww_edge 1 0 y 1 2
@@ -184,7 +185,7 @@ crossed_updates-edges :
 crossed_updates-edges = refl
 
 -- The edges are printed so: by transactions, and ww before wr.
-crossed_updates-text : edges_text (edges_report crossed_updates) ≡ codes "prefix 4\ntxns 2\nT0 -ww :x 1 2-> T1\nT0 -wr :x 1-> T1\nT1 -ww :y 1 2-> T0\nT1 -wr :y 1-> T0\nedges 4\n"
+crossed_updates-text : edges_text (edges_report Basic crossed_updates) ≡ codes "prefix 4\ntxns 2\nT0 -ww :x 1 2-> T1\nT0 -wr :x 1-> T1\nT1 -ww :y 1 2-> T0\nT1 -wr :y 1-> T0\nedges 4\n"
 unfolding digits
 crossed_updates-text = refl
 
@@ -193,9 +194,9 @@ abbrev pub ww_walk : List Edge
 ww_walk = ww_edge 0 1 x 1 2 ∷ ww_edge 1 0 y 1 2 ∷ []
 
 -- A cycle of ww edges is a G0.
-pub crossed_updates-g0 : IsWitness G0 Plain (transactions_of crossed_updates) ww_walk
+pub crossed_updates-g0 : IsWitness Basic G0 Plain (transactions_of crossed_updates) ww_walk
 crossed_updates-g0 =
-    witness G0 Plain (transactions_of crossed_updates) (0 ∷ 2 ∷ []) ww_walk (refl, refl) (refl, refl, (refl, refl, tt)) refl refl refl refl
+    witness Basic G0 Plain (transactions_of crossed_updates) (0 ∷ 2 ∷ []) ww_walk (refl, refl) (refl, refl, (refl, refl, tt)) refl refl refl refl
 
 -- It is printed so.
 crossed_updates-g0-lines : finding_lines (codes "G0") (Some (record { level = Plain; walk = ww_walk })) ≡ codes "G0 plain\n  T0 -ww :x 1 2-> T1\n  T1 -ww :y 1 2-> T0\n"
@@ -211,9 +212,9 @@ abbrev pub read_back_walk : List Edge
 read_back_walk = ww_edge 0 1 x 1 2 ∷ wr_edge 1 0 y 1 ∷ []
 
 -- With a wr edge the cycle is a G1c.
-pub crossed_updates-read_back : IsWitness G1c Plain (transactions_of crossed_updates) read_back_walk
+pub crossed_updates-read_back : IsWitness Basic G1c Plain (transactions_of crossed_updates) read_back_walk
 crossed_updates-read_back =
-    witness G1c Plain (transactions_of crossed_updates) (0 ∷ 3 ∷ []) read_back_walk (refl, refl) (refl, refl, (refl, refl, tt)) refl refl refl refl
+    witness Basic G1c Plain (transactions_of crossed_updates) (0 ∷ 3 ∷ []) read_back_walk (refl, refl) (refl, refl, (refl, refl, tt)) refl refl refl refl
 
 -- It is printed so.
 crossed_updates-read_back-lines : finding_lines (codes "G1c") (Some (record { level = Plain; walk = read_back_walk })) ≡ codes "G1c plain\n  T0 -ww :x 1 2-> T1\n  T1 -wr :y 1-> T0\n"
@@ -225,9 +226,9 @@ abbrev read_forth_walk : List Edge
 read_forth_walk = wr_edge 0 1 x 1 ∷ ww_edge 1 0 y 1 2 ∷ []
 
 -- With a wr edge the cycle is a G1c.
-crossed_updates-read_forth : IsWitness G1c Plain (transactions_of crossed_updates) read_forth_walk
+crossed_updates-read_forth : IsWitness Basic G1c Plain (transactions_of crossed_updates) read_forth_walk
 crossed_updates-read_forth =
-    witness G1c Plain (transactions_of crossed_updates) (1 ∷ 2 ∷ []) read_forth_walk (refl, refl) (refl, refl, (refl, refl, tt)) refl refl refl refl
+    witness Basic G1c Plain (transactions_of crossed_updates) (1 ∷ 2 ∷ []) read_forth_walk (refl, refl) (refl, refl, (refl, refl, tt)) refl refl refl refl
 
 -- It is printed so.
 crossed_updates-read_forth-lines : finding_lines (codes "G1c") (Some (record { level = Plain; walk = read_forth_walk })) ≡ codes "G1c plain\n  T0 -wr :x 1-> T1\n  T1 -ww :y 1 2-> T0\n"
@@ -239,9 +240,9 @@ abbrev read_both_ways_walk : List Edge
 read_both_ways_walk = wr_edge 0 1 x 1 ∷ wr_edge 1 0 y 1 ∷ []
 
 -- With a wr edge the cycle is a G1c.
-crossed_updates-read_both_ways : IsWitness G1c Plain (transactions_of crossed_updates) read_both_ways_walk
+crossed_updates-read_both_ways : IsWitness Basic G1c Plain (transactions_of crossed_updates) read_both_ways_walk
 crossed_updates-read_both_ways =
-    witness G1c Plain (transactions_of crossed_updates) (1 ∷ 3 ∷ []) read_both_ways_walk (refl, refl) (refl, refl, (refl, refl, tt)) refl refl refl refl
+    witness Basic G1c Plain (transactions_of crossed_updates) (1 ∷ 3 ∷ []) read_both_ways_walk (refl, refl) (refl, refl, (refl, refl, tt)) refl refl refl refl
 
 -- It is printed so.
 crossed_updates-read_both_ways-lines : finding_lines (codes "G1c") (Some (record { level = Plain; walk = read_both_ways_walk })) ≡ codes "G1c plain\n  T0 -wr :x 1-> T1\n  T1 -wr :y 1-> T0\n"
@@ -281,13 +282,13 @@ chained_updates-nodes = refl
 
 -- nil comes before both writes, twice before the first one, whose writer read nil; and 1 comes before 2.
 chained_updates-pairs :
-    version_pairs (transactions_of chained_updates) ≡ nil_then x 1 ∷ nil_then x 2 ∷ nil_then x 1 ∷ pair x 1 2 ∷ []
+    version_pairs Basic (transactions_of chained_updates) ≡ nil_then x 1 ∷ nil_then x 2 ∷ nil_then x 1 ∷ pair x 1 2 ∷ []
 chained_updates-pairs = refl
 
 -- All edges lead to the second one. The first one read nil and wrote 1, so nil before 1 would join it to itself, which
 -- is no edge.
 chained_updates-edges :
-    dependency_edges (transactions_of chained_updates)
+    dependency_edges Basic (transactions_of chained_updates)
     ≡ ww_edge 0 2 x 1 2
     ∷ wr_edge 0 2 x 1
     ∷ rw_nil_edge 0 2 x 2
@@ -295,6 +296,6 @@ chained_updates-edges :
 chained_updates-edges = refl
 
 -- The edges are printed so, each once.
-chained_updates-text : edges_text (edges_report chained_updates) ≡ codes "prefix 4\ntxns 2\nT0 -ww :x 1 2-> T2\nT0 -wr :x 1-> T2\nT0 -rw :x nil 2-> T2\nedges 3\n"
+chained_updates-text : edges_text (edges_report Basic chained_updates) ≡ codes "prefix 4\ntxns 2\nT0 -ww :x 1 2-> T2\nT0 -wr :x 1-> T2\nT0 -rw :x nil 2-> T2\nedges 3\n"
 unfolding digits
 chained_updates-text = refl

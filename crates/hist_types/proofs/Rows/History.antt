@@ -18,6 +18,7 @@ use Rattle.hist_types.specs.Witness.{IsWitness, stations, alternates, ends_in_or
 use Rattle.hist_types.specs.declared.types.Level.{Level}
 use Rattle.hist_types.specs.declared.types.Phenomenon.{Phenomenon}
 use Rattle.hist_types.specs.declared.types.OpKind.TheVariants as kinds
+use Rattle.hist_types.specs.declared.types.KeyOrder.{KeyOrder}
 
 -- ---- keys and values
 
@@ -130,19 +131,19 @@ contained es (k ∷ places) (e ∷ walk) stand = ((k, ltb-true k (length es) sta
 
 -- A walk is a witness once each of its edges stands at its place and the tests come out true.
 pub witness :
-    (phenomenon : Phenomenon) (level : Level) (ts : List Transaction) (places : List ℕ) (walk : List Edge)
+    (keys : KeyOrder) (phenomenon : Phenomenon) (level : Level) (ts : List Transaction) (places : List ℕ) (walk : List Edge)
     → IsClosedWalk walk
-    → StandAt (edges_at level ts) places walk
+    → StandAt (edges_at keys level ts) places walk
     → makes phenomenon walk ≡ true
     → distinct_count nat_eq (stations walk) ≡ length (stations walk)
     → alternates (ends_in_order walk) walk ≡ true
     → begins_least (stations walk) ≡ true
-    → IsWitness phenomenon level ts walk
-witness phenomenon level ts places walk closed stand kinds different apart least =
+    → IsWitness keys phenomenon level ts walk
+witness keys phenomenon level ts places walk closed stand kinds different apart least =
     record {
       shows = record {
         closed = closed;
-        within = All-from_recursion (Contains (edges_at level ts)) walk (contained (edges_at level ts) places walk stand);
+        within = All-from_recursion (Contains (edges_at keys level ts)) walk (contained (edges_at keys level ts) places walk stand);
         kinds = kinds;
       };
       different = IsDistinct-from_count nat_eq_equiv (stations walk) different;

@@ -6,6 +6,7 @@ use Rattle.hist_types.specs.Interleavings.{Answered, World, at_first, Step, look
 use Rattle.hist_types.specs.LegalAnswers.{View, Request, write, snapshot, Answer, accepted, counted, refused, counting_blocks, JournalAnswers}
 use Rattle.hist_types.specs.Operations.{Operation}
 use Rattle.hist_types.specs.declared.types.Refusal.TheVariants.{Idle, Full}
+use Rattle.hist_types.specs.declared.types.KeyOrder.TheVariants.{Basic}
 use Rattle.hist_types.proofs.Rows.History.{invoke}
 use Rattle.hist_types.proofs.Rows.LegalAnswers.{begin_x, end_x, begin_y, block, view, at_event}
 
@@ -22,9 +23,9 @@ AreGiven cells w [] = ⊤
 AreGiven cells w (look seat ∷ steps) = AreGiven cells (looked seat w) steps
 AreGiven cells w (fill seat os ∷ steps) = AreGiven cells (after_fill cells seat os w) steps
 AreGiven cells w (reply seat request given ∷ steps) =
-    JournalAnswers cells (w.views seat).seen request given × AreGiven cells (replied seat request given w) steps
+    JournalAnswers Basic cells (w.views seat).seen request given × AreGiven cells (replied seat request given w) steps
 
-walked : (cells : ℕ) (w : World) (steps : List Step) → AreGiven cells w steps → IsOutcomeOf cells w steps (walk cells w steps)
+walked : (cells : ℕ) (w : World) (steps : List Step) → AreGiven cells w steps → IsOutcomeOf Basic cells w steps (walk cells w steps)
 walked cells w [] g = refl
 walked cells w (look seat ∷ steps) g = (looked seat w, refl, walked cells (looked seat w) steps g)
 walked cells w (fill seat os ∷ steps) g = (after_fill cells seat os w, refl, walked cells (after_fill cells seat os w) steps g)
@@ -57,7 +58,7 @@ two_fills =
 abbrev two_blocks : World
 two_blocks = walk 2 at_first two_fills
 
-two_fills-outcome : IsOutcomeOf 2 at_first two_fills two_blocks
+two_fills-outcome : IsOutcomeOf Basic 2 at_first two_fills two_blocks
 two_fills-outcome = walked 2 at_first two_fills (inr (inr (refl, refl, refl)), tt)
 
 -- Both seats have seen the same two blocks, each of which is one seat's own.
@@ -77,7 +78,7 @@ two_fills-answers :
 two_fills-answers = refl
 
 -- The answers are a run of one sequential journal.
-two_fills-run : IsRun 2 [] (by_point two_blocks.answers) two_blocks.row
+two_fills-run : IsRun Basic 2 [] (by_point two_blocks.answers) two_blocks.row
 two_fills-run = (
   view (block 0 0 begin_x ∷ []) (0 ∷ []),
   (refl, refl, refl),
@@ -113,7 +114,7 @@ abbrev race_won : (first second : ℕ) → World
 race_won first second = walk 1 at_first (race first second)
 
 -- It may go either way.
-race-outcomes : IsOutcomeOf 1 at_first (race 0 1) (race_won 0 1) × IsOutcomeOf 1 at_first (race 1 0) (race_won 1 0)
+race-outcomes : IsOutcomeOf Basic 1 at_first (race 0 1) (race_won 0 1) × IsOutcomeOf Basic 1 at_first (race 1 0) (race_won 1 0)
 race-outcomes = (
   walked 1 at_first (race 0 1) (inr (inr (refl, refl, refl)), tt),
   walked 1 at_first (race 1 0) (inr (inr (refl, refl, refl)), tt),
@@ -156,7 +157,7 @@ two_completions =
 abbrev one_completion : World
 one_completion = walk 9 at_first two_completions
 
-two_completions-outcome : IsOutcomeOf 9 at_first two_completions one_completion
+two_completions-outcome : IsOutcomeOf Basic 9 at_first two_completions one_completion
 two_completions-outcome = walked 9 at_first two_completions (inr (inl refl), tt)
 
 -- The process is completed once.
@@ -183,7 +184,7 @@ late_look =
 abbrev looked_late : World
 looked_late = walk 9 at_first late_look
 
-late_look-outcome : IsOutcomeOf 9 at_first late_look looked_late
+late_look-outcome : IsOutcomeOf Basic 9 at_first late_look looked_late
 late_look-outcome = walked 9 at_first late_look (refl, (refl, tt))
 
 -- Its first snapshot comes before the write.
@@ -196,7 +197,7 @@ late_look-order :
 late_look-order = refl
 
 -- In this order the answers are a run of one sequential journal.
-late_look-run : IsRun 9 [] (by_point looked_late.answers) looked_late.row
+late_look-run : IsRun Basic 9 [] (by_point looked_late.answers) looked_late.row
 late_look-run = (
   view [] [],
   (refl, refl),
@@ -208,7 +209,7 @@ late_look-run = (
 )
 
 -- In the order in which they were given they are not.
-not-late_look-run : ¬ IsRun 9 [] looked_late.answers looked_late.row
+not-late_look-run : ¬ IsRun Basic 9 [] looked_late.answers looked_late.row
 not-late_look-run r =
     let one : r.0.seen ≡ block 0 0 begin_x ∷ [] = ap (λ (v : View). v.seen) r.1.2 in
     let none : [] ≡ counting_blocks r.0.seen = r.2.1.0 in
@@ -218,11 +219,11 @@ not-late_look-run r =
 -- ---- answers that are not given
 
 -- After what the seat has seen the journal answers otherwise, so nothing changes.
-not_given : Happens 9 looked_late (reply 1 snapshot (counted [])) looked_late
+not_given : Happens Basic 9 looked_late (reply 1 snapshot (counted [])) looked_late
 not_given = inr ((λ a. absurd (cc a)), refl)
 
 -- A write is not accepted without its block.
-not_accepted : Happens 9 at_first (reply 0 (write (Ok begin_x)) (accepted 0)) at_first
+not_accepted : Happens Basic 9 at_first (reply 0 (write (Ok begin_x)) (accepted 0)) at_first
 not_accepted = inr ((λ a. a), refl)
 
 -- ---- blocks that were not judged
@@ -231,7 +232,7 @@ not_accepted = inr ((λ a. a), refl)
 not_judged : ¬ IsJudged 9 at_first (fill 0 end_x)
 not_judged j = absurd (cc (j refl))
 
-not_judged-history : ¬ IsOneHistory 9 (walk 9 at_first (fill 0 end_x ∷ []))
+not_judged-history : ¬ IsOneHistory Basic 9 (walk 9 at_first (fill 0 end_x ∷ []))
 not_judged-history h = absurd (cc h.count.0)
 
 -- Where it would only look, it need not be judged.

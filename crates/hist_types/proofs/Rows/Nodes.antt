@@ -5,6 +5,7 @@ use Rattle.hist_types.specs.Journal.{first_broken, events_of}
 use Rattle.hist_types.specs.Transactions.{transactions_of, nodes}
 use Rattle.hist_types.specs.Versions.{version_pairs}
 use Rattle.hist_types.specs.Edges.{dependency_edges}
+use Rattle.hist_types.specs.declared.types.KeyOrder.TheVariants.{Basic}
 use Rattle.hist_types.proofs.Rows.History.{x, sets, gets, finds_nil, invoke, ok, info, nil_then, pair, ww_edge, wr_edge, rw_nil_edge, rw_edge, names}
 
 -- ---- which transactions are nodes
@@ -27,11 +28,11 @@ unread_unknown_write-nodes : names (nodes (transactions_of unread_unknown_write)
 unread_unknown_write-nodes = refl
 
 -- So its write is no version,
-unread_unknown_write-pairs : version_pairs (transactions_of unread_unknown_write) ≡ []
+unread_unknown_write-pairs : version_pairs Basic (transactions_of unread_unknown_write) ≡ []
 unread_unknown_write-pairs = refl
 
 -- and the read of nil came before nothing.
-unread_unknown_write-edges : dependency_edges (transactions_of unread_unknown_write) ≡ []
+unread_unknown_write-edges : dependency_edges Basic (transactions_of unread_unknown_write) ≡ []
 unread_unknown_write-edges = refl
 
 -- The same, and its value is read.
@@ -52,11 +53,11 @@ read_unknown_write-nodes : names (nodes (transactions_of read_unknown_write)) �
 read_unknown_write-nodes = refl
 
 -- Its write is a version,
-read_unknown_write-pairs : version_pairs (transactions_of read_unknown_write) ≡ nil_then x 1 ∷ []
+read_unknown_write-pairs : version_pairs Basic (transactions_of read_unknown_write) ≡ nil_then x 1 ∷ []
 read_unknown_write-pairs = refl
 
 -- which was read.
-read_unknown_write-edges : dependency_edges (transactions_of read_unknown_write) ≡ wr_edge 0 2 x 1 ∷ []
+read_unknown_write-edges : dependency_edges Basic (transactions_of read_unknown_write) ≡ wr_edge 0 2 x 1 ∷ []
 read_unknown_write-edges = refl
 
 -- The value is read by a transaction that ended with an info.
@@ -94,11 +95,11 @@ overwritten_unknown_write-nodes : names (nodes (transactions_of overwritten_unkn
 overwritten_unknown_write-nodes = refl
 
 -- Its last write alone is a version,
-overwritten_unknown_write-pairs : version_pairs (transactions_of overwritten_unknown_write) ≡ nil_then x 2 ∷ []
+overwritten_unknown_write-pairs : version_pairs Basic (transactions_of overwritten_unknown_write) ≡ nil_then x 2 ∷ []
 overwritten_unknown_write-pairs = refl
 
 -- so the read of the first one makes no edge.
-overwritten_unknown_write-edges : dependency_edges (transactions_of overwritten_unknown_write) ≡ []
+overwritten_unknown_write-edges : dependency_edges Basic (transactions_of overwritten_unknown_write) ≡ []
 overwritten_unknown_write-edges = refl
 
 -- ---- values that were written over
@@ -120,12 +121,12 @@ read_before_a_write-legal = (refl, refl)
 
 -- The write follows the read, whatever the read returned.
 read_before_a_write-pairs :
-    version_pairs (transactions_of read_before_a_write) ≡ nil_then x 2 ∷ nil_then x 3 ∷ pair x 1 3 ∷ []
+    version_pairs Basic (transactions_of read_before_a_write) ≡ nil_then x 2 ∷ nil_then x 3 ∷ pair x 1 3 ∷ []
 read_before_a_write-pairs = refl
 
 -- No wr and no ww edge leads from the first writer, but the second reader read 1, which came before the first reader's
 -- write.
-read_before_a_write-edges : dependency_edges (transactions_of read_before_a_write) ≡ rw_edge 4 2 x 1 3 ∷ []
+read_before_a_write-edges : dependency_edges Basic (transactions_of read_before_a_write) ≡ rw_edge 4 2 x 1 3 ∷ []
 read_before_a_write-edges = refl
 
 -- ---- several reads of one key
@@ -145,12 +146,12 @@ two_values_of_a_key-legal = (refl, refl)
 
 -- The write follows both reads.
 two_values_of_a_key-pairs :
-    version_pairs (transactions_of two_values_of_a_key) ≡ nil_then x 1 ∷ nil_then x 2 ∷ pair x 1 2 ∷ nil_then x 2 ∷ []
+    version_pairs Basic (transactions_of two_values_of_a_key) ≡ nil_then x 1 ∷ nil_then x 2 ∷ pair x 1 2 ∷ nil_then x 2 ∷ []
 two_values_of_a_key-pairs = refl
 
 -- Both reads count: one came from the first transaction, and the other one missed it.
 two_values_of_a_key-edges :
-    dependency_edges (transactions_of two_values_of_a_key)
+    dependency_edges Basic (transactions_of two_values_of_a_key)
     ≡ ww_edge 0 2 x 1 2
     ∷ wr_edge 0 2 x 1
     ∷ rw_nil_edge 2 0 x 1

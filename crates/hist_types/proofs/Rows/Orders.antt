@@ -12,6 +12,7 @@ use Rattle.hist_types.specs.Witness.{IsWitness}
 use Rattle.hist_types.specs.Texts.{finding_lines}
 use Rattle.hist_types.specs.declared.types.Level.TheVariants.{Plain, Process, Realtime}
 use Rattle.hist_types.specs.declared.types.Phenomenon.TheVariants.{G0, G1c, GSingle, G2Item}
+use Rattle.hist_types.specs.declared.types.KeyOrder.TheVariants.{Basic}
 use Rattle.hist_types.proofs.Rows.History.{x, y, sets, gets, finds_nil, invoke, ok, info, committed, unknown, nil_then, pair, ww_edge, wr_edge, rw_nil_edge, process_edge, realtime_edge, names, witness}
 
 -- ---- a write, and a later read that misses it
@@ -39,11 +40,11 @@ stale_read-nodes : names (nodes (transactions_of stale_read)) ≡ 0 ∷ 2 ∷ []
 stale_read-nodes = refl
 
 -- nil comes before the write.
-stale_read-pairs : version_pairs (transactions_of stale_read) ≡ nil_then x 1 ∷ []
+stale_read-pairs : version_pairs Basic (transactions_of stale_read) ≡ nil_then x 1 ∷ []
 stale_read-pairs = refl
 
 -- The reader read nil, which came before the write. Nothing leads back.
-stale_read-edges : dependency_edges (transactions_of stale_read) ≡ rw_nil_edge 2 0 x 1 ∷ []
+stale_read-edges : dependency_edges Basic (transactions_of stale_read) ≡ rw_nil_edge 2 0 x 1 ∷ []
 stale_read-edges = refl
 
 -- In real time the write comes before the read: it was over at 1, and the read began at 2.
@@ -63,7 +64,7 @@ stale_read-no_plain : order_edges Plain (transactions_of stale_read) ≡ []
 stale_read-no_plain = refl
 
 -- So the cycles at the levels plain and process are over dependency edges alone.
-stale_read-lower : (edges_at Plain (transactions_of stale_read) ≡ rw_nil_edge 2 0 x 1 ∷ []) × (edges_at Process (transactions_of stale_read) ≡ rw_nil_edge 2 0 x 1 ∷ [])
+stale_read-lower : (edges_at Basic Plain (transactions_of stale_read) ≡ rw_nil_edge 2 0 x 1 ∷ []) × (edges_at Basic Process (transactions_of stale_read) ≡ rw_nil_edge 2 0 x 1 ∷ [])
 stale_read-lower = (refl, refl)
 
 -- forth in real time, and back since the read missed the write
@@ -72,11 +73,11 @@ stale_read_walk = realtime_edge 0 2 1 2 ∷ rw_nil_edge 2 0 x 1 ∷ []
 
 -- A cycle with one rw edge is a G-single and a G2-item, here of real time.
 pub stale_read-witness :
-    IsWitness GSingle Realtime (transactions_of stale_read) stale_read_walk
-    × IsWitness G2Item Realtime (transactions_of stale_read) stale_read_walk
+    IsWitness Basic GSingle Realtime (transactions_of stale_read) stale_read_walk
+    × IsWitness Basic G2Item Realtime (transactions_of stale_read) stale_read_walk
 stale_read-witness = (
-  witness GSingle Realtime (transactions_of stale_read) (1 ∷ 0 ∷ []) stale_read_walk (refl, refl) (refl, refl, (refl, refl, tt)) refl refl refl refl,
-  witness G2Item Realtime (transactions_of stale_read) (1 ∷ 0 ∷ []) stale_read_walk (refl, refl) (refl, refl, (refl, refl, tt)) refl refl refl refl,
+  witness Basic GSingle Realtime (transactions_of stale_read) (1 ∷ 0 ∷ []) stale_read_walk (refl, refl) (refl, refl, (refl, refl, tt)) refl refl refl refl,
+  witness Basic G2Item Realtime (transactions_of stale_read) (1 ∷ 0 ∷ []) stale_read_walk (refl, refl) (refl, refl, (refl, refl, tt)) refl refl refl refl,
 )
 
 -- It is printed so.
@@ -114,11 +115,11 @@ own_stale_read-nodes : names (nodes (transactions_of own_stale_read)) ≡ 0 ∷ 
 own_stale_read-nodes = refl
 
 -- nil comes before the write.
-own_stale_read-pairs : version_pairs (transactions_of own_stale_read) ≡ nil_then x 1 ∷ []
+own_stale_read-pairs : version_pairs Basic (transactions_of own_stale_read) ≡ nil_then x 1 ∷ []
 own_stale_read-pairs = refl
 
 -- The reader read nil, which came before the write.
-own_stale_read-edges : dependency_edges (transactions_of own_stale_read) ≡ rw_nil_edge 2 0 x 1 ∷ []
+own_stale_read-edges : dependency_edges Basic (transactions_of own_stale_read) ≡ rw_nil_edge 2 0 x 1 ∷ []
 own_stale_read-edges = refl
 
 -- The process edge tells the process.
@@ -141,11 +142,11 @@ own_stale_read_walk = process_edge 0 2 0 ∷ rw_nil_edge 2 0 x 1 ∷ []
 
 -- The same cycle is found at the level process.
 pub own_stale_read-witness :
-    IsWitness GSingle Process (transactions_of own_stale_read) own_stale_read_walk
-    × IsWitness G2Item Process (transactions_of own_stale_read) own_stale_read_walk
+    IsWitness Basic GSingle Process (transactions_of own_stale_read) own_stale_read_walk
+    × IsWitness Basic G2Item Process (transactions_of own_stale_read) own_stale_read_walk
 own_stale_read-witness = (
-  witness GSingle Process (transactions_of own_stale_read) (1 ∷ 0 ∷ []) own_stale_read_walk (refl, refl) (refl, refl, (refl, refl, tt)) refl refl refl refl,
-  witness G2Item Process (transactions_of own_stale_read) (1 ∷ 0 ∷ []) own_stale_read_walk (refl, refl) (refl, refl, (refl, refl, tt)) refl refl refl refl,
+  witness Basic GSingle Process (transactions_of own_stale_read) (1 ∷ 0 ∷ []) own_stale_read_walk (refl, refl) (refl, refl, (refl, refl, tt)) refl refl refl refl,
+  witness Basic G2Item Process (transactions_of own_stale_read) (1 ∷ 0 ∷ []) own_stale_read_walk (refl, refl) (refl, refl, (refl, refl, tt)) refl refl refl refl,
 )
 
 -- It is printed so.
@@ -187,12 +188,12 @@ read_of_own_future-nodes = refl
 
 -- nil comes before both writes, and 1 before 2, since 2 was written behind a read of 1.
 read_of_own_future-pairs :
-    version_pairs (transactions_of read_of_own_future) ≡ nil_then x 2 ∷ nil_then x 1 ∷ pair x 1 2 ∷ []
+    version_pairs Basic (transactions_of read_of_own_future) ≡ nil_then x 2 ∷ nil_then x 1 ∷ pair x 1 2 ∷ []
 read_of_own_future-pairs = refl
 
 -- The later transaction's write comes before the earlier one's, which read it.
 read_of_own_future-edges :
-    dependency_edges (transactions_of read_of_own_future) ≡ ww_edge 2 0 x 1 2 ∷ wr_edge 2 0 x 1 ∷ []
+    dependency_edges Basic (transactions_of read_of_own_future) ≡ ww_edge 2 0 x 1 2 ∷ wr_edge 2 0 x 1 ∷ []
 read_of_own_future-edges = refl
 
 -- One process runs them one after the other, and thinning leaves that.
@@ -206,9 +207,9 @@ abbrev written_before_walk : List Edge
 written_before_walk = process_edge 0 2 0 ∷ ww_edge 2 0 x 1 2 ∷ []
 
 -- A cycle of a ww edge and order edges is a G0.
-read_of_own_future-g0 : IsWitness G0 Process (transactions_of read_of_own_future) written_before_walk
+read_of_own_future-g0 : IsWitness Basic G0 Process (transactions_of read_of_own_future) written_before_walk
 read_of_own_future-g0 =
-    witness G0 Process (transactions_of read_of_own_future) (2 ∷ 0 ∷ []) written_before_walk (refl, refl) (refl, refl, (refl, refl, tt)) refl refl refl refl
+    witness Basic G0 Process (transactions_of read_of_own_future) (2 ∷ 0 ∷ []) written_before_walk (refl, refl) (refl, refl, (refl, refl, tt)) refl refl refl refl
 
 -- It is printed so.
 read_of_own_future-g0-lines : finding_lines (codes "G0") (Some (record { level = Process; walk = written_before_walk })) ≡ codes "G0 process\n  T0 -process 0-> T2\n  T2 -ww :x 1 2-> T0\n"
@@ -220,9 +221,9 @@ abbrev read_before_walk : List Edge
 read_before_walk = process_edge 0 2 0 ∷ wr_edge 2 0 x 1 ∷ []
 
 -- A cycle of a wr edge and order edges is a G1c, and no G0.
-read_of_own_future-g1c : IsWitness G1c Process (transactions_of read_of_own_future) read_before_walk
+read_of_own_future-g1c : IsWitness Basic G1c Process (transactions_of read_of_own_future) read_before_walk
 read_of_own_future-g1c =
-    witness G1c Process (transactions_of read_of_own_future) (2 ∷ 1 ∷ []) read_before_walk (refl, refl) (refl, refl, (refl, refl, tt)) refl refl refl refl
+    witness Basic G1c Process (transactions_of read_of_own_future) (2 ∷ 1 ∷ []) read_before_walk (refl, refl) (refl, refl, (refl, refl, tt)) refl refl refl refl
 
 -- It is printed so.
 read_of_own_future-g1c-lines : finding_lines (codes "G1c") (Some (record { level = Process; walk = read_before_walk })) ≡ codes "G1c process\n  T0 -process 0-> T2\n  T2 -wr :x 1-> T0\n"
@@ -260,11 +261,11 @@ unknown_write-nodes : names (nodes (transactions_of unknown_write)) ≡ 0 ∷ 2 
 unknown_write-nodes = refl
 
 -- nil comes before the write, since its writer is a node.
-unknown_write-pairs : version_pairs (transactions_of unknown_write) ≡ nil_then x 1 ∷ []
+unknown_write-pairs : version_pairs Basic (transactions_of unknown_write) ≡ nil_then x 1 ∷ []
 unknown_write-pairs = refl
 
 -- The first read saw the write, and the second one missed it.
-unknown_write-edges : dependency_edges (transactions_of unknown_write) ≡ wr_edge 0 2 x 1 ∷ rw_nil_edge 4 0 x 1 ∷ []
+unknown_write-edges : dependency_edges Basic (transactions_of unknown_write) ≡ wr_edge 0 2 x 1 ∷ rw_nil_edge 4 0 x 1 ∷ []
 unknown_write-edges = refl
 
 -- The two reads are of one process.
@@ -287,11 +288,11 @@ unknown_write_walk = wr_edge 0 2 x 1 ∷ process_edge 2 4 1 ∷ rw_nil_edge 4 0 
 
 -- The cycle with one rw edge is a G-single and a G2-item.
 pub unknown_write-witness :
-    IsWitness GSingle Process (transactions_of unknown_write) unknown_write_walk
-    × IsWitness G2Item Process (transactions_of unknown_write) unknown_write_walk
+    IsWitness Basic GSingle Process (transactions_of unknown_write) unknown_write_walk
+    × IsWitness Basic G2Item Process (transactions_of unknown_write) unknown_write_walk
 unknown_write-witness = (
-  witness GSingle Process (transactions_of unknown_write) (0 ∷ 2 ∷ 1 ∷ []) unknown_write_walk (refl, (refl, refl)) (refl, refl, (refl, refl, (refl, refl, tt))) refl refl refl refl,
-  witness G2Item Process (transactions_of unknown_write) (0 ∷ 2 ∷ 1 ∷ []) unknown_write_walk (refl, (refl, refl)) (refl, refl, (refl, refl, (refl, refl, tt))) refl refl refl refl,
+  witness Basic GSingle Process (transactions_of unknown_write) (0 ∷ 2 ∷ 1 ∷ []) unknown_write_walk (refl, (refl, refl)) (refl, refl, (refl, refl, (refl, refl, tt))) refl refl refl refl,
+  witness Basic G2Item Process (transactions_of unknown_write) (0 ∷ 2 ∷ 1 ∷ []) unknown_write_walk (refl, (refl, refl)) (refl, refl, (refl, refl, (refl, refl, tt))) refl refl refl refl,
 )
 
 -- It is printed so.
@@ -339,11 +340,11 @@ unknown_pair-nodes : names (nodes (transactions_of unknown_pair)) ≡ 0 ∷ 2 �
 unknown_pair-nodes = refl
 
 -- nil comes before both writes, also at the key that made no node.
-unknown_pair-pairs : version_pairs (transactions_of unknown_pair) ≡ nil_then x 1 ∷ nil_then y 1 ∷ []
+unknown_pair-pairs : version_pairs Basic (transactions_of unknown_pair) ≡ nil_then x 1 ∷ nil_then y 1 ∷ []
 unknown_pair-pairs = refl
 
 -- One read saw the write of x, the other one missed that of y.
-unknown_pair-edges : dependency_edges (transactions_of unknown_pair) ≡ wr_edge 0 2 x 1 ∷ rw_nil_edge 4 0 y 1 ∷ []
+unknown_pair-edges : dependency_edges Basic (transactions_of unknown_pair) ≡ wr_edge 0 2 x 1 ∷ rw_nil_edge 4 0 y 1 ∷ []
 unknown_pair-edges = refl
 
 -- The two reads are of one process, and thinning leaves them in order.
@@ -358,11 +359,11 @@ unknown_pair_walk = wr_edge 0 2 x 1 ∷ process_edge 2 4 1 ∷ rw_nil_edge 4 0 y
 
 -- The cycle goes over both keys.
 unknown_pair-witness :
-    IsWitness GSingle Process (transactions_of unknown_pair) unknown_pair_walk
-    × IsWitness G2Item Process (transactions_of unknown_pair) unknown_pair_walk
+    IsWitness Basic GSingle Process (transactions_of unknown_pair) unknown_pair_walk
+    × IsWitness Basic G2Item Process (transactions_of unknown_pair) unknown_pair_walk
 unknown_pair-witness = (
-  witness GSingle Process (transactions_of unknown_pair) (0 ∷ 2 ∷ 1 ∷ []) unknown_pair_walk (refl, (refl, refl)) (refl, refl, (refl, refl, (refl, refl, tt))) refl refl refl refl,
-  witness G2Item Process (transactions_of unknown_pair) (0 ∷ 2 ∷ 1 ∷ []) unknown_pair_walk (refl, (refl, refl)) (refl, refl, (refl, refl, (refl, refl, tt))) refl refl refl refl,
+  witness Basic GSingle Process (transactions_of unknown_pair) (0 ∷ 2 ∷ 1 ∷ []) unknown_pair_walk (refl, (refl, refl)) (refl, refl, (refl, refl, (refl, refl, tt))) refl refl refl refl,
+  witness Basic G2Item Process (transactions_of unknown_pair) (0 ∷ 2 ∷ 1 ∷ []) unknown_pair_walk (refl, (refl, refl)) (refl, refl, (refl, refl, (refl, refl, tt))) refl refl refl refl,
 )
 
 -- It is printed so.

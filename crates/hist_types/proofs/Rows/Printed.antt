@@ -10,6 +10,7 @@ use Rattle.hist_types.specs.Texts.{edges_text, refusal_line}
 use Rattle.hist_types.specs.Transactions.{transactions_of}
 use Rattle.hist_types.specs.declared.types.At.TheVariants.{Byte, Event, Nowhere}
 use Rattle.hist_types.specs.declared.types.Refusal.TheVariants.{Busy, Full, TooManyEvents, Unclosed}
+use Rattle.hist_types.specs.declared.types.KeyOrder.TheVariants.{Basic}
 use Rattle.hist_types.proofs.Rows.History.{x, number, sets, gets, finds_nil, invoke, ok, fail, info, wr_edge, rw_nil_edge, rw_edge}
 
 -- ---- atoms
@@ -75,7 +76,7 @@ mixed_keys =
 
 -- All its edges lead from the first one to the later one. They are found as the writes stand, and by nil before 5.
 mixed_keys-edges :
-    dependency_edges (transactions_of mixed_keys)
+    dependency_edges Basic (transactions_of mixed_keys)
     ≡ wr_edge 0 2 text_key 1
     ∷ wr_edge 0 2 x 1
     ∷ wr_edge 0 2 (integer (negsuc 0)) 1
@@ -86,7 +87,7 @@ mixed_keys-edges :
 mixed_keys-edges = refl
 
 -- They are printed in order: wr before rw, then integers by number before keywords before strings, and nil before 5.
-mixed_keys-text : edges_text (edges_report mixed_keys) ≡ codes "prefix 4\ntxns 2\nT0 -wr -1 1-> T2\nT0 -wr :x 1-> T2\nT0 -wr \"s\" 1-> T2\nT0 -rw 9 nil 6-> T2\nT0 -rw 9 5 6-> T2\nT0 -rw 10 nil 7-> T2\nedges 6\n"
+mixed_keys-text : edges_text (edges_report Basic mixed_keys) ≡ codes "prefix 4\ntxns 2\nT0 -wr -1 1-> T2\nT0 -wr :x 1-> T2\nT0 -wr \"s\" 1-> T2\nT0 -rw 9 nil 6-> T2\nT0 -rw 9 5 6-> T2\nT0 -rw 10 nil 7-> T2\nedges 6\n"
 unfolding digits
 mixed_keys-text = refl
 

@@ -12,6 +12,7 @@ use Rattle.hist_types.specs.Reports.{reads_report}
 use Rattle.hist_types.specs.Texts.{reads_text, finding_lines}
 use Rattle.hist_types.specs.declared.types.Level.TheVariants.{Process}
 use Rattle.hist_types.specs.declared.types.Phenomenon.TheVariants.{GSingle, G2Item}
+use Rattle.hist_types.specs.declared.types.KeyOrder.TheVariants.{Basic}
 use Rattle.hist_types.proofs.Rows.History.{x, y, number, sets, gets, finds_nil, invoke, ok, fail, info, committed, aborted, unfinished, nil_then, pair, wr_edge, rw_nil_edge, process_edge, names, witness, version}
 
 -- ---- a value of a transaction that failed
@@ -39,11 +40,11 @@ aborted_read-nodes : names (nodes (transactions_of aborted_read)) ≡ 2 ∷ []
 aborted_read-nodes = refl
 
 -- Its write is no version.
-aborted_read-pairs : version_pairs (transactions_of aborted_read) ≡ []
+aborted_read-pairs : version_pairs Basic (transactions_of aborted_read) ≡ []
 aborted_read-pairs = refl
 
 -- So the read makes no edge.
-aborted_read-edges : dependency_edges (transactions_of aborted_read) ≡ []
+aborted_read-edges : dependency_edges Basic (transactions_of aborted_read) ≡ []
 aborted_read-edges = refl
 
 -- The read is a G1a, told with its reader and its writer.
@@ -91,11 +92,11 @@ intermediate_read-nodes : names (nodes (transactions_of intermediate_read)) ≡ 
 intermediate_read-nodes = refl
 
 -- Only the last write of a key is a version.
-intermediate_read-pairs : version_pairs (transactions_of intermediate_read) ≡ nil_then x 2 ∷ []
+intermediate_read-pairs : version_pairs Basic (transactions_of intermediate_read) ≡ nil_then x 2 ∷ []
 intermediate_read-pairs = refl
 
 -- Nobody wrote 1 externally, so its read makes no edge, and neither does the read follow nil.
-intermediate_read-edges : dependency_edges (transactions_of intermediate_read) ≡ []
+intermediate_read-edges : dependency_edges Basic (transactions_of intermediate_read) ≡ []
 intermediate_read-edges = refl
 
 -- The read is a G1b, told with its reader and its writer.
@@ -137,11 +138,11 @@ stray_read-nodes : names (nodes (transactions_of stray_read)) ≡ 0 ∷ []
 stray_read-nodes = refl
 
 -- There is no write.
-stray_read-pairs : version_pairs (transactions_of stray_read) ≡ []
+stray_read-pairs : version_pairs Basic (transactions_of stray_read) ≡ []
 stray_read-pairs = refl
 
 -- There is no edge.
-stray_read-edges : dependency_edges (transactions_of stray_read) ≡ []
+stray_read-edges : dependency_edges Basic (transactions_of stray_read) ≡ []
 stray_read-edges = refl
 
 -- One read is stray, and that is no phenomenon.
@@ -190,11 +191,11 @@ open_writer-nodes : names (nodes (transactions_of open_writer)) ≡ 0 ∷ 1 ∷ 
 open_writer-nodes = refl
 
 -- nil comes before its write.
-open_writer-pairs : version_pairs (transactions_of open_writer) ≡ nil_then x 1 ∷ []
+open_writer-pairs : version_pairs Basic (transactions_of open_writer) ≡ nil_then x 1 ∷ []
 open_writer-pairs = refl
 
 -- One read saw the write, the other one missed it.
-open_writer-edges : dependency_edges (transactions_of open_writer) ≡ wr_edge 0 1 x 1 ∷ rw_nil_edge 3 0 x 1 ∷ []
+open_writer-edges : dependency_edges Basic (transactions_of open_writer) ≡ wr_edge 0 1 x 1 ∷ rw_nil_edge 3 0 x 1 ∷ []
 open_writer-edges = refl
 
 -- from the write to its reader, on to the next read, and back
@@ -203,11 +204,11 @@ open_writer_walk = wr_edge 0 1 x 1 ∷ process_edge 1 3 1 ∷ rw_nil_edge 3 0 x 
 
 -- There is a cycle while the writer is open.
 open_writer-witness :
-    IsWitness GSingle Process (transactions_of open_writer) open_writer_walk
-    × IsWitness G2Item Process (transactions_of open_writer) open_writer_walk
+    IsWitness Basic GSingle Process (transactions_of open_writer) open_writer_walk
+    × IsWitness Basic G2Item Process (transactions_of open_writer) open_writer_walk
 open_writer-witness = (
-  witness GSingle Process (transactions_of open_writer) (0 ∷ 2 ∷ 1 ∷ []) open_writer_walk (refl, (refl, refl)) (refl, refl, (refl, refl, (refl, refl, tt))) refl refl refl refl,
-  witness G2Item Process (transactions_of open_writer) (0 ∷ 2 ∷ 1 ∷ []) open_writer_walk (refl, (refl, refl)) (refl, refl, (refl, refl, (refl, refl, tt))) refl refl refl refl,
+  witness Basic GSingle Process (transactions_of open_writer) (0 ∷ 2 ∷ 1 ∷ []) open_writer_walk (refl, (refl, refl)) (refl, refl, (refl, refl, (refl, refl, tt))) refl refl refl refl,
+  witness Basic G2Item Process (transactions_of open_writer) (0 ∷ 2 ∷ 1 ∷ []) open_writer_walk (refl, (refl, refl)) (refl, refl, (refl, refl, (refl, refl, tt))) refl refl refl refl,
 )
 
 -- It is printed so.
@@ -233,7 +234,7 @@ failed_writer-legal : first_broken [] failed_writer ≡ None
 failed_writer-legal = refl
 
 -- The failed writer is no node any more, and all its edges are gone.
-failed_writer-edges : (names (nodes (transactions_of failed_writer)) ≡ 1 ∷ 3 ∷ []) × (dependency_edges (transactions_of failed_writer) ≡ [])
+failed_writer-edges : (names (nodes (transactions_of failed_writer)) ≡ 1 ∷ 3 ∷ []) × (dependency_edges Basic (transactions_of failed_writer) ≡ [])
 failed_writer-edges = (refl, refl)
 
 -- In their place the read is a G1a.
@@ -254,11 +255,11 @@ own_intermediate-legal : (first_broken [] own_intermediate ≡ None) × (events_
 own_intermediate-legal = (refl, refl)
 
 -- nil comes before its write, and so does the 1 that it read.
-own_intermediate-pairs : version_pairs (transactions_of own_intermediate) ≡ nil_then x 2 ∷ pair x 1 2 ∷ []
+own_intermediate-pairs : version_pairs Basic (transactions_of own_intermediate) ≡ nil_then x 2 ∷ pair x 1 2 ∷ []
 own_intermediate-pairs = refl
 
 -- There is no edge, since it would lead from a transaction to itself.
-own_intermediate-edges : dependency_edges (transactions_of own_intermediate) ≡ []
+own_intermediate-edges : dependency_edges Basic (transactions_of own_intermediate) ≡ []
 own_intermediate-edges = refl
 
 -- One's own later write, read first, is no stray read and no G1b, which asks for another transaction.
@@ -277,11 +278,11 @@ own_later_write-legal : (first_broken [] own_later_write ≡ None) × (events_of
 own_later_write-legal = (refl, refl)
 
 -- A value does not come before itself, so only nil comes before it.
-own_later_write-pairs : version_pairs (transactions_of own_later_write) ≡ nil_then x 1 ∷ []
+own_later_write-pairs : version_pairs Basic (transactions_of own_later_write) ≡ nil_then x 1 ∷ []
 own_later_write-pairs = refl
 
 -- Nothing joins a transaction to itself.
-own_later_write-edges : dependency_edges (transactions_of own_later_write) ≡ []
+own_later_write-edges : dependency_edges Basic (transactions_of own_later_write) ≡ []
 own_later_write-edges = refl
 
 -- It is no stray read.

@@ -12,6 +12,7 @@ use Rattle.hist_types.specs.Witness.{IsWitness, alternates, ends_in_order, begin
 use Rattle.hist_types.specs.Texts.{finding_lines}
 use Rattle.hist_types.specs.declared.types.Level.TheVariants.{Process, Realtime}
 use Rattle.hist_types.specs.declared.types.Phenomenon.TheVariants.{GSingle, G2Item}
+use Rattle.hist_types.specs.declared.types.KeyOrder.TheVariants.{Basic}
 use Rattle.hist_types.proofs.Rows.History.{x, y, sets, finds_nil, invoke, ok, fail, committed, aborted, unfinished, nil_then, rw_nil_edge, process_edge, realtime_edge, names, witness}
 
 -- ---- a write, a transaction between, and a read that misses the write
@@ -45,11 +46,11 @@ missed_write-nodes : names (nodes (transactions_of missed_write)) ≡ 0 ∷ 2 �
 missed_write-nodes = refl
 
 -- nil comes before both writes.
-missed_write-pairs : version_pairs (transactions_of missed_write) ≡ nil_then x 1 ∷ nil_then y 1 ∷ []
+missed_write-pairs : version_pairs Basic (transactions_of missed_write) ≡ nil_then x 1 ∷ nil_then y 1 ∷ []
 missed_write-pairs = refl
 
 -- Only the read that missed the write makes an edge.
-missed_write-edges : dependency_edges (transactions_of missed_write) ≡ rw_nil_edge 4 0 x 1 ∷ []
+missed_write-edges : dependency_edges Basic (transactions_of missed_write) ≡ rw_nil_edge 4 0 x 1 ∷ []
 missed_write-edges = refl
 
 -- Each of the three was over before the next one began, and all pairs are meant.
@@ -76,11 +77,11 @@ missed_write_walk = realtime_edge 0 4 1 4 ∷ rw_nil_edge 4 0 x 1 ∷ []
 
 -- A witness tells one order edge, also where thinned edges need two for it.
 missed_write-witness :
-    IsWitness GSingle Realtime (transactions_of missed_write) missed_write_walk
-    × IsWitness G2Item Realtime (transactions_of missed_write) missed_write_walk
+    IsWitness Basic GSingle Realtime (transactions_of missed_write) missed_write_walk
+    × IsWitness Basic G2Item Realtime (transactions_of missed_write) missed_write_walk
 missed_write-witness = (
-  witness GSingle Realtime (transactions_of missed_write) (2 ∷ 0 ∷ []) missed_write_walk (refl, refl) (refl, refl, (refl, refl, tt)) refl refl refl refl,
-  witness G2Item Realtime (transactions_of missed_write) (2 ∷ 0 ∷ []) missed_write_walk (refl, refl) (refl, refl, (refl, refl, tt)) refl refl refl refl,
+  witness Basic GSingle Realtime (transactions_of missed_write) (2 ∷ 0 ∷ []) missed_write_walk (refl, refl) (refl, refl, (refl, refl, tt)) refl refl refl refl,
+  witness Basic G2Item Realtime (transactions_of missed_write) (2 ∷ 0 ∷ []) missed_write_walk (refl, refl) (refl, refl, (refl, refl, tt)) refl refl refl refl,
 )
 
 -- It is printed so.
@@ -138,12 +139,12 @@ missed_write_past_a_fail-nodes : names (nodes (transactions_of missed_write_past
 missed_write_past_a_fail-nodes = refl
 
 -- A failed transaction's write is no version.
-missed_write_past_a_fail-pairs : version_pairs (transactions_of missed_write_past_a_fail) ≡ nil_then x 1 ∷ []
+missed_write_past_a_fail-pairs : version_pairs Basic (transactions_of missed_write_past_a_fail) ≡ nil_then x 1 ∷ []
 missed_write_past_a_fail-pairs = refl
 
 -- Only the read that missed the write makes an edge.
 missed_write_past_a_fail-edges :
-    dependency_edges (transactions_of missed_write_past_a_fail) ≡ rw_nil_edge 4 0 x 1 ∷ []
+    dependency_edges Basic (transactions_of missed_write_past_a_fail) ≡ rw_nil_edge 4 0 x 1 ∷ []
 missed_write_past_a_fail-edges = refl
 
 -- The failed one has no edge.
@@ -170,11 +171,11 @@ missed_write_past_a_fail_walk = realtime_edge 0 4 1 4 ∷ rw_nil_edge 4 0 x 1 �
 
 -- The witness is alike.
 missed_write_past_a_fail-witness :
-    IsWitness GSingle Realtime (transactions_of missed_write_past_a_fail) missed_write_past_a_fail_walk
-    × IsWitness G2Item Realtime (transactions_of missed_write_past_a_fail) missed_write_past_a_fail_walk
+    IsWitness Basic GSingle Realtime (transactions_of missed_write_past_a_fail) missed_write_past_a_fail_walk
+    × IsWitness Basic G2Item Realtime (transactions_of missed_write_past_a_fail) missed_write_past_a_fail_walk
 missed_write_past_a_fail-witness = (
-  witness GSingle Realtime (transactions_of missed_write_past_a_fail) (1 ∷ 0 ∷ []) missed_write_past_a_fail_walk (refl, refl) (refl, refl, (refl, refl, tt)) refl refl refl refl,
-  witness G2Item Realtime (transactions_of missed_write_past_a_fail) (1 ∷ 0 ∷ []) missed_write_past_a_fail_walk (refl, refl) (refl, refl, (refl, refl, tt)) refl refl refl refl,
+  witness Basic GSingle Realtime (transactions_of missed_write_past_a_fail) (1 ∷ 0 ∷ []) missed_write_past_a_fail_walk (refl, refl) (refl, refl, (refl, refl, tt)) refl refl refl refl,
+  witness Basic G2Item Realtime (transactions_of missed_write_past_a_fail) (1 ∷ 0 ∷ []) missed_write_past_a_fail_walk (refl, refl) (refl, refl, (refl, refl, tt)) refl refl refl refl,
 )
 
 -- It is printed so.
@@ -216,12 +217,12 @@ missed_write_past_an_open_one-nodes = refl
 
 -- The open one's write is no version, since it is no node.
 missed_write_past_an_open_one-pairs :
-    version_pairs (transactions_of missed_write_past_an_open_one) ≡ nil_then x 1 ∷ []
+    version_pairs Basic (transactions_of missed_write_past_an_open_one) ≡ nil_then x 1 ∷ []
 missed_write_past_an_open_one-pairs = refl
 
 -- Only the read that missed the write makes an edge.
 missed_write_past_an_open_one-edges :
-    dependency_edges (transactions_of missed_write_past_an_open_one) ≡ rw_nil_edge 3 0 x 1 ∷ []
+    dependency_edges Basic (transactions_of missed_write_past_an_open_one) ≡ rw_nil_edge 3 0 x 1 ∷ []
 missed_write_past_an_open_one-edges = refl
 
 -- The open one is no node, so it has no edge.
@@ -248,11 +249,11 @@ missed_write_past_an_open_one_walk = realtime_edge 0 3 1 3 ∷ rw_nil_edge 3 0 x
 
 -- The witness is alike.
 missed_write_past_an_open_one-witness :
-    IsWitness GSingle Realtime (transactions_of missed_write_past_an_open_one) missed_write_past_an_open_one_walk
-    × IsWitness G2Item Realtime (transactions_of missed_write_past_an_open_one) missed_write_past_an_open_one_walk
+    IsWitness Basic GSingle Realtime (transactions_of missed_write_past_an_open_one) missed_write_past_an_open_one_walk
+    × IsWitness Basic G2Item Realtime (transactions_of missed_write_past_an_open_one) missed_write_past_an_open_one_walk
 missed_write_past_an_open_one-witness = (
-  witness GSingle Realtime (transactions_of missed_write_past_an_open_one) (1 ∷ 0 ∷ []) missed_write_past_an_open_one_walk (refl, refl) (refl, refl, (refl, refl, tt)) refl refl refl refl,
-  witness G2Item Realtime (transactions_of missed_write_past_an_open_one) (1 ∷ 0 ∷ []) missed_write_past_an_open_one_walk (refl, refl) (refl, refl, (refl, refl, tt)) refl refl refl refl,
+  witness Basic GSingle Realtime (transactions_of missed_write_past_an_open_one) (1 ∷ 0 ∷ []) missed_write_past_an_open_one_walk (refl, refl) (refl, refl, (refl, refl, tt)) refl refl refl refl,
+  witness Basic G2Item Realtime (transactions_of missed_write_past_an_open_one) (1 ∷ 0 ∷ []) missed_write_past_an_open_one_walk (refl, refl) (refl, refl, (refl, refl, tt)) refl refl refl refl,
 )
 
 -- It is printed so.

@@ -7,6 +7,7 @@ use Rattle.hist_types.specs.Transactions.{transactions_of, nodes, Fail}
 use Rattle.hist_types.specs.Versions.{version_pairs}
 use Rattle.hist_types.specs.Edges.{dependency_edges}
 use Rattle.hist_types.specs.declared.types.Refusal.TheVariants.{Busy, Retired, Rewritten, Idle, Mismatch, TooManyEvents}
+use Rattle.hist_types.specs.declared.types.KeyOrder.TheVariants.{Basic}
 use Rattle.hist_types.proofs.Rows.History.{x, y, number, sets, gets, finds_nil, invoke, ok, fail, info}
 
 -- ---- each rule
@@ -79,8 +80,8 @@ rewritten-transactions :
     (transactions_of (invoke 0 (sets x 1 ∷ []) ∷ fail 0 ∷ [])
     ≡ record { process = 0; invocation = 0; completion = Some 1; status = Fail; mops = sets x 1 ∷ [] } ∷ [])
     × (nodes (transactions_of (invoke 0 (sets x 1 ∷ []) ∷ fail 0 ∷ [])) ≡ [])
-    × (version_pairs (transactions_of (invoke 0 (sets x 1 ∷ []) ∷ fail 0 ∷ [])) ≡ [])
-    × (dependency_edges (transactions_of (invoke 0 (sets x 1 ∷ []) ∷ fail 0 ∷ [])) ≡ [])
+    × (version_pairs Basic (transactions_of (invoke 0 (sets x 1 ∷ []) ∷ fail 0 ∷ [])) ≡ [])
+    × (dependency_edges Basic (transactions_of (invoke 0 (sets x 1 ∷ []) ∷ fail 0 ∷ [])) ≡ [])
 rewritten-transactions = (refl, refl, refl, refl)
 
 -- The values of open, unknown and ok transactions are not free either, and a transaction may not write one twice itself.

@@ -9,6 +9,7 @@ use Rattle.hist_types.specs.Sessions.{lines_of, overlong, quit, verdict, read, i
 use Rattle.hist_types.specs.Tokens.{byte_fault}
 use Rattle.hist_types.specs.declared.limits.TheConstants.{MAX_LINE_BYTES}
 use Rattle.hist_types.specs.declared.types.Refusal.TheVariants.{Busy, BadRange, NotAMap, BlockFull, EmptyImport}
+use Rattle.hist_types.specs.declared.types.KeyOrder.TheVariants.{Basic}
 use Rattle.hist_types.proofs.Rows.Cutting.{reading_at, cutting_texts}
 use Rattle.hist_types.proofs.Rows.Handed.{by_reading, reading_in}
 use Rattle.hist_types.proofs.Rows.History.{invoke}
@@ -157,7 +158,7 @@ unfolding cutting_texts
 comments = by_reading 99 _ (reading_in (reading_at 99 (codes "; nothing"))) refl
 
 -- The session of a seat that sees no blocks but its own,
-whole_session : IsSessionAlone 2 0 written replies (view [] []) filled
+whole_session : IsSessionAlone Basic 2 0 written replies (view [] []) filled
 unfolding digits
 whole_session = (
   begun,
@@ -190,13 +191,13 @@ whole_session = (
 )
 
 -- and its beginning, as it stands after the first line.
-first_reply : IsSessionSoFar 2 0 written (codes "event 0\n" ∷ []) (view [] []) begun
+first_reply : IsSessionSoFar Basic 2 0 written (codes "event 0\n" ∷ []) (view [] []) begun
 unfolding digits
 first_reply = (begun, (Ok begin_x, begins, (accepted 0, ([], (refl, refl, refl)), refl)), refl)
 
 -- Another seat's session finds these blocks, and nothing is answered after its quit.
 later_session :
-    IsSession 2 1 (codes "read 0002 2\r\nread 0 1\nquit\nread 0 1\n")
+    IsSession Basic 2 1 (codes "read 0002 2\r\nread 0 1\nquit\nread 0 1\n")
     (codes "events 0\n" ∷ codes "events 1\n{:type :invoke, :process 0, :value [[:w :x 1]]}\n" ∷ codes "bye\n" ∷ [])
     (view [] [])
     (view (block 0 0 begin_x ∷ block 0 1 end_x ∷ []) [])
@@ -217,7 +218,7 @@ later_session =
     )
 
 -- Each line may be refused for memory.
-no_memory : IsSession 2 0 (codes "verdict\nread 0 0\n") (codes "refused 10 Memory\n" ∷ codes "refused 10 Memory\n" ∷ []) (view [] []) (view [] [])
+no_memory : IsSession Basic 2 0 (codes "verdict\nread 0 0\n") (codes "refused 10 Memory\n" ∷ codes "refused 10 Memory\n" ∷ []) (view [] []) (view [] [])
 unfolding digits
 no_memory = (
   view [] [],
@@ -231,16 +232,16 @@ no_memory = (
 
 -- Not with one reply more than lines or one less, not with a reply to what no byte 10 ends, and not with one after quit.
 not-sessions :
-    (¬ IsSession 2 0 (codes "quit\n") [] (view [] []) (view [] []))
-    × (¬ IsSession 2 0 [] (codes "bye\n" ∷ []) (view [] []) (view [] []))
-    × (¬ IsSession 2 0 (codes "quit") (codes "bye\n" ∷ []) (view [] []) (view [] []))
-    × (¬ IsSession 2 0 (codes "quit\nquit\n") (codes "bye\n" ∷ codes "bye\n" ∷ []) (view [] []) (view [] []))
+    (¬ IsSession Basic 2 0 (codes "quit\n") [] (view [] []) (view [] []))
+    × (¬ IsSession Basic 2 0 [] (codes "bye\n" ∷ []) (view [] []) (view [] []))
+    × (¬ IsSession Basic 2 0 (codes "quit") (codes "bye\n" ∷ []) (view [] []) (view [] []))
+    × (¬ IsSession Basic 2 0 (codes "quit\nquit\n") (codes "bye\n" ∷ codes "bye\n" ∷ []) (view [] []) (view [] []))
 not-sessions = ((λ h. h), (λ h. h), (λ h. h), (λ h. h.2))
 
 -- Not with another text, and not where the seat has seen more after a line that asks the journal nothing.
 not-replies :
-    (¬ IsSession 2 0 (codes "quit\n") (codes "bye" ∷ []) (view [] []) (view [] []))
-    × (¬ IsSession 2 0 (codes "quit\n") (codes "bye\n" ∷ []) (view [] []) begun)
+    (¬ IsSession Basic 2 0 (codes "quit\n") (codes "bye" ∷ []) (view [] []) (view [] []))
+    × (¬ IsSession Basic 2 0 (codes "quit\n") (codes "bye\n" ∷ []) (view [] []) begun)
 not-replies = (
   (λ h. absurd (cc h.1.0)),
   (λ h. absurd (cc (ap (λ (v : View). v.seen) (h.2 ∙ h.1.1)))),

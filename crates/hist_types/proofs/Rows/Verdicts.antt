@@ -9,6 +9,7 @@ use Rattle.hist_types.specs.Reports.{Findings, AreFindings, Report}
 use Rattle.hist_types.specs.Texts.{verdict_text, IsVerdictText}
 use Rattle.hist_types.specs.declared.types.Level.TheVariants.{Plain, Process, Realtime}
 use Rattle.hist_types.specs.declared.types.Phenomenon.TheVariants.{G0, G1c, GSingle, G2Item}
+use Rattle.hist_types.specs.declared.types.KeyOrder.TheVariants.{Basic}
 use Rattle.hist_types.proofs.Rows.Absence.{no_cycle, no_g1c_cycle, no_ww, no_wr, no_rw, no_single_rw, only_rw, at_no_level, at_level, below_plain, below_process, below_realtime}
 use Rattle.hist_types.proofs.Rows.Cycles.{crossed_reads, crossed_reads_walk, crossed_reads-witness, updates_of_nil, updates_of_nil_walk, updates_of_nil-witness, crossed_updates, ww_walk, crossed_updates-g0, read_back_walk, crossed_updates-read_back}
 use Rattle.hist_types.proofs.Rows.Orders.{stale_read, stale_read_walk, stale_read-witness, own_stale_read, own_stale_read_walk, own_stale_read-witness, unknown_write, unknown_write_walk, unknown_write-witness}
@@ -36,11 +37,11 @@ report_of events found =
 
 each :
     (ts : List Transaction) (found : Findings)
-    → IsFinding G0 ts found.g0
-    → IsFinding G1c ts found.g1c
-    → IsFinding GSingle ts found.single
-    → IsFinding G2Item ts found.item
-    → AreFindings ts found
+    → IsFinding Basic G0 ts found.g0
+    → IsFinding Basic G1c ts found.g1c
+    → IsFinding Basic GSingle ts found.single
+    → IsFinding Basic G2Item ts found.item
+    → AreFindings Basic ts found
 each ts found g0 g1c single item G0 = g0
 each ts found g0 g1c single item G1c = g1c
 each ts found g0 g1c single item GSingle = single
@@ -48,12 +49,12 @@ each ts found g0 g1c single item G2Item = item
 
 verdict_by :
     (events : List Operation) (text : List ℕ) (found : Findings)
-    → IsFinding G0 (transactions_of events) found.g0
-    → IsFinding G1c (transactions_of events) found.g1c
-    → IsFinding GSingle (transactions_of events) found.single
-    → IsFinding G2Item (transactions_of events) found.item
+    → IsFinding Basic G0 (transactions_of events) found.g0
+    → IsFinding Basic G1c (transactions_of events) found.g1c
+    → IsFinding Basic GSingle (transactions_of events) found.single
+    → IsFinding Basic G2Item (transactions_of events) found.item
     → text ≡ verdict_text (report_of events found)
-    → IsVerdictText events text
+    → IsVerdictText Basic events text
 verdict_by events text found g0 g1c single item lines = (
   report_of events found,
   record {
@@ -68,7 +69,7 @@ verdict_by events text found g0 g1c single item lines = (
 )
 
 -- An empty history shows nothing.
-no_events-verdict : IsVerdictText [] (codes "prefix 0\ntxns 0\nG0 none\nG1a none\nG1b none\nG1c none\nG-single none\nG2-item none\nstray 0\nstrict open\n")
+no_events-verdict : IsVerdictText Basic [] (codes "prefix 0\ntxns 0\nG0 none\nG1a none\nG1b none\nG1c none\nG-single none\nG2-item none\nstray 0\nstrict open\n")
 unfolding digits
 no_events-verdict =
     verdict_by _ _
@@ -80,7 +81,7 @@ no_events-verdict =
     refl
 
 -- Reads that cross are a G1c, and nothing else.
-crossed_reads-verdict : IsVerdictText crossed_reads (codes "prefix 4\ntxns 2\nG0 none\nG1a none\nG1b none\nG1c plain\n  T0 -wr :x 1-> T1\n  T1 -wr :y 1-> T0\nG-single none\nG2-item none\nstray 0\nstrict refuted\n")
+crossed_reads-verdict : IsVerdictText Basic crossed_reads (codes "prefix 4\ntxns 2\nG0 none\nG1a none\nG1b none\nG1c plain\n  T0 -wr :x 1-> T1\n  T1 -wr :y 1-> T0\nG-single none\nG2-item none\nstray 0\nstrict refuted\n")
 unfolding digits
 crossed_reads-verdict =
     verdict_by _ _
@@ -92,7 +93,7 @@ crossed_reads-verdict =
     refl
 
 -- Two updates of nil are a G2-item and no G-single: a walk over their edges has two rw edges at least.
-updates_of_nil-verdict : IsVerdictText updates_of_nil (codes "prefix 4\ntxns 2\nG0 none\nG1a none\nG1b none\nG1c none\nG-single none\nG2-item plain\n  T0 -rw :x nil 2-> T1\n  T1 -rw :x nil 1-> T0\nstray 0\nstrict refuted\n")
+updates_of_nil-verdict : IsVerdictText Basic updates_of_nil (codes "prefix 4\ntxns 2\nG0 none\nG1a none\nG1b none\nG1c none\nG-single none\nG2-item plain\n  T0 -rw :x nil 2-> T1\n  T1 -rw :x nil 1-> T0\nstray 0\nstrict refuted\n")
 unfolding digits
 updates_of_nil-verdict =
     verdict_by _ _
@@ -104,7 +105,7 @@ updates_of_nil-verdict =
     refl
 
 -- Updates that cross are a G0 and a G1c.
-crossed_updates-verdict : IsVerdictText crossed_updates (codes "prefix 4\ntxns 2\nG0 plain\n  T0 -ww :x 1 2-> T1\n  T1 -ww :y 1 2-> T0\nG1a none\nG1b none\nG1c plain\n  T0 -ww :x 1 2-> T1\n  T1 -wr :y 1-> T0\nG-single none\nG2-item none\nstray 0\nstrict refuted\n")
+crossed_updates-verdict : IsVerdictText Basic crossed_updates (codes "prefix 4\ntxns 2\nG0 plain\n  T0 -ww :x 1 2-> T1\n  T1 -ww :y 1 2-> T0\nG1a none\nG1b none\nG1c plain\n  T0 -ww :x 1 2-> T1\n  T1 -wr :y 1-> T0\nG-single none\nG2-item none\nstray 0\nstrict refuted\n")
 unfolding digits
 crossed_updates-verdict =
     verdict_by _ _
@@ -116,7 +117,7 @@ crossed_updates-verdict =
     refl
 
 -- A stale read is a G-single and a G2-item, and neither at a lower level than realtime.
-stale_read-verdict : IsVerdictText stale_read (codes "prefix 4\ntxns 2\nG0 none\nG1a none\nG1b none\nG1c none\nG-single realtime\n  T0 -realtime 1 2-> T2\n  T2 -rw :x nil 1-> T0\nG2-item realtime\n  T0 -realtime 1 2-> T2\n  T2 -rw :x nil 1-> T0\nstray 0\nstrict refuted\n")
+stale_read-verdict : IsVerdictText Basic stale_read (codes "prefix 4\ntxns 2\nG0 none\nG1a none\nG1b none\nG1c none\nG-single realtime\n  T0 -realtime 1 2-> T2\n  T2 -rw :x nil 1-> T0\nG2-item realtime\n  T0 -realtime 1 2-> T2\n  T2 -rw :x nil 1-> T0\nstray 0\nstrict refuted\n")
 unfolding digits
 stale_read-verdict =
     verdict_by _ _
@@ -128,7 +129,7 @@ stale_read-verdict =
     refl
 
 -- Within one process the level is process.
-own_stale_read-verdict : IsVerdictText own_stale_read (codes "prefix 4\ntxns 2\nG0 none\nG1a none\nG1b none\nG1c none\nG-single process\n  T0 -process 0-> T2\n  T2 -rw :x nil 1-> T0\nG2-item process\n  T0 -process 0-> T2\n  T2 -rw :x nil 1-> T0\nstray 0\nstrict refuted\n")
+own_stale_read-verdict : IsVerdictText Basic own_stale_read (codes "prefix 4\ntxns 2\nG0 none\nG1a none\nG1b none\nG1c none\nG-single process\n  T0 -process 0-> T2\n  T2 -rw :x nil 1-> T0\nG2-item process\n  T0 -process 0-> T2\n  T2 -rw :x nil 1-> T0\nstray 0\nstrict refuted\n")
 unfolding digits
 own_stale_read-verdict =
     verdict_by _ _
@@ -140,7 +141,7 @@ own_stale_read-verdict =
     refl
 
 -- An unknown write that was read and then missed is alike.
-unknown_write-verdict : IsVerdictText unknown_write (codes "prefix 6\ntxns 3\nG0 none\nG1a none\nG1b none\nG1c none\nG-single process\n  T0 -wr :x 1-> T2\n  T2 -process 1-> T4\n  T4 -rw :x nil 1-> T0\nG2-item process\n  T0 -wr :x 1-> T2\n  T2 -process 1-> T4\n  T4 -rw :x nil 1-> T0\nstray 0\nstrict refuted\n")
+unknown_write-verdict : IsVerdictText Basic unknown_write (codes "prefix 6\ntxns 3\nG0 none\nG1a none\nG1b none\nG1c none\nG-single process\n  T0 -wr :x 1-> T2\n  T2 -process 1-> T4\n  T4 -rw :x nil 1-> T0\nG2-item process\n  T0 -wr :x 1-> T2\n  T2 -process 1-> T4\n  T4 -rw :x nil 1-> T0\nstray 0\nstrict refuted\n")
 unfolding digits
 unknown_write-verdict =
     verdict_by _ _

@@ -6,6 +6,7 @@ use Rattle.hist_types.specs.Transactions.{Transaction, transactions_of, installe
 use Rattle.hist_types.specs.Versions.{nil_of, update_pairs, version_pairs}
 use Rattle.hist_types.specs.Edges.{dependency_edges}
 use Rattle.hist_types.specs.Phenomena.{g1a, g1b, stray_reads, stray}
+use Rattle.hist_types.specs.declared.types.KeyOrder.TheVariants.{Basic}
 use Rattle.hist_types.proofs.Rows.History.{x, y, sets, gets, finds_nil, invoke, ok, fail, info, committed, unknown, version, nil_then, wr_edge}
 
 -- ---- one transaction
@@ -60,7 +61,7 @@ one_number-legal : (first_broken [] one_number ≡ None) × (events_of (one_numb
 one_number-legal = (refl, refl)
 
 -- The read is of the version that wasn't written over.
-one_number-found : (g1b (transactions_of one_number) ≡ None) × (dependency_edges (transactions_of one_number) ≡ wr_edge 0 2 y 1 ∷ [])
+one_number-found : (g1b (transactions_of one_number) ≡ None) × (dependency_edges Basic (transactions_of one_number) ≡ wr_edge 0 2 y 1 ∷ [])
 one_number-found = (refl, refl)
 
 -- ---- a write to another key than was read
@@ -80,8 +81,8 @@ other_key-legal = (refl, refl)
 
 -- Its write follows nil alone, and no ww edge leads to it.
 other_key-pairs :
-    (version_pairs (transactions_of other_key) ≡ nil_then x 1 ∷ nil_then y 2 ∷ [])
-    × (dependency_edges (transactions_of other_key) ≡ wr_edge 0 2 x 1 ∷ [])
+    (version_pairs Basic (transactions_of other_key) ≡ nil_then x 1 ∷ nil_then y 2 ∷ [])
+    × (dependency_edges Basic (transactions_of other_key) ≡ wr_edge 0 2 x 1 ∷ [])
 other_key-pairs = (refl, refl)
 
 -- ---- versions that nobody wrote

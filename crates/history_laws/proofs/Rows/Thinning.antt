@@ -14,6 +14,7 @@ use Rattle.history_laws.specs.WaysBack.{is_needed, may_lead_back, LeadsBack}
 use Rattle.history_laws.specs.OpenAtOnce.{is_open_at, open_at, most_open, predecessors}
 use Rattle.hist_types.specs.declared.types.Level.TheVariants.{Process, Realtime}
 use Rattle.hist_types.specs.declared.types.Phenomenon.TheVariants.{G0, G1c, GSingle, G2Item}
+use Rattle.hist_types.specs.declared.types.KeyOrder.TheVariants.{Basic}
 use Rattle.hist_types.proofs.Members.{in_from_Contains, Contains_from_in}
 use Rattle.hist_types.proofs.Rows.Realtime.{missed_write}
 use Rattle.hist_types.proofs.Rows.History.{x, y, sets, finds_nil, invoke, ok, fail, info, committed, unfinished, ww_edge, wr_edge, rw_nil_edge, process_edge, realtime_edge}
@@ -96,7 +97,7 @@ missed_write-no_path path = path.some refl
 
 -- dependency edges and thinned edges
 abbrev thinned_of_missed_write : List Edge
-thinned_of_missed_write = dependency_edges (transactions_of missed_write) ++ thinned_edges Realtime (transactions_of missed_write)
+thinned_of_missed_write = dependency_edges Basic (transactions_of missed_write) ++ thinned_edges Realtime (transactions_of missed_write)
 
 missed_write-edges : thinned_of_missed_write ≡ rw_nil_edge 4 0 x 1 ∷ both_edges
 missed_write-edges = refl

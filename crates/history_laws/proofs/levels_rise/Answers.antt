@@ -5,4 +5,4 @@ pub returns-clause-walks : goal.returns-clause-walks
 returns-clause-walks c lower higher up ns others = carried_up lower higher ns others up
 
 pub returns-clause-phenomena : goal.returns-clause-phenomena
-returns-clause-phenomena c lower higher up phenomenon ts = has_above phenomenon lower higher ts up
+returns-clause-phenomena c keys lower higher up phenomenon ts = has_above keys phenomenon lower higher ts up

@@ -9,10 +9,10 @@ use Rattle.block_reader.proofs.parts.read_op.Goals as goal
 pub returns-in_err-shape-clause-on : goal.returns-in_err-shape-clause-on
 returns-in_err-shape-clause-on c =
     λ offset low h.
-    let text = c.args.text.now in
+    let text = c.args.blocks.now.text in
     let fault = c.in_err-shape.field-0.0 in
     let given : (fault ≡ memory_fault) ⊎ FailsFrom text offset fault =
-    next_refused text offset c.args.reader.now c.next_op.new.self c.args.blocks.now fault h (c.in_err-shape.ensures.next h.going) in
+    next_refused text offset c.args.reader.now c.next_op.new.self c.args.blocks.now.operations fault h (c.in_err-shape.ensures.next h.going) in
     let left = err_from_is_err_and c.from_residual.result c.from_residual.ensures.1 in
     rw left.1 (rw left.2 given)
 
@@ -20,16 +20,16 @@ pub returns-in_default-clause-on : goal.returns-in_default-clause-on
 returns-in_default-clause-on c =
     λ offset low h.
     let ended : HasEnded c.args.reader.now c.next_op.new.self = rw c.in_default.is at (c.in_ok-shape.ensures.next h.going) in
-    all_given c.args.text.now offset c.args.reader.now c.next_op.new.self c.args.blocks.now h ended
+    all_given c.args.blocks.now.text offset c.args.reader.now c.next_op.new.self c.args.blocks.now.operations h ended
 
 pub returns-clause-on : goal.returns-clause-on
 returns-clause-on c =
     λ offset low h.
-    let text = c.args.text.now in
+    let text = c.args.blocks.now.text in
     let old = c.args.reader.now in
     let new = c.next_op.new.self in
     let shape = c.in-Some.shape in
     let read : HasRead old shape new = rw c.in-Some.is at (c.in_ok-shape.ensures.next h.going) in
     let same = c.in_ok-shape.ensures.text ∙ c.requires in
-    let is_in = is_read text offset old new shape c.args.blocks.now h read same low c.operations_read_alone.ensures in
-    rw (c.in_ok-push.ensures.ok read.read is_in read.shape_of) (one_more text offset old new shape c.args.blocks.now h read same)
+    let is_in = is_read text offset old new shape c.args.blocks.now.operations h read same low c.operations_read_alone.ensures in
+    rw (c.in_ok-push.ensures.ok read.read is_in read.shape_of) (one_more text offset old new shape c.args.blocks.now.operations h read same)

@@ -9,5 +9,5 @@ returns-in_ok-append-clause-ok c =
     let part = c.args.part in
     let reader = c.args.reader.now in
     let top : IsAtTop reader part.start = subst (λ (at : ℕ). IsAtTop reader at) c.if-offset-part.true c.in-Some.ensures in
-    rw (c.at.ensures.start, c.in_ok-append.ensures)
-    (read_behind c.args.text.now part.start part.end reader c.args.blocks.now (operations_in part.blocks.items) c.requires.read top c.requires.part)
+    rw (c.at.ensures.start, c.in_ok-append.ensures.added)
+    (read_behind c.args.text.now part.start part.end reader c.args.blocks.now.operations (operations_in part.blocks.items) c.requires.read top c.requires.part)

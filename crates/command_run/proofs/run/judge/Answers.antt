@@ -17,8 +17,8 @@ returns-clause-ok g c =
     let text = c.args.text.items in
     let events = c.in_ok-events.events in
     let blocks = c.in_ok-blocks.blocks.items in
-    let are : events ≡ operations_in blocks = c.in_ok-events.ensures.ok ∙ ap operations_in c.deref-2.ensures.value in
-    let read : GivesOperations text (operations_in blocks) = subst (λ t. GivesOperations t (operations_in blocks)) c.deref.ensures.value c.in_ok-blocks.ensures.ok in
+    let are : events ≡ operations_in blocks = c.in_ok-events.ensures.ok ∙ ap operations_in c.deref.ensures.value in
+    let read : GivesOperations text (operations_in blocks) = c.in_ok-blocks.ensures.ok in
     let given : first_broken [] events ≡ None → GivesEvents text events = λ kept. record { given = subst (GivesOperations text) (sym are) read; kept = kept } in
     with_what_holds _ _ (λ answer kept reported. report_answers text answer.printed.items events (given kept) c.args.command answer.status reported)
     c.report_on.result c.report_on.ensures.kept c.report_on.ensures.ok

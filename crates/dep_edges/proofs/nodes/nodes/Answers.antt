@@ -21,4 +21,4 @@ returns c =
     let h = c.args.history.now in
     c.loop-number.invariant
     ∙ ap (all_marked h.txns) (take_all c.loop-number.number h.table.versions (omega (arith, c.loop-number-test.false, c.versions-number-end.ensures.value)))
-    ∙ nodes_marked h.txns h.table c.txns.ensures.kept c.versions-number-end.ensures.table
+    ∙ nodes_marked h.table.keys h.txns h.table c.txns.ensures.kept c.versions-number-end.ensures.table

@@ -33,5 +33,5 @@ loop-number-preserved c =
 pub returns : goal.returns
 returns c =
     let h = c.args.history.now in
-    all_ruled h.txns h.table c.loop-number.number c.loop-number.found c.versions-number-end.ensures.table
+    all_ruled h.table.keys h.txns h.table c.loop-number.number c.loop-number.found c.versions-number-end.ensures.table
     (omega (arith, c.loop-number-test.false, c.versions-number-end.ensures.value)) c.loop-number.invariant

@@ -12,9 +12,9 @@ use Rattle.edge_graph.proofs.orders.pairs.Goals as goal
 use Rattle.edge_graph.proofs.orders.pairs.Goals.{then-is_node+in_ok-number+in_ok-push_pairs, else-is_node}
 
 -- the predecessors' places
-have : (c : goal.After-pairs-1) → HavePlaces c.args.places.now (length c.args.deps.now) c.predecessors.result.now
+have : (c : goal.After-pairs-1) → HavePlaces c.args.places.now (length c.args.deps.now.txns) c.predecessors.result.now
 have c =
-    let ts = c.args.deps.now in
+    let ts = c.args.deps.now.txns in
     let order = c.args.order.now in
     let places = c.args.places.now in
     let i : In (before_at order c.loop-place.place) order = before_there order c.loop-place.place (let test = c.loop-place-test.true in omega (arith, test, c.len-place-end.ensures)) in
@@ -26,7 +26,7 @@ push_pairs-requires-clause-listed c k d h = (have c k d h).0
 
 pub push_pairs-requires-clause-apart : goal.push_pairs-requires-clause-apart
 push_pairs-requires-clause-apart c =
-    let ts = c.args.deps.now in
+    let ts = c.args.deps.now.txns in
     let order = c.args.order.now in
     let places = c.args.places.now in
     let u : Before = before_at order c.loop-place.place in
@@ -36,7 +36,7 @@ push_pairs-requires-clause-apart c =
 
 pub loop-place-preserved : goal.loop-place-preserved
 loop-place-preserved c =
-    let ts = c.args.deps.now in
+    let ts = c.args.deps.now.txns in
     let order = c.args.order.now in
     let places = c.args.places.now in
     let level = c.args.level in
@@ -74,7 +74,7 @@ loop-place-preserved c =
 
 pub returns : goal.returns
 returns c =
-    let ts = c.args.deps.now in
+    let ts = c.args.deps.now.txns in
     let order = c.args.order.now in
     let test = c.loop-place-test.false in
     let all : c.loop-place.place ≡ length ts = omega (arith, test, c.loop-place.auto.place-end, c.len-place-end.ensures, long ts order c.requires.kept c.requires.order) in

@@ -7,14 +7,14 @@ use Rattle.edge_graph.proofs.orders.turned.Goals as goal
 
 pub of-requires : goal.of-requires
 of-requires c =
-    let ts = c.args.deps.now in
+    let ts = c.args.deps.now.txns in
     let all : c.len.result ≡ length ts = c.len.ensures ∙ long ts c.args.order.now c.requires.kept c.requires.order in
     subst (λ n. All (IsNumbered n) c.deref.result.now) (sym all)
     (subst (All (IsNumbered (length ts))) (sym c.deref.ensures.value) c.in_ok-pairs.ensures.numbered)
 
 pub returns : goal.returns
 returns c =
-    let ts = c.args.deps.now in
+    let ts = c.args.deps.now.txns in
     let order = c.args.order.now in
     let pairs = c.in_ok-pairs.pairs.items in
     let all : c.len.result ≡ length ts = c.len.ensures ∙ long ts order c.requires.kept c.requires.order in

@@ -2,7 +2,7 @@ use Rattle.std.proofs.Common.{[], ◌∷◌, ◌++◌, ℕ, Option, Ok, arith, s
 use Rattle.hist_types.specs.Forms.{plain}
 use Rattle.edn_lex.specs.Kinds.{item_of}
 use Rattle.edn_ops.specs.Flat.{ReadsFlatField}
-use Rattle.edn_ops.proofs.FlatMaps.{no_fields, one_field, field_further}
+use Rattle.edn_ops.proofs.FlatMaps.{no_fields, one_field, field_further, map_read}
 use Rattle.edn_ops.proofs.Triples.{lone_in}
 use Rattle.edn_ops.proofs.flat.flat_map.Goals as goal
 
@@ -33,3 +33,9 @@ loop-key-preserved c =
       front.0 ++ (plain (item_of text key), r.0) ∷ [],
       one_field text c.args.offset front.0 c.loop-key.fields c.flat_field.new.fields c.loop-key.mops.items c.flat_field.new.mops.items c.loop-key.at key c.in-Some-2.end r.0 front.1 c.in-Some.ensures.gives r.1 r.2,
     )
+
+pub returns-in-Some-map_closer : goal.returns-in-Some-map_closer
+returns-in-Some-map_closer c =
+    let front = c.loop-key.invariant in
+    let closer = c.in-Some-map_closer in
+    map_read c.args.text.now c.args.offset front.0 c.loop-key.fields c.loop-key.mops.items c.loop-key.at closer.closer front.1 closer.ensures.gives closer.ensures.fits

@@ -29,4 +29,4 @@ returns-in-Some-vector_closer c =
     let P : Option ℕ → Type 0 = λ o. ReadsFlatMop text c.loop-end.at old (Ok o) new in
     let same : new ≡ old = subst P c.in_default-2.is c.in_ok-end.ensures in
     transaction_ahead text c.args.offset front.0 closer front.2 new c.loop-end.at front.1 (subst (λ (shapes : List MopShape). ReadsInside text front.0 front.2 shapes c.loop-end.at) (sym same) front.3)
-    c.in-Some-vector_closer.ensures.gives c.in-Some-vector_closer.ensures.fits
+    c.in-Some-vector_closer.ensures.gives

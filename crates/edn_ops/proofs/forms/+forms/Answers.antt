@@ -11,7 +11,6 @@ use Rattle.edn_ops.proofs.LastMark.{plain-form, role-form, closer-kind}
 use Rattle.edn_ops.proofs.LeftOut.{Behind, Behind-mark, Behind-form, Behind-collection, Stops-behind, Stops-told, Stops-told_end, Stops-left_out, GivesMember-behind, GivesMember-closer, GivesMember-first, fewer_calls}
 use Rattle.edn_ops.proofs.PassedOver.{Within-plain, Within-collection, PassesCollection-closer, Stops-within, Stops-within_collection, Stops-within_end, PassesCollection-forward}
 use Rattle.edn_ops.proofs.Levels.{GivesMember-shorter}
-use Rattle.edn_ops.proofs.Triples.{lone_member}
 use Rattle.edn_ops.proofs.forms.+forms.Goals as goal
 use Rattle.edn_ops.proofs.forms.+forms.Goals.{member_behind-then-opens+in_ok-skip_collection, member_behind-else-opens}
 
@@ -120,8 +119,8 @@ member_behind-returns-then-is_some-2 t c =
     (sym (c.is_some-2.ensures b.marks b.waits) ∙ c.if-is_some-2.true)
     c.copy-start.result c.copy-start.ensures c.dangling-then-is_some-2.result c.dangling-then-is_some-2.ensures)
 
-pub any_member-returns-else-is_mark : goal.any_member-returns-else-is_mark
-any_member-returns-else-is_mark t c =
+pub next_member-returns-else-is_mark : goal.next_member-returns-else-is_mark
+next_member-returns-else-is_mark t c =
     let P : Result Token Fault → Type 0 = λ x. Gives c.args.lexer.now (Some x) c.next.new.self in
     let g = subst P c.in-Some-Ok.field-0-is c.in-Some-Ok.ensures.steps in
     GivesMember-first c.args.lexer.now c.next.new.self c.in-Some-Ok.token g (sym c.is_mark.ensures ∙ c.if-is_mark.false)
@@ -198,6 +197,3 @@ skip_collection-returns t c =
     let P : Option Member → Type 0 = λ x. NextMember c.loop-member.lexer (Ok x) c.next_member.new.lexer in
     let h = subst P c.in_default.is c.in_ok-member.ensures in
     Stops-within_end c.args.lexer.now c.loop-member.lexer c.next_member.new.lexer _ c.loop-member.invariant h
-
-pub next_member-returns-in-Some : goal.next_member-returns-in-Some
-next_member-returns-in-Some t c = lone_member c.args.lexer.now c.next_lone.new.self c.in-Some.token c.in-Some.ensures

@@ -15,9 +15,6 @@ decreases-member_behind l = 3 * bytes_left l.lexer.now + 2
 abbrev pub decreases-next_member : goal.decreases-next_member
 decreases-next_member l = 3 * bytes_left l.lexer.now + 1
 
-abbrev pub decreases-any_member : goal.decreases-any_member
-decreases-any_member l = 3 * bytes_left l.lexer.now
-
 abbrev pub decreases-skip_collection : goal.decreases-skip_collection
 decreases-skip_collection l = 3 * bytes_left l.lexer.now + 2
 

@@ -1,23 +1,22 @@
-use Rattle.std.proofs.Common.{◌++◌, ◌∷◌, sym, ap, subst, ◌∙◌, [], List, ℕ}
+use Rattle.std.proofs.Common.{Ok, ◌++◌, ◌∷◌, sym, ap, subst, ◌∙◌, [], List, ℕ}
 use Rattle.edn_lex.specs.Kinds.{kind_of, item_of}
 use Rattle.edn_ops.specs.Leads.{inside}
 use Rattle.edn_ops.specs.Outlines.{IsTokenIn}
+use Rattle.edn_ops.specs.declared.types.MopShape.{MopShape}
 use Rattle.edn_ops.proofs.Collected.{member_in}
 use Rattle.edn_ops.proofs.Levels.{GivesMember-shorter}
-use Rattle.edn_ops.proofs.ByMember.{one_read, closed, next_stops, unclosed, shorter_member, next_given, next_none, member_some, not_closer, stops_at}
+use Rattle.edn_ops.proofs.ByMember.{nothing_read, one_read, closed, next_stops, unclosed, shorter_member, next_given, next_none, member_some, not_closer, stops_at}
 use Rattle.edn_ops.proofs.MicroOps.{transaction_fails, read_mop}
 use Rattle.edn_ops.proofs.micro_ops.transaction.Goals as goal
 
 pub loop-transaction-init : goal.loop-transaction-init
-loop-transaction-init c =
-    let flat = c.in_ok-flat_micro_ops.ensures in
-    (flat.0, flat.1 (item_of c.args.text.now c.args.opener), flat.2)
+loop-transaction-init c = ([], nothing_read c.args.lexer.now (item_of c.args.text.now c.args.opener), ap (λ (shapes : List MopShape). Ok shapes) c.new.ensures.items)
 
 pub returns-in_err-member : goal.returns-in_err-member
 returns-in_err-member c =
     let i = item_of c.args.text.now c.args.opener in
     let front = c.loop-transaction.invariant in
-    transaction_fails c.args.lexer.now c.next_member.new.lexer i _ _ c.from_residual-in_err-member.ensures.1
+    transaction_fails c.args.lexer.now c.next_member.new.lexer i _ _ c.from_residual.ensures.1
     (next_stops c.args.lexer.now c.loop-transaction.lexer i front.0 _ front.1 (λ o no_place. c.in_err-member.ensures (inside i front.0 [] o)))
 
 pub returns-in-Close : goal.returns-in-Close

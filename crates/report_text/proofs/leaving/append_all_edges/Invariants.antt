@@ -2,4 +2,4 @@ use Rattle.report_text.proofs.EdgeLines.{AreWritten}
 use Rattle.report_text.proofs.leaving.append_all_edges.Given as goal
 
 abbrev pub invariant-loop-place : goal.invariant-loop-place
-invariant-loop-place l = AreWritten l.deps l.place l.fn.out.items l.out.items l.count
+invariant-loop-place l = AreWritten l.deps.table.keys l.deps.txns l.place l.fn.out.items l.out.items l.count

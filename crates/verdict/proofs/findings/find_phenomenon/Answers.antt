@@ -9,6 +9,6 @@ returns-clause-ok c =
     let g = c.args.graph.now in
     let phenomenon = c.args.phenomenon in
     let lowest : Finding = record { level = c.lowest.inside.level; walk = c.lowest.inside.walk } in
-    let is : IsLowest phenomenon g.txns (Some lowest) =
-    subst (λ found. IsLowest phenomenon g.txns (Some found)) (sym c.lowest.view_is) (subst (IsLowest phenomenon g.txns) c.in-Some.is c.in_ok-lowest.ensures.ok) in
+    let is : IsLowest g.keys phenomenon g.txns (Some lowest) =
+    subst (λ found. IsLowest g.keys phenomenon g.txns (Some found)) (sym c.lowest.view_is) (subst (IsLowest g.keys phenomenon g.txns) c.in-Some.is c.in_ok-lowest.ensures.ok) in
     finding_of_lowest g phenomenon lowest c.in_ok-witness.witness c.requires is c.in_ok-witness.ensures.witness

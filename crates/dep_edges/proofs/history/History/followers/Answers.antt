@@ -7,10 +7,10 @@ use Rattle.dep_edges.proofs.history.History.followers.Goals as goal
 
 pub returns-clause-value : goal.returns-clause-value
 returns-clause-value c =
-    subst (λ (h : History). map (later_in h.table) c.followers.result.now ≡ followers_of h.txns (version_at h.table c.args.number)) c.self.view_is
-    (followers_told c.self.inside.txns.now c.self.inside.versions.now c.args.number c.followers.result.now c.self.invariant.versions c.followers.ensures)
+    subst (λ (h : History). map (later_in h.table) c.followers.result.now ≡ followers_of h.table.keys h.txns (version_at h.table c.args.number)) c.self.view_is
+    (followers_told c.self.inside.versions.now.keys c.self.inside.txns.now c.self.inside.versions.now c.args.number c.followers.result.now c.self.invariant.versions c.followers.ensures)
 
 pub returns-clause-within : goal.returns-clause-within
 returns-clause-within c =
     subst (λ (h : History). All (IsBehind h.txns h.table (version_at h.table c.args.number)) c.followers.result.now) c.self.view_is
-    (followers_behind c.self.inside.txns.now c.self.inside.versions.now c.args.number c.followers.result.now c.self.invariant.versions c.followers.ensures)
+    (followers_behind c.self.inside.versions.now.keys c.self.inside.txns.now c.self.inside.versions.now c.args.number c.followers.result.now c.self.invariant.versions c.followers.ensures)

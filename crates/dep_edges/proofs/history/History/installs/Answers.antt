@@ -24,4 +24,4 @@ returns-clause-written c =
     let h = c.self.inside in
     let table = h.versions.now in
     subst (λ (h : History). All (IsWritten h.table) c.installs.result.now) c.self.view_is
-    (installed_are_written h.txns.now table c.args.place c.installs.result.now c.self.invariant.versions c.installs.ensures)
+    (installed_are_written table.keys h.txns.now table c.args.place c.installs.result.now c.self.invariant.versions c.installs.ensures)

@@ -22,4 +22,4 @@ returns-clause-within c =
 pub returns-clause-apart : goal.returns-clause-apart
 returns-clause-apart c =
     let h = c.self.inside in
-    subst (λ (h : History). AreNamedOnce h.table) c.self.view_is (named_once h.txns.now h.versions.now c.self.invariant.versions)
+    subst (λ (h : History). AreNamedOnce h.table) c.self.view_is (named_once h.versions.now.keys h.txns.now h.versions.now c.self.invariant.versions)

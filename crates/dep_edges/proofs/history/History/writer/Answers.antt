@@ -13,7 +13,7 @@ kept c = subst (λ (h : History). AreOfHistory h.txns) c.self.view_is c.self.inv
 told : (c : goal.After-writer) → c.writer.result ≡ writer_of c.args.self.now.txns (version_at c.args.self.now.table c.args.number)
 told c =
     subst (λ (h : History). c.writer.result ≡ writer_of h.txns (version_at h.table c.args.number)) c.self.view_is
-    (writer_told c.self.inside.txns.now c.self.inside.versions.now c.args.number c.writer.result c.self.invariant.versions c.writer.ensures)
+    (writer_told c.self.inside.versions.now.keys c.self.inside.txns.now c.self.inside.versions.now c.args.number c.writer.result c.self.invariant.versions c.writer.ensures)
 
 pub returns-clause-value : goal.returns-clause-value
 returns-clause-value c = told c

@@ -18,7 +18,7 @@ told c = subst (λ (h : History). map (version_at h.table) c.installs-number-ite
 pub returns-clause-ok : goal.returns-clause-ok
 returns-clause-ok c =
     let h = c.args.self.now in
-    let edges = written_edges h.txns c.args.from in
+    let edges = written_edges h.table.keys h.txns c.args.from in
     let ns = c.installs-number-items.result.now in
     let vs = installed_by (txn_at h.txns c.args.place) in
     all_added (λ n. edges (version_at h.table n)) ns c.loop-number.number-index c.args.out.now.items c.loop-number.out.items (flat_map edges vs) c.loop-number.invariant c.loop-number-test.false
@@ -31,7 +31,7 @@ loop-number-preserved c =
     let k = c.loop-number.number-index in
     let n = get_or ns k 0 in
     let out = c.loop-number.out.items in
-    next_added (λ n. written_edges h.txns c.args.from (version_at h.table n)) ns k 0 c.args.out.now.items out c.add_ww.new.out.items c.loop-number-test.true c.loop-number.invariant
+    next_added (λ n. written_edges h.table.keys h.txns c.args.from (version_at h.table n)) ns k 0 c.args.out.now.items out c.add_ww.new.out.items c.loop-number-test.true c.loop-number.invariant
     (c.in_ok-add_ww.ensures.ok
     ∙ ap (λ es. es ++ ww_edges h c.args.from n) c.in_ok-add_wr.ensures.ok
     ∙ append_assoc out (wr_edges h c.args.from n) (ww_edges h c.args.from n))

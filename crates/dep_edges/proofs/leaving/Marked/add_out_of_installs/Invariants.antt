@@ -6,4 +6,4 @@ use Rattle.dep_edges.proofs.leaving.Marked.add_out_of_installs.Given as goal
 
 abbrev pub invariant-loop-number : goal.invariant-loop-number
 invariant-loop-number l =
-    l.out.items ≡ l.initial.out.items ++ flat_map (λ number. written_edges l.self.txns l.from (version_at l.self.table number)) (take l.number-index l.number-items)
+    l.out.items ≡ l.initial.out.items ++ flat_map (λ number. written_edges l.self.table.keys l.self.txns l.from (version_at l.self.table number)) (take l.number-index l.number-items)

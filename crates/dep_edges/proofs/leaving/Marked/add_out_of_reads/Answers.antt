@@ -16,7 +16,7 @@ pub loop-number-preserved-in_ok-add_rw : goal.loop-number-preserved-in_ok-add_rw
 loop-number-preserved-in_ok-add_rw c =
     let h = c.args.self.now in
     let n = c.in-Some.number.now in
-    let f = read_edges h.txns c.args.from in
+    let f = read_edges h.table.keys h.txns c.args.from in
     let all : List Edge = c.args.out.now.items ++ flat_map f (each_once (read_by (txn_at h.txns c.args.place))) in
     let numbers : All (IsNumber h.table) (n ∷ c.in-Some.later.now) = subst (All (IsNumber h.table)) c.in-Some.ensures.cases.0 c.loop-number.invariant.within in
     record {
@@ -32,7 +32,7 @@ pub loop-number-preserved : goal.loop-number-preserved
 loop-number-preserved c =
     let h = c.args.self.now in
     let n = c.in-Some.number.now in
-    let f = read_edges h.txns c.args.from in
+    let f = read_edges h.table.keys h.txns c.args.from in
     let all : List Edge = c.args.out.now.items ++ flat_map f (each_once (read_by (txn_at h.txns c.args.place))) in
     let numbers : All (IsNumber h.table) (n ∷ c.in-Some.later.now) = subst (All (IsNumber h.table)) c.in-Some.ensures.cases.0 c.loop-number.invariant.within in
     record {

@@ -9,7 +9,7 @@ use Rattle.dep_edges.proofs.leaving.Marked.add_out_of_reads.Given as goal
 abbrev pub invariant-loop-number : goal.invariant-loop-number
 invariant-loop-number l =
     let h = l.self in
-    let edges = λ (vs : List Version). flat_map (read_edges h.txns l.from) (each_once vs) in
+    let edges = λ (vs : List Version). flat_map (read_edges h.table.keys h.txns l.from) (each_once vs) in
     record {
       left : l.out.items ++ edges (map (version_at h.table) l.rest) ≡ l.initial.out.items ++ edges (read_by (txn_at h.txns l.place));
       begins : Begins l.initial.out.items l.out.items;

@@ -13,8 +13,8 @@ returns-in_err-add_edge-clause-err c =
     begins_at_error c.from_residual.result c.args.out.now.items c.loop-follower.out.items c.add_edge.new.out.items _ c.loop-follower.invariant
     (begins_same c.loop-follower.out.items c.add_edge.new.out.items c.in_err-add_edge.ensures.err)
 
-told : (c : goal.After-loop-follower) → map (later_in c.args.self.now.table) c.followers-follower-items.result.now ≡ followers_of c.args.self.now.txns (version_at c.args.self.now.table c.args.number)
-told c = subst (λ (h : History). map (later_in h.table) c.followers-follower-items.result.now ≡ followers_of h.txns (version_at h.table c.args.number)) c.self.view_is c.followers-follower-items.ensures.value
+told : (c : goal.After-loop-follower) → map (later_in c.args.self.now.table) c.followers-follower-items.result.now ≡ followers_of c.args.self.now.table.keys c.args.self.now.txns (version_at c.args.self.now.table c.args.number)
+told c = subst (λ (h : History). map (later_in h.table) c.followers-follower-items.result.now ≡ followers_of h.table.keys h.txns (version_at h.table c.args.number)) c.self.view_is c.followers-follower-items.ensures.value
 
 pub returns-clause-ok : goal.returns-clause-ok
 returns-clause-ok c =
@@ -22,8 +22,8 @@ returns-clause-ok c =
     let v = version_at h.table c.args.number in
     let fs = c.followers-follower-items.result.now in
     all_added (λ (f : Follower). node_edge h.txns c.args.from (txn_at h.txns f.txn) (rw v (version_at h.table f.version)))
-    fs c.loop-follower.follower-index c.args.out.now.items c.loop-follower.out.items (later_edges h.txns c.args.from (rw v) v) c.loop-follower.invariant c.loop-follower-test.false
-    (followers_gathered h.txns h.table c.args.from (rw v) v fs (told c))
+    fs c.loop-follower.follower-index c.args.out.now.items c.loop-follower.out.items (later_edges h.table.keys h.txns c.args.from (rw v) v) c.loop-follower.invariant c.loop-follower-test.false
+    (followers_gathered h.table.keys h.txns h.table c.args.from (rw v) v fs (told c))
 
 pub loop-follower-preserved : goal.loop-follower-preserved
 loop-follower-preserved c =

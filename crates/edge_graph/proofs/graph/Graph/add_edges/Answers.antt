@@ -2,6 +2,7 @@ use Rattle.std.proofs.Common.{◌≡◌, ◌∙◌, ◌++◌, ◌<◌, List, ℕ
 use Rattle.std.proofs.lemmas.Result.{on_ok_weaker}
 use Rattle.hist_types.specs.Edges.{Edge}
 use Rattle.hist_types.specs.Transactions.{Transaction}
+use Rattle.hist_types.specs.declared.types.KeyOrder.{KeyOrder}
 use Rattle.dep_edges.specs.OutEdges as out_edges
 use Rattle.dep_edges.specs.Tables.{IsPlace, txn_at}
 use Rattle.dep_edges.proofs.Lists.{all_in}
@@ -36,13 +37,15 @@ returns-clause-ok c =
     let place = c.args.place in
     let before = c.args.out.now.items in
     let after = c.add_order_edges.new.out.items in
-    let g : Parts = record { txns = ts; order = a.order.now; versions = a.history.now.table.versions } in
+    let keys : KeyOrder = a.history.now.table.keys in
+    let g : Parts = record { keys = keys; txns = ts; order = a.order.now; versions = a.history.now.table.versions } in
     let within : place < length ts = subst (λ (g : Parts). IsPlace g.txns place) (sym c.self.view_is) c.requires in
     let later_is : c.get-later.result.now ≡ list_at (lists_at kinds.level a.orders) place = c.get-later.ensures ∙ ap (λ lists. list_at lists place) c.at.ensures in
     let later = list_at (lists_at kinds.level a.orders) place in
     let (es, added, found) = c.in_ok-add_dependencies.ensures.ok in
-    let are : out_edges.AreEdgesFrom ts (txn_at ts place) es =
-    subst (λ (xs : List Transaction). out_edges.AreEdgesFrom xs (txn_at xs place) es) c.self.invariant.txns found in
+    let are : out_edges.AreEdgesFrom keys ts (txn_at ts place) es =
+    subst (λ (xs : List Transaction). out_edges.AreEdgesFrom keys xs (txn_at xs place) es) made.txns
+    (subst (λ ks. out_edges.AreEdgesFrom ks a.deps.now.txns (txn_at a.deps.now.txns place) es) made.keys found) in
     let some = filter (λ (e : Edge). includes kinds e.label) es in
     let more = order_edges_over ts kinds.level place later in
     on_ok_weaker c.add_order_edges.result
@@ -54,6 +57,6 @@ returns-clause-ok c =
     subst (λ (g : Parts). AddsEdgesFrom g kinds place before after) c.self.view_is (
       some ++ more,
       all,
-      edges_out ts a.order.now made.kept made.ordered a.orders made.orders a.history.now.table.versions kinds place es within are,
+      edges_out keys ts a.order.now made.kept made.ordered a.orders made.orders a.history.now.table.versions kinds place es within are,
     ))
     c.add_order_edges.ensures.ok

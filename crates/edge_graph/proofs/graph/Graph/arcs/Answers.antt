@@ -19,7 +19,7 @@ returns-clause-arcs c =
     let made = c.self.invariant in
     let kinds = kinds_of c.args.dependencies c.args.level in
     subst (λ (g : Parts). AreArcs g kinds c.new.result) c.self.view_is
-    (subst (AreArcs (record { txns = a.history.now.txns; order = a.order.now; versions = a.history.now.table.versions }) kinds) (sym (c.new.ensures ∙ ap (joined c.args.dependencies a.rows) c.at.ensures))
+    (subst (AreArcs (record { keys = a.history.now.table.keys; txns = a.history.now.txns; order = a.order.now; versions = a.history.now.table.versions }) kinds) (sym (c.new.ensures ∙ ap (joined c.args.dependencies a.rows) c.at.ensures))
     (arcs_out a.deps.now a.history.now a.order.now a.rows a.orders made c.args.dependencies c.args.level))
 
 pub returns-clause-rw : goal.returns-clause-rw

@@ -8,6 +8,7 @@ use Rattle.edge_graph.proofs.layout.Layout.push_txn.Goals as goal
 pub returns-then-not-is_node : goal.returns-then-not-is_node
 returns-then-not-is_node c =
     let ts : List Transaction = c.args.self.now.history.now.txns in
+    let keys = c.args.self.now.history.now.table.keys in
     let place = c.args.place in
     let before = c.args.items.now.items in
     let (vertices, read, are) = c.in_ok-push_read.ensures in
@@ -16,7 +17,7 @@ returns-then-not-is_node c =
     let one : (before ++ vertices) ++ [] ≡ before ++ vertices = append-nil (before ++ vertices) in
     let end : c.in_ok-wr.wr ≡ length c.push_read.new.out.items = omega (arith, c.in_ok-wr.ensures, c.len-2.ensures, c.push_read.new.out.ok.0) in (
       record { rw = vertices; wr = []; ww = [] },
-      record { rw = are; wr = ap (λ b. if b then readers_behind ts place else []) node; ww = ap (λ b. if b then writers_behind ts place else []) node },
+      record { rw = are; wr = ap (λ b. if b then readers_behind ts place else []) node; ww = ap (λ b. if b then writers_behind keys ts place else []) node },
       record {
         items = read ∙ sym one ∙ sym (append-nil ((before ++ vertices) ++ []));
         start = omega (arith, c.in_ok-start.ensures, c.len.ensures, c.args.items.now.ok.0);
@@ -29,10 +30,11 @@ returns-then-not-is_node c =
 pub returns : goal.returns
 returns c =
     let ts : List Transaction = c.args.self.now.history.now.txns in
+    let keys = c.args.self.now.history.now.table.keys in
     let place = c.args.place in
     let before = c.args.items.now.items in
     let readers = readers_behind ts place in
-    let writers = writers_behind ts place in
+    let writers = writers_behind keys ts place in
     let (vertices, read, are) = c.in_ok-push_read.ensures in
     let node : true ≡ is_node ts (txn_at ts place) =
     sym c.if-not-is_node.false ∙ c.is_node.ensures ∙ ap (λ (xs : List Transaction). is_node xs (txn_at xs place)) (sym c.args.self.now.of_one) in

@@ -8,4 +8,4 @@ abbrev pub invariant-loop-version : goal.invariant-loop-version
 invariant-loop-version l =
     l.out.items
     ≡ l.initial.out.items
-    ++ flat_map (nodes_behind l.self.history.now.txns) (map (version_at l.self.history.now.table) (take l.version-index l.version-items))
+    ++ flat_map (nodes_behind l.self.history.now.table.keys l.self.history.now.txns) (map (version_at l.self.history.now.table) (take l.version-index l.version-items))

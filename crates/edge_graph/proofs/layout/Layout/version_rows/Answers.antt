@@ -14,7 +14,7 @@ loop-version-preserved c =
     let items = c.loop-version.items.items in
     let new = c.push_version.new.items.items in
     let span = c.in_ok-push_version.field-0 in
-    let row : Row = version_row ts (version_at table c.loop-version.version) in
+    let row : Row = version_row table.keys ts (version_at table c.loop-version.version) in
     let behind = c.in_ok-push_version.ensures in
     let more : c.push.new.self.items ≡ spans ++ span ∷ [] = c.in_ok-push.ensures.items in
     record {

@@ -1,4 +1,5 @@
 use Rattle.std.proofs.Common.{◌≡◌, ◌≤◌, ◌∙◌, ◌++◌, ◌∷◌, [], List, All, length, sym, ap, subst}
+use Rattle.hist_types.specs.declared.types.KeyOrder.TheVariants.{Basic}
 use Rattle.key_versions.specs.declared.pending.Access.{Access}
 use Rattle.hist_types.specs.Journal.{writes_of}
 use Rattle.hist_types.specs.Transactions.{version_of}
@@ -31,8 +32,8 @@ add-requires-clause-writes g c =
     subst (λ (xs : List Access). All (IsWithin (length c.grow.new.self.rows)) xs) (sym c.as_slice-2.ensures)
     (accesses_within us (map version_of (writes_of c.args.txn.now.mops)) c.in_ok-accessed.accessed.writes.items (length c.grow.new.self.rows) enough c.in_ok-accessed.ensures.writes)
 
-pub returns : goal.returns
-returns g c = λ ts is.
+pub returns-clause-table : goal.returns-clause-table
+returns-clause-table g c = λ ts is.
     let us = versions_of c.take.new.self in
     let vs = versions_of c.self.inside.numbering in
     let rows = c.self.inside.rows.rows in
@@ -51,6 +52,6 @@ returns g c = λ ts is.
     ∙ ap (λ (as1 : List Accessed). as1 ++ accessed c.as_slice.result.now c.as_slice-2.result.now ∷ []) c.in_ok-grow.ensures.accesses
     ∙ ap (λ (xs : List Access). accesses ++ accessed xs c.as_slice-2.result.now ∷ []) c.as_slice.ensures
     ∙ ap (λ (xs : List Access). accesses ++ accessed rs xs ∷ []) c.as_slice-2.ensures in
-    let done = told ts c.args.txn.now vs us rows accesses rs ws (subst (IsTableOf ts) (sym c.self.view_is) is) c.in_ok-accessed.ensures.versions c.in_ok-accessed.ensures.reads c.in_ok-accessed.ensures.writes in
-    subst (λ (xs : List Known). IsTableOf (ts ++ c.args.txn.now ∷ []) (table_by us xs c.add.new.self.accesses)) (sym rows_now)
-    (subst (λ (as1 : List Accessed). IsTableOf (ts ++ c.args.txn.now ∷ []) (table_by us (rows_after (length accesses) rs ws (grown (length us) rows)) as1)) (sym accesses_now) done)
+    let done = told ts c.args.txn.now vs us rows accesses rs ws (subst (IsTableOf Basic ts) (sym c.self.view_is) is) c.in_ok-accessed.ensures.versions c.in_ok-accessed.ensures.reads c.in_ok-accessed.ensures.writes in
+    subst (λ (xs : List Known). IsTableOf Basic (ts ++ c.args.txn.now ∷ []) (table_by us xs c.add.new.self.accesses)) (sym rows_now)
+    (subst (λ (as1 : List Accessed). IsTableOf Basic (ts ++ c.args.txn.now ∷ []) (table_by us (rows_after (length accesses) rs ws (grown (length us) rows)) as1)) (sym accesses_now) done)

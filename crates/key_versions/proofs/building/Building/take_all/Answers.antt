@@ -1,6 +1,7 @@
 use Rattle.std.proofs.Common.{◌≡◌, ◌∙◌, ◌++◌, ◌+◌, ◌∷◌, [], List, take, sym, ap, subst}
 use Rattle.std.proofs.lemmas.List.{take_more}
 use Rattle.hist_types.specs.Transactions.{Transaction}
+use Rattle.hist_types.specs.declared.types.KeyOrder.TheVariants.{Basic}
 use Rattle.key_versions.specs.Tables.{IsTableOf}
 use Rattle.key_versions.proofs.building.Building.take_all.Goals as goal
 
@@ -11,4 +12,4 @@ loop-txn-preserved g c =
     let t = c.txn-item.result in
     let more : take (i + 1) txns ≡ take i txns ++ t ∷ [] =
     take_more txns i t c.loop-txn-test.true ∙ ap (λ (u : Transaction). take i txns ++ u ∷ []) (sym c.txn-item.is) in
-    subst (λ (ts : List Transaction). IsTableOf ts c.take.new.self) (sym more) (c.in_ok-take.ensures (take i txns) c.loop-txn.invariant)
+    subst (λ (ts : List Transaction). IsTableOf Basic ts c.take.new.self) (sym more) (c.in_ok-take.ensures.table (take i txns) c.loop-txn.invariant)
