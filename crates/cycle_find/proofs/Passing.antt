@@ -3,17 +3,19 @@ use Rattle.std.proofs.Common.{◌≡◌, ◌∙◌, ◌<◌, ◌≤◌, ◌+◌,
 use Rattle.std.proofs.lemmas.Bool.{true≢false}
 use Rattle.std.proofs.lemmas.List.{get_or_default}
 use Rattle.hist_types.specs.Edges.{Edge}
+use Rattle.hist_types.specs.declared.types.Level.TheVariants.{Plain}
 use Rattle.hist_types.specs.declared.types.Phenomenon.{Phenomenon}
 use Rattle.hist_types.specs.declared.types.Phenomenon.TheVariants.{G0, G1c, GSingle, G2Item}
 use Rattle.dep_edges.specs.Tables.{IsPlace}
-use Rattle.edge_graph.specs.Kinds.{AreAmong}
+use Rattle.edge_graph.specs.Kinds.{kinds_of, AreAmong}
 use Rattle.edge_graph.specs.Parts.{Parts}
 use Rattle.edge_graph.specs.Vertices.{IsArc, AreArcs}
 use Rattle.edge_graph.specs.declared.types.Kinds.{Kinds}
 use Rattle.cycle_find.specs.Dependencies.{needed, way_back, whole}
-use Rattle.cycle_find.specs.Ranked.{AreRanksOver, AreRanksWithin, NeverFalls}
+use Rattle.cycle_find.specs.Prepared.{AreRanked}
+use Rattle.cycle_find.specs.Ranked.{Ranking, AreRanksOver, AreRanksWithin, NeverFalls}
 use Rattle.cycle_find.specs.Tasks.{Task, needed_kinds, back_kinds, whole_kinds, HasReturnBetween, IsShownOr, NoneBy, NoneFrom}
-use Rattle.cycle_find.specs.Ways.{RisesBy, RisesFrom}
+use Rattle.cycle_find.specs.Ways.{IsAbove, RisesBy, RisesFrom}
 use Rattle.cycle_find.proofs.RankedArcs.{raise, within, IsArcWithin, rising_within, fewer, fewer_plain, fewer_within}
 use Rattle.edge_graph.proofs.EdgeArcs.{more_than_plain}
 
@@ -118,22 +120,38 @@ none_from task lists from arcs all = each_arc task.graph (needed_kinds task) lis
 
 -- ---- ranks that rise
 
-pub rises_above : (g : Parts) (kinds : Kinds) (ranks : List ℕ) (from by : ℕ) → AreRanksOver g kinds ranks → get_or ranks from 0 < get_or ranks by 0 → RisesBy g kinds ranks from by
-rises_above g kinds ranks from by are up to place leads =
-    let on : get_or ranks by 0 ≤ get_or ranks to 0 = elim leads [
-      | inl same ↦ subst (λ v. get_or ranks by 0 ≤ get_or ranks v 0) same (omega arith)
-      | inr (absent, other, arc) ↦ are.rising by to arc
-    ] in
-    omega (arith, up, on)
-
-pub rises_by_version : (g : Parts) (kinds : Kinds) (lists : List (List ℕ)) (ranks : List ℕ) (from version : ℕ) → AreArcs g kinds lists → (IsPlace g.txns version → ⊥)
-    → ((k : ℕ) → k < length (get_or lists version []) → (from ≡ get_or (get_or lists version []) k 0 → ⊥) → get_or ranks from 0 < get_or ranks (get_or (get_or lists version []) k 0) 0)
-    → RisesBy g kinds ranks from version
-rises_by_version g kinds lists ranks from version arcs absent all to place leads = elim leads [
-  | inl same ↦ absurd (absent (subst (IsPlace g.txns) (sym same) place))
-  | inr (still, other, arc) ↦ each_arc g kinds lists version (λ w. (from ≡ w → ⊥) → get_or ranks from 0 < get_or ranks w 0) arcs all to arc other
+-- between two transactions of one coarse rank, what is above the one is so by the finer rank
+by_finer : (r : Ranking) (from to : ℕ) → IsAbove r from to → get_or r.coarse from 0 ≡ get_or r.coarse to 0 → get_or r.ranks from 0 < get_or r.ranks to 0
+by_finer r from to above same = elim above [
+  | inl higher ↦ omega (arith, higher, same)
+  | inr higher ↦ higher
 ]
 
-pub rises_from : (g : Parts) (kinds : Kinds) (lists : List (List ℕ)) (ranks : List ℕ) (from : ℕ) → AreArcs g kinds lists
-    → ((k : ℕ) → k < length (get_or lists from []) → RisesBy g kinds ranks from (get_or (get_or lists from []) k 0)) → RisesFrom g kinds ranks from
-rises_from g kinds lists ranks from arcs all = each_arc g kinds lists from (RisesBy g kinds ranks from) arcs all
+pub rises_above : (r : Ranking) (lists : List (List ℕ)) (from by : ℕ) → AreRanked r lists → IsArc r.graph (kinds_of r.dependencies Plain) from by → IsAbove r from by → RisesBy r from by
+rises_above r lists from by are first above to place leads same =
+    let start : get_or r.coarse from 0 ≤ get_or r.coarse by 0 = are.coarse_ranks.rising from by first in
+    let on : get_or r.coarse by 0 ≤ get_or r.coarse to 0 = elim leads [
+      | inl one ↦ subst (λ v. get_or r.coarse by 0 ≤ get_or r.coarse v 0) one (omega arith)
+      | inr (absent, other, arc) ↦ are.coarse_ranks.rising by to arc
+    ] in
+    let to_by : get_or r.coarse from 0 ≡ get_or r.coarse by 0 = omega (arith, start, on, same) in
+    let from_by : get_or r.coarse by 0 ≡ get_or r.coarse to 0 = omega (arith, start, on, same) in
+    let up : get_or r.ranks from 0 < get_or r.ranks by 0 = by_finer r from by above to_by in
+    let higher : get_or r.ranks by 0 ≤ get_or r.ranks to 0 = elim leads [
+      | inl one ↦ subst (λ v. get_or r.ranks by 0 ≤ get_or r.ranks v 0) one (omega arith)
+      | inr (absent, other, arc) ↦ are.ranked.rising by to arc from_by
+    ] in
+    omega (arith, up, higher)
+
+pub rises_by_version : (r : Ranking) (lists : List (List ℕ)) (from version : ℕ) → AreRanked r lists → (IsPlace r.graph.txns version → ⊥)
+    → ((k : ℕ) → k < length (get_or lists version []) → (from ≡ get_or (get_or lists version []) k 0 → ⊥) → IsAbove r from (get_or (get_or lists version []) k 0))
+    → RisesBy r from version
+rises_by_version r lists from version are absent all to place leads same = elim leads [
+  | inl one ↦ absurd (absent (subst (IsPlace r.graph.txns) (sym one) place))
+  | inr (still, other, arc) ↦
+      by_finer r from to (each_arc r.graph (kinds_of r.dependencies Plain) lists version (λ w. (from ≡ w → ⊥) → IsAbove r from w) are.are all to arc other) same
+]
+
+pub rises_from : (r : Ranking) (lists : List (List ℕ)) (from : ℕ) → AreRanked r lists
+    → ((k : ℕ) → k < length (get_or lists from []) → RisesBy r from (get_or (get_or lists from []) k 0)) → RisesFrom r from
+rises_from r lists from are all = each_arc r.graph (kinds_of r.dependencies Plain) lists from (RisesBy r from) are.are all

@@ -1,9 +1,9 @@
 -- Ranks along the arcs of a graph.
-use Rattle.std.proofs.Common.{◌≡◌, ◌⊎◌, ◌∙◌, ◌<◌, ◌≤◌, ◌+◌, ◌-◌, ℕ, zero, suc, List, [], length, get_or, inl, inr, Bool, if◌then◌else◌, Contains, ap, sym, subst, arith}
+use Rattle.std.proofs.Common.{◌≡◌, ◌∙◌, ◌<◌, ◌≤◌, ◌+◌, ◌-◌, ℕ, zero, suc, List, [], ◌∷◌, length, get_or, inl, inr, Result, Ok, Err, IfOk, Bool, if◌then◌else◌, Contains, refl, ap, sym, subst, arith}
 use Rattle.std.proofs.lemmas.Option.{slice_get_within}
 use Rattle.hist_types.specs.declared.types.Level.{Level}
-use Rattle.hist_types.specs.declared.types.Level.TheVariants.{Plain, Realtime}
-use Rattle.graph_search.specs.Graphs.{AreRanks, IsWalk}
+use Rattle.hist_types.specs.declared.types.Level.TheVariants.{Plain, Process, Realtime}
+use Rattle.graph_search.specs.Graphs.{Graph, AreRanks, IsWalk}
 use Rattle.dep_edges.specs.Tables.{IsPlace}
 use Rattle.edge_graph.specs.Kinds.{kinds_of, AreAmong}
 use Rattle.edge_graph.specs.Parts.{Parts}
@@ -12,7 +12,7 @@ use Rattle.edge_graph.specs.declared.types.Dependencies.{Dependencies}
 use Rattle.edge_graph.specs.declared.types.Dependencies.TheVariants.{All}
 use Rattle.edge_graph.specs.declared.types.Kinds.{Kinds}
 use Rattle.edge_graph.proofs.EdgeArcs.{more_at_level, more_than_plain}
-use Rattle.cycle_find.specs.Ranked.{AreRanksOver, AreRanksWithin}
+use Rattle.cycle_find.specs.Ranked.{AreRanksAtAll, AreRanksOver, AreRanksWithin}
 use Rattle.cycle_find.specs.Sharing.{AreSharing, leaving}
 
 -- ---- vertices of arcs
@@ -109,6 +109,39 @@ fewer_plain g few more level ranks among are = record { one_each = are.one_each;
 pub fewer_within : (g : Parts) (few more : Dependencies) (level : Level) (coarse ranks : List ℕ) → AreAmong few more → AreRanksWithin g (kinds_of more level) coarse ranks → AreRanksWithin g (kinds_of few level) coarse ranks
 fewer_within g few more level coarse ranks among are = record { one_each = are.one_each; rising = λ v w h same. are.rising v w (more_at_level g few more among level v w h) same }
 
+pub fewer_within_plain : (g : Parts) (few more : Dependencies) (level : Level) (coarse ranks : List ℕ) → AreAmong few more → AreRanksWithin g (kinds_of more level) coarse ranks → AreRanksWithin g (kinds_of few Plain) coarse ranks
+fewer_within_plain g few more level coarse ranks among are = record { one_each = are.one_each; rising = λ v w h same. are.rising v w (more_than_plain g few more among level v w h) same }
+
+pub over_within : (g : Parts) (kinds : Kinds) (coarse ranks : List ℕ) → AreRanksOver g kinds ranks → AreRanksWithin g kinds coarse ranks
+over_within g kinds coarse ranks are = record { one_each = are.one_each; rising = λ v w h same. are.rising v w h }
+
+pub among_itself : (dependencies : Dependencies) → AreAmong dependencies dependencies
+among_itself dependencies = record { ww = λ h. h; wr = λ h. h; rw = λ h. h }
+
+pub among_all : (dependencies : Dependencies) → AreAmong dependencies All
+among_all dependencies = record { ww = λ h. refl; wr = λ h. refl; rw = λ h. refl }
+
+pub among_both : (few some more : Dependencies) → AreAmong few some → AreAmong some more → AreAmong few more
+among_both few some more one two = record { ww = λ h. two.ww (one.ww h); wr = λ h. two.wr (one.wr h); rw = λ h. two.rw (one.rw h) }
+
+-- ranks at all levels are ranks over some dependencies at one
+pub at_level : (g : Parts) (dependencies : Dependencies) (level : Level) (ranks : List ℕ) → AreRanksAtAll g ranks → AreRanksOver g (kinds_of dependencies level) ranks
+at_level g dependencies Plain ranks are = fewer_plain g dependencies All Realtime ranks (among_all dependencies) are.realtime
+at_level g dependencies Process ranks are = fewer g dependencies All Process ranks (among_all dependencies) are.process
+at_level g dependencies Realtime ranks are = fewer g dependencies All Realtime ranks (among_all dependencies) are.realtime
+
+-- one rank for all vertices falls along no arc
+flat_over : (g : Parts) (kinds : Kinds) (n : ℕ) (ranks : List ℕ) → n ≡ length g.txns + length g.versions → ((graph : Graph) → graph.count ≡ n → AreRanks graph ranks) → AreRanksOver g kinds ranks
+flat_over g kinds n ranks count each = record {
+  one_each = (each (record { count = n; successors = λ v. [] }) refl).one_each ∙ count;
+  rising = λ v w h.
+      (each (record { count = n; successors = λ u. w ∷ [] }) refl).rising v w (omega (arith, count, arc_from_within g kinds v w h), (0, omega arith, refl));
+}
+
+pub flat_at_all : {E : Type 0} (g : Parts) (n : ℕ) (result : Result (List ℕ) E) → n ≡ length g.txns + length g.versions → ((graph : Graph) → graph.count ≡ n → IfOk result (AreRanks graph)) → IfOk result (AreRanksAtAll g)
+flat_at_all g n (Ok ranks) count each = record { process = flat_over g (kinds_of All Process) n ranks count each; realtime = flat_over g (kinds_of All Realtime) n ranks count each }
+flat_at_all g n (Err fault) count each = tt
+
 -- ranks over the arcs that leave vertices which share their coarse rank
 pub ranks_within : (g : Parts) (kinds : Kinds) (lists : List (List ℕ)) (coarse ranks : List ℕ) (shared : List Bool) → AreArcs g kinds lists → AreRanksOver g kinds coarse → AreSharing coarse shared → AreRanks (leaving (graph_by lists) shared) ranks
     → AreRanksWithin g kinds coarse ranks
@@ -125,10 +158,3 @@ ranks_within g kinds lists coarse ranks shared arcs over sharing are = record {
             are.rising v w (arc.0, subst (λ (b : Bool). Contains (if b then get_or lists v [] else []) w) (sym is) arc.1)
       ];
 }
-
--- ranks at real time are ranks at the plain level too
-pub ranked_at : (g : Parts) (ranks : List ℕ) (level : Level) → (level ≡ Plain) ⊎ (level ≡ Realtime) → AreRanksOver g (kinds_of All Realtime) ranks → AreRanksOver g (kinds_of All level) ranks
-ranked_at g ranks level which are = elim which [
-  | inl plain ↦ subst (λ (l : Level). AreRanksOver g (kinds_of All l) ranks) (sym plain) (fewer_plain g All All Realtime ranks (record { ww = λ h. h; wr = λ h. h; rw = λ h. h }) are)
-  | inr same ↦ subst (λ (l : Level). AreRanksOver g (kinds_of All l) ranks) (sym same) are
-]

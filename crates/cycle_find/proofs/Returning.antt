@@ -19,16 +19,17 @@ use Rattle.edge_graph.specs.Parts.{Parts, edges_in}
 use Rattle.edge_graph.specs.Vertices.{IsArc, RwByVersions}
 use Rattle.edge_graph.specs.Walks.{LeadsBetween, IsEdgeOf, AreEdgesBetween, HasDirectArc, HasWayByVersion}
 use Rattle.edge_graph.specs.declared.types.Dependencies.{Dependencies}
-use Rattle.edge_graph.specs.declared.types.Dependencies.TheVariants.{Ww, Wr, Rw, All as AllOfThem}
+use Rattle.edge_graph.specs.declared.types.Dependencies.TheVariants.{Ww, Wr, Rw}
 use Rattle.edge_graph.proofs.EdgesIn.{levels}
 use Rattle.edge_graph.proofs.EdgeArcs.{arc_of_ww, arc_of_wr, way_of_rw, walk_over, more_at_level}
-use Rattle.cycle_find.specs.Dependencies.{needed, way_back}
-use Rattle.cycle_find.specs.Found.{ShowNothing}
-use Rattle.cycle_find.specs.Ranked.{AreRanksOver}
+use Rattle.cycle_find.specs.Dependencies.{needed, way_back, whole}
+use Rattle.cycle_find.specs.Found.{ShowNoneOver}
+use Rattle.cycle_find.specs.Ranked.{ranking_of, AreRanksOver, AreRanksWithin}
 use Rattle.cycle_find.specs.Tasks.{Task, task_of, needed_kinds, back_kinds, HasReturnBetween, NoneFrom}
 use Rattle.cycle_find.specs.Ways.{LeadsOn, Rises}
 use Rattle.cycle_find.proofs.Closing.{back_kind}
-use Rattle.cycle_find.proofs.RankedArcs.{raise, fewer}
+use Rattle.cycle_find.proofs.Passing.{needed_of_whole, back_of_whole}
+use Rattle.cycle_find.proofs.RankedArcs.{raise, within, IsArcWithin, rising_within, fewer, fewer_plain, fewer_within, among_itself, among_both}
 
 -- ---- kinds
 
@@ -144,25 +145,33 @@ none_over task kept by_versions none over =
     let (from, by, to, is) = met task.phenomenon task.graph task.level kept by_versions ((closed_by_one task.phenomenon (edges_in task.graph task.level)).0 over) in
     none from is.first by is.arc to is.last is.leads is.back
 
-needed_of_all : (phenomenon : Phenomenon) → AreAmong (needed phenomenon) AllOfThem
-needed_of_all phenomenon = record { ww = λ h. refl; wr = λ h. refl; rw = λ h. refl }
+more_leads_on : (graph : Parts) (few more : Dependencies) (among : AreAmong few more) (from by to : ℕ) → LeadsOn graph (kinds_of few Plain) from by to → LeadsOn graph (kinds_of more Plain) from by to
+more_leads_on graph few more among from by to (inl same) = inl same
+more_leads_on graph few more among from by to (inr (absent, other, arc)) = inr (absent, other, more_at_level graph few more among Plain by to arc)
 
-back_of_all : (phenomenon : Phenomenon) → AreAmong (way_back phenomenon) AllOfThem
-back_of_all phenomenon = record { ww = λ h. refl; wr = λ h. refl; rw = λ h. refl }
-
-more_leads_on : (graph : Parts) (few : Dependencies) (among : AreAmong few AllOfThem) (from by to : ℕ) → LeadsOn graph (kinds_of few Plain) from by to → LeadsOn graph (kinds_of AllOfThem Plain) from by to
-more_leads_on graph few among from by to (inl same) = inl same
-more_leads_on graph few among from by to (inr (absent, other, arc)) = inr (absent, other, more_at_level graph few AllOfThem among Plain by to arc)
-
--- where the rank rises along each dependency edge, no edge has a way back
-pub settled : (graph : Parts) (level : Level) (ranks : List ℕ) → AreOfHistory graph.txns → RwByVersions graph → AreRanksOver graph (kinds_of AllOfThem level) ranks → Rises graph (kinds_of AllOfThem Plain) ranks
-    → ShowNothing (edges_in graph level)
-settled graph level ranks kept by_versions are rise phenomenon over =
-    let (from, by, to, is) = met phenomenon graph level kept by_versions ((closed_by_one phenomenon (edges_in graph level)).0 over) in
-    let among = needed_of_all phenomenon in
-    let up : get_or ranks from 0 < get_or ranks to 0 =
-    rise from is.first by (more_at_level graph (needed phenomenon) AllOfThem among Plain from by is.arc) to is.last (more_leads_on graph (needed phenomenon) among from by to is.leads) in
+-- where a rank rises along each dependency edge, no edge has a way back
+pub settled : (graph : Parts) (dependencies : Dependencies) (level : Level) (coarse ranks : List ℕ) → AreOfHistory graph.txns → RwByVersions graph
+    → AreRanksOver graph (kinds_of dependencies level) coarse → AreRanksWithin graph (kinds_of dependencies level) coarse ranks → Rises (ranking_of graph dependencies coarse ranks)
+    → ShowNoneOver dependencies (edges_in graph level)
+settled graph dependencies level coarse ranks kept by_versions over are rise phenomenon among shown =
+    let (from, by, to, is) = met phenomenon graph level kept by_versions ((closed_by_one phenomenon (edges_in graph level)).0 shown) in
+    let needed_among = among_both (needed phenomenon) (whole phenomenon) dependencies (needed_of_whole phenomenon) among in
+    let back_among = among_both (way_back phenomenon) (whole phenomenon) dependencies (back_of_whole phenomenon) among in
+    let arc : IsArc graph (kinds_of dependencies Plain) from by = more_at_level graph (needed phenomenon) dependencies needed_among Plain from by is.arc in
+    let leads : LeadsOn graph (kinds_of dependencies Plain) from by to = more_leads_on graph (needed phenomenon) dependencies needed_among from by to is.leads in
+    let plain = fewer_plain graph dependencies dependencies level coarse (among_itself dependencies) over in
+    let start : get_or coarse from 0 ≤ get_or coarse by 0 = plain.rising from by arc in
+    let on : get_or coarse by 0 ≤ get_or coarse to 0 = elim leads [
+      | inl one ↦ subst (λ v. get_or coarse by 0 ≤ get_or coarse v 0) one (omega arith)
+      | inr (absent, other, next) ↦ plain.rising by to next
+    ] in
+    let back = kinds_of (way_back phenomenon) level in
+    let over_back = fewer graph (way_back phenomenon) dependencies level coarse back_among over in
     let walk = is.back.1.0 in
+    let steps = is.back.1.1.steps in
+    let end : get_or coarse to 0 ≤ get_or coarse from 0 = raise (IsArc graph back) coarse over_back.rising to from walk steps in
+    let up : get_or ranks from 0 < get_or ranks to 0 = rise from is.first by arc to is.last leads (omega (arith, start, on, end)) in
+    let inner = within graph back coarse over_back to from walk (omega (arith, start, on)) steps in
     let down : get_or ranks to 0 ≤ get_or ranks from 0 =
-    raise (IsArc graph (kinds_of (way_back phenomenon) level)) ranks (fewer graph (way_back phenomenon) AllOfThem level ranks (back_of_all phenomenon) are).rising to from walk is.back.1.1.steps in
-    absurd (omega (arith, up, down))
+    raise (IsArcWithin graph back coarse) ranks (rising_within graph back coarse ranks (fewer_within graph (way_back phenomenon) dependencies level coarse ranks back_among are)) to from walk inner in
+    omega (arith, up, down)

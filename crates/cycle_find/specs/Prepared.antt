@@ -1,13 +1,13 @@
 -- What a search is given: the arcs that it goes over, and ranks of the vertices.
-use Rattle.std.specs.Prelude.{ℕ, List}
+use Rattle.std.specs.Prelude.{ℕ, List, Bool}
 use Rattle.dep_edges.specs.Histories.{AreOfHistory}
-use Rattle.edge_graph.specs.Parts.{Parts}
 use Rattle.edge_graph.specs.Kinds.{kinds_of}
 use Rattle.edge_graph.specs.Vertices.{AreArcs, RwByVersions}
-use Rattle.edge_graph.specs.declared.types.Dependencies.TheVariants.{All}
+use Rattle.edge_graph.specs.declared.types.Dependencies.TheVariants.{WrAndWw, All}
 use Rattle.hist_types.specs.declared.types.Level.TheVariants.{Plain}
-use Rattle.cycle_find.specs.Ranked.{AreRanksOver, AreRanksWithin}
-use Rattle.cycle_find.specs.Tasks.{Task, needed_kinds, back_kinds, whole_kinds}
+use Rattle.cycle_find.specs.Ranked.{Ranking, AreRanksOver, AreRanksWithin}
+use Rattle.cycle_find.specs.Sharing.{AreSharing}
+use Rattle.cycle_find.specs.Tasks.{Site, Task, needed_kinds, back_kinds, whole_kinds}
 
 -- ranks, none of which falls along an arc of the whole walk
 abbrev pub AreCoarseRanks : Task → (coarse : List ℕ) → Type 0
@@ -21,8 +21,8 @@ AreWholeRanks task coarse ranks = AreRanksWithin task.graph (whole_kinds task) c
 abbrev pub AreBackRanks : Task → (coarse finer : List ℕ) → Type 0
 AreBackRanks task coarse finer = AreRanksWithin task.graph (back_kinds task) coarse finer
 
--- the arcs of the needed edges and of the way back, and coarse ranks with ranks within them over the
--- whole walk and over the way back
+-- the arcs of the needed edges and of the way back, and coarse ranks with ranks within them over
+-- the whole walk and over the way back
 pub record IsPrepared (task : Task) (needed back : List (List ℕ))
     (coarse ranks finer : List ℕ) : Type 0 where
   pub kept : AreOfHistory task.graph.txns
@@ -33,7 +33,16 @@ pub record IsPrepared (task : Task) (needed back : List (List ℕ))
   pub whole_ranks : AreWholeRanks task coarse ranks
   pub back_ranks : AreBackRanks task coarse finer
 
--- the arcs of all dependency edges, and ranks over them
-pub record AreRanked (g : Parts) (arcs : List (List ℕ)) (ranks : List ℕ) : Type 0 where
-  pub are : AreArcs g (kinds_of All Plain) arcs
-  pub ranked : AreRanksOver g (kinds_of All Plain) ranks
+-- the arcs of the dependency edges, coarse ranks over them, and ranks within those
+pub record AreRanked (r : Ranking) (arcs : List (List ℕ)) : Type 0 where
+  pub are : AreArcs r.graph (kinds_of r.dependencies Plain) arcs
+  pub coarse_ranks : AreRanksOver r.graph (kinds_of r.dependencies Plain) r.coarse
+  pub ranked : AreRanksWithin r.graph (kinds_of r.dependencies Plain) r.coarse r.ranks
+
+-- coarse ranks, and finer ones over all arcs at the level and over those of ww, wr and the order
+pub record IsReady (site : Site) (coarse : List ℕ) (shared : List Bool) (ranks flow : List ℕ)
+    : Type 0 where
+  pub coarse_ranks : AreRanksOver site.graph (kinds_of All site.level) coarse
+  pub sharing : AreSharing coarse shared
+  pub ranks_within : AreRanksWithin site.graph (kinds_of All site.level) coarse ranks
+  pub flow_within : AreRanksWithin site.graph (kinds_of WrAndWw site.level) coarse flow

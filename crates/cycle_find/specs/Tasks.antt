@@ -1,4 +1,5 @@
--- What a search looks for, and where: an edge of the needed kind from one transaction to another, with a way back.
+-- What a search looks for, and where: an edge of the needed kind from one transaction to another,
+-- with a way back.
 use Rattle.std.specs.Prelude.{ℕ, List, Option, Some, None, option_map, Vec}
 use Rattle.std.specs.Global.{Global}
 use Rattle.graph_search.specs.Graphs.{IsWalkIfAny}
@@ -15,6 +16,14 @@ use Rattle.edge_graph.specs.Walks.{HasEdgeBetween, HasWalkBetween}
 use Rattle.edge_graph.specs.declared.types.Kinds.{Kinds}
 use Rattle.cycle_find.specs.Dependencies.{needed, way_back, whole}
 use Rattle.cycle_find.specs.Ways.{LeadsOn}
+
+-- a graph at a level
+pub record Site : Type 0 where
+  pub graph : Parts
+  pub level : Level
+
+abbrev pub site_of : Parts → Level → Site
+site_of graph level = record { graph = graph; level = level }
 
 pub record Task : Type 0 where
   pub graph : Parts
@@ -36,7 +45,8 @@ whole_kinds task = kinds_of (whole task.phenomenon) task.level
 
 -- ---- answers
 
--- an edge of the needed kind from the transaction at the one place to that at the other has a way back
+-- an edge of the needed kind from the transaction at the one place to that at the other has a way
+-- back
 abbrev pub HasReturnBetween : Task → (from to : ℕ) → Type 0
 HasReturnBetween task from to =
     HasEdgeBetween task.graph (needed_kinds task) from to

@@ -1,14 +1,16 @@
 //! Which dependencies the closed walks of a phenomenon use.
 
 ghost use Rattle.std.specs.Prelude.{◌≡◌};
-ghost use Rattle.cycle_find.specs.Dependencies as dependencies;
+ghost use Rattle.std.specs.Bool.{OnTrue};
+ghost use Rattle.edge_graph.specs.Kinds.{AreAmong};
+ghost use Rattle.cycle_find.specs.Dependencies as walks;
 
-use edge_graph::types::Dependencies;
-use hist_types::types::Phenomenon;
+use edge_graph::types::{Dependencies, Kinds};
+use hist_types::types::{Level, Phenomenon};
 
 /// The kind of edge that the phenomenon cannot do without.
 pub(crate) fn needed(phenomenon: Phenomenon) -> Dependencies
-    ensures { result ≡ dependencies.needed phenomenon }
+    ensures { result ≡ walks.needed phenomenon }
 {
     match phenomenon {
         Phenomenon::G0 => Dependencies::Ww,
@@ -19,7 +21,7 @@ pub(crate) fn needed(phenomenon: Phenomenon) -> Dependencies
 
 /// What the way back from that edge's second end to its first may use.
 pub(crate) fn way_back(phenomenon: Phenomenon) -> Dependencies
-    ensures { result ≡ dependencies.way_back phenomenon }
+    ensures { result ≡ walks.way_back phenomenon }
 {
     match phenomenon {
         Phenomenon::G0 => Dependencies::Ww,
@@ -30,11 +32,20 @@ pub(crate) fn way_back(phenomenon: Phenomenon) -> Dependencies
 
 /// What the whole closed walk may use.
 pub(crate) fn whole(phenomenon: Phenomenon) -> Dependencies
-    ensures { result ≡ dependencies.whole phenomenon }
+    ensures { result ≡ walks.whole phenomenon }
 {
     match phenomenon {
         Phenomenon::G0 => Dependencies::Ww,
         Phenomenon::G1c => Dependencies::WrAndWw,
         Phenomenon::GSingle | Phenomenon::G2Item => Dependencies::All,
     }
+}
+
+/// Whether the whole closed walk uses these dependencies alone.
+pub(crate) fn uses_only(phenomenon: Phenomenon, dependencies: Dependencies) -> bool
+    ensures { OnTrue result (AreAmong (walks.whole phenomenon) dependencies) }
+{
+    let used = Kinds::of(whole(phenomenon), Level::Plain);
+    let given = Kinds::of(dependencies, Level::Plain);
+    (given.ww || !used.ww) && (given.wr || !used.wr) && (given.rw || !used.rw)
 }

@@ -1,11 +1,10 @@
 //! Searches for the closed walks of phenomena.
-//!
-//! Only calls whose names end in `_wide` may start threads.
 #![tactic(auto)]
 
 mod finder;
 mod kinds;
 pub mod ranked_graph;
+pub mod ranked_level;
 mod ranking;
 mod settle;
 mod sharing;

@@ -1,5 +1,6 @@
--- How a closed walk becomes short: it is followed from after an edge that it needs, and where it comes back to a transaction,
--- what lies between is left out. Two order edges side by side become one.
+-- How a closed walk becomes short: it is followed from after an edge that it needs, and where it
+-- comes back to a transaction, what lies between is left out. Two order edges side by side become
+-- one.
 use Rattle.std.specs.Prelude.{◌≡◌, ℕ, ◌+◌, ◌≤◌, List, [], ◌∷◌, ◌++◌, ◌&&◌, ◌==◌, nat_eq, if◌then◌else◌, Option, Some, take, drop, fold, slice_index, EachIndex, ⊤}
 use Rattle.std.specs.HashMap.{HashMap, get}
 use Rattle.std.specs.List.{position_from}

@@ -1,4 +1,5 @@
--- What a closed walk is reduced to: a witness of whatever the walk shows, with no more dependency edges.
+-- What a closed walk is reduced to: a witness of whatever the walk shows, with no more dependency
+-- edges.
 use Rattle.std.specs.Prelude.{ℕ, List, not, count_by}
 use Rattle.hist_types.specs.Operations.{Operation}
 use Rattle.hist_types.specs.Transactions.{transactions_of}
@@ -9,7 +10,8 @@ use Rattle.hist_types.specs.declared.types.Level.{Level}
 use Rattle.hist_types.specs.declared.types.Phenomenon.{Phenomenon}
 use Rattle.hist_types.specs.declared.types.KeyOrder.{KeyOrder}
 
--- Each phenomenon that the walk shows at a level, over all pairs of transactions in order, has this witness there.
+-- Each phenomenon that the walk shows at a level, over all pairs of transactions in order, has this
+-- witness there.
 abbrev pub IsWitnessOf : (walk witness : List Edge) → Type 0
 IsWitnessOf walk witness =
     (keys : KeyOrder) (phenomenon : Phenomenon) (level : Level) (events : List Operation)

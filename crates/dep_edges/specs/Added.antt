@@ -1,4 +1,5 @@
--- The edges that leave a transaction, as a history finds them: transactions by their place, versions by their number.
+-- The edges that leave a transaction, as a history finds them: transactions by their place,
+-- versions by their number.
 use Rattle.std.specs.Prelude.{◌≡◌, ℕ, List, ◌++◌, flat_map, Vec}
 use Rattle.hist_types.specs.Edges.{ww, Edge}
 use Rattle.hist_types.specs.Transactions.{installed_by}
@@ -26,7 +27,8 @@ wr_edges h from number = reader_edges h.txns from (version_at h.table number)
 -- the same, to those that install a version after it
 abbrev pub ww_edges : History → (from number : ℕ) → List Edge
 ww_edges h from number =
-    later_edges h.table.keys h.txns from (ww (version_at h.table number)) (version_at h.table number)
+    later_edges h.table.keys h.txns from (ww (version_at h.table number))
+    (version_at h.table number)
 
 -- out of a version that the transaction `from` reads, to those that install a version after it
 abbrev pub rw_edges : History → (from number : ℕ) → List Edge

@@ -13,19 +13,23 @@ use Rattle.key_versions.specs.Histories.{read_by, installs_behind}
 -- ---- what is promised
 
 -- exactly the dependency edges of the history that leave the transaction, none of them twice
-pub record AreEdgesFrom (keys : KeyOrder) (ts : List Transaction) (t : Transaction) (es : List Edge) : Type 0 where
+pub record AreEdgesFrom (keys : KeyOrder) (ts : List Transaction) (t : Transaction) (es : List Edge)
+    : Type 0 where
   pub exactly :
       (e : Edge)
       → Contains es e ↔ (Contains (dependency_edges keys ts) e × (e.from ≡ t.invocation))
   pub once : NoneTwice es
 
 -- these, after what was there before
-abbrev pub AddsEdgesFrom : KeyOrder → List Transaction → Transaction → (before after : List Edge) → Type 0
-AddsEdgesFrom keys ts t before after = (es : List Edge) × (after ≡ before ++ es) × AreEdgesFrom keys ts t es
+abbrev pub AddsEdgesFrom : KeyOrder → List Transaction → Transaction → (before after : List Edge)
+    → Type 0
+AddsEdgesFrom keys ts t before after =
+    (es : List Edge) × (after ≡ before ++ es) × AreEdgesFrom keys ts t es
 
 -- ---- how they are found
 
--- an edge from the transaction of this index, unless it leads back to it, and where it leads to a node
+-- an edge from the transaction of this index, unless it leads back to it, and where it leads to a
+-- node
 abbrev pub edge_to : ℕ → Transaction → Label → List Edge
 edge_to from u label =
     if from == u.invocation
@@ -45,7 +49,8 @@ reader_edges ts from v =
 abbrev pub later_edges : KeyOrder → List Transaction → ℕ → (Version → Label) → Version → List Edge
 later_edges keys ts from label v =
     flat_map
-    (λ (u : Transaction). flat_map (λ w. node_edge ts from u (label w)) (installs_behind (process_pairs keys ts) u v)) ts
+    (λ (u : Transaction).
+    flat_map (λ w. node_edge ts from u (label w)) (installs_behind (process_pairs keys ts) u v)) ts
 
 -- out of a version that the transaction installs, and out of one that it reads
 abbrev pub written_edges : KeyOrder → List Transaction → ℕ → Version → List Edge

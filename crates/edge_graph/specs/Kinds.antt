@@ -7,7 +7,8 @@ use Rattle.edge_graph.specs.declared.types.Kinds.{Kinds}
 use Rattle.edge_graph.specs.declared.types.Dependencies.{Dependencies}
 use Rattle.edge_graph.specs.declared.types.Dependencies.TheVariants.{Ww, Wr, Rw, WrAndWw, All}
 
--- whether an edge with this label is of the kinds; that an order edge is one of their level is said elsewhere
+-- whether an edge with this label is of the kinds; that an order edge is one of their level is said
+-- elsewhere
 abbrev pub includes : Kinds → Label → Bool
 includes kinds (ww earlier later) = kinds.ww
 includes kinds (wr version) = kinds.wr

@@ -1,4 +1,5 @@
--- How the arcs of dependencies are laid out: a row for each transaction, and after them one for each version.
+-- How the arcs of dependencies are laid out: a row for each transaction, and after them one for
+-- each version.
 use Rattle.std.specs.Prelude.{◌≡◌, ℕ, ◌+◌, ◌<◌, List, [], ◌++◌, length, not, ◌==◌, if◌then◌else◌, map, filter, flat_map, All}
 use Rattle.hist_types.specs.Transactions.{Transaction, Version, is_node, installed_by}
 use Rattle.hist_types.specs.declared.types.KeyOrder.{KeyOrder}
@@ -51,7 +52,8 @@ AddsReads h place before after =
     × (after ≡ before ++ vertices)
     × AreVersionVertices h.txns h.table (read_by (txn_at h.txns place)) vertices
 
--- a transaction leads to the versions that it reads, to who reads what it installs, and to who installs a version after that
+-- a transaction leads to the versions that it reads, to who reads what it installs, and to who
+-- installs a version after that
 pub record IsTxnRow (ts : List Transaction) (table : Table) (place : ℕ) (row : Row) : Type 0 where
   pub rw : AreVersionVertices ts table (read_by (txn_at ts place)) row.rw
   pub wr : row.wr ≡ if_node ts place (readers_behind ts place)

@@ -72,7 +72,8 @@ is_successor ts order level place next =
 abbrev pub list_at : List (List ℕ) → ℕ → List ℕ
 list_at lists place = slice_index_or lists place []
 
--- for each place those of the nodes that its transaction comes before, at both levels that have an order
+-- for each place those of the nodes that its transaction comes before, at both levels that have an
+-- order
 pub record Turned : Type 0 where
   pub in_process : List (List ℕ)
   pub in_realtime : List (List ℕ)
@@ -95,7 +96,8 @@ pub record AreTurned (ts : List Transaction) (order : List Before) (turned : Tur
   pub process : AreSuccessors ts order Process turned.in_process
   pub realtime : AreSuccessors ts order Realtime turned.in_realtime
 
--- the same of one level, before it is grouped: each place with its successors among the first places
+-- the same of one level, before it is grouped: each place with its successors among the first
+-- places
 pub record AreFirstPairs (ts : List Transaction) (order : List Before) (level : Level) (places : ℕ)
     (pairs : List (ℕ × ℕ)) : Type 0 where
   pub numbered : All (IsNumbered (length ts)) pairs

@@ -1,8 +1,9 @@
 -- What searches for cycles go over in place of the edges.
 --
--- A version that many transactions read and many others follow has reader times follower rw edges. So each version is a
--- vertex too, after the transactions: who reads it leads to it, and it leads to the nodes that install a version after it. All
--- other edges are arcs from transaction to transaction.
+-- A version that many transactions read and many others follow has reader times follower rw edges.
+-- So each version is a vertex too, after the transactions: who reads it leads to it, and it leads
+-- to the nodes that install a version after it. All other edges are arcs from transaction to
+-- transaction.
 use Rattle.std.specs.Prelude.{◌≡◌, ◌↔◌, ℕ, ◌+◌, List, [], length, IsTrue, Some, slice_get, slice_index_or, Contains}
 use Rattle.graph_search.specs.Graphs.{Graph, HasArc}
 use Rattle.hist_types.specs.Edges.{Label, rw, edge, dependency_edges}
@@ -74,7 +75,8 @@ LeadsByVersion g t u =
     × IsTrue (is_known_to_read t v)
     × Follows g.keys g.txns v u
 
--- some rw edge joins two transactions exactly where one of the versions leads from the one to the other
+-- some rw edge joins two transactions exactly where one of the versions leads from the one to the
+-- other
 abbrev pub RwByVersions : Parts → Type 0
 RwByVersions g =
     (t u : Transaction)

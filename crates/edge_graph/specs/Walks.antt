@@ -1,7 +1,8 @@
 -- Edges between two transactions, and the edges of a walk over arcs.
 --
--- A walk over arcs goes from one transaction to the next directly, by an edge other than rw, or by way of a version, by an rw
--- edge; where the transaction that reads a version installs the next one itself, there is no edge.
+-- A walk over arcs goes from one transaction to the next directly, by an edge other than rw, or by
+-- way of a version, by an rw edge; where the transaction that reads a version installs the next one
+-- itself, there is no edge.
 use Rattle.std.specs.Prelude.{◌≡◌, ℕ, ◌-◌, List, length, slice_index, IsTrue, Option, Some, None, Contains, All}
 use Rattle.graph_search.specs.Graphs.{IsWalk}
 use Rattle.hist_types.specs.Edges.{Edge}

@@ -11,7 +11,7 @@ use Rattle.std.proofs.lemmas.List.{get_or-drop, length-append, take-append-drop}
 use Rattle.std.proofs.Math.Seq.{take-append_seam}
 use Rattle.std.proofs.lemmas.Str.{utf8_valid_len-IsUtf8, IsUtf8-from_ascii}
 use Rattle.hist_types.specs.Bytes.{is_blank, is_run_byte, zero_digit, open_square, close_square, open_brace, close_brace}
-use Rattle.hist_types.specs.Tokens.{ItemKind, Blank, Opener, Closer, Nil, True, False, Int, Keyword, Symbol, Other, first_byte, closer_of, front, is_token, is_int, is_keyword, is_symbol, run_of, run_len, run_kind, nesting_refusal, open_after}
+use Rattle.hist_types.specs.Tokens.{ItemKind, Blank, Opener, Closer, Tag, Nil, True, False, Int, Keyword, Symbol, Other, first_byte, closer_of, front, is_token, is_int, is_keyword, is_symbol, run_of, run_len, run_kind, nesting_refusal, open_after}
 use Rattle.hist_types.specs.declared.limits.TheConstants.{MAX_OPEN_COLLECTIONS}
 use Rattle.hist_types.specs.declared.types.Refusal.TheVariants.{TooDeep}
 use Rattle.edn_lex.specs.declared.types.Token.{Token}
@@ -191,6 +191,18 @@ pub word_bytes : (text : List ℕ) (start : ℕ) (xs word : List ℕ) → xs ≡
 word_bytes text start xs word same begins =
     let n : start + length word - start ≡ length word = omega arith in
     ap (λ (k : ℕ). take k (drop start text)) n ∙ ap (take (length word)) (sym same) ∙ sym begins
+
+-- a text that begins with the tag of a record, where no run goes on behind it
+pub record_begins :
+    (text : List ℕ) (start : ℕ) (xs : List ℕ) (t : Token) → xs ≡ drop start text → codes "#jepsen.history.Op" ≡ take 18 xs → run_len (drop 18 xs) ≡ 0 →
+    (kind_of t.kind ≡ Tag) × (t.start ≡ start) × (t.end ≡ start + 18) → IsTokenAt text start t
+record_begins text start xs t same begins none is = λ offset gap.
+    let rest = drop 18 xs in
+    let split : xs ≡ codes "#jepsen.history.Op" ++ rest = sym (take-append-drop 18 xs) ∙ ap (λ (ws : List ℕ). ws ++ rest) (sym begins) in
+    let len : run_len (codes "jepsen.history.Op" ++ rest) ≡ 17 = run_ends (codes "jepsen.history.Op") rest refl none in
+    let found : front (first_byte xs) (drop 1 xs) ≡ (Tag, Some 18) = ap (λ (ys : List ℕ). front (first_byte ys) (drop 1 ys)) split ∙ ap (λ (n : ℕ). (Tag, Some (suc n))) len in
+    token_given text offset start xs Tag 18 t gap same (omega arith) (let n = ap length split in omega (arith, length-append (codes "#jepsen.history.Op") rest)) found
+    (ascii_valid (take 18 xs) (subst IsAscii begins (IsAscii_from_low (codes "#jepsen.history.Op") refl))) is
 
 -- digits are a word
 digit_runs : (b : ℕ) → is_ascii_digit b ≡ true → is_run_byte b ≡ true

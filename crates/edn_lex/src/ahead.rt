@@ -155,7 +155,27 @@ pub fn next_token(text: &[u8], offset: usize) -> Option<Token>
     }
 }
 
-/// The next token, if it is a tag.
+/// The token that begins here, if it is the tag of a record as Jepsen prints operations.
+#[inline(always)]
+fn record_tag(text: &[u8], start: usize) -> Option<Token>
+    requires { start ≤ length text.now }
+    ensures gives { IfSome result (IsTokenAt text.now start) }
+    ensures tag { IfSome result (λ token. token.kind ≡ Tag) }
+    ensures fits { IfSome result (λ token. token.end ≤ length text.now) }
+{
+    let tag: &[u8] = b"#jepsen.history.Op";
+    let rest = &text[start..];
+    if !rest.starts_with(tag) || !ends_run(&rest[tag.len()..]) {
+        return None;
+    }
+    Some(Token {
+        kind: TokenKind::Tag,
+        start,
+        end: start + tag.len(),
+    })
+}
+
+/// The next token, if it is a tag; often it is that of a record.
 #[inline(always)]
 pub fn tag_token(text: &[u8], offset: usize) -> Option<Token>
     requires { offset ≤ length text.now }
@@ -163,7 +183,11 @@ pub fn tag_token(text: &[u8], offset: usize) -> Option<Token>
     ensures tag { IfSome result (λ token. token.kind ≡ Tag) }
     ensures fits { IfSome result (λ token. token.end ≤ length text.now) }
 {
-    let token = token_at(text, behind_blanks(text, offset))?;
+    let start = behind_blanks(text, offset);
+    if let Some(token) = record_tag(text, start) {
+        return Some(token);
+    }
+    let token = token_at(text, start)?;
     match token.kind {
         TokenKind::Tag => Some(token),
         _ => None,

@@ -1,5 +1,5 @@
 -- What has been appended to a list of bytes.
-use Rattle.std.proofs.Common.{◌≡◌, List, ℕ, [], ◌++◌, Result, Ok, Err, sym, ◌∙◌, ap, subst}
+use Rattle.std.proofs.Common.{arith, ◌≡◌, List, ℕ, [], ◌++◌, Result, Ok, Err, sym, ◌∙◌, ap, subst}
 use Rattle.std.specs.Prelude.{if◌then◌else◌, OnOk, OnErr}
 use Rattle.std.specs.Result.{is_ok}
 use Rattle.std.proofs.lemmas.List.{append_assoc, append-nil}
@@ -31,8 +31,7 @@ longer_unless (Ok x) new old more e = (more, e)
 longer_unless (Err x) new old more e = longer_itself new old e
 
 pub on_err : {T E P : Type 0} (r : Result T E) → P → OnErr r P
-on_err (Ok x) p = tt
-on_err (Err x) p = p
+on_err r h = grind arith
 
 -- what follows from the bytes that an `Ok` has appended
 pub then_extended : {T E P : Type 0} (r : Result T E) (new old more : List ℕ) → new ≡ (if is_ok r then old ++ more else old) → (new ≡ old ++ more → P) → OnOk r P

@@ -1,5 +1,5 @@
 -- Collections read member by member.
-use Rattle.std.proofs.Common.{◌≡◌, ◌≢◌, ℕ, ◌-◌, ◌<◌, ◌≤◌, List, [], ◌∷◌, ◌++◌, length, take, map, Bool, true, false, ◌==◌, inl, inr, Option, Some, None, Result, Ok, Err, refl, sym, ◌∙◌, ap, arith, subst, length-take}
+use Rattle.std.proofs.Common.{◌≡◌, ◌≢◌, ℕ, ◌-◌, ◌<◌, ◌≤◌, List, [], ◌∷◌, ◌++◌, length, take, map, Bool, true, false, ◌==◌, inl, inr, Option, Some, Result, Ok, Err, refl, sym, ◌∙◌, ap, arith, subst, length-take}
 use Rattle.std.specs.Prelude.{IsErrAnd}
 use Rattle.std.specs.List.{AllByRecursion}
 use Rattle.std.proofs.lemmas.Bool.{eqb-true, eq-eqb, cases_eq}
@@ -107,8 +107,7 @@ pub next_given : (s t : State) (o : Option Member) (m : Member) → o ≡ Some m
 next_given s t o m e h = let P : Option Member → Type 0 = λ x. NextMember s (Ok x) t in subst P e h
 
 pub next_none : (s t : State) (o : Option Member) → ((m : Member) → o ≡ Some m → ⊥) → NextMember s (Ok o) t → GivesNoMember s t
-next_none s t None never h = h
-next_none s t (Some m) never h = absurd (never m refl)
+next_none s t o h g = grind arith
 
 -- a member is not behind the text's end
 pub member_some : (s t : State) (m : Member) → GivesMember s m t → s.offset < length s.text

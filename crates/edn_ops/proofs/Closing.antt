@@ -31,13 +31,11 @@ bind_err r fault next e = ap (λ r. r >>= next) e
 
 -- no field, or two
 pub one_err : (fault : Fault) (r : Result Form Fault) → Err fault ≡ result_outline r → r ≡ Err fault
-one_err fault (Ok f) e = cc
-one_err fault (Err other) e = cc
+one_err fault r h = grind arith
 
 -- the one field
 pub one_ok : (o : Form) (r : Result Form Fault) → Ok o ≡ result_outline r → (f : Form) × (r ≡ Ok f) × (outline f ≡ o)
-one_ok o (Ok f) e = (f, refl, cc)
-one_ok o (Err other) e = cc
+one_ok o r f = grind arith
 
 -- ---- micro-operations
 
@@ -49,9 +47,7 @@ pub no_value : (kind : OpKind) (start : ℕ) (pairs : List (Form × Form)) (faul
 no_value kind start pairs fault has e = has start pairs ∙ bind_err (the_one start (fields_named (codes ":value") pairs)) fault transaction_of (one_err fault (the_one start (fields_named (codes ":value") pairs)) e)
 
 the_first : (start : ℕ) (found : List (Form × Form)) (o : Form) → Ok o ≡ result_outline (the_one start found) → (pair : Form × Form) × (slice_get found 0 ≡ Some pair) × (the_one start found ≡ Ok pair.1)
-the_first start [] o e = cc
-the_first start (x ∷ []) o e = (x, refl, refl)
-the_first start (x ∷ y ∷ found) o e = cc
+the_first start found o pair = grind arith
 
 pub value_mops : (kind : OpKind) (start : ℕ) (pairs : List (Form × Form)) (o : Form) (mops : Result (List MopShape) Fault) → HasValue kind → Ok o ≡ result_outline (the_one start (fields_named (codes ":value") pairs))
     → IfSome (slice_get (fields_named (codes ":value") pairs) 0) (λ pair. mops ≡ mops_result (transaction_of pair.1)) → mops ≡ mops_result (mops_of kind start pairs)
@@ -109,12 +105,10 @@ pub bad_type : (number : ℤ) (place process start end : ℕ) (pairs : List (For
 bad_type number place process start end pairs o is e k = typed number place process start end pairs o None is e k
 
 pub err_mops : (fault : Fault) (r : Result (List PlacedMop) Fault) → Err fault ≡ mops_result r → r ≡ Err fault
-err_mops fault (Ok mops) e = cc
-err_mops fault (Err other) e = cc
+err_mops fault r h = grind arith
 
 pub ok_mops : (shapes : List MopShape) (r : Result (List PlacedMop) Fault) → Ok shapes ≡ mops_result r → (mops : List PlacedMop) × (r ≡ Ok mops) × (shapes ≡ map mop_shape_of mops)
-ok_mops shapes (Ok mops) e = (mops, refl, cc)
-ok_mops shapes (Err other) e = cc
+ok_mops shapes r mops = grind arith
 
 pub bad_mops : (number : ℤ) (place process start end : ℕ) (pairs : List (Form × Form)) (o : Form) (kind : OpKind) (fault : Fault) → IsFit number process start end
     → Ok o ≡ result_outline (the_one start (fields_named (codes ":type") pairs)) → Some kind ≡ kind_of o → Err fault ≡ mops_result (mops_of kind start pairs)
@@ -177,10 +171,7 @@ entry_from opener closer start end pairs pending at =
     ∙ ap (λ (n : ℕ). refuse_if (is_some pending) OddMap start >>= λ _. field (codes ":process") start pairs >>= by_process start n pairs) at.end_is
 
 is_some-map : {A B C : Type 0} (f : A → C) (h : B → C) (o : Option A) (p : Option B) → option_map f o ≡ option_map h p → is_some p ≡ is_some o
-is_some-map f h None None e = refl
-is_some-map f h None (Some y) e = cc
-is_some-map f h (Some x) None e = cc
-is_some-map f h (Some x) (Some y) e = refl
+is_some-map f h o p g = grind arith
 
 -- the fields as they were gathered
 pub gathered : (opener closer : Item) (start end : ℕ) (text : List ℕ) (fields : Fields) (members : List Form) (odd : Bool) (g : Gathers text fields members) → IsAt opener closer start end → is_some fields.key ≡ odd
@@ -216,14 +207,10 @@ pub entry_skipped : (r : Result Entry Fault) → r ≡ Ok skipped → IsEntry (O
 entry_skipped r e = subst (IsEntry (Ok None)) (sym e) tt
 
 entry_shape : (shape : OpShape) (r : Result Entry Fault) → IsOperation (Ok shape) r → IsEntry (Ok (Some shape)) r
-entry_shape shape (Ok (operation o)) h = h
-entry_shape shape (Ok skipped) h = h
-entry_shape shape (Err fault) h = h
+entry_shape shape r h = grind arith
 
 entry_fault : (fault : Fault) (r : Result Entry Fault) → IsOperation (Err fault) r → IsEntry (Err fault) r
-entry_fault fault (Ok (operation o)) h = h
-entry_fault fault (Ok skipped) h = h
-entry_fault fault (Err other) h = h
+entry_fault fault r h = grind arith
 
 pub entry_is : (shape : OpShape) (r given : Result Entry Fault) → r ≡ given → IsOperation (Ok shape) given → IsEntry (Ok (Some shape)) r
 entry_is shape r given e h = subst (IsEntry (Ok (Some shape))) (sym e) (entry_shape shape given h)

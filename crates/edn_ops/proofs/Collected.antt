@@ -28,13 +28,7 @@ use Rattle.edn_ops.proofs.Levels.{behind_member, Leads-plain, Leads-opener, Lead
 
 -- the fourth of six tests
 run_if : (nil yes_word no_word int key name : Bool) → cond nil Nil (cond yes_word True (cond no_word False (cond int Int (cond key Keyword (cond name Symbol Other))))) ≡ Int → int ≡ true
-run_if true yes_word no_word int key name e = absurd (let x = e in cc)
-run_if false true no_word int key name e = absurd (let x = e in cc)
-run_if false false true int key name e = absurd (let x = e in cc)
-run_if false false false true key name e = refl
-run_if false false false false true name e = absurd (let x = e in cc)
-run_if false false false false false true e = absurd (let x = e in cc)
-run_if false false false false false false e = absurd (let x = e in cc)
+run_if nil yes_word no_word int key name h = grind arith
 
 -- a run that is an integer
 int_run : (run : List ℕ) → run_kind run ≡ Int → is_int run ≡ true

@@ -23,8 +23,7 @@ use Rattle.edn_ops.proofs.ReadsBack.Runs.{IsDecimal, is_digit, own, unsigned_val
 -- ---- the parts of an integer
 
 pull : (t : Bool) (b : ℕ) (xs ys : List ℕ) → cond t (b ∷ xs) (b ∷ ys) ≡ b ∷ cond t xs ys
-pull true b xs ys = refl
-pull false b xs ys = refl
+pull t b xs ys = grind arith
 
 without_n-cons : (b c : ℕ) (cs : List ℕ) → without_n (b ∷ c ∷ cs) ≡ b ∷ without_n (c ∷ cs)
 without_n-cons b c cs =

@@ -6,7 +6,7 @@ use Rattle.hist_types.specs.Forms.{Form, plain, collection, forms_of}
 use Rattle.hist_types.specs.Tokens.{Item, ItemKind, Opener, Closer, closer_of, nesting_refusal, open_after}
 use Rattle.hist_types.specs.declared.limits.TheConstants.{MAX_OPEN_COLLECTIONS}
 use Rattle.hist_types.specs.declared.types.Refusal.TheVariants.{TooDeep, StrayCloser}
-use Rattle.edn_lex.specs.Ahead.{is_lone, going_at, GivesAhead, GivesLone}
+use Rattle.edn_lex.specs.Ahead.{is_lone, going_at, GivesAhead, GivesLone, IsGap, IsLoneAt}
 use Rattle.edn_lex.specs.Kinds.{kind_of, item_of}
 use Rattle.edn_lex.specs.State.{GivesToken}
 use Rattle.edn_lex.specs.declared.types.Token.{Token}
@@ -25,6 +25,9 @@ deeper text few deep offset form end low h = record { further = h.further; withi
 -- a form by itself
 pub lone_form : (text : List ℕ) (deep offset : ℕ) (token : Token) → token.end ≤ length text → GivesLone text offset token → ReadsAhead text deep offset (plain (item_of text token)) token.end
 lone_form text deep offset token fits g = record { further = (lone_reads text offset token [] g).forward; within = fits; reads = λ closers room. lone_reads text offset token closers g }
+
+pub lone_passed : (text : List ℕ) (deep offset start : ℕ) (token : Token) → IsGap text offset start → IsLoneAt text start token → token.end ≤ length text → PassesAhead text deep offset (Some token.end)
+lone_passed text deep offset start token gap lone fits = (plain (item_of text token), lone_form text deep offset token fits (lone offset gap))
 
 -- ---- members
 

@@ -1,26 +1,26 @@
 -- Maps that are read in one pass over their bytes.
 use Rattle.std.proofs.Common.{◌≡◌, ℕ, ℤ, ◌+◌, ◌-◌, ◌<◌, ◌≤◌, ◌⊎◌, List, [], ◌∷◌, ◌++◌, length, Bool, true, false, codes, Option, Some, None, Result, Ok, Err, inl, inr, refl, sym, ◌∙◌, ap, arith, subst, append-nil, nat_lt, lit≤, lit<}
 use Rattle.std.specs.List.{slice_get}
-use Rattle.std.specs.Prelude.{IfSome, map, slice_range, bytes_eq}
+use Rattle.std.specs.Prelude.{IfSome, slice_range}
 use Rattle.std.specs.Option.{is_some}
 use Rattle.std.proofs.lemmas.Bool.{true≢false, false_from_ne_true}
 use Rattle.hist_types.specs.AtomTokens.{int_value, process_of}
 use Rattle.hist_types.specs.Bytes.{close_brace, open_square, close_square}
-use Rattle.hist_types.specs.Entries.{◌>>=◌, or_refuse, the_one, is_named, int_of, kind_of as kind_of_form, micro_op_of, micro_ops_of, transaction_of, client_operation, end_of, entry_by, entry_of}
+use Rattle.hist_types.specs.Entries.{◌>>=◌, is_write_of, or_refuse, the_one, is_named, int_of, kind_of as kind_of_form, micro_ops_of, transaction_of, client_operation, end_of, entry_by, entry_of}
 use Rattle.hist_types.specs.Forms.{Form, plain, collection, forms_of, place_of, is_map}
-use Rattle.hist_types.specs.Tokens.{Item, Keyword}
+use Rattle.hist_types.specs.Tokens.{Item}
 use Rattle.hist_types.specs.declared.limits.TheConstants.{MAX_OPEN_COLLECTIONS, MAX_OPERATION_BYTES, MAX_MICRO_OPS}
 use Rattle.hist_types.specs.declared.types.Fault.{Fault}
 use Rattle.hist_types.specs.declared.types.OpKind.{OpKind}
 use Rattle.hist_types.specs.declared.types.OpKind.TheVariants as op_kinds
 use Rattle.hist_types.specs.declared.types.Refusal.TheVariants.{NotTxn}
 use Rattle.edn_lex.specs.Ahead.{going_at, IsLoneAt, GivesLone, GivesOpener, GivesCloser, GivesTriple}
-use Rattle.edn_lex.specs.Kinds.{item_of, kind_of as kind_of_token}
+use Rattle.edn_lex.specs.Kinds.{item_of}
 use Rattle.edn_lex.specs.declared.ahead.TheConstants.{LEVELS_AHEAD}
 use Rattle.edn_lex.specs.declared.ahead.Triple.{Triple}
 use Rattle.edn_lex.specs.declared.types.Token.{Token}
-use Rattle.edn_lex.specs.declared.types.TokenKind.{TokenKind}
 use Rattle.edn_lex.specs.declared.types.TokenKind.TheVariants as kinds
+use Rattle.edn_ops.specs.declared.atoms.TheConstants.{LONG_INTEGER}
 use Rattle.edn_ops.specs.declared.flat.FlatFields.{FlatFields}
 use Rattle.edn_ops.specs.declared.flat.Name.{Name}
 use Rattle.edn_ops.specs.declared.flat.Name.TheVariants as names
@@ -29,21 +29,23 @@ use Rattle.edn_ops.specs.declared.flat.Owner.TheVariants as owners
 use Rattle.edn_ops.specs.declared.flat.TheConstants.{VALUE_LEVELS}
 use Rattle.edn_ops.specs.declared.outline.Outline.{Outline}
 use Rattle.edn_ops.specs.declared.types.MopShape.{MopShape}
+use Rattle.edn_ops.specs.declared.types.Span.{Span}
 use Rattle.edn_ops.specs.declared.types.OpShape.{OpShape}
 use Rattle.edn_ops.specs.Collections.{ReadsMap}
-use Rattle.edn_ops.specs.Fields.{fields_named, members_of, mop_result, mops_result, result_outline, IsEntry}
-use Rattle.edn_ops.specs.Flat.{ReadsAhead, PassesAhead, ReadsFlatMop, ReadsFlatTransaction, IsName, ReadsFlatValue, ReadsFlatField, HasKind, NamesOwner, HasOwner, HasMops, may_have_mops, AreFlat, AddsFlat, ReadsFlatMap, AreFlatMops, IsComplete, IsFlatEntry}
+use Rattle.edn_ops.specs.Fields.{fields_named, members_of, mops_result, result_outline, IsEntry}
+use Rattle.edn_ops.specs.Flat.{ReadsAhead, PassesAhead, IsMopValue, GivesMop, ReadsFlatMop, ReadsFlatTransaction, IsName, ReadsFlatValue, ReadsFlatField, HasKind, NamesOwner, HasOwner, HasMops, may_have_mops, AreFlat, AddsFlat, ReadsFlatMap, AreFlatMops, IsComplete, IsFlatEntry}
 use Rattle.edn_ops.specs.Leads.{is_mark_kind}
-use Rattle.edn_ops.specs.Outlines.{outline, outline_of, number_of}
+use Rattle.edn_ops.specs.Outlines.{outline, outline_of, number_of, IsTokenIn}
 use Rattle.edn_ops.proofs.Closing.{IsAt, by_process, entry_from, entry_is, entry_skipped, has_value, is_operation, value_mops, bind_ok}
 use Rattle.edn_ops.proofs.Collected.{token_in}
 use Rattle.edn_ops.proofs.FlatForms.{ReadsUpTo, deeper, lone_form, nothing_up_to, one_up_to, collection_ahead}
 use Rattle.edn_ops.proofs.Gathering.{if_named, key_more, pair_more, named_more, type_process, type_value, process_value, value_type, value_process}
+use Rattle.edn_ops.proofs.Integers.{short_atom}
 use Rattle.edn_ops.proofs.LeftOut.{GivesMember-first}
 use Rattle.edn_ops.proofs.MapMembers.{map_closed, token_end}
 use Rattle.edn_ops.proofs.MicroOps.{elements, one_micro_op}
 use Rattle.edn_ops.proofs.OutlineLemmas.{kind_of-outline}
-use Rattle.edn_ops.proofs.Triples.{bare_token, three_of, triple_form, triple_reads, triple_mop, square_is}
+use Rattle.edn_ops.proofs.Triples.{bare_token, lone_in, triple_form, triple_in, triple_reads, triple_mop, square_is}
 
 -- ---- fields of one name
 
@@ -56,24 +58,20 @@ named_first name pairs key value same none =
     named_more name pairs key value ∙ ap (λ (t : Bool). fields_named name pairs ++ if_named t key value) same ∙ ap (λ (found : List (Form × Form)). found ++ (key, value) ∷ []) none
 
 no_kind : (o : Option OpKind) (found : List (Form × Form)) → is_some o ≡ false → HasKind o found → found ≡ []
-no_kind None found e h = h
-no_kind (Some kind) found e h = cc
+no_kind o found h g = grind arith
 
 a_kind : (o : Option OpKind) (key value : Form) → is_some o ≡ true → o ≡ kind_of_form value → HasKind o ((key, value) ∷ [])
 a_kind None key value e is = cc
 a_kind (Some kind) key value e is = ((key, value), refl, is)
 
 no_owner : (o : Option Owner) (found : List (Form × Form)) → is_some o ≡ false → HasOwner o found → found ≡ []
-no_owner None found e h = h
-no_owner (Some owner) found e h = cc
+no_owner o found h g = grind arith
 
 no_value : (has : Bool) (shapes : List MopShape) (found : List (Form × Form)) → has ≡ false → HasMops has shapes found → found ≡ []
-no_value true shapes found e h = cc
-no_value false shapes found e h = h
+no_value has shapes found h g = grind arith
 
 may_yet : (o : Option OpKind) → is_some o ≡ false → may_have_mops o ≡ true
-may_yet None e = refl
-may_yet (Some kind) e = cc
+may_yet o h = grind arith
 
 -- ---- one field more
 
@@ -131,19 +129,38 @@ process_says text bytes value number process int is e = (number_of text number, 
 
 -- a vector of three is one more micro-operation
 pub mop_ahead :
-    (text : List ℕ) (offset : ℕ) (triple : Triple) (old : List MopShape) (shape : MopShape) (new : List MopShape) → GivesTriple text offset triple → triple.closer.end ≤ length text → length old < MAX_MICRO_OPS →
-    Ok shape ≡ mop_result (micro_op_of triple.opener.start (Some (map (outline_of text) (three_of triple)))) → new ≡ old ++ shape ∷ [] → ReadsFlatMop text offset old (Ok (Some triple.closer.end)) new
-mop_ahead text offset triple old shape new h fits room is pushed = (
-  triple_form text triple,
-  record { further = (triple_reads text offset triple [] (lit< tt) h).forward; within = fits; reads = λ closers few. triple_reads text offset triple closers (omega arith) h },
-  λ members e.
-      ap (λ (xs : List MopShape). Ok xs) pushed
-      ∙ one_micro_op old members (triple_form text triple) shape e room (triple_mop text offset triple (Ok shape) h is),
-)
+    (text : List ℕ) (offset : ℕ) (old : List MopShape) (shape : MopShape) (end : ℕ) (new : List MopShape) → GivesMop text offset shape end → length old < MAX_MICRO_OPS → new ≡ old ++ shape ∷ [] →
+    ReadsFlatMop text offset old (Ok (Some end)) new
+mop_ahead text offset old shape end new h room pushed =
+    let t = h.0 in
+    rw h.2 (
+      triple_form text t,
+      record { further = (triple_reads text offset t [] (lit< tt) h.1).forward; within = h.3; reads = λ closers few. triple_reads text offset t closers (omega arith) h.1 },
+      λ members e. ap (λ (xs : List MopShape). Ok xs) pushed ∙ one_micro_op old members (triple_form text t) shape e room (triple_mop text offset t (Ok shape) h.1 h.4),
+    )
+
+-- a number of few digits is an atom
+pub short_number : (text : List ℕ) (token : Token) → token.kind ≡ kinds.Int → IsTokenIn text token → length (slice_range text token.start token.end) < LONG_INTEGER → IsMopValue true (plain (item_of text token))
+short_number text token int h short = grind (arith, short_atom token.kind (slice_range text token.start token.end) int h.spelled short)
+
+-- a vector of a name, an atom and a value
+pub mop_given :
+    (text : List ℕ) (offset : ℕ) (is_write : Bool) (t : Triple) (key value : Span) → GivesTriple text offset t → t.closer.end ≤ length text → is_write_of (plain (item_of text t.first)) ≡ Some is_write →
+    IsMopValue true (plain (item_of text t.second)) → IsMopValue is_write (plain (item_of text t.third)) → key ≡ record { start = t.second.start; end = t.second.end } → value ≡ record { start = t.third.start; end = t.third.end } →
+    GivesMop text offset (record { is_write = is_write; key = key; value = value }) t.closer.end
+mop_given text offset true t key value given fits name h g key_is value_is =
+    let within = triple_in text offset t given in
+    (t, given, refl, fits, grind (arith, token_end text t.second within.1, token_end text t.third within.2))
+mop_given text offset false t key value given fits name h g key_is value_is =
+    let within = triple_in text offset t given in
+    (t, given, refl, fits, grind (arith, token_end text t.second within.1, token_end text t.third within.2))
 
 -- a token that begins at the offset
 pub lone_here : (text : List ℕ) (offset : ℕ) (token : Token) → offset ≤ length text → IsLoneAt text offset token → GivesLone text offset token
 lone_here text offset token within h = h offset (record { low = omega arith; fits = within; blanks = λ k low high. absurd (omega arith) })
+
+pub lone_token_in : (text : List ℕ) (start : ℕ) (token : Token) → start ≤ length text → IsLoneAt text start token → IsTokenIn text token
+lone_token_in text start token within h = lone_in text start token (lone_here text start token within h)
 
 -- the members of a vector so far
 pub record ReadsInside (text : List ℕ) (opener : Token) (members : List Form) (shapes : List MopShape) (at : ℕ) : Type 0 where
@@ -316,18 +333,6 @@ flat_map_read text opener shape end outer h is_a_map room =
     (map_closed s t u text (bare_token closer) i h.members (Ok shape) is_a_map (h.reads within (omega arith)) last h.closes.kind refl h.entry)
 
 -- ---- words
-
--- a keyword of the text by its bytes
-pub keyword_named : (text : List ℕ) (t : Token) (word name : List ℕ) → t.kind ≡ kinds.Keyword → (item_of text t).bytes ≡ word → is_named name (plain (item_of text t)) ≡ bytes_eq name word
-keyword_named text t word name is bytes =
-    let item : TokenKind → List ℕ → Form = λ k bs. plain (record { kind = kind_of_token k; start = t.start; bytes = bs }) in
-    ap (λ (k : TokenKind). is_named name (item k (item_of text t).bytes)) is ∙ ap (λ (bs : List ℕ). is_named name (item kinds.Keyword bs)) bytes
-
-pub keyword_kind : (text : List ℕ) (t : Token) (word : List ℕ) → t.kind ≡ kinds.Keyword → (item_of text t).bytes ≡ word →
-    kind_of_form (plain (item_of text t)) ≡ kind_of_form (plain (record { kind = Keyword; start = t.start; bytes = word }))
-keyword_kind text t word is bytes =
-    let item : TokenKind → List ℕ → Form = λ k bs. plain (record { kind = kind_of_token k; start = t.start; bytes = bs }) in
-    ap (λ (k : TokenKind). kind_of_form (item k (item_of text t).bytes)) is ∙ ap (λ (bs : List ℕ). kind_of_form (item kinds.Keyword bs)) bytes
 
 -- the value of `:type`
 pub kind_read :

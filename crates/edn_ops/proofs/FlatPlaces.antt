@@ -141,8 +141,7 @@ abbrev pub reader_of : Place → Option Fault → Reader
 reader_of place failed = record { state = place.lexer; list = place.list; failed = failed; skipped = place.skipped }
 
 pub none_failed : (failed : Option Fault) → is_some failed ≡ false → failed ≡ None
-none_failed None e = refl
-none_failed (Some fault) e = cc
+none_failed failed h = grind arith
 
 pub flat_up_to :
     (old new : Place) (ended : Bool) (result : Result (Option OpShape) Fault) → FlatOp old result new → ended ≡ false → old.skipped ≤ old.lexer.offset → IsReadUpTo old ended →

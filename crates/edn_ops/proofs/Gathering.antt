@@ -1,5 +1,5 @@
 -- The fields of a map grow by one member.
-use Rattle.std.proofs.Common.{◌≡◌, ℕ, List, [], ◌∷◌, ◌++◌, Bool, true, false, cond, ◌&&◌, codes, Option, Some, None, Result, refl, sym, ap, subst, ◌∙◌}
+use Rattle.std.proofs.Common.{arith, ◌≡◌, ℕ, List, [], ◌∷◌, ◌++◌, Bool, true, false, cond, ◌&&◌, codes, Option, Some, None, Result, refl, sym, ap, subst, ◌∙◌}
 use Rattle.std.specs.Prelude.{bytes_eq, IfSome}
 use Rattle.std.specs.List.{slice_get}
 use Rattle.std.specs.Option.{option_map, is_none, option_map_or}
@@ -48,12 +48,10 @@ one_name name other f h k = equal_names name other (keyword_of f) h k
 -- ---- one member more
 
 no_key : (pending : Option Form) → None ≡ option_map outline pending → pending ≡ None
-no_key None e = refl
-no_key (Some f) e = cc
+no_key pending h = grind arith
 
 a_key : (o : Form) (pending : Option Form) → Some o ≡ option_map outline pending → (k : Form) × (pending ≡ Some k) × (outline k ≡ o)
-a_key o None e = cc
-a_key o (Some k) e = (k, refl, cc)
+a_key o pending k = grind arith
 
 pub nothing_gathered : (text : List ℕ) (fields : Fields) → fields.key ≡ None → IsField text fields.kind [] → IsField text fields.process [] → IsField text fields.value [] → Gathers text fields []
 nothing_gathered text fields key kind process value = record {
@@ -102,10 +100,7 @@ first_kept [] more e = cc
 first_kept (x ∷ found) more e = refl
 
 is_none-map : {A B C : Type 0} (f : A → C) (h : B → C) (o : Option A) (p : Option B) → option_map f o ≡ option_map h p → is_none o ≡ is_none p
-is_none-map f h None None e = refl
-is_none-map f h None (Some y) e = cc
-is_none-map f h (Some x) None e = cc
-is_none-map f h (Some x) (Some y) e = refl
+is_none-map f h o p g = grind arith
 
 -- what holds of the first field holds when more follow it
 first_stays : (P : Form × Form → Type 0) (text : List ℕ) (field : Field) (found : List (Form × Form)) (test : Bool) (k form : Form)
@@ -212,5 +207,4 @@ pub not_awaited : (text : List ℕ) (key : Outline) (pending : Option Outline) (
 not_awaited text key pending field e waits = sym (ap (λ (o : Option Outline). awaits_by text o field) e) ∙ waits
 
 pub no_key_is : (o : Option Outline) → ((x : Outline) → o ≡ Some x → ⊥) → o ≡ None
-no_key_is None h = refl
-no_key_is (Some x) h = absurd (h x refl)
+no_key_is o h = grind arith

@@ -50,8 +50,7 @@ cut_behind b (c ∷ rest) h =
     ap (λ (n : ℕ). take n (b ∷ c ∷ rest)) k
 
 cons_cond : (test : Bool) (b : ℕ) (xs ys : List ℕ) → cond test (b ∷ xs) (b ∷ ys) ≡ b ∷ cond test xs ys
-cons_cond true b xs ys = refl
-cons_cond false b xs ys = refl
+cons_cond test b xs ys = grind arith
 
 without_n-sign : (b : ℕ) (rest : List ℕ) → 0 < length rest → without_n (b ∷ rest) ≡ b ∷ without_n rest
 without_n-sign b rest h =
@@ -145,8 +144,7 @@ parsed_int {E} bytes text cut r o h is_cut is_text p was = was ∙ parse_is byte
 -- ---- short spellings
 
 within_either : (b : Bool) (xs ys : List ℕ) (n : ℕ) → length xs ≤ n → length ys ≤ n → length (cond b xs ys) ≤ n
-within_either true xs ys n x y = x
-within_either false xs ys n x y = y
+within_either b xs ys n h g = grind arith
 
 no_longer : (bytes : List ℕ) → length (without_leading_sign (without_n bytes)) ≤ length bytes
 no_longer bytes =
@@ -172,8 +170,7 @@ short_int bytes h short =
     few_bits (starts_with_minus (without_n bytes)) (digits_value 10 ds) (omega arith)
 
 known_atom : (fits : Bool) (a : Atom) → fits ≡ true → is_some (cond fits (Some a) None) ≡ true
-known_atom true a h = refl
-known_atom false a h = h
+known_atom fits a h = grind arith
 
 -- such an integer is an atom
 pub short_atom :

@@ -41,8 +41,7 @@ step-mark kind i o = elim kind as (λ k. is_mark_kind k ≡ true → step_by k o
 
 marked : (i : Item) (marks ms : List Item) (cs : List OpenCollection) →
     (let o = marks_among marks ms cs in with_mark i o.marks o.collections ≡ marks_among (i ∷ marks) ms cs)
-marked i marks ms [] = refl
-marked i marks ms (c ∷ outer) = refl
+marked i marks ms cs = grind arith
 
 pub Leads-mark :
     (s t : State) (token : Token) (marks : List Item) (o : Open) → GivesToken s token t → is_mark_kind (kind_of token.kind) ≡ true →
@@ -56,9 +55,7 @@ Leads-mark s t token marks o g is =
 -- ---- a form that is left out
 
 hidden_last : (a b : Bool) → (a && b && false) ≡ false
-hidden_last true true = refl
-hidden_last true false = refl
-hidden_last false b = refl
+hidden_last a b = grind arith
 
 -- where a `#_` waits no operation's place is
 hidden : (marks ms : List Item) (cs : List OpenCollection) → has_drop marks ≡ true → in_operation_place (marks_among marks ms cs) ≡ false
@@ -134,8 +131,7 @@ pub Stops-dangling :
 Stops-dangling s t token m marks o g is = Stops-dangling_at s t token m marks o.marks o.collections g is
 
 waiting_at_end : (m : Item) (marks ms : List Item) (cs : List OpenCollection) → fault_at_end (marks_among (m ∷ marks) ms cs) ≡ Some (byte_fault DanglingTag m.start)
-waiting_at_end m marks ms [] = refl
-waiting_at_end m marks ms (c ∷ outer) = refl
+waiting_at_end m marks ms cs = grind arith
 
 pub Stops-dangling_end :
     (s t : State) (m : Item) (marks : List Item) (o : Open) → GivesEnd s t → Stops s (with_marks (m ∷ marks) o) (byte_fault DanglingTag m.start)
@@ -248,8 +244,7 @@ Behind-collection s t u v first token drops tag b g is passed some =
 -- ---- what a call that passes over marks gives
 
 pub no_mark_waits : (marks : List Item) → any_mark marks ≡ false → marks ≡ []
-no_mark_waits [] h = refl
-no_mark_waits (m ∷ marks) h = cc
+no_mark_waits marks h = grind arith
 
 -- s begins with the first mark, behind which is t
 module _ (s t : State) (mark : Token) (g : GivesToken s mark t) (is : is_mark_kind (kind_of mark.kind) ≡ true) where
@@ -330,9 +325,6 @@ GivesMember-first s t token g none =
       no_mark = none;
       closer = λ h. refl;
     }
-
-pub GivesNoMember-end : (s t : State) → GivesEnd s t → GivesNoMember s t
-GivesNoMember-end s t g = record { text = g.text; forward = g.low; reads = λ o. ReadsAs-end s t (with_marks [] o) g; after = g.after }
 
 -- ---- refused at a mark
 

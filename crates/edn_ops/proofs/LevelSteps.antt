@@ -43,12 +43,6 @@ pub passes : (t : Item) (ts inner marks : List Item) (role : Role) → role_of t
     level_end inner marks (t ∷ ts) ≡ passed_by role inner marks t ts (λ i m. level_end i m ts)
 passes t ts inner marks role is = ap (λ r. passed_by r inner marks t ts (λ i m. level_end i m ts)) is
 
-pub passes-inside : (t : Item) (ts inner marks : List Item) (role : Role) → role_of t.kind ≡ role → (i : Item) (more : List Item) → inner ≡ i ∷ more →
-    passed_by role (i ∷ more) marks t ts (λ i m. level_end i m ts) ≡ level_end inner marks ts →
-    level_end inner marks (t ∷ ts) ≡ level_end inner marks ts
-passes-inside t ts inner marks role is i more same step =
-    passes t ts inner marks role is ∙ ap (λ xs. passed_by role xs marks t ts (λ i m. level_end i m ts)) same ∙ step
-
 -- ---- where a level ends
 
 -- a closer where no collection is open within the level

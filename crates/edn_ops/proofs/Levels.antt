@@ -16,8 +16,7 @@ use Rattle.edn_ops.proofs.Steps.{Leads-step, Leads-then, Leads-stops, Stops-step
 -- ---- tags
 
 or_false : (a b : Bool) → (a || b) ≡ false → (a ≡ false) × (b ≡ false)
-or_false true b h = (h, cc)
-or_false false b h = (refl, h)
+or_false a b h = grind arith
 
 -- a form behind tags is a member, and nothing waits any more
 pub settled_behind : (tags : List Item) (f : Form) → has_drop tags ≡ false → settled tags f ≡ Some (behind tags f)
@@ -48,10 +47,6 @@ pub behind_member : (s t : State) (m : Member) (h : GivesMember s m t) (f : Form
 behind_member s t m h f = let P : Option ℕ → Type 0 = λ place. IsBehind place f (behind h.tags f) in subst P (sym h.first) (behind_is h.tags f)
 
 -- ---- no operation's place
-
--- within a collection that has another around it
-pub NoPlaceIn-deeper : (opener outer : Item) (members : List Form) (marks : List Item) (around : Open) → NoPlaceIn opener (inside outer members marks around)
-NoPlaceIn-deeper opener outer members marks around = λ ms ks. refl
 
 not_vector : (a b c : Bool) → a ≡ false → (a && b && c) ≡ false
 not_vector a b c h = rw h refl

@@ -1,12 +1,11 @@
 -- What is kept of marks.
-use Rattle.std.proofs.Common.{◌≡◌, ℕ, zero, suc, ◌-◌, ◌<◌, ◌≤◌, ◌==◌, List, [], ◌∷◌, Bool, true, false, ◌||◌, Option, Some, None, refl, sym, ◌∙◌, ap, arith}
+use Rattle.std.proofs.Common.{◌≡◌, ℕ, zero, suc, ◌-◌, ◌<◌, ◌≤◌, ◌==◌, List, [], ◌∷◌, Bool, true, false, ◌||◌, Option, refl, sym, ◌∙◌, ap, arith}
 use Rattle.std.specs.Bool.{if◌then◌else◌}
 use Rattle.std.specs.Option.{is_some}
 use Rattle.std.proofs.lemmas.Bool.{eqb-true}
 use Rattle.std.proofs.lemmas.Bool.Decides.{nat_tests}
 use Rattle.hist_types.specs.Forms.{is_drop, has_drop, still_waiting}
 use Rattle.hist_types.specs.Tokens.{Item}
-use Rattle.edn_ops.specs.Leads.{first_place}
 use Rattle.edn_ops.specs.Marks.{Waits, any_mark, drops_among, up_to, FirstAt, LastAt}
 use Rattle.edn_ops.proofs.Levels.{nothing_waits}
 
@@ -37,15 +36,7 @@ Waits-drops (suc drops) tag marks h = drops-left_out marks h.0 ∙ ap suc (Waits
 
 -- ---- whether some wait
 
-pub Waits-some : (drops : ℕ) (tag : Option ℕ) (marks : List Item) → 0 < drops → Waits drops tag marks → any_mark marks ≡ true
-Waits-some zero tag marks some h = absurd (omega arith)
-Waits-some (suc drops) tag [] some h = absurd (let e : false ≡ true = h.0 in cc)
-Waits-some (suc drops) tag (m ∷ marks) some h = refl
-
 -- ---- the last mark behind which so many wait
-
-is_first : (m n : Item) (ms ns : List Item) → m ∷ ms ≡ n ∷ ns → m.start ≡ n.start
-is_first m n ms ns h = let e : m ≡ n = cc in ap (λ (x : Item). x.start) e
 
 test_true : (a b : ℕ) → a ≡ b → (a == b) ≡ true
 test_true a b h = grind (arith, nat_tests)
@@ -55,14 +46,6 @@ test_false a b h = grind (arith, nat_tests)
 
 pub LastAt-whole : (drops : ℕ) (m : Item) (ms : List Item) (place : ℕ) → drops_among (m ∷ ms) ≡ drops → LastAt drops (m ∷ ms) place → place ≡ m.start
 LastAt-whole drops m ms place is h = h m ms (ap (λ b. if b then m ∷ ms else up_to drops ms) (test_true (drops_among (m ∷ ms)) drops is))
-
-pub LastAt-mark : (drops : ℕ) (m : Item) (marks : List Item) (place : ℕ) → drops_among (m ∷ marks) ≡ drops → place ≡ m.start → LastAt drops (m ∷ marks) place
-LastAt-mark drops m marks place is h =
-    λ n ns e. h ∙ is_first m n marks ns (sym (ap (λ b. if b then m ∷ marks else up_to drops marks) (test_true (drops_among (m ∷ marks)) drops is)) ∙ e)
-
-pub LastAt-more : (drops : ℕ) (m : Item) (marks : List Item) (place : ℕ) → ((drops_among (m ∷ marks) == drops) ≡ false) → LastAt drops marks place → LastAt drops (m ∷ marks) place
-LastAt-more drops m marks place is h =
-    λ n ns e. h n ns (sym (ap (λ b. if b then m ∷ marks else up_to drops marks) is) ∙ e)
 
 drops_among-less : (drops : ℕ) (b : Bool) (n : ℕ) → (if b then suc n else n) < drops → n < drops
 drops_among-less drops true n h = omega arith
@@ -111,11 +94,7 @@ LastAt-settled drops (m ∷ marks) place h =
 
 -- where no `#_` waits
 pub Waits-by_tag : (drops : ℕ) (tag : Option ℕ) (marks : List Item) → drops ≤ 0 → Waits drops tag marks → is_some tag ≡ any_mark marks
-Waits-by_tag zero None [] few h = refl
-Waits-by_tag zero None (m ∷ marks) few h = absurd (let e : None ≡ first_place (m ∷ marks) = h.1 in cc)
-Waits-by_tag zero (Some place) [] few h = absurd (let e : Some place ≡ None = h.1 in cc)
-Waits-by_tag zero (Some place) (m ∷ marks) few h = refl
-Waits-by_tag (suc drops) tag marks few h = absurd (omega arith)
+Waits-by_tag drops tag marks h g = grind arith
 
 -- a settled form leaves one `#_` less, if one waits
 drops-settled_if : (b : Bool) (marks : List Item) → has_drop marks ≡ b → drops_among (still_waiting marks) ≡ drops_among marks - 1

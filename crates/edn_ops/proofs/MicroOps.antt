@@ -38,17 +38,12 @@ with_last mops mop = mops >>= λ ms. mop >>= λ m. Ok (ms ++ m ∷ [])
 
 one_alone : (test : Bool) (place : ℕ) (mop : Result PlacedMop Fault) →
     (refuse_if test TooManyMicroOps place >>= λ _. mop >>= λ m. Ok (m ∷ [])) ≡ ((refuse_if test TooManyMicroOps place >>= λ _. mop) >>= λ m. Ok (m ∷ []))
-one_alone true place mop = refl
-one_alone false place mop = refl
+one_alone test place mop = grind arith
 
 last_behind : (test : Bool) (place : ℕ) (first last : Result PlacedMop Fault) (mops : Result (List PlacedMop) Fault) →
     (refuse_if test TooManyMicroOps place >>= λ _. first >>= λ m. with_last mops last >>= λ ms. Ok (m ∷ ms))
     ≡ with_last (refuse_if test TooManyMicroOps place >>= λ _. first >>= λ m. mops >>= λ ms. Ok (m ∷ ms)) last
-last_behind true place first last mops = refl
-last_behind false place (Err fault) last mops = refl
-last_behind false place (Ok m) last (Err fault) = refl
-last_behind false place (Ok m) (Err fault) (Ok ms) = refl
-last_behind false place (Ok m) (Ok l) (Ok ms) = refl
+last_behind test place first last mops = grind arith
 
 micro_ops_more : (before : ℕ) (members : List Form) (f : Form) → micro_ops_of before (members ++ f ∷ []) ≡ with_last (micro_ops_of before members) (next_mop (before + length members) f)
 micro_ops_more before [] f =
@@ -75,12 +70,10 @@ count before (f ∷ members) ms e =
 -- ---- what the code has so far
 
 err_mop : (fault : Fault) (r : Result PlacedMop Fault) → Err fault ≡ mop_result r → r ≡ Err fault
-err_mop fault (Ok m) e = cc
-err_mop fault (Err other) e = cc
+err_mop fault r h = grind arith
 
 ok_mop : (shape : MopShape) (r : Result PlacedMop Fault) → Ok shape ≡ mop_result r → (m : PlacedMop) × (r ≡ Ok m) × (shape ≡ mop_shape_of m)
-ok_mop shape (Ok m) e = (m, refl, cc)
-ok_mop shape (Err other) e = cc
+ok_mop shape r m = grind arith
 
 -- after a fault nothing changes
 pub still_fails : (fault : Fault) (members : List Form) (f : Form) → Err fault ≡ mops_result (micro_ops_of 0 members) → Err fault ≡ mops_result (micro_ops_of 0 (members ++ f ∷ []))
@@ -131,14 +124,10 @@ one_micro_op shapes members f shape e some m =
 -- ---- outlines
 
 written : (k : Item × Atom) (value : Form) → read_or_write true k (outline value) ≡ read_or_write true k value
-written k (plain t) = refl
-written k (collection opener closer members) = refl
-written k (tagged tag f) = refl
+written k value = grind arith
 
 returned : (k : Item × Atom) (value : Form) → read_or_write false k (outline value) ≡ read_or_write false k value
-returned k (plain t) = refl
-returned k (collection opener closer members) = refl
-returned k (tagged tag f) = refl
+returned k value = grind arith
 
 by_value : (write : Option Bool) (key : Option (Item × Atom)) (offset place : ℕ) (value : Form) →
     (or_refuse write NotTxn offset >>= λ w. or_refuse key BadAtom place >>= λ k. read_or_write w k (outline value)) ≡ (or_refuse write NotTxn offset >>= λ w. or_refuse key BadAtom place >>= λ k. read_or_write w k value)
@@ -164,12 +153,10 @@ list_of-forms_of [] = refl
 list_of-forms_of (f ∷ fs) = ap (λ (xs : List Form). f ∷ xs) (list_of-forms_of fs)
 
 none_if : (test : Bool) (fs gs : List Form) → cond test (Some fs) None ≡ None → cond test (Some gs) None ≡ None
-none_if true fs gs e = cc
-none_if false fs gs e = refl
+none_if test fs gs h = grind arith
 
 some_if : (test : Bool) (fs : List Form) → test ≡ true → cond test (Some fs) None ≡ Some fs
-some_if true fs e = refl
-some_if false fs e = cc
+some_if test fs h = grind arith
 
 -- what is no vector or list by its outline is none
 pub no_elements : (f : Form) → elements_of (outline f) ≡ None → elements_of f ≡ None

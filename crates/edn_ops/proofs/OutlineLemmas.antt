@@ -1,35 +1,23 @@
 -- What an operation's checks ask of a form they can ask of its outline.
-use Rattle.std.proofs.Common.{◌≡◌, ℕ, List, refl}
+use Rattle.std.proofs.Common.{arith, ◌≡◌, ℕ, List}
 use Rattle.hist_types.specs.Entries.{is_named, int_of, atom_of, kind_of, is_write_of}
-use Rattle.hist_types.specs.Forms.{Form, plain, collection, tagged, place_of}
+use Rattle.hist_types.specs.Forms.{Form, place_of}
 use Rattle.edn_ops.specs.Outlines.{outline}
 
 pub place_of-outline : (f : Form) → place_of (outline f) ≡ place_of f
-place_of-outline (plain t) = refl
-place_of-outline (collection opener closer members) = refl
-place_of-outline (tagged tag f) = refl
+place_of-outline f = grind arith
 
 pub is_named-outline : (name : List ℕ) (f : Form) → is_named name (outline f) ≡ is_named name f
-is_named-outline name (plain t) = refl
-is_named-outline name (collection opener closer members) = refl
-is_named-outline name (tagged tag f) = refl
+is_named-outline name f = grind arith
 
 pub int_of-outline : (f : Form) → int_of (outline f) ≡ int_of f
-int_of-outline (plain t) = refl
-int_of-outline (collection opener closer members) = refl
-int_of-outline (tagged tag f) = refl
+int_of-outline f = grind arith
 
 pub atom_of-outline : (f : Form) → atom_of (outline f) ≡ atom_of f
-atom_of-outline (plain t) = refl
-atom_of-outline (collection opener closer members) = refl
-atom_of-outline (tagged tag f) = refl
+atom_of-outline f = grind arith
 
 pub kind_of-outline : (f : Form) → kind_of (outline f) ≡ kind_of f
-kind_of-outline (plain t) = refl
-kind_of-outline (collection opener closer members) = refl
-kind_of-outline (tagged tag f) = refl
+kind_of-outline f = grind arith
 
 pub is_write_of-outline : (f : Form) → is_write_of (outline f) ≡ is_write_of f
-is_write_of-outline (plain t) = refl
-is_write_of-outline (collection opener closer members) = refl
-is_write_of-outline (tagged tag f) = refl
+is_write_of-outline f = grind arith

@@ -11,9 +11,9 @@ use Rattle.edn_lex.specs.State.{State}
 use Rattle.edn_ops.specs.declared.forms.Member.{Member}
 use Rattle.edn_ops.specs.LevelEnds.{stands, role_of, level_end, SameLevel}
 use Rattle.edn_ops.specs.Leads.{Leads, Stops, inside, behind, with_marks, GivesMember, GivesNoMember, PassesCollection}
-use Rattle.edn_ops.proofs.Steps.{Leads-refl, Leads-then, Leads-stops}
+use Rattle.edn_ops.proofs.Steps.{Leads-then, Leads-stops}
 use Rattle.edn_ops.proofs.Levels.{nothing_waits, NoPlaceIn-outside, Leads-plain, Leads-opener, Leads-skipped, Leads-closer, given_outside, Stops-unclosed}
-use Rattle.edn_ops.proofs.LevelSteps.{InLevel-refl, InLevel-step, InLevel-collection, SameLevel-then, LevelEnds-closer, passes}
+use Rattle.edn_ops.proofs.LevelSteps.{InLevel-step, InLevel-collection, SameLevel-then, LevelEnds-closer, passes}
 use Rattle.edn_ops.proofs.LastMark.{role-form, plain-form}
 
 -- From s, behind the opener, the members up to t have been passed over.
@@ -23,10 +23,6 @@ pub record Within (s : State) (opener : Item) (t : State) : Type 0 where
   pub text : t.text ≡ s.text
   pub leads : (o : Open) → in_operation_place o ≡ false → Leads s (with_opener opener o) [] t (inside opener members [] o)
   pub level : SameLevel s [] t []
-
-pub Within-start : (s : State) (opener : Item) → Within s opener s
-Within-start s opener =
-    record { members = []; forward = omega arith; text = refl; leads = λ o out. Leads-refl s (with_opener opener o); level = InLevel-refl s [] }
 
 nothing_open : Open
 nothing_open = record { marks = []; collections = [] }

@@ -71,8 +71,7 @@ same_item s t m h = ap (λ text. item_of text m.token) (h.leads nothing_open).te
 
 -- the opener of a map in an operation's place
 may_map : (b c : Bool) → (not b || true || c) ≡ true
-may_map true c = refl
-may_map false c = refl
+may_map b c = grind arith
 
 -- a map has been read
 pub map_read :
@@ -111,9 +110,7 @@ map_stops s t m h list o opener fault is kind map same stops =
     Leads-stops s h.before o p fault (to_token s t m h list o is) (Leads-stops h.before t p (with_opener i p) fault first second)
 
 may_list : (a b : Bool) → (not a || b || (true && true)) ≡ true
-may_list true true = refl
-may_list true false = refl
-may_list false b = refl
+may_list a b = grind arith
 
 -- a list is opened at the top level
 pub list_opened :
@@ -315,12 +312,10 @@ opens_on s t m h None none kind vector = λ o is. list_opened s t m h o is.0 kin
 opens_on s t m h (Some opener) none kind vector = cc
 
 is_op : (entry : Entry) (shape : OpShape) → IsEntry (Ok (Some shape)) (Ok entry) → (read : PlacedOperation) × (entry ≡ operation read) × IsShapeOf shape read
-is_op (operation read) shape h = (read, refl, h)
-is_op skipped shape h = absurd h
+is_op entry shape read = grind arith
 
 is_skip : (entry : Entry) → IsEntry (Ok None) (Ok entry) → entry ≡ skipped
-is_skip (operation read) h = absurd h
-is_skip skipped h = refl
+is_skip entry h = grind arith
 
 -- a map that is an operation
 pub op_on :

@@ -66,12 +66,10 @@ abbrev KeepsDepth : ItemKind → List ℕ → List ℕ → Open → Open → Typ
 KeepsDepth kind bytes closers o p = length (open_after kind bytes closers) + length o.collections ≡ length closers + length p.collections
 
 with_form-depth : (f : Form) (marks : List Item) (cs : List OpenCollection) → length (with_form f marks cs).collections ≡ length cs
-with_form-depth f marks [] = refl
-with_form-depth f marks (c ∷ outer) = refl
+with_form-depth f marks cs = grind arith
 
 with_mark-depth : (m : Item) (marks : List Item) (cs : List OpenCollection) → length (with_mark m marks cs).collections ≡ length cs
-with_mark-depth m marks [] = refl
-with_mark-depth m marks (c ∷ outer) = refl
+with_mark-depth m marks cs = grind arith
 
 -- a step that goes on
 abbrev step_to : Open → Result Step Fault

@@ -53,8 +53,7 @@ IsWrittenAs true source content = backslash ∷ flat_map source_byte_text source
 IsWrittenAs false source content = flat_map source_byte_text source ≡ flat_map written_byte content
 
 and_then_some : {A B : Type 0} (o : Option A) (f : A → Option B) (y : B) → option_and_then f o ≡ Some y → (x : A) × (o ≡ Some x) × (f x ≡ Some y)
-and_then_some None f y e = absurd (none-some y e)
-and_then_some (Some x) f y e = (x, refl, e)
+and_then_some o f y x = grind arith
 
 -- the same for what is behind a byte
 abbrev IsKept : List ℕ → ℕ → Type 0

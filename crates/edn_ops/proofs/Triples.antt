@@ -1,10 +1,10 @@
 -- Vectors of three plain tokens, read at once.
-use Rattle.std.proofs.Common.{◌≡◌, ◌≢◌, ℕ, ◌<◌, List, [], ◌∷◌, length, map, true, false, Some, None, Result, Ok, refl, ap, subst, ◌||◌}
+use Rattle.std.proofs.Common.{arith, ◌≡◌, ◌≢◌, ℕ, ◌<◌, List, [], ◌∷◌, length, map, true, false, Some, None, Result, Ok, refl, ap, subst, ◌||◌}
 use Rattle.std.specs.Prelude.{bytes_eq}
 use Rattle.std.specs.List.{AllByRecursion}
 use Rattle.hist_types.specs.Bytes.{open_square, open_round, close_square}
 use Rattle.hist_types.specs.Entries.{micro_op_of, elements_of}
-use Rattle.hist_types.specs.Forms.{Form, plain, collection, tagged, forms_of, place_of, is_vector_or_list}
+use Rattle.hist_types.specs.Forms.{Form, plain, collection, forms_of, place_of, is_vector_or_list}
 use Rattle.hist_types.specs.Tokens.{Item, ItemKind, Opener, Closer, Drop, Tag}
 use Rattle.hist_types.specs.declared.limits.TheConstants.{MAX_OPEN_COLLECTIONS}
 use Rattle.hist_types.specs.declared.types.Fault.{Fault}
@@ -15,10 +15,10 @@ use Rattle.edn_lex.specs.declared.ahead.Triple.{Triple}
 use Rattle.edn_lex.specs.declared.types.Token.{Token}
 use Rattle.edn_ops.specs.Collections.{ReadsMember, ReadsMembers, PassesMember, AreFirstForms}
 use Rattle.edn_ops.specs.Fields.{mop_result}
+use Rattle.edn_ops.specs.Flat.{three_of}
 use Rattle.edn_ops.specs.Leads.{is_mark_kind}
 use Rattle.edn_ops.specs.Outlines.{outline, outline_of, IsTokenIn, IsOutlineIn}
 use Rattle.edn_ops.specs.declared.forms.Member.{Member}
-use Rattle.edn_ops.specs.declared.outline.Outline.{Outline}
 use Rattle.edn_ops.specs.declared.outline.Outline.TheVariants as outlines
 use Rattle.edn_ops.specs.declared.types.MopShape.{MopShape}
 use Rattle.edn_ops.proofs.ByMember.{closed, nothing_read, one_read, passed}
@@ -55,9 +55,7 @@ lone_passes s t token lone g =
 
 -- it is a form by itself
 plain_is : (f : Form) (i : Item) → outline f ≡ plain i → f ≡ plain i
-plain_is (plain t) i e = e
-plain_is (collection opener closer members) i e = cc
-plain_is (tagged tag f) i e = cc
+plain_is f i h = grind arith
 
 pub lone_reads :
     (text : List ℕ) (offset : ℕ) (token : Token) (closers : List ℕ) → GivesLone text offset token →
@@ -72,10 +70,6 @@ pub lone_in : (text : List ℕ) (offset : ℕ) (token : Token) → GivesLone tex
 lone_in text offset token g = token_in (going_at text offset []) (going_at text token.end []) token (g.gives [])
 
 -- ---- a vector of three of them
-
--- the outlines of the three forms
-abbrev pub three_of : Triple → List Outline
-three_of triple = outlines.Plain triple.first ∷ outlines.Plain triple.second ∷ outlines.Plain triple.third ∷ []
 
 -- the three forms, and the vector
 abbrev pub three_forms : List ℕ → Triple → List Form

@@ -1,5 +1,5 @@
 -- The first bytes of a text that is an atom or nil tell how it is written.
-use Rattle.std.proofs.Common.{◌≡◌, inl, inr, ℕ, List, Bool, true, false, not, Some, None, refl, sym, ◌∙◌, ap}
+use Rattle.std.proofs.Common.{arith, ◌≡◌, inl, inr, ℕ, List, Bool, true, false, not, Some, None, refl, sym, ◌∙◌, ap}
 use Rattle.std.specs.Prelude.{◌==◌, ◌&&◌, ◌||◌, flat_map}
 use Rattle.std.specs.Char.{is_ascii_digit}
 use Rattle.std.specs.Fmt.{signed_decimal}
@@ -17,12 +17,10 @@ use Rattle.edn_ops.proofs.StringSources.{string_kept}
 use Rattle.reading_laws.proofs.Fronts.{word_is, str_begins, int_begins}
 
 neither : (a b : Bool) → (a || b) ≡ false → (a ≡ false) × (b ≡ false)
-neither true b h = absurd (true≢false h)
-neither false b h = (refl, h)
+neither a b h = grind arith
 
 fails : (a : Bool) → not a ≡ true → a ≡ false
-fails true h = absurd (true≢false (sym h))
-fails false h = refl
+fails a h = grind arith
 
 -- a colon begins no number
 colon_first : (text : List ℕ) → (first_byte text == colon) ≡ true → begins_with_number text ≡ false
@@ -30,12 +28,10 @@ colon_first text h =
     ap (λ (b : ℕ). is_ascii_digit b || (is_sign b && is_ascii_digit (second_byte text))) (eqb-true (first_byte text) colon h)
 
 sign_alone : (sign is_dot digit : Bool) → ((sign || is_dot) && digit) ≡ false → (sign && digit) ≡ false
-sign_alone true is_dot digit h = h
-sign_alone false is_dot digit h = refl
+sign_alone sign is_dot digit h = grind arith
 
 no_number : (digit other : Bool) → digit ≡ false → other ≡ false → (digit || other) ≡ false
-no_number true other h k = absurd (true≢false h)
-no_number false other h k = k
+no_number digit other h g = grind arith
 
 symbol_begins : (text : List ℕ) → is_symbol text ≡ true → begins_with_number text ≡ false
 symbol_begins text h =

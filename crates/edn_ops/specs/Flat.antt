@@ -1,8 +1,9 @@
 -- Maps as printers write them, read in one pass over their bytes.
 use Rattle.std.specs.Prelude.{◌≡◌, ◌⊎◌, ℕ, ℤ, ◌+◌, ◌<◌, ◌≤◌, List, [], ◌∷◌, ◌++◌, length, Bool, true, false, codes, Option, Some, None, IfSome, Result, Ok, Err}
+use Rattle.std.specs.Option.{is_some}
 use Rattle.hist_types.specs.AtomTokens.{process_of}
 use Rattle.hist_types.specs.Bytes.{open_brace, close_brace}
-use Rattle.hist_types.specs.Entries.{entry_of, int_of, is_named, kind_of, micro_ops_of, mops_of, transaction_of}
+use Rattle.hist_types.specs.Entries.{atom_of, entry_of, int_of, is_named, kind_of, micro_ops_of, mops_of, transaction_of, value_of}
 use Rattle.hist_types.specs.Forms.{Form, plain}
 use Rattle.hist_types.specs.Refusals.{memory_fault}
 use Rattle.hist_types.specs.Tokens.{Item}
@@ -11,21 +12,25 @@ use Rattle.hist_types.specs.declared.types.Fault.{Fault}
 use Rattle.hist_types.specs.declared.types.OpKind.{OpKind}
 use Rattle.hist_types.specs.declared.types.OpKind.TheVariants as kinds
 use Rattle.smallvec.specs.SmallVec.{SmallVec}
-use Rattle.edn_lex.specs.Ahead.{going_at, GivesAhead, GivesOpener, GivesCloser}
+use Rattle.edn_lex.specs.Ahead.{going_at, GivesAhead, GivesOpener, GivesCloser, GivesTriple}
 use Rattle.edn_lex.specs.Kinds.{item_of}
+use Rattle.edn_lex.specs.declared.ahead.Triple.{Triple}
 use Rattle.edn_lex.specs.declared.types.Token.{Token}
 use Rattle.edn_lex.specs.declared.types.TokenKind.TheVariants as tokens
 use Rattle.edn_ops.specs.declared.flat.FlatEntry.{FlatEntry}
 use Rattle.edn_ops.specs.declared.flat.FlatEntry.TheVariants as entries
 use Rattle.edn_ops.specs.declared.flat.FlatFields.{FlatFields}
+use Rattle.edn_ops.specs.declared.flat.FlatOperation.{FlatOperation}
 use Rattle.edn_ops.specs.declared.flat.Name.{Name}
 use Rattle.edn_ops.specs.declared.flat.Name.TheVariants as names
 use Rattle.edn_ops.specs.declared.flat.Owner.{Owner}
 use Rattle.edn_ops.specs.declared.flat.Owner.TheVariants as owners
 use Rattle.edn_ops.specs.declared.flat.TheConstants.{VALUE_LEVELS}
+use Rattle.edn_ops.specs.declared.outline.Outline.{Outline}
+use Rattle.edn_ops.specs.declared.outline.Outline.TheVariants as outlines
 use Rattle.edn_ops.specs.declared.types.MopShape.{MopShape}
 use Rattle.edn_ops.specs.declared.types.OpShape.{OpShape}
-use Rattle.edn_ops.specs.Collections.{ReadsMember, ReadsMembers}
+use Rattle.edn_ops.specs.Collections.{ReadsMember, ReadsMembers, outlined_mop}
 use Rattle.edn_ops.specs.Fields.{IsEntry, fields_named, members_of, mops_result}
 
 -- ---- members
@@ -42,6 +47,23 @@ pub record ReadsAhead (text : List ℕ) (deep offset : ℕ) (form : Form) (end :
 abbrev pub PassesAhead : List ℕ → ℕ → ℕ → Option ℕ → Type 0
 PassesAhead text deep offset found =
     IfSome found (λ end. (form : Form) × ReadsAhead text deep offset form end)
+
+-- a micro-operation that writes, or one that reads, may have this form as its value
+abbrev pub IsMopValue : Bool → Form → Type 0
+IsMopValue true value = is_some (atom_of value) ≡ true
+IsMopValue false value = is_some (value_of value) ≡ true
+
+-- the outlines of the three forms of a vector
+abbrev pub three_of : Triple → List Outline
+three_of triple =
+    outlines.Plain triple.first ∷ outlines.Plain triple.second ∷ outlines.Plain triple.third ∷ []
+
+-- the tokens from the offset up to the end are a micro-operation with this shape
+abbrev pub GivesMop : List ℕ → ℕ → MopShape → ℕ → Type 0
+GivesMop text offset shape end =
+    (triple : Triple) × GivesTriple text offset triple × (end ≡ triple.closer.end)
+    × (triple.closer.end ≤ length text)
+    × (Ok shape ≡ outlined_mop text triple.opener.start (three_of triple))
 
 -- a call read one more micro-operation, up to the end that it gives
 abbrev pub ReadsFlatMop :
@@ -203,18 +225,21 @@ pub record IsFlatEntry
   pub within : end ≤ length text
   pub entry : IsEntry (Ok shape) (entry_of (item_of text opener) (item_of text closer) members)
 
+-- an operation with its micro-operations
+abbrev pub shape_with : SmallVec MopShape → FlatOperation → OpShape
+shape_with mops o = record { span = o.span; kind = o.kind; process = o.process; mops = mops }
+
+abbrev pub result_with :
+    SmallVec MopShape → Result (Option FlatOperation) Fault → Result (Option OpShape) Fault
+result_with mops (Ok None) = Ok None
+result_with mops (Ok (Some o)) = Ok (Some (shape_with mops o))
+result_with mops (Err fault) = Err fault
+
 -- a call gave what a map gives, or nothing
 abbrev pub GivesFlatEntry :
     List ℕ → Token → Result (Option FlatEntry) Fault → SmallVec MopShape → Type 0
 GivesFlatEntry text opener (Ok None) mops = Unit {0}
 GivesFlatEntry text opener (Ok (Some (entries.Operation o))) mops =
-    IsFlatEntry text opener
-    (Some (record {
-      span = record { start = opener.start; end = o.end };
-      kind = o.kind;
-      process = o.process;
-      mops = mops;
-    }))
-    o.end
+    IsFlatEntry text opener (Some (shape_with mops o)) o.span.end
 GivesFlatEntry text opener (Ok (Some (entries.Skipped end))) mops = IsFlatEntry text opener None end
 GivesFlatEntry text opener (Err fault) mops = fault ≡ memory_fault

@@ -55,7 +55,7 @@ fn has_known_escapes(content: &[u8]) -> bool
 }
 
 /// An integer of fewer bytes has 64 bits.
-const LONG_INTEGER: usize = 19;
+pub(crate) const LONG_INTEGER: usize = 19;
 
 /// Whether a token is an atom: a key, or a value that is not nil.
 #[inline(always)]

@@ -2,21 +2,21 @@
 //! and no comments.
 
 ghost use Rattle.std.specs.Prelude.{◌≡◌, ◌≤◌, [], length, true, false, Some, IfSome};
+ghost use Rattle.hist_types.specs.Entries.{is_write_of};
 ghost use Rattle.hist_types.specs.Forms.{plain};
-ghost use Rattle.edn_lex.specs.Ahead.{IsLoneAt, GivesLone, GivesTriple};
+ghost use Rattle.edn_lex.specs.Ahead.{IsLoneAt, GivesLone};
 ghost use Rattle.edn_lex.specs.Kinds.{item_of};
 ghost use Rattle.edn_ops.specs.declared.flat.TheConstants.{VALUE_LEVELS};
 ghost use Rattle.edn_ops.specs.Outlines.{outline_of, IsTokenIn, IsOutlineIn};
-ghost use Rattle.edn_ops.specs.Flat.{PassesAhead, NamesKind, NamesOwner, ReadsFlatMop, ReadsFlatTransaction, may_have_mops, AreFlat, IsName, ReadsFlatValue, ReadsFlatField, IsComplete, GivesFlatMap, OpensOperation, GivesFlatEntry};
+ghost use Rattle.edn_ops.specs.Flat.{PassesAhead, NamesKind, NamesOwner, IsMopValue, GivesMop, ReadsFlatMop, ReadsFlatTransaction, may_have_mops, AreFlat, IsName, ReadsFlatValue, ReadsFlatField, IsComplete, GivesFlatMap, OpensOperation, GivesFlatEntry};
 
-use crate::atoms;
-use crate::micro_ops::micro_op;
-use crate::outline::{Outline, bytes_of};
+use crate::atoms::{self, LONG_INTEGER};
+use crate::outline::{Outline, bytes_of, span};
 use crate::passing::form_end;
-use crate::types::MopShape;
+use crate::types::{MopShape, Span};
 use edn_lex::ahead::{
-    LEVELS_AHEAD, Triple, behind_blanks, form_at, lone_at, lone_token, map_closer, map_opener,
-    next_token, tag_token, vector_closer, vector_opener, word_at,
+    LEVELS_AHEAD, behind_blanks, form_at, lone_token, map_closer, map_opener, number_at, tag_token,
+    token_at, vector_closer, vector_opener, word_at,
 };
 use edn_lex::types::{Token, TokenKind};
 use hist_types::limits::{MAX_MICRO_OPS, MAX_OPERATION_BYTES};
@@ -47,10 +47,9 @@ pub(crate) struct FlatFields {
 /// A client's operation, without its micro-operations.
 #[derive(Clone, Copy)]
 pub(crate) struct FlatOperation {
+    pub(crate) span: Span,
     pub(crate) kind: OpKind,
     pub(crate) process: Process,
-    /// Where its map ends.
-    pub(crate) end: usize,
 }
 
 /// What a map gives.
@@ -69,13 +68,6 @@ pub(crate) enum Name {
     Value,
     /// A field that says nothing.
     Other,
-}
-
-/// A key, and which field it names.
-#[derive(Clone, Copy)]
-pub(crate) struct Key {
-    name: Name,
-    token: Token,
 }
 
 /// Whether an operation of this kind has a transaction.
@@ -99,36 +91,47 @@ fn owner_of(text: &[u8], value: Outline) -> Option<Owner>
     }
 }
 
-/// The next token, if it is the kind of an operation.
+/// The token that begins here, if it is the kind of an operation.
 #[inline(always)]
-fn flat_kind(text: &[u8], offset: usize) -> Option<(OpKind, Token)>
-    requires { offset ≤ length text.now }
-    ensures gives { IfSome result (λ found. GivesLone text.now offset found.1) }
+fn kind_at(text: &[u8], start: usize) -> Option<(OpKind, Token)>
+    requires { start ≤ length text.now }
+    ensures lone { IfSome result (λ found. IsLoneAt text.now start found.1) }
     ensures kind { IfSome result (NamesKind text.now) }
     ensures fits { IfSome result (λ found. found.1.end ≤ length text.now) }
 {
-    let start = behind_blanks(text, offset);
-    if let Some(token) = word_at(text, start, b":invoke", TokenKind::Keyword) {
-        return Some((OpKind::Invoke, token));
+    match *text.get(start + 1)? {
+        b'o' => {
+            let token = word_at(text, start, b":ok", TokenKind::Keyword)?;
+            Some((OpKind::Ok, token))
+        }
+        b'f' => {
+            let token = word_at(text, start, b":fail", TokenKind::Keyword)?;
+            Some((OpKind::Fail, token))
+        }
+        _ => {
+            if let Some(token) = word_at(text, start, b":invoke", TokenKind::Keyword) {
+                return Some((OpKind::Invoke, token));
+            }
+            let token = word_at(text, start, b":info", TokenKind::Keyword)?;
+            Some((OpKind::Info, token))
+        }
     }
-    if let Some(token) = word_at(text, start, b":ok", TokenKind::Keyword) {
-        return Some((OpKind::Ok, token));
-    }
-    if let Some(token) = word_at(text, start, b":info", TokenKind::Keyword) {
-        return Some((OpKind::Info, token));
-    }
-    let token = word_at(text, start, b":fail", TokenKind::Keyword)?;
-    Some((OpKind::Fail, token))
 }
 
-/// Passes over a value, up to the end that is given, if it can be read so.
+/// Passes over a value, up to the end that is given, if it can be read so; often it is `:txn` or a number.
 #[inline(always)]
 fn passed_value(text: &[u8], offset: usize) -> Option<usize>
     requires { offset ≤ length text.now }
     ensures { PassesAhead text.now VALUE_LEVELS offset result }
 {
-    let token = next_token(text, offset)?;
-    form_end(text, token, VALUE_LEVELS)
+    let start = behind_blanks(text, offset);
+    if let Some(token) = word_at(text, start, b":txn", TokenKind::Keyword) {
+        return Some(token.end);
+    }
+    if let Some(number) = number_at(text, start) {
+        return Some(number.end);
+    }
+    form_end(text, token_at(text, start)?, VALUE_LEVELS)
 }
 
 impl FlatFields {
@@ -151,7 +154,7 @@ impl FlatFields {
         if self.kind.is_some() {
             return None;
         }
-        let (kind, token) = flat_kind(text, offset)?;
+        let (kind, token) = kind_at(text, behind_blanks(text, offset))?;
         self.kind = Some(kind);
         Some(token.end)
     }
@@ -201,52 +204,86 @@ impl FlatFields {
     }
 }
 
-/// The token that begins here, if it is `:w` or `:r`.
+/// The token that begins here, if it is `:w` or `:r`, and whether it is `:w`.
 #[inline(always)]
-fn mop_name(text: &[u8], start: usize) -> Option<Token>
+fn mop_name(text: &[u8], start: usize) -> Option<(bool, Token)>
+    requires { start ≤ length text.now }
+    ensures lone { IfSome result (λ name. IsLoneAt text.now start name.1) }
+    ensures is_write { IfSome result (λ name.
+        is_write_of (plain (item_of text.now name.1)) ≡ Some name.0) }
+    ensures fits { IfSome result (λ name. name.1.end ≤ length text.now) }
+{
+    if let Some(token) = word_at(text, start, b":w", TokenKind::Keyword) {
+        return Some((true, token));
+    }
+    let token = word_at(text, start, b":r", TokenKind::Keyword)?;
+    Some((false, token))
+}
+
+/// The token that begins here, if it is an atom; often it is a number of few digits.
+#[inline(always)]
+fn atom_at(text: &[u8], start: usize) -> Option<Token>
     requires { start ≤ length text.now }
     ensures lone { IfSome result (IsLoneAt text.now start) }
+    ensures atom { IfSome result (λ token. IsMopValue true (plain (item_of text.now token))) }
     ensures fits { IfSome result (λ token. token.end ≤ length text.now) }
 {
-    match word_at(text, start, b":w", TokenKind::Keyword) {
-        Some(token) => Some(token),
-        None => word_at(text, start, b":r", TokenKind::Keyword),
+    match number_at(text, start) {
+        Some(number) if bytes_of(text, number).len() < LONG_INTEGER => Some(number),
+        _ => any_atom_at(text, start),
     }
 }
 
-/// The next token, if it is a form by itself; often it is `nil`.
+/// The token that begins here, if it is an atom, however it is spelled.
+#[inline(never)]
+fn any_atom_at(text: &[u8], start: usize) -> Option<Token>
+    requires { start ≤ length text.now }
+    ensures lone { IfSome result (IsLoneAt text.now start) }
+    ensures atom { IfSome result (λ token. IsMopValue true (plain (item_of text.now token))) }
+    ensures fits { IfSome result (λ token. token.end ≤ length text.now) }
+{
+    let token = form_at(text, start)?;
+    if atoms::is_atom(token.kind, bytes_of(text, token)) {
+        Some(token)
+    } else {
+        None
+    }
+}
+
+/// The next token, if it is an atom, or `nil` that was read.
 #[inline(always)]
-fn mop_value(text: &[u8], offset: usize) -> Option<Token>
+fn mop_value(text: &[u8], offset: usize, is_write: bool) -> Option<Token>
     requires { offset ≤ length text.now }
     ensures gives { IfSome result (GivesLone text.now offset) }
+    ensures value { IfSome result (λ token. IsMopValue is_write (plain (item_of text.now token))) }
     ensures fits { IfSome result (λ token. token.end ≤ length text.now) }
 {
     let start = behind_blanks(text, offset);
     match word_at(text, start, b"nil", TokenKind::Nil) {
+        Some(_) if is_write => None,
         Some(token) => Some(token),
-        None => lone_at(text, start),
+        None => atom_at(text, start),
     }
 }
 
-/// The next five tokens, if they are a vector of `:w` or `:r` and two forms by themselves.
+/// The micro-operation that the next five tokens are, and where it ends, if they are a vector of `:w` or `:r` and two forms by
+/// themselves without a fault.
 #[inline(always)]
-fn mop_tokens(text: &[u8], offset: usize) -> Option<Triple>
+fn next_mop(text: &[u8], offset: usize) -> Option<(MopShape, usize)>
     requires { offset ≤ length text.now }
-    ensures gives { IfSome result (GivesTriple text.now offset) }
-    ensures fits { IfSome result (λ triple. triple.closer.end ≤ length text.now) }
+    ensures { IfSome result (λ mop. GivesMop text.now offset mop.0 mop.1) }
 {
     let opener = vector_opener(text, offset)?;
-    let first = mop_name(text, opener.end)?;
-    let second = lone_token(text, first.end)?;
-    let third = mop_value(text, second.end)?;
-    let closer = vector_closer(text, third.end)?;
-    Some(Triple {
-        opener,
-        first,
-        second,
-        third,
-        closer,
-    })
+    let (is_write, name) = mop_name(text, opener.end)?;
+    let key = atom_at(text, behind_blanks(text, name.end))?;
+    let value = mop_value(text, key.end, is_write)?;
+    let closer = vector_closer(text, value.end)?;
+    let shape = MopShape {
+        is_write,
+        key: span(key),
+        value: span(value),
+    };
+    Some((shape, closer.end))
 }
 
 /// Reads one more micro-operation, up to the end that is given, if it is a vector of three forms by themselves without a fault.
@@ -255,24 +292,17 @@ fn flat_mop(text: &[u8], offset: usize, mops: &mut Mops) -> Result<Option<usize>
     requires { offset ≤ length text.now }
     ensures { ReadsFlatMop text.now offset mops.old.items result mops.new.items }
 {
-    let Some(triple) = mop_tokens(text, offset) else {
-        return Ok(None);
-    };
-    let micro_op = micro_op(
-        text,
-        triple.opener.start,
-        Outline::Plain(triple.first),
-        Outline::Plain(triple.second),
-        Outline::Plain(triple.third),
-    );
-    let Ok(shape) = micro_op else {
+    let Some((shape, end)) = next_mop(text, offset) else {
         return Ok(None);
     };
     if mops.len() >= MAX_MICRO_OPS {
         return Ok(None);
     }
-    mops.push(shape)?;
-    Ok(Some(triple.closer.end))
+    if mops.len() == mops.capacity() {
+        mops.reserve(1)?;
+    }
+    mops.push_reserved(shape);
+    Ok(Some(end))
 }
 
 /// Reads a transaction into the empty list, up to the end that is given, if all its members can be read so.
@@ -294,67 +324,57 @@ fn flat_transaction(text: &[u8], offset: usize, mops: &mut Mops) -> Result<Optio
     }
 }
 
-/// The token that begins here, if it is a form by itself; often it is a name that printers write in front of the others.
+/// The key that begins here, if it is one that printers write, and which field it names.
 #[inline(always)]
-fn other_key(text: &[u8], start: usize) -> Option<Token>
+fn printed_key(text: &[u8], start: usize) -> Option<(Name, Token)>
     requires { start ≤ length text.now }
-    ensures lone { IfSome result (IsLoneAt text.now start) }
-    ensures fits { IfSome result (λ token. token.end ≤ length text.now) }
+    ensures lone { IfSome result (λ key. IsLoneAt text.now start key.1) }
+    ensures name { IfSome result (λ key. IsName key.0 (plain (item_of text.now key.1))) }
 {
-    if text[start..].starts_with(b"}") {
-        return None;
-    }
-    if let Some(token) = word_at(text, start, b":f", TokenKind::Keyword) {
-        return Some(token);
-    }
-    if let Some(token) = word_at(text, start, b":time", TokenKind::Keyword) {
-        return Some(token);
-    }
-    match word_at(text, start, b":index", TokenKind::Keyword) {
-        Some(token) => Some(token),
-        None => form_at(text, start),
+    match *text.get(start + 1)? {
+        b't' => {
+            if let Some(token) = word_at(text, start, b":type", TokenKind::Keyword) {
+                return Some((Name::Kind, token));
+            }
+            let token = word_at(text, start, b":time", TokenKind::Keyword)?;
+            Some((Name::Other, token))
+        }
+        b'p' => {
+            let token = word_at(text, start, b":process", TokenKind::Keyword)?;
+            Some((Name::Process, token))
+        }
+        b'v' => {
+            let token = word_at(text, start, b":value", TokenKind::Keyword)?;
+            Some((Name::Value, token))
+        }
+        b'f' => {
+            let token = word_at(text, start, b":f", TokenKind::Keyword)?;
+            Some((Name::Other, token))
+        }
+        b'i' => {
+            let token = word_at(text, start, b":index", TokenKind::Keyword)?;
+            Some((Name::Other, token))
+        }
+        _ => None,
     }
 }
 
-/// The next key, if it is a form by itself.
-#[inline(always)]
-fn next_key(text: &[u8], offset: usize) -> Option<Key>
-    requires { offset ≤ length text.now }
-    ensures gives { IfSome result (λ key. GivesLone text.now offset key.token) }
-    ensures name { IfSome result (λ key. IsName key.name (plain (item_of text.now key.token))) }
+/// The key that begins here, if it is a form by itself, and names a field that says nothing.
+#[inline(never)]
+fn other_key(text: &[u8], start: usize) -> Option<(Name, Token)>
+    requires { start ≤ length text.now }
+    ensures lone { IfSome result (λ key. IsLoneAt text.now start key.1) }
+    ensures name { IfSome result (λ key. IsName key.0 (plain (item_of text.now key.1))) }
 {
-    let start = behind_blanks(text, offset);
-    if let Some(token) = word_at(text, start, b":type", TokenKind::Keyword) {
-        return Some(Key {
-            name: Name::Kind,
-            token,
-        });
-    }
-    if let Some(token) = word_at(text, start, b":process", TokenKind::Keyword) {
-        return Some(Key {
-            name: Name::Process,
-            token,
-        });
-    }
-    if let Some(token) = word_at(text, start, b":value", TokenKind::Keyword) {
-        return Some(Key {
-            name: Name::Value,
-            token,
-        });
-    }
-    let token = other_key(text, start)?;
+    let token = form_at(text, start)?;
     if is_other(text, token) {
-        Some(Key {
-            name: Name::Other,
-            token,
-        })
+        Some((Name::Other, token))
     } else {
         None
     }
 }
 
 /// Whether a key names a field that says nothing.
-#[inline(always)]
 fn is_other(text: &[u8], key: Token) -> bool
     requires { IsTokenIn text.now key }
     ensures { result ≡ true → IsName Name.Other (plain (item_of text.now key)) }
@@ -365,21 +385,38 @@ fn is_other(text: &[u8], key: Token) -> bool
         && !name.is_named(text, b":value")
 }
 
+/// The next key, if it is a form by itself, and which field it names.
+#[inline(always)]
+fn next_key(text: &[u8], offset: usize) -> Option<(Name, Token)>
+    requires { offset ≤ length text.now }
+    ensures gives { IfSome result (λ key. GivesLone text.now offset key.1) }
+    ensures name { IfSome result (λ key. IsName key.0 (plain (item_of text.now key.1))) }
+{
+    let start = behind_blanks(text, offset);
+    if let Some(key) = printed_key(text, start) {
+        return Some(key);
+    }
+    if text[start..].starts_with(b"}") {
+        return None;
+    }
+    other_key(text, start)
+}
+
 /// Reads the value of a key, up to the end that is given, if it can be read so.
 fn flat_field(
     text: &[u8],
-    key: Key,
+    name: Name,
+    key: Token,
     fields: &mut FlatFields,
     mops: &mut Mops,
 ) -> Result<Option<usize>, Fault>
-    requires key { IsTokenIn text.now key.token }
-    requires name { IsName key.name (plain (item_of text.now key.token)) }
+    requires key { IsTokenIn text.now key }
+    requires name { IsName name (plain (item_of text.now key)) }
     requires none { fields.old.has_value ≡ false → mops.old.items ≡ [] }
-    ensures { ReadsFlatField text.now key.token fields.old mops.old.items
-        result fields.new mops.new.items }
+    ensures { ReadsFlatField text.now key fields.old mops.old.items result fields.new mops.new.items }
 {
-    let offset = key.token.end;
-    match key.name {
+    let offset = key.end;
+    match name {
         Name::Kind => Ok(fields.read_kind(text, offset)),
         Name::Process => Ok(fields.read_owner(text, offset)),
         Name::Other => Ok(passed_value(text, offset)),
@@ -409,8 +446,8 @@ fn flat_map(
     ensures { GivesFlatMap text.now offset result fields.new mops.new.items }
 {
     let mut at = offset;
-    while let Some(key) = next_key(text, at) {
-        match flat_field(text, key, fields, mops)? {
+    while let Some((name, key)) = next_key(text, at) {
+        match flat_field(text, name, key, fields, mops)? {
             Some(end) => at = end,
             None => return Ok(None),
         }
@@ -460,8 +497,15 @@ pub(crate) fn flat_entry(
             if end.saturating_sub(opener.start) > MAX_OPERATION_BYTES {
                 return Ok(None);
             }
-            let operation = FlatOperation { kind, process, end };
-            Ok(Some(FlatEntry::Operation(operation)))
+            let span = Span {
+                start: opener.start,
+                end,
+            };
+            Ok(Some(FlatEntry::Operation(FlatOperation {
+                span,
+                kind,
+                process,
+            })))
         }
         Owner::NoClient => Ok(Some(FlatEntry::Skipped(end))),
     }

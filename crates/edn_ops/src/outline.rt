@@ -41,7 +41,7 @@ fn opens_sequence(text: &[u8], opener: Token) -> bool
     matches!(bytes_of(text, opener), [b'['] | [b'('])
 }
 
-fn span(token: Token) -> Span
+pub(crate) fn span(token: Token) -> Span
     ensures { result ≡ record { start = token.start; end = token.end } }
 {
     Span {

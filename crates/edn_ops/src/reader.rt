@@ -1,21 +1,22 @@
 //! The operations of a text, one after the other.
 
-ghost use Rattle.std.specs.Prelude.{◌≡◌, ◌≢◌, ◌+◌, ◌≤◌, ◌<◌, length, true, false, Option, IfOk, IfSome};
+ghost use Rattle.std.specs.Prelude.{◌≡◌, ◌≢◌, ◌+◌, ◌≤◌, ◌<◌, [], length, true, false, Option, IfOk, IfSome};
 ghost use Rattle.hist_types.specs.Reading.{Reads, ReadsFrom};
 ghost use Rattle.hist_types.specs.Forms.{is_map};
 ghost use Rattle.edn_lex.specs.declared.types.TokenKind.TheVariants.{Open};
 ghost use Rattle.edn_lex.specs.Kinds.{item_of};
 ghost use Rattle.edn_ops.specs.Reader.{reader_at_start, reader_at, IsAtTop, LeavesAll, LeavesOnly, FailsAgain, NextOf, FlatNext};
+ghost use Rattle.edn_ops.specs.Flat.{result_with};
 ghost use Rattle.edn_ops.specs.Outlines.{begins_sequence};
 ghost use Rattle.edn_ops.specs.Places.{NextOp, FlatOp};
 ghost use Rattle.edn_ops.specs.Shapes.{IsShapeIn};
 
 use crate::faults::fault_at;
-use crate::flat::{FlatEntry, flat_entry, operation_opener};
+use crate::flat::{FlatEntry, FlatOperation, Mops, flat_entry, operation_opener};
 use crate::forms::next_member;
 use crate::maps::read_map;
 use crate::marks::{closes, opens};
-use crate::types::{OpShape, Span};
+use crate::types::OpShape;
 use edn_lex::lexer::Lexer;
 use edn_lex::types::Token;
 use hist_types::types::{Fault, Refusal};
@@ -79,11 +80,13 @@ impl<'a> Place<'a> {
         }
     }
 
-    /// The next operation, if it and those that are skipped before it are maps that can be read in one pass, perhaps after tags.
-    /// Else the place stays the same, and out of memory too.
-    fn flat_op(&mut self, alloc: Global) -> Result<Option<OpShape>, Fault>
-        requires { self.old.skipped ≤ self.old.lexer.offset }
-        ensures { FlatOp self.old result self.new }
+    /// The next operation, whose micro-operations are read into the empty list, if it and those that are skipped before it are
+    /// maps that can be read in one pass, perhaps after tags. Else the place stays the same, and out of memory too.
+    #[inline(always)]
+    fn flat_op(&mut self, mops: &mut Mops) -> Result<Option<FlatOperation>, Fault>
+        requires skipped { self.old.skipped ≤ self.old.lexer.offset }
+        requires empty { mops.old.items ≡ [] }
+        ensures { FlatOp self.old (result_with mops.new result) self.new }
     {
         let Some(start) = self.lexer.ahead() else {
             return Ok(None);
@@ -92,23 +95,14 @@ impl<'a> Place<'a> {
         let mut offset = start;
         let mut skipped = self.skipped;
         while let Some(opener) = operation_opener(text, offset) {
-            let mut mops = SmallVec::new(alloc);
-            match flat_entry(text, opener, &mut mops)? {
+            match flat_entry(text, opener, mops)? {
                 Some(FlatEntry::Operation(operation)) => {
-                    self.lexer.jump(operation.end);
+                    self.lexer.jump(operation.span.end);
                     self.skipped = skipped;
-                    let span = Span {
-                        start: opener.start,
-                        end: operation.end,
-                    };
-                    return Ok(Some(OpShape {
-                        span,
-                        kind: operation.kind,
-                        process: operation.process,
-                        mops,
-                    }));
+                    return Ok(Some(operation));
                 }
                 Some(FlatEntry::Skipped(end)) => {
+                    mops.clear();
                     offset = end;
                     skipped = with_one_more(skipped, opener);
                 }
@@ -218,21 +212,30 @@ impl<'a> OpReader<'a> {
         ensures shape { IfOk result (λ found. IfSome found (IsShapeIn self.old.state.text)) }
         ensures text { self.new.state.text ≡ self.old.state.text }
     {
-        match self.flat_op() {
+        let mut mops = SmallVec::new(self.alloc);
+        match self.flat_op(&mut mops) {
             Ok(None) => self.any_op(),
-            Ok(Some(shape)) => Ok(Some(shape)),
+            Ok(Some(operation)) => Ok(Some(OpShape {
+                span: operation.span,
+                kind: operation.kind,
+                process: operation.process,
+                mops,
+            })),
             Err(fault) => Err(fault),
         }
     }
 
-    /// The next operation, if it can be read in one pass. Else the reader is unchanged.
-    fn flat_op(&mut self) -> Result<Option<OpShape>, Fault>
-        ensures { FlatNext self.old result self.new }
+    /// The next operation, whose micro-operations are read into the empty list, if it can be read in one pass. Else the reader is
+    /// unchanged.
+    #[inline(always)]
+    fn flat_op(&mut self, mops: &mut Mops) -> Result<Option<FlatOperation>, Fault>
+        requires { mops.old.items ≡ [] }
+        ensures { FlatNext self.old (result_with mops.new result) self.new }
     {
         if self.ended || self.failed.is_some() {
             return Ok(None);
         }
-        self.place.flat_op(self.alloc)
+        self.place.flat_op(mops)
     }
 
     /// The next operation, whatever form it has.

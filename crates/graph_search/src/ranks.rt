@@ -1,7 +1,7 @@
 //! Ranks of vertices, which don't fall along any arc.
 
 ghost use Rattle.std.specs.Prelude.{◌≡◌, ◌↔◌, ℕ, ◌<◌, ◌≤◌, List, length, slice_index, IfOk, IsTrue};
-ghost use Rattle.graph_search.specs.Graphs.{AreRanks, HasArc, of_rank};
+ghost use Rattle.graph_search.specs.Graphs.{Graph, AreRanks, HasArc, of_rank};
 
 use crate::arcs::{Arcs, Vertices};
 use crate::components::component_ranks;
@@ -34,6 +34,14 @@ impl Ranks {
         if !never_fall(graph, &ranks) {
             ranks.fill(0);
         }
+        Ok(Ranks { ranks })
+    }
+
+    /// One rank for all of n vertices, which falls along no arc of any graph.
+    pub fn flat(alloc: Global, vertices: usize) -> Result<Ranks, AllocError>
+        ensures { (graph : Graph) → graph.count ≡ vertices → IfOk result (AreRanks graph) }
+    {
+        let ranks = vec![in alloc; 0; vertices]?;
         Ok(Ranks { ranks })
     }
 

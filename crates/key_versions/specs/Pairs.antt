@@ -1,7 +1,7 @@
 -- The version pairs of a history, by the followers of its versions.
 --
--- Where keys are basic, a node installs the later version of each pair. Where they are sequential, a
--- process may also have gone to a version that no node installs: one that its transaction wrote
+-- Where keys are basic, a node installs the later version of each pair. Where they are sequential,
+-- a process may also have gone to a version that no node installs: one that its transaction wrote
 -- over, or that nobody wrote.
 use Rattle.std.specs.Prelude.{◌≡◌, ℕ, List, Some, slice_get, Contains, IsTrue}
 use Rattle.hist_types.specs.Transactions.{Transaction, is_node, nodes, installs}

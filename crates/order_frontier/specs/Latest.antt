@@ -1,4 +1,5 @@
--- What is kept of the ok transactions so far, and what it says comes before a transaction that is invoked now.
+-- What is kept of the ok transactions so far, and what it says comes before a transaction that is
+-- invoked now.
 use Rattle.std.specs.Prelude.{ℕ, ◌+◌, ◌-◌, List, length}
 use Rattle.process_map.specs.Values.{value_of}
 use Rattle.std.specs.Option.{option_to_list}
@@ -12,7 +13,8 @@ use Rattle.order_frontier.specs.declared.types.Row.{Row}
 abbrev pub last_of : Moving → ℕ → List Predecessor
 last_of moving process = option_to_list (value_of moving.last process)
 
--- what comes before a transaction: the last one of its process, and in real time all that none has passed
+-- what comes before a transaction: the last one of its process, and in real time all that none has
+-- passed
 abbrev pub before_next : Moving → (process invocation : ℕ) → Before
 before_next moving process invocation =
     record {
@@ -22,8 +24,8 @@ before_next moving process invocation =
       in_realtime = moving.recent.items;
     }
 
--- the same, as ranges: of what is listed for processes with the last one of its process after it, and of those that were
--- taken, as many as none has passed
+-- the same, as ranges: of what is listed for processes with the last one of its process after it,
+-- and of those that were taken, as many as none has passed
 abbrev pub row_next : Moving → Transaction → (listed taken : ℕ) → Row
 row_next moving t listed taken =
     record {

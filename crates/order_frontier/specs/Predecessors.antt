@@ -12,7 +12,8 @@ use Rattle.hist_types.specs.declared.types.Level.TheVariants.{Plain, Process, Re
 use Rattle.order_frontier.specs.declared.types.Predecessor.{Predecessor}
 use Rattle.order_frontier.specs.Completions.{all_completed, frontier_of}
 
--- a transaction, by its process and the index of its invocation, and what comes before it in its process and in real time
+-- a transaction, by its process and the index of its invocation, and what comes before it in its
+-- process and in real time
 pub record Before : Type 0 where
   pub process : ℕ
   pub invocation : ℕ

@@ -40,7 +40,8 @@ abbrev pub AreFrontierOf : Summary → List Predecessor → Type 0
 AreFrontierOf s ps =
     (events : List Operation) → IsSummaryOf events s → AreFrontier (transactions_of events) ps
 
--- whatever the events, the thinned predecessors of a transaction that the process invokes next, each once
+-- whatever the events, the thinned predecessors of a transaction that the process invokes next,
+-- each once
 abbrev pub AreThinnedNext : Summary → (process : ℕ) → Before → Type 0
 AreThinnedNext s process before =
     (events : List Operation) (mops : List Mop) → IsSummaryOf events s

@@ -1,11 +1,9 @@
 -- What searches in the graph of a history over its thinned order say of the history's phenomena.
-use Rattle.std.proofs.Common.{◌≡◌, inl, inr, ◌<◌, ◌≤◌, ◌↔◌, Bool, true, List, ◌++◌, Option, Some, None, sym, subst, arith, Contains}
-use Rattle.std.specs.Bool.{OnTrue}
-use Rattle.std.specs.Option.{is_none}
+use Rattle.std.proofs.Common.{◌≡◌, ◌⊎◌, inl, inr, ◌<◌, ◌≤◌, ◌+◌, ◌↔◌, List, ◌++◌, Option, Some, None, ℕ, refl, sym, subst, arith, Contains}
 use Rattle.std.proofs.lemmas.List.Elements.{All-weaker}
 use Rattle.hist_types.specs.Edges.{Edge, dependency_edges, order_edges, edges_at}
 use Rattle.hist_types.specs.ThinnedOrder.{thinned_edges}
-use Rattle.hist_types.specs.Phenomena.{height, Shows, IsThere, IsShownBy}
+use Rattle.hist_types.specs.Phenomena.{height, Shows, IsThere, IsShownBy, IsLowestLevel}
 use Rattle.hist_types.specs.Transactions.{Transaction, transactions_of}
 use Rattle.hist_types.specs.Witness.{Finding, IsWitness, IsFinding}
 use Rattle.hist_types.specs.declared.types.Level.{Level}
@@ -16,15 +14,14 @@ use Rattle.hist_types.proofs.Members.{in_from_Contains, Contains_from_in, in_fro
 use Rattle.history_laws.proofs.OrderEdges.{thinned_edges-order}
 use Rattle.history_laws.proofs.ThinningCycles.{has_above}
 use Rattle.history_laws.proofs.ThinningWalks.{has_thinned}
-use Rattle.cycle_find.specs.Found.{IsFound, ShowNothing}
-use Rattle.cycle_show.specs.Reductions.{IsWitnessOf}
 use Rattle.dep_edges.specs.Histories.{AreOfHistory}
 use Rattle.order_frontier.specs.Predecessors.{Before, AreOfEvents}
+use Rattle.cycle_find.specs.Tasks.{Site, site_of}
 use Rattle.edge_graph.specs.Parts.{Parts, IsOrderOf, IsMadeOf, edges_in}
 use Rattle.edge_graph.proofs.EdgesIn.{of_thinned}
 use Rattle.edge_graph.proofs.Orderings.{thinned_order}
-use Rattle.verdict.specs.Lowest.{IsThinned, IsThinnedOrder, IsLowest}
-use Rattle.hist_types.specs.Reports.{Findings, AreFindings, no_findings}
+use Rattle.hist_types.specs.Reports.{Findings, AreFindings}
+use Rattle.verdict.specs.Lowest.{IsThinned, IsThinnedOrder, IsReducedTo, IsFoundBelow, AreFoundBelow}
 use Rattle.hist_types.specs.declared.types.KeyOrder.{KeyOrder}
 
 -- ---- one search
@@ -86,117 +83,145 @@ pub absent_everywhere :
     (g : Parts) (phenomenon : Phenomenon)
     → IsThinned g
     → ¬ IsShownBy phenomenon (edges_in g Realtime)
-    → IsLowest g.keys phenomenon g.txns None
+    → IsFinding g.keys phenomenon g.txns None
 absent_everywhere g phenomenon thinned none =
     (λ level has. absent g phenomenon Realtime thinned none (has_above g.keys phenomenon level Realtime g.txns (highest level) has), tt)
 
--- what is not found at real time is there at no level
-pub ruled_out :
-    (g : Parts) (phenomenon : Phenomenon) (found : Option (List Edge))
+at_or_below : (lower level : Level) → height lower < height level + 1 → (lower ≡ level) ⊎ (height lower < height level)
+at_or_below Plain Plain h = inl refl
+at_or_below Plain Process h = inr (omega arith)
+at_or_below Plain Realtime h = inr (omega arith)
+at_or_below Process Plain h = absurd (omega (arith, h))
+at_or_below Process Process h = inl refl
+at_or_below Process Realtime h = inr (omega arith)
+at_or_below Realtime Plain h = absurd (omega (arith, h))
+at_or_below Realtime Process h = absurd (omega (arith, h))
+at_or_below Realtime Realtime h = inl refl
+
+-- ---- level by level
+
+-- what isn't shown at the next level either
+pub absent_at :
+    (g : Parts) (phenomenon : Phenomenon) (level : Level) (found : Option Finding)
     → IsThinned g
-    → IsFound phenomenon (edges_in g Realtime) found
-    → OnTrue (is_none found) (IsLowest g.keys phenomenon g.txns None)
-ruled_out g phenomenon None thinned none = absent_everywhere g phenomenon thinned none
-ruled_out g phenomenon (Some walk) thinned shown = tt
+    → IsFoundBelow (height level) g phenomenon found
+    → ¬ IsShownBy phenomenon (edges_in g level)
+    → IsFoundBelow (height level + 1) g phenomenon found
+absent_at g phenomenon level None thinned below none =
+    λ lower h has. elim (at_or_below lower level h) [
+      | inl same ↦ absent g phenomenon level thinned none (subst (λ l. IsThere g.keys phenomenon l g.txns) same has)
+      | inr under ↦ below lower under has
+    ]
+absent_at g phenomenon level (Some f) thinned below none = below
 
-pub lowest_at_plain :
-    (g : Parts) (phenomenon : Phenomenon) (walk : List Edge)
+-- what is shown there first
+pub found_at :
+    (g : Parts) (phenomenon : Phenomenon) (level : Level) (walk : List Edge) (f : Finding)
     → IsThinned g
-    → Shows phenomenon (edges_in g Plain) walk
-    → IsLowest g.keys phenomenon g.txns (Some (record { level = Plain; walk = walk }))
-lowest_at_plain g phenomenon walk thinned s =
-    let there = shown g phenomenon Plain walk thinned s in
-    (((walk, there), λ lower below has. elim (none_below lower below) [ ]), there)
-  where
-    none_below : (lower : Level) → height lower < height Plain → ⊥
-    none_below Plain below = omega (arith, below)
-    none_below Process below = omega (arith, below)
-    none_below Realtime below = omega (arith, below)
-
-pub lowest_at_process :
-    (g : Parts) (phenomenon : Phenomenon) (walk : List Edge)
-    → IsThinned g
-    → ¬ IsShownBy phenomenon (edges_in g Plain)
-    → Shows phenomenon (edges_in g Process) walk
-    → IsLowest g.keys phenomenon g.txns (Some (record { level = Process; walk = walk }))
-lowest_at_process g phenomenon walk thinned none s =
-    let there = shown g phenomenon Process walk thinned s in
-    (((walk, there), none_below g phenomenon (absent g phenomenon Plain thinned none)), there)
-  where
-    none_below :
-        (g : Parts) (phenomenon : Phenomenon)
-        → ¬ IsThere g.keys phenomenon Plain g.txns
-        → (lower : Level)
-        → height lower < height Process
-        → ¬ IsThere g.keys phenomenon lower g.txns
-    none_below g phenomenon plain Plain below has = plain has
-    none_below g phenomenon plain Process below has = omega (arith, below)
-    none_below g phenomenon plain Realtime below has = omega (arith, below)
-
-pub lowest_at_realtime :
-    (g : Parts) (phenomenon : Phenomenon) (walk : List Edge)
-    → IsThinned g
-    → ¬ IsShownBy phenomenon (edges_in g Plain)
-    → ¬ IsShownBy phenomenon (edges_in g Process)
-    → Shows phenomenon (edges_in g Realtime) walk
-    → IsLowest g.keys phenomenon g.txns (Some (record { level = Realtime; walk = walk }))
-lowest_at_realtime g phenomenon walk thinned not_plain not_process s =
-    let there = shown g phenomenon Realtime walk thinned s in
-    (((walk, there), none_below g phenomenon (absent g phenomenon Plain thinned not_plain) (absent g phenomenon Process thinned not_process)), there)
-  where
-    none_below :
-        (g : Parts) (phenomenon : Phenomenon)
-        → ¬ IsThere g.keys phenomenon Plain g.txns
-        → ¬ IsThere g.keys phenomenon Process g.txns
-        → (lower : Level)
-        → height lower < height Realtime
-        → ¬ IsThere g.keys phenomenon lower g.txns
-    none_below g phenomenon plain process Plain below has = plain has
-    none_below g phenomenon plain process Process below has = process has
-    none_below g phenomenon plain process Realtime below has = omega (arith, below)
-
--- ---- findings
-
-pub finding_of_none :
-    (keys : KeyOrder) (phenomenon : Phenomenon) (ts : List Transaction)
-    → IsLowest keys phenomenon ts None
-    → IsFinding keys phenomenon ts None
-finding_of_none keys phenomenon ts none = none
-
--- the walk at the lowest level, reduced to a witness
-pub finding_of_lowest :
-    (g : Parts) (phenomenon : Phenomenon) (lowest : Finding) (witness : List Edge)
-    → IsThinned g
-    → IsLowest g.keys phenomenon g.txns (Some lowest)
-    → IsWitnessOf lowest.walk witness
-    → IsFinding g.keys phenomenon g.txns (Some (record { level = lowest.level; walk = witness }))
-finding_of_lowest g phenomenon lowest witness thinned is reduced =
+    → IsFoundBelow (height level) g phenomenon None
+    → Shows phenomenon (edges_in g level) walk
+    → IsReducedTo level walk f
+    → IsFinding g.keys phenomenon g.txns (Some f)
+found_at g phenomenon level walk f thinned below shows (same_level, reduced) =
     let (events, same) = thinned.events in
-    let there : Shows phenomenon (edges_at g.keys lowest.level (transactions_of events)) lowest.walk =
-    subst (λ ts. Shows phenomenon (edges_at g.keys lowest.level ts) lowest.walk) same is.1 in
-    let told : IsWitness g.keys phenomenon lowest.level g.txns witness =
-    subst (λ ts. IsWitness g.keys phenomenon lowest.level ts witness) (sym same) (reduced g.keys phenomenon lowest.level events there) in
-    (is.0, told)
+    let there = shown g phenomenon level walk thinned shows in
+    let of_events : Shows phenomenon (edges_at g.keys level (transactions_of events)) walk =
+    subst (λ ts. Shows phenomenon (edges_at g.keys level ts) walk) same there in
+    let told : IsWitness g.keys phenomenon level g.txns f.walk =
+    subst (λ ts. IsWitness g.keys phenomenon level ts f.walk) (sym same) (reduced g.keys phenomenon level events of_events) in
+    let lowest : IsLowestLevel g.keys phenomenon g.txns (Some level) = ((walk, there), below) in (
+      subst (λ l. IsLowestLevel g.keys phenomenon g.txns (Some l)) (sym same_level) lowest,
+      subst (λ l. IsWitness g.keys phenomenon l g.txns f.walk) (sym same_level) told,
+    )
 
-pub nothing_found : (g : Parts) → IsThinned g → ShowNothing (edges_in g Realtime) → AreFindings g.keys g.txns no_findings
-nothing_found g thinned nothing G0 = finding_of_none g.keys G0 g.txns (absent_everywhere g G0 thinned (nothing G0))
-nothing_found g thinned nothing G1c = finding_of_none g.keys G1c g.txns (absent_everywhere g G1c thinned (nothing G1c))
-nothing_found g thinned nothing GSingle = finding_of_none g.keys GSingle g.txns (absent_everywhere g GSingle thinned (nothing GSingle))
-nothing_found g thinned nothing G2Item = finding_of_none g.keys G2Item g.txns (absent_everywhere g G2Item thinned (nothing G2Item))
-
--- the ranks of the graph rule out cycles
-pub ruled_out_by_ranks :
-    (g ranked : Parts) (out : Bool) (found : Findings)
+-- the same by what a search at the level answers
+pub found_next :
+    (g : Parts) (site : Site) (phenomenon : Phenomenon) (before : Option Finding) (walk : List Edge) (f : Finding)
     → IsThinned g
-    → ranked ≡ g
-    → out ≡ true
-    → OnTrue out (ShowNothing (edges_in ranked Realtime))
-    → found ≡ no_findings
-    → AreFindings g.keys g.txns found
-ruled_out_by_ranks g ranked out found thinned same is_out settled none =
-    let nothing : ShowNothing (edges_in ranked Realtime) = subst (λ x. OnTrue x (ShowNothing (edges_in ranked Realtime))) is_out settled in
-    subst (AreFindings g.keys g.txns) (sym none)
-    (nothing_found g thinned (subst (λ (p : Parts). ShowNothing (edges_in p Realtime)) same nothing))
+    → site.graph ≡ g
+    → before ≡ None
+    → IsFoundBelow (height site.level) g phenomenon before
+    → Shows phenomenon (edges_in site.graph site.level) walk
+    → IsReducedTo site.level walk f
+    → IsFinding g.keys phenomenon g.txns (Some f)
+found_next g site phenomenon before walk f thinned same none below shows reduced =
+    found_at g phenomenon site.level walk f thinned (subst (IsFoundBelow (height site.level) g phenomenon) none below)
+    (subst (λ (p : Parts). Shows phenomenon (edges_in p site.level) walk) same shows) reduced
+
+pub absent_next :
+    (g : Parts) (site : Site) (phenomenon : Phenomenon) (before : Option Finding)
+    → IsThinned g
+    → site.graph ≡ g
+    → IsFoundBelow (height site.level) g phenomenon before
+    → ¬ IsShownBy phenomenon (edges_in site.graph site.level)
+    → IsFoundBelow (height site.level + 1) g phenomenon before
+absent_next g site phenomenon before thinned same below none =
+    absent_at g phenomenon site.level before thinned below (subst (λ (p : Parts). ¬ IsShownBy phenomenon (edges_in p site.level)) same none)
+
+-- a search's graph is the one at the level
+pub at_site :
+    (g : Parts) (site : Site) (level : Level) (phenomenon : Phenomenon) (found : Option Finding)
+    → site ≡ site_of g level
+    → IsFoundBelow (height level) g phenomenon found
+    → IsFoundBelow (height site.level) g phenomenon found
+at_site g site level phenomenon found same = subst (λ (s : Site). IsFoundBelow (height s.level) g phenomenon found) (sym same)
+
+pub from_site :
+    (g : Parts) (site : Site) (level : Level) (phenomenon : Phenomenon) (found : Option Finding)
+    → site ≡ site_of g level
+    → IsFoundBelow (height site.level + 1) g phenomenon found
+    → IsFoundBelow (height level + 1) g phenomenon found
+from_site g site level phenomenon found same = subst (λ (s : Site). IsFoundBelow (height s.level + 1) g phenomenon found) same
+
+pub each_of_four :
+    (top : ℕ) (g : Parts) (found : Findings)
+    → IsFoundBelow top g G0 found.g0
+    → IsFoundBelow top g G1c found.g1c
+    → IsFoundBelow top g GSingle found.single
+    → IsFoundBelow top g G2Item found.item
+    → AreFoundBelow top g found
+each_of_four top g found g0 g1c single item G0 = g0
+each_of_four top g found g0 g1c single item G1c = g1c
+each_of_four top g found g0 g1c single item GSingle = single
+each_of_four top g found g0 g1c single item G2Item = item
+
+pub four_findings :
+    (keys : KeyOrder) (ts : List Transaction) (found : Findings)
+    → IsFinding keys G0 ts found.g0
+    → IsFinding keys G1c ts found.g1c
+    → IsFinding keys GSingle ts found.single
+    → IsFinding keys G2Item ts found.item
+    → AreFindings keys ts found
+four_findings keys ts found g0 g1c single item G0 = g0
+four_findings keys ts found g0 g1c single item G1c = g1c
+four_findings keys ts found g0 g1c single item GSingle = single
+four_findings keys ts found g0 g1c single item G2Item = item
+
+-- what is ruled out at real time is found, or at no level
+pub ruled_out :
+    (top : ℕ) (g : Parts) (phenomenon : Phenomenon) (found : Option Finding)
+    → IsThinned g
+    → ¬ IsShownBy phenomenon (edges_in g Realtime)
+    → IsFoundBelow top g phenomenon found
+    → IsFinding g.keys phenomenon g.txns found
+ruled_out top g phenomenon None thinned none below = absent_everywhere g phenomenon thinned none
+ruled_out top g phenomenon (Some f) thinned none below = below
+
+-- what is found is so below any height
+pub is_below :
+    (top : ℕ) (g : Parts) (phenomenon : Phenomenon) (found : Option Finding)
+    → IsFinding g.keys phenomenon g.txns found
+    → IsFoundBelow top g phenomenon found
+is_below top g phenomenon None is = λ level h. is.0 level
+is_below top g phenomenon (Some f) is = is
+
+-- below the height of all levels, that is what is found
+pub is_finding :
+    (g : Parts) (phenomenon : Phenomenon) (found : Option Finding)
+    → IsFoundBelow (height Realtime + 1) g phenomenon found
+    → IsFinding g.keys phenomenon g.txns found
+is_finding g phenomenon None below = (λ level. below level (omega (arith, highest level)), tt)
+is_finding g phenomenon (Some f) below = below
 
 -- ---- the graph
 

@@ -1,196 +1,129 @@
 //! Searches for the lowest level of each phenomenon that cycles show.
 
-ghost use Rattle.std.specs.Prelude.{◌≡◌, None, IfOk, IfErr};
-ghost use Rattle.std.specs.Bool.{OnTrue};
+ghost use Rattle.std.specs.Prelude.{◌≡◌, ◌+◌, ℕ, None, IfOk, IfErr};
+ghost use Rattle.std.specs.Bool.{OnTrue, OnFalse};
 ghost use Rattle.dep_edges.specs.Histories.{AreOfHistory};
+ghost use Rattle.hist_types.specs.Phenomena.{height};
 ghost use Rattle.hist_types.specs.Refusals.{memory_fault};
-ghost use Rattle.hist_types.specs.Witness.{IsFinding};
-ghost use Rattle.verdict.specs.Lowest.{IsThinnedOrder, IsThinned, IsLowest, AreFindingsOfTwo};
 ghost use Rattle.hist_types.specs.Reports.{AreFindings};
+ghost use Rattle.hist_types.specs.Witness.{IsFinding};
+ghost use Rattle.verdict.specs.Lowest.{IsThinnedOrder, IsThinned, IsReducedTo, IsFoundBelow, AreFoundBelow};
 
 use clean_order::settles;
 use cycle_find::ranked_graph::RankedGraph;
+use cycle_find::ranked_level::RankedLevel;
 use cycle_find::types::Walk;
 use cycle_show::tighten;
 use dep_edges::deps::Deps;
 use edge_graph::graph::Graph;
-use edge_graph::threads::try_join;
 use hist_types::types::{Fault, Level, Phenomenon};
 use order_frontier::thin;
 use order_frontier::types::Order;
 use report_text::report::{Finding, Findings};
 use std::alloc::Global;
-use std::marker::Model;
 use std::thread::Threads;
 use txn_pairs::types::Txns;
 
-/// The lowest level of a phenomenon, with a closed walk that shows it there.
-#[derive(Drop)]
-struct Lowest<'a> {
-    level: Level,
-    walk: Walk<'a>,
-}
-
-impl<'a> Model for Lowest<'a> {
-    ghost use Rattle.hist_types.specs.Witness.{Finding as AFinding};
-
-    ghost Value = { AFinding };
-
-    ghost view = { λ l. record { level = l.level; walk = l.walk } };
-}
-
-/// Whether a search settles that the phenomenon is there at no level. It is made for G0 and G1c alone, which all but the
-/// weakest isolation rules out; where it isn't made, that says nothing.
-fn is_ruled_out(graph: &RankedGraph<'_, '_, '_, '_>, phenomenon: Phenomenon) -> Result<bool, Fault>
-    requires { IsThinned graph.now }
-    ensures ok { IfOk result (λ out. OnTrue out (IsLowest graph.now.keys phenomenon graph.now.txns None)) }
+/// A closed walk that shows a phenomenon at a level, reduced to a witness.
+fn reduced<'a>(alloc: Global, level: Level, walk: &Walk<'a>) -> Result<Finding<'a>, Fault>
+    ensures ok { IfOk result (IsReducedTo level walk.now) }
     ensures err { IfErr result (λ fault. fault ≡ memory_fault) }
 {
-    match phenomenon {
-        // What is there at some level is there at the highest one.
-        Phenomenon::G0 | Phenomenon::G1c => Ok(graph.find(phenomenon, Level::Realtime)?.is_none()),
-        Phenomenon::GSingle | Phenomenon::G2Item => Ok(false),
-    }
+    let witness = tighten(alloc, walk)?;
+    Ok(Finding { level, witness })
 }
 
-/// The lowest level of the phenomenon, if it is there at any.
-fn find_lowest<'a>(
-    graph: &RankedGraph<'_, '_, '_, 'a>,
+/// Whether a phenomenon is neither found nor ruled out.
+fn is_open(
+    graph: &RankedGraph<'_, '_, '_, '_>,
     phenomenon: Phenomenon,
-) -> Result<Option<Lowest<'a>>, Fault>
+    found: &Option<Finding<'_>>,
+) -> bool
     requires { IsThinned graph.now }
-    ensures ok { IfOk result (IsLowest graph.now.keys phenomenon graph.now.txns) }
-    ensures err { IfErr result (λ fault. fault ≡ memory_fault) }
+    ensures open { OnTrue result (found.now ≡ None) }
+    ensures settled { (top : ℕ) → IsFoundBelow top graph.now phenomenon found.now
+        → OnFalse result (IsFinding graph.now.keys phenomenon graph.now.txns found.now) }
 {
-    if is_ruled_out(graph, phenomenon)? {
-        return Ok(None);
-    }
-    if let Some(walk) = graph.find(phenomenon, Level::Plain)? {
-        return Ok(Some(Lowest {
-            level: Level::Plain,
-            walk,
-        }));
-    }
-    // What is there at some level is there at the highest one.
-    let Some(highest) = graph.find(phenomenon, Level::Realtime)? else {
-        return Ok(None);
-    };
-    if let Some(walk) = graph.find(phenomenon, Level::Process)? {
-        return Ok(Some(Lowest {
-            level: Level::Process,
-            walk,
-        }));
-    }
-    Ok(Some(Lowest {
-        level: Level::Realtime,
-        walk: highest,
-    }))
+    found.is_none() && !graph.rules_out(phenomenon)
 }
 
-/// What is found of the phenomenon.
-fn find_phenomenon<'a>(
+/// What is found of a phenomenon up to a level, by what was found below it.
+fn find_at<'a>(
     alloc: Global,
-    graph: &RankedGraph<'_, '_, '_, 'a>,
+    graph: &RankedGraph<'_, '_, '_, '_>,
+    ranked: &RankedLevel<'_, '_, '_, 'a>,
     phenomenon: Phenomenon,
+    found: Option<Finding<'a>>,
 ) -> Result<Option<Finding<'a>>, Fault>
-    requires { IsThinned graph.now }
-    ensures ok { IfOk result (IsFinding graph.now.keys phenomenon graph.now.txns) }
+    requires thinned { IsThinned graph.now }
+    requires same { ranked.now.graph ≡ graph.now }
+    requires below { IsFoundBelow (height ranked.now.level) graph.now phenomenon found }
+    ensures ok { IfOk result (IsFoundBelow (height ranked.now.level + 1) graph.now phenomenon) }
     ensures err { IfErr result (λ fault. fault ≡ memory_fault) }
 {
-    let Some(lowest) = find_lowest(graph, phenomenon)? else {
-        return Ok(None);
-    };
-    let witness = tighten(alloc, &lowest.walk)?;
-    Ok(Some(Finding {
-        level: lowest.level,
-        witness,
-    }))
+    if !is_open(graph, phenomenon, &found) {
+        return Ok(found);
+    }
+    match ranked.find(phenomenon)? {
+        Some(walk) => Ok(Some(reduced(alloc, ranked.level(), &walk)?)),
+        None => Ok(None),
+    }
 }
 
-/// What is found of the four phenomena.
-fn find_four<'a>(alloc: Global, graph: &RankedGraph<'_, '_, '_, 'a>) -> Result<Findings<'a>, Fault>
+/// Whether one of the phenomena is neither found nor ruled out.
+fn is_one_open(graph: &RankedGraph<'_, '_, '_, '_>, found: &Findings<'_>) -> bool
     requires { IsThinned graph.now }
-    ensures ok { IfOk result (AreFindings graph.now.keys graph.now.txns) }
-    ensures err { IfErr result (λ fault. fault ≡ memory_fault) }
+    ensures { (top : ℕ) → AreFoundBelow top graph.now found.now
+        → OnFalse result (AreFindings graph.now.keys graph.now.txns found.now) }
 {
-    Ok(Findings {
-        g0: find_phenomenon(alloc, graph, Phenomenon::G0)?,
-        g1c: find_phenomenon(alloc, graph, Phenomenon::G1c)?,
-        single: find_phenomenon(alloc, graph, Phenomenon::GSingle)?,
-        item: find_phenomenon(alloc, graph, Phenomenon::G2Item)?,
-    })
+    if is_open(graph, Phenomenon::G0, &found.g0) {
+        return true;
+    }
+    if is_open(graph, Phenomenon::G1c, &found.g1c) {
+        return true;
+    }
+    if is_open(graph, Phenomenon::GSingle, &found.single) {
+        return true;
+    }
+    is_open(graph, Phenomenon::G2Item, &found.item)
 }
 
-/// What is found of two phenomena, each searched for by a thread of its own if another can be started.
-fn find_two_wide<'a, R: Threads>(
-    rt: &R,
+/// What is found up to a level, by what was found below it.
+fn find_up_to<'a>(
     alloc: Global,
     graph: &RankedGraph<'_, '_, '_, 'a>,
-    first: Phenomenon,
-    second: Phenomenon,
-) -> Result<(Option<Finding<'a>>, Option<Finding<'a>>), Fault>
-    requires { IsThinned graph.now }
-    ensures ok { IfOk result (AreFindingsOfTwo graph.now.keys first second graph.now.txns) }
-    ensures err { IfErr result (λ fault. fault ≡ memory_fault) }
-{
-    try_join(
-        rt,
-        &mut || find_phenomenon(alloc, graph, first),
-        &mut || find_phenomenon(alloc, graph, second),
-    )
-}
-
-/// As `find_four`, with a thread for each phenomenon if others can be started.
-fn find_four_wide<'a, R: Threads + Sync>(
-    rt: &R,
-    alloc: Global,
-    graph: &RankedGraph<'_, '_, '_, 'a>,
+    level: Level,
+    found: Findings<'a>,
 ) -> Result<Findings<'a>, Fault>
-    requires { IsThinned graph.now }
-    ensures ok { IfOk result (AreFindings graph.now.keys graph.now.txns) }
+    requires thinned { IsThinned graph.now }
+    requires below { AreFoundBelow (height level) graph.now found }
+    ensures ok { IfOk result (AreFoundBelow (height level + 1) graph.now) }
     ensures err { IfErr result (λ fault. fault ≡ memory_fault) }
 {
-    let ((g0, g1c), (single, item)) = try_join(
-        rt,
-        &mut || find_two_wide(rt, alloc, graph, Phenomenon::G0, Phenomenon::G1c),
-        &mut || find_two_wide(rt, alloc, graph, Phenomenon::GSingle, Phenomenon::G2Item),
-    )?;
+    if !is_one_open(graph, &found) {
+        return Ok(found);
+    }
+    let Some(ranked) = graph.at(level)? else {
+        return Ok(found);
+    };
     Ok(Findings {
-        g0,
-        g1c,
-        single,
-        item,
+        g0: find_at(alloc, graph, &ranked, Phenomenon::G0, found.g0)?,
+        g1c: find_at(alloc, graph, &ranked, Phenomenon::G1c, found.g1c)?,
+        single: find_at(alloc, graph, &ranked, Phenomenon::GSingle, found.single)?,
+        item: find_at(alloc, graph, &ranked, Phenomenon::G2Item, found.item)?,
     })
 }
 
-/// What is found of each phenomenon.
+/// What is found of each phenomenon, at its lowest level.
 fn find_each<'a>(alloc: Global, graph: &Graph<'_, '_, 'a>) -> Result<Findings<'a>, Fault>
     requires { IsThinned graph.now }
     ensures ok { IfOk result (AreFindings graph.now.keys graph.now.txns) }
     ensures err { IfErr result (λ fault. fault ≡ memory_fault) }
 {
     let graph = RankedGraph::new(alloc, graph)?;
-    if graph.rules_out_cycles() {
-        return Ok(Findings::none());
-    }
-    find_four(alloc, &graph)
-}
-
-/// As `find_each`, with a few threads if others can be started.
-fn find_each_wide<'a, R: Threads + Sync>(
-    rt: &R,
-    alloc: Global,
-    graph: &Graph<'_, '_, 'a>,
-) -> Result<Findings<'a>, Fault>
-    requires { IsThinned graph.now }
-    ensures ok { IfOk result (AreFindings graph.now.keys graph.now.txns) }
-    ensures err { IfErr result (λ fault. fault ≡ memory_fault) }
-{
-    let graph = RankedGraph::new_wide(rt, alloc, graph)?;
-    if graph.rules_out_cycles() {
-        return Ok(Findings::none());
-    }
-    find_four_wide(rt, alloc, &graph)
+    let at_plain = find_up_to(alloc, &graph, Level::Plain, Findings::none())?;
+    let at_process = find_up_to(alloc, &graph, Level::Process, at_plain)?;
+    find_up_to(alloc, &graph, Level::Realtime, at_process)
 }
 
 /// The graph of a history over its thinned order, and what is found in it.
@@ -225,7 +158,7 @@ fn findings_in_graph_wide<'a, R: Threads + Sync>(
     ensures err { IfErr result (λ fault. fault ≡ memory_fault) }
 {
     let graph = Graph::new_wide(rt, alloc, deps, order)?;
-    find_each_wide(rt, alloc, &graph)
+    find_each(alloc, &graph)
 }
 
 /// What is found of the phenomena that cycles show. Where the history settles, no order is thinned and no graph is made.

@@ -94,10 +94,7 @@ step_alone o t = refuse_if (in_operation_place o) NotAMap t.start >>= λ _. Ok (
 
 -- the token of an atom stands alone
 atom_step : (a : Atom) (o : Open) (t : Item) → step_by (token_kind a) o t ≡ step_alone o t
-atom_step (integer n) o t = refl
-atom_step (keyword s) o t = refl
-atom_step (string content) o t = refl
-atom_step (symbol s) o t = refl
+atom_step a o t = grind arith
 
 -- and so does that of a value
 pub value_step : (v : Value) (o : Open) (t : Item) → step_by (value_kind v) o t ≡ step_alone o t
@@ -119,17 +116,11 @@ atom_back (symbol s) h = refl
 
 -- and is no nil
 pub atom_no_nil : (a : Atom) → is_nil_kind (token_kind a) ≡ false
-atom_no_nil (integer n) = refl
-atom_no_nil (keyword s) = refl
-atom_no_nil (string content) = refl
-atom_no_nil (symbol s) = refl
+atom_no_nil a = grind arith
 
 -- an atom's token opens and closes nothing
 atom_open : (a : Atom) (bytes closers : List ℕ) → open_after (token_kind a) bytes closers ≡ closers
-atom_open (integer n) bytes closers = refl
-atom_open (keyword s) bytes closers = refl
-atom_open (string content) bytes closers = refl
-atom_open (symbol s) bytes closers = refl
+atom_open a bytes closers = grind arith
 
 -- nor does a value's
 value_open : (v : Value) (bytes closers : List ℕ) → open_after (value_kind v) bytes closers ≡ closers

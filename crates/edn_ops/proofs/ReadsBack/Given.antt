@@ -78,8 +78,7 @@ value_can t None means e = tt
 value_can t (Some a) means e = means a e
 
 mop_can : (key value : Item) (m : Mop) → ItemMeans key → ItemMeans value → SpellsParts key value m → MopCanBeRead m
-mop_can key value (read k v) first second spells = (first k spells.0, value_can value v second spells.1)
-mop_can key value (write k v) first second spells = (first k spells.0, second v spells.1)
+mop_can key value m h g k = grind arith
 
 mops_can : (mops : List PlacedMop) → AllByRecursion (IsSpelled ItemMeans) mops → All MopCanBeRead (map (λ (m : PlacedMop). m.mop) mops)
 mops_can [] all = All-nil MopCanBeRead

@@ -209,8 +209,7 @@ none_or_some x e = cc
 
 -- what a mapped option that is there came from
 pub mapped_some : {A B : Type 0} (f : A → B) (o : Option A) (y : B) → option_map f o ≡ Some y → (x : A) × (o ≡ Some x) × (f x ≡ y)
-mapped_some f None y e = absurd (none_or_some y e)
-mapped_some f (Some x) y e = (x, refl, cc)
+mapped_some f o y x = grind arith
 
 -- where the closing quote stands
 pub content_end : (taken : Bool) (text : List ℕ) (n : ℕ) → content_len taken text ≡ Some n → (n < length text) × (get_or text n 0 ≡ quote)

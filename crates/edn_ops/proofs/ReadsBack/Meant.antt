@@ -66,8 +66,7 @@ high_taken (b ∷ bs) text c l h e =
 
 -- what a step of two came from
 and_then_some : {A B : Type 0} (o : Option A) (f : A → Option B) (y : B) → option_and_then f o ≡ Some y → (x : A) × (o ≡ Some x) × (f x ≡ Some y)
-and_then_some None f y e = absurd (none_or_some y e)
-and_then_some (Some x) f y e = (x, refl, e)
+and_then_some o f y x = grind arith
 
 -- a byte below 128 in front keeps it UTF-8
 onto_utf8 : (b : ℕ) (bs c : List ℕ) → b < 128 → IsUtf8 bs → b ∷ bs ≡ c → IsUtf8 c

@@ -35,8 +35,7 @@ operation_chunks o more =
 value_written : (kind : OpKind) (mops : List Mop) (more : List Chunk) → text_of (value_chunks kind mops more) ≡ value_field_text kind mops ++ text_of more
 value_written kinds.Invoke mops more = ap (λ (t : List ℕ). codes ", :value [" ++ t) (mops_written mops (token Closer (93 ∷ []) ∷ more) ∙ sym (append_assoc (join_by mop_text (codes " ") mops) (93 ∷ []) (text_of more)))
 value_written kinds.Ok mops more = ap (λ (t : List ℕ). codes ", :value [" ++ t) (mops_written mops (token Closer (93 ∷ []) ∷ more) ∙ sym (append_assoc (join_by mop_text (codes " ") mops) (93 ∷ []) (text_of more)))
-value_written kinds.Fail mops more = refl
-value_written kinds.Info mops more = refl
+value_written kind mops more = grind arith
 
 -- parts in a row
 in_a_row : (a b c d t : List ℕ) → a ++ (b ++ (c ++ (d ++ t))) ≡ (((a ++ b) ++ c) ++ d) ++ t
@@ -98,10 +97,7 @@ value_cut kinds.Info mops more h w = w
 
 -- behind the process comes no byte of a run
 process_stops : (kind : OpKind) (mops : List Mop) (more : List Chunk) → run_len (text_of (value_chunks kind mops (token Closer (125 ∷ []) ∷ more))) ≡ 0
-process_stops kinds.Invoke mops more = refl
-process_stops kinds.Ok mops more = refl
-process_stops kinds.Fail mops more = refl
-process_stops kinds.Info mops more = refl
+process_stops kind mops more = grind arith
 
 -- the chunks of an operation may stand at the top
 pub operation_cut : (o : Operation) (more : List Chunk) → OperationCanBeRead o → WellCut more [] → WellCut (operation_chunks o more) []

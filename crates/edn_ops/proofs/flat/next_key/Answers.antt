@@ -1,17 +1,15 @@
-use Rattle.edn_ops.proofs.Triples.{lone_in}
+use Rattle.std.proofs.Common.{ℕ, List, Option, Some, None, IfSome}
+use Rattle.edn_lex.specs.Ahead.{IsGap, IsLoneAt, GivesLone}
+use Rattle.edn_lex.specs.declared.types.Token.{Token}
+use Rattle.edn_ops.specs.declared.flat.Name.{Name}
 use Rattle.edn_ops.proofs.flat.next_key.Goals as goal
+
+key_behind : (o : Option (Name × Token)) (text : List ℕ) (offset start : ℕ) → IsGap text offset start → IfSome o (λ key. IsLoneAt text start key.1) → IfSome o (λ key. GivesLone text offset key.1)
+key_behind None text offset start gap h = tt
+key_behind (Some key) text offset start gap h = h offset gap
 
 pub returns-in-Some-clause-gives : goal.returns-in-Some-clause-gives
 returns-in-Some-clause-gives c = c.in-Some.ensures.lone c.args.offset c.behind_blanks-start.ensures
 
-pub returns-in-Some-word_at-clause-gives : goal.returns-in-Some-word_at-clause-gives
-returns-in-Some-word_at-clause-gives c = c.in-Some-word_at.ensures.lone c.args.offset c.behind_blanks-start.ensures
-
-pub returns-in-Some-word_at-2-clause-gives : goal.returns-in-Some-word_at-2-clause-gives
-returns-in-Some-word_at-2-clause-gives c = c.in-Some-word_at-2.ensures.lone c.args.offset c.behind_blanks-start.ensures
-
-pub is_other-requires : goal.is_other-requires
-is_other-requires c = lone_in c.args.text.now c.args.offset c.in_ok-token.token (c.in_ok-token.ensures.lone c.args.offset c.behind_blanks-start.ensures)
-
-pub returns-then-is_other-clause-gives : goal.returns-then-is_other-clause-gives
-returns-then-is_other-clause-gives c = c.in_ok-token.ensures.lone c.args.offset c.behind_blanks-start.ensures
+pub returns-clause-gives : goal.returns-clause-gives
+returns-clause-gives c = key_behind c.other_key.result c.args.text.now c.args.offset c.behind_blanks-start.result c.behind_blanks-start.ensures c.other_key.ensures.lone

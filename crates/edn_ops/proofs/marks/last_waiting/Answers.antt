@@ -1,8 +1,5 @@
-use Rattle.std.proofs.Common.{Some, sym, ◌∙◌, subst, arith, Result, Option}
-use Rattle.hist_types.specs.declared.types.Fault.{Fault}
-use Rattle.edn_lex.specs.declared.types.Token.{Token}
+use Rattle.std.proofs.Common.{sym, ◌∙◌, subst, arith}
 use Rattle.edn_lex.specs.Kinds.{item_of}
-use Rattle.edn_lex.specs.State.{Gives}
 use Rattle.edn_ops.proofs.LastMark.{Walk, Walk-start, Walk-opener, Walk-closer, Walk-closed, Walk-inside, Walk-here, Walk-closer_ends, Walk-ends}
 use Rattle.edn_ops.proofs.marks.last_waiting.Goals as goal
 
@@ -12,14 +9,12 @@ loop-given-init c =
 
 pub loop-given-preserved-in-Open : goal.loop-given-preserved-in-Open
 loop-given-preserved-in-Open c =
-    let P : Result Token Fault → Type 0 = λ x. Gives c.loop-given.lexer (Some x) c.next.new.self in
-    let g = subst P c.in-Ok.is c.in-Some.ensures.steps in
+    let g = rw c.in-Ok.is at c.in-Some.ensures.steps in
     (tt, tt, Walk-opener _ _ _ _ c.in-Ok.token _ _ c.loop-given.invariant.2 g c.in-Open.is, c.loop-given.invariant.3)
 
 pub loop-given-preserved-then-depth-eq0-2 : goal.loop-given-preserved-then-depth-eq0-2
 loop-given-preserved-then-depth-eq0-2 c =
-    let P : Result Token Fault → Type 0 = λ x. Gives c.loop-given.lexer (Some x) c.next.new.self in
-    let g = subst P c.in-Ok.is c.in-Some.ensures.steps in
+    let g = rw c.in-Ok.is at c.in-Some.ensures.steps in
     let zero = c.if-depth-eq0-2.true in
     let some = c.if-depth-eq0.false in
     let w : Walk c.args.lexer (item_of c.args.lexer.text c.args.first) c.next.new.self c.settled-last.result 0 =
@@ -33,15 +28,13 @@ loop-given-preserved-then-depth-eq0-2 c =
 
 pub loop-given-preserved-else-depth-eq0-2 : goal.loop-given-preserved-else-depth-eq0-2
 loop-given-preserved-else-depth-eq0-2 c =
-    let P : Result Token Fault → Type 0 = λ x. Gives c.loop-given.lexer (Some x) c.next.new.self in
-    let g = subst P c.in-Ok.is c.in-Some.ensures.steps in
+    let g = rw c.in-Ok.is at c.in-Some.ensures.steps in
     let some = c.if-depth-eq0-2.false in
     (tt, tt, Walk-closer _ _ _ _ c.in-Ok.token _ _ c.loop-given.invariant.2 g c.in-Close.is (omega arith), c.loop-given.invariant.3)
 
 pub loop-given-preserved-then-depth-eq0-3 : goal.loop-given-preserved-then-depth-eq0-3
 loop-given-preserved-then-depth-eq0-3 c =
-    let P : Result Token Fault → Type 0 = λ x. Gives c.loop-given.lexer (Some x) c.next.new.self in
-    let g = subst P c.in-Ok.is c.in-Some.ensures.steps in (
+    let g = rw c.in-Ok.is at c.in-Some.ensures.steps in (
       tt,
       tt,
       Walk-here _ _ _ _ c.in-Ok.token c.loop-given.last c.and-last.result _ c.loop-given.invariant.2 g c.in_default-kind.not-Open c.in_default-kind.not-Close
@@ -51,8 +44,7 @@ loop-given-preserved-then-depth-eq0-3 c =
 
 pub loop-given-preserved : goal.loop-given-preserved
 loop-given-preserved c =
-    let P : Result Token Fault → Type 0 = λ x. Gives c.loop-given.lexer (Some x) c.next.new.self in
-    let g = subst P c.in-Ok.is c.in-Some.ensures.steps in
+    let g = rw c.in-Ok.is at c.in-Some.ensures.steps in
     let some = c.if-depth-eq0-3.false in (
       tt,
       tt,
@@ -63,22 +55,19 @@ loop-given-preserved c =
 
 pub returns-then-depth-eq0 : goal.returns-then-depth-eq0
 returns-then-depth-eq0 c =
-    let P : Result Token Fault → Type 0 = λ x. Gives c.loop-given.lexer (Some x) c.next.new.self in
-    let g = subst P c.in-Ok.is c.in-Some.ensures.steps in
+    let g = rw c.in-Ok.is at c.in-Some.ensures.steps in
     λ mark marks count wait.
     Walk-closer_ends _ _ _ _ c.in-Ok.token _ _ c.loop-given.invariant.2 g c.in-Close.is c.if-depth-eq0.true mark marks
     (count ∙ sym c.loop-given.invariant.3) wait
 
 pub returns-in_default-given : goal.returns-in_default-given
 returns-in_default-given c =
-    let P : Result Token Fault → Type 0 = λ x. Gives c.loop-given.lexer (Some x) c.next.new.self in
-    let g = subst P c.in_default-given.is c.in-Some.ensures.steps in
+    let g = rw c.in_default-given.is at c.in-Some.ensures.steps in
     λ mark marks count wait.
     Walk-ends _ _ _ _ _ c.loop-given.invariant.2 (λ tokens ending rest. (g.only tokens ending rest).0) mark marks (count ∙ sym c.loop-given.invariant.3) wait
 
 pub returns-in_default : goal.returns-in_default
 returns-in_default c =
-    let P : Option (Result Token Fault) → Type 0 = λ o. Gives c.loop-given.lexer o c.next.new.self in
-    let g = subst P c.in_default.is c.next.ensures.steps in
+    let g = rw c.in_default.is at c.next.ensures.steps in
     λ mark marks count wait.
     Walk-ends _ _ _ _ _ c.loop-given.invariant.2 (λ tokens ending rest. (g.only tokens ending rest).0) mark marks (count ∙ sym c.loop-given.invariant.3) wait

@@ -1,16 +1,12 @@
 use Rattle.std.proofs.Common.{◌≡◌, length, arith, below_more, ap}
 use Rattle.std.proofs.lemmas.Bool.{OnTrue_at}
-use Rattle.edge_graph.specs.Kinds.{kinds_of}
-use Rattle.edge_graph.specs.declared.types.Dependencies.TheVariants.{All}
-use Rattle.hist_types.specs.declared.types.Level.TheVariants.{Plain}
 use Rattle.cycle_find.specs.Ranked.{Ranking}
 use Rattle.cycle_find.specs.Ways.{RisesFrom}
 use Rattle.cycle_find.proofs.settle.RankedEdges.rise.Goals as goal
 
 pub loop-from-preserved : goal.loop-from-preserved
 loop-from-preserved c =
-    let r : Ranking = c.args.self.now in
-    below_more (RisesFrom r.graph (kinds_of All Plain) r.ranks) c.loop-from.from c.loop-from.invariant (OnTrue_at c.if-not-rise_from.false c.rise_from.ensures)
+    below_more (RisesFrom c.args.self.now) c.loop-from.from c.loop-from.invariant (OnTrue_at c.if-not-rise_from.false c.rise_from.ensures)
 
 pub returns : goal.returns
 returns c =

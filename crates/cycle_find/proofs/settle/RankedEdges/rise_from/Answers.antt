@@ -2,7 +2,6 @@ use Rattle.std.proofs.Common.{◌<◌, ◌+◌, [], length, get_or, arith, sym, 
 use Rattle.graph_search.specs.Graphs.{Leaving}
 use Rattle.edge_graph.specs.Kinds.{kinds_of}
 use Rattle.edge_graph.specs.Vertices.{IsArc}
-use Rattle.edge_graph.specs.declared.types.Dependencies.TheVariants.{All}
 use Rattle.hist_types.specs.declared.types.Level.TheVariants.{Plain}
 use Rattle.cycle_find.specs.Prepared.{AreRanked}
 use Rattle.cycle_find.specs.Ranked.{Ranking}
@@ -15,8 +14,8 @@ rise_by-requires-clause-by c =
     let a = c.self.inside in
     let all : c.successors-successors.result.to ≡ get_or a.arcs c.args.from [] = ap (λ (s : Leaving). s.to) c.successors-successors.ensures in
     let r : Ranking = c.args.self.now in
-    let kinds = kinds_of All Plain in
-    let ranked : AreRanked r.graph a.arcs r.ranks = subst (λ (r : Ranking). AreRanked r.graph a.arcs r.ranks) c.self.view_is c.self.invariant in
+    let kinds = kinds_of r.dependencies Plain in
+    let ranked : AreRanked r a.arcs = subst (λ (r : Ranking). AreRanked r a.arcs) c.self.view_is c.self.invariant in
     let there : c.args.from < length r.graph.txns + length r.graph.versions = omega (arith, c.requires) in
     let at : c.loop-index.index < length (get_or a.arcs c.args.from []) = omega (arith, c.loop-index-test.true, c.len-index-end.ensures, ap length all) in
     subst (IsArc r.graph kinds c.args.from) (sym (c.at.ensures.successor ∙ ap (λ to. get_or to c.loop-index.index 0) all)) (arc_at r.graph kinds a.arcs c.args.from c.loop-index.index ranked.are there at)
@@ -26,7 +25,7 @@ returns c =
     let a = c.self.inside in
     let all : c.successors-successors.result.to ≡ get_or a.arcs c.args.from [] = ap (λ (s : Leaving). s.to) c.successors-successors.ensures in
     let r : Ranking = c.args.self.now in
-    let ranked : AreRanked r.graph a.arcs r.ranks = subst (λ (r : Ranking). AreRanked r.graph a.arcs r.ranks) c.self.view_is c.self.invariant in
-    rises_from r.graph (kinds_of All Plain) a.arcs r.ranks c.args.from ranked.are (λ k h.
-    subst (λ to. RisesBy r.graph (kinds_of All Plain) r.ranks c.args.from (get_or to k 0)) all
+    let ranked : AreRanked r a.arcs = subst (λ (r : Ranking). AreRanked r a.arcs) c.self.view_is c.self.invariant in
+    rises_from r a.arcs c.args.from ranked (λ k h.
+    subst (λ to. RisesBy r c.args.from (get_or to k 0)) all
     (c.loop-index.invariant k (omega (arith, h, c.loop-index-test.false, c.len-index-end.ensures, ap length all))))

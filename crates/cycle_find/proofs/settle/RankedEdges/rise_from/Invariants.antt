@@ -1,11 +1,7 @@
--- The rank rises by the arcs so far.
+-- A rank rises by the arcs so far.
 use Rattle.std.proofs.Common.{◌<◌, ℕ, get_or}
-use Rattle.edge_graph.specs.Kinds.{kinds_of}
-use Rattle.edge_graph.specs.declared.types.Dependencies.TheVariants.{All}
-use Rattle.hist_types.specs.declared.types.Level.TheVariants.{Plain}
 use Rattle.cycle_find.specs.Ways.{RisesBy}
 use Rattle.cycle_find.proofs.settle.RankedEdges.rise_from.Given as goal
 
 abbrev pub invariant-loop-index : goal.invariant-loop-index
-invariant-loop-index l =
-    (k : ℕ) → k < l.index → RisesBy l.self.graph (kinds_of All Plain) l.self.ranks l.from (get_or l.successors.to k 0)
+invariant-loop-index l = (k : ℕ) → k < l.index → RisesBy l.self l.from (get_or l.successors.to k 0)

@@ -1,4 +1,4 @@
-use Rattle.std.proofs.Common.{◌≡◌, ℕ, List, [], length, true, false, not, Option, Some, None, Ok, sym, ◌∙◌, ap, subst, arith, inl, inr}
+use Rattle.std.proofs.Common.{◌≡◌, ℕ, List, [], length, true, false, not, Option, Some, None, sym, ◌∙◌, ap, subst, arith, inl, inr}
 use Rattle.std.proofs.lemmas.Result.{err_from_is_err_and}
 use Rattle.hist_types.specs.Forms.{Open, is_map, is_vector_or_list}
 use Rattle.hist_types.specs.Tokens.{Item, byte_fault}
@@ -6,10 +6,7 @@ use Rattle.hist_types.specs.declared.types.Refusal.TheVariants.{Unclosed}
 use Rattle.edn_lex.specs.declared.types.Token.{Token}
 use Rattle.edn_lex.specs.declared.types.TokenKind.TheVariants as kinds
 use Rattle.edn_lex.specs.Kinds.{kind_of, item_of}
-use Rattle.edn_ops.specs.declared.forms.Member.{Member}
-use Rattle.edn_ops.specs.declared.types.OpShape.{OpShape}
-use Rattle.edn_ops.specs.Leads.{NextMember, ReadsAs}
-use Rattle.edn_ops.specs.Collections.{ReadsMap}
+use Rattle.edn_ops.specs.Leads.{ReadsAs}
 use Rattle.edn_ops.specs.Reader.{AreOpen, OpenWith}
 use Rattle.edn_ops.proofs.Levels.{GivesMember-shorter, GivesMember-end}
 use Rattle.edn_ops.proofs.Places.{Passed, Passed-list, Passed-skipped, Passed-op, Passed-ends, closes_on, opens_on, op_on, skip_on, stops_with, refuses_on, member_stops, map_stops, end_reads, end_unclosed}
@@ -28,32 +25,28 @@ returns-in_err-member-clause-next c =
 
 pub loop-member-smaller-then-closes : goal.loop-member-smaller-then-closes
 loop-member-smaller-then-closes c =
-    let P : Option Member → Type 0 = λ x. NextMember c.loop-member.self.lexer (Ok x) c.next_member.new.lexer in
-    let h = subst P c.in-Some.is c.in_ok-member.ensures in
+    let h = rw c.in-Some.is at c.in_ok-member.ensures in
     let short = GivesMember-shorter c.loop-member.self.lexer c.next_member.new.lexer c.in-Some.member h in
     let after : length c.next_member.new.lexer.text ≡ length c.loop-member.self.lexer.text = ap length short.2 in
     omega arith
 
 pub loop-member-preserved-then-closes : goal.loop-member-preserved-then-closes
 loop-member-preserved-then-closes c =
-    let P : Option Member → Type 0 = λ x. NextMember c.loop-member.self.lexer (Ok x) c.next_member.new.lexer in
-    let h = subst P c.in-Some.is c.in_ok-member.ensures in
+    let h = rw c.in-Some.is at c.in_ok-member.ensures in
     let short = GivesMember-shorter c.loop-member.self.lexer c.next_member.new.lexer c.in-Some.member h in
     Passed-list _ _ _ _ _ _ _ _ c.loop-member.invariant (omega arith) short.2
     (closes_on c.loop-member.self.lexer c.next_member.new.lexer c.in-Some.member h c.loop-member.self.list (ap kind_of (c.closes.ensures.yes c.if-closes.true)))
 
 pub loop-member-smaller-then-opens_list : goal.loop-member-smaller-then-opens_list
 loop-member-smaller-then-opens_list c =
-    let P : Option Member → Type 0 = λ x. NextMember c.loop-member.self.lexer (Ok x) c.next_member.new.lexer in
-    let h = subst P c.in-Some.is c.in_ok-member.ensures in
+    let h = rw c.in-Some.is at c.in_ok-member.ensures in
     let short = GivesMember-shorter c.loop-member.self.lexer c.next_member.new.lexer c.in-Some.member h in
     let after : length c.next_member.new.lexer.text ≡ length c.loop-member.self.lexer.text = ap length short.2 in
     omega arith
 
 pub loop-member-preserved-then-opens_list : goal.loop-member-preserved-then-opens_list
 loop-member-preserved-then-opens_list c =
-    let P : Option Member → Type 0 = λ x. NextMember c.loop-member.self.lexer (Ok x) c.next_member.new.lexer in
-    let h = subst P c.in-Some.is c.in_ok-member.ensures in
+    let h = rw c.in-Some.is at c.in_ok-member.ensures in
     let short = GivesMember-shorter c.loop-member.self.lexer c.next_member.new.lexer c.in-Some.member h in
     let text : c.text-text.result.now ≡ c.loop-member.self.lexer.text = c.text-text.ensures ∙ short.2 in
     let same : item_of c.text-text.result.now c.in-Some.member.token ≡ item_of c.loop-member.self.lexer.text c.in-Some.member.token = ap (λ (xs : List ℕ). item_of xs c.in-Some.member.token) text in
@@ -64,8 +57,7 @@ loop-member-preserved-then-opens_list c =
 
 pub returns-then-not-opens_map-clause-next : goal.returns-then-not-opens_map-clause-next
 returns-then-not-opens_map-clause-next c =
-    let P : Option Member → Type 0 = λ x. NextMember c.loop-member.self.lexer (Ok x) c.next_member.new.lexer in
-    let h = subst P c.in-Some.is c.in_ok-member.ensures in
+    let h = rw c.in-Some.is at c.in_ok-member.ensures in
     let short = GivesMember-shorter c.loop-member.self.lexer c.next_member.new.lexer c.in-Some.member h in
     let text : c.text-text.result.now ≡ c.loop-member.self.lexer.text = c.text-text.ensures ∙ short.2 in
     let same : item_of c.text-text.result.now c.in-Some.member.token ≡ item_of c.loop-member.self.lexer.text c.in-Some.member.token = ap (λ (xs : List ℕ). item_of xs c.in-Some.member.token) text in
@@ -82,8 +74,7 @@ returns-then-not-opens_map-clause-next c =
 
 pub returns-in_err-shape-clause-next : goal.returns-in_err-shape-clause-next
 returns-in_err-shape-clause-next c =
-    let P : Option Member → Type 0 = λ x. NextMember c.loop-member.self.lexer (Ok x) c.next_member.new.lexer in
-    let h = subst P c.in-Some.is c.in_ok-member.ensures in
+    let h = rw c.in-Some.is at c.in_ok-member.ensures in
     let short = GivesMember-shorter c.loop-member.self.lexer c.next_member.new.lexer c.in-Some.member h in
     let text : c.text-text.result.now ≡ c.loop-member.self.lexer.text = c.text-text.ensures ∙ short.2 in
     let same : item_of c.text-text.result.now c.in-Some.member.token ≡ item_of c.loop-member.self.lexer.text c.in-Some.member.token = ap (λ (xs : List ℕ). item_of xs c.in-Some.member.token) text in
@@ -100,23 +91,20 @@ returns-in_err-shape-clause-next c =
 
 pub returns-in-Some-2-clause-next : goal.returns-in-Some-2-clause-next
 returns-in-Some-2-clause-next c =
-    let P : Option Member → Type 0 = λ x. NextMember c.loop-member.self.lexer (Ok x) c.next_member.new.lexer in
-    let h = subst P c.in-Some.is c.in_ok-member.ensures in
+    let h = rw c.in-Some.is at c.in_ok-member.ensures in
     let short = GivesMember-shorter c.loop-member.self.lexer c.next_member.new.lexer c.in-Some.member h in
     let text : c.text-text.result.now ≡ c.loop-member.self.lexer.text = c.text-text.ensures ∙ short.2 in
     let same : item_of c.text-text.result.now c.in-Some.member.token ≡ item_of c.loop-member.self.lexer.text c.in-Some.member.token = ap (λ (xs : List ℕ). item_of xs c.in-Some.member.token) text in
     let kind = ap kind_of (c.opens_map.ensures.yes c.if-not-opens_map.false) in
     let map = subst (λ (i : Item). is_map i ≡ true) same (c.opens_map.ensures.map c.if-not-opens_map.false) in
     let i = c.loop-member.invariant in
-    let Q : Option OpShape → Type 0 = λ x. ReadsMap c.next_member.new.lexer (item_of c.text-text.result.now c.in-Some.member.token) (Ok x) c.read_map.new.lexer in
-    let x = op_on c.loop-member.self.lexer c.next_member.new.lexer c.read_map.new.lexer c.in-Some.member h c.loop-member.self.list _ c.in-Some-2.shape kind map same
-    (subst Q c.in-Some-2.is c.in_ok-shape.ensures) in
+    let r = rw c.in-Some-2.is at c.in_ok-shape.ensures in
+    let x = op_on c.loop-member.self.lexer c.next_member.new.lexer c.read_map.new.lexer c.in-Some.member h c.loop-member.self.list _ c.in-Some-2.shape kind map same r in
     record { more = i.more; skipped = i.count; read = x.0; shape_of = x.1; goes = Passed-op _ _ _ _ _ _ _ _ i _ x.2 }
 
 pub returns-in-Some-2-clause-few : goal.returns-in-Some-2-clause-few
 returns-in-Some-2-clause-few c =
-    let P : Option Member → Type 0 = λ x. NextMember c.loop-member.self.lexer (Ok x) c.next_member.new.lexer in
-    let h = subst P c.in-Some.is c.in_ok-member.ensures in
+    let h = rw c.in-Some.is at c.in_ok-member.ensures in
     let short = GivesMember-shorter c.loop-member.self.lexer c.next_member.new.lexer c.in-Some.member h in
     let few = c.loop-member.invariant.few in
     let forward = c.in_ok-shape.ensures.5 in
@@ -124,16 +112,14 @@ returns-in-Some-2-clause-few c =
 
 pub with_one_more-self-requires : goal.with_one_more-self-requires
 with_one_more-self-requires c =
-    let P : Option Member → Type 0 = λ x. NextMember c.loop-member.self.lexer (Ok x) c.next_member.new.lexer in
-    let h = subst P c.in-Some.is c.in_ok-member.ensures in
+    let h = rw c.in-Some.is at c.in_ok-member.ensures in
     let end = GivesMember-end c.loop-member.self.lexer c.next_member.new.lexer c.in-Some.member h in
     let few = c.loop-member.invariant.few in
     omega arith
 
 pub loop-member-smaller : goal.loop-member-smaller
 loop-member-smaller c =
-    let P : Option Member → Type 0 = λ x. NextMember c.loop-member.self.lexer (Ok x) c.next_member.new.lexer in
-    let h = subst P c.in-Some.is c.in_ok-member.ensures in
+    let h = rw c.in-Some.is at c.in_ok-member.ensures in
     let short = GivesMember-shorter c.loop-member.self.lexer c.next_member.new.lexer c.in-Some.member h in
     let after : length c.next_member.new.lexer.text ≡ length c.loop-member.self.lexer.text = ap length short.2 in
     let forward = c.in_ok-shape.ensures.5 in
@@ -142,15 +128,13 @@ loop-member-smaller c =
 
 pub loop-member-preserved : goal.loop-member-preserved
 loop-member-preserved c =
-    let P : Option Member → Type 0 = λ x. NextMember c.loop-member.self.lexer (Ok x) c.next_member.new.lexer in
-    let h = subst P c.in-Some.is c.in_ok-member.ensures in
+    let h = rw c.in-Some.is at c.in_ok-member.ensures in
     let short = GivesMember-shorter c.loop-member.self.lexer c.next_member.new.lexer c.in-Some.member h in
     let text : c.text-text.result.now ≡ c.loop-member.self.lexer.text = c.text-text.ensures ∙ short.2 in
     let same : item_of c.text-text.result.now c.in-Some.member.token ≡ item_of c.loop-member.self.lexer.text c.in-Some.member.token = ap (λ (xs : List ℕ). item_of xs c.in-Some.member.token) text in
     let kind = ap kind_of (c.opens_map.ensures.yes c.if-not-opens_map.false) in
     let map = subst (λ (i : Item). is_map i ≡ true) same (c.opens_map.ensures.map c.if-not-opens_map.false) in
-    let Q : Option OpShape → Type 0 = λ x. ReadsMap c.next_member.new.lexer (item_of c.text-text.result.now c.in-Some.member.token) (Ok x) c.read_map.new.lexer in
-    let r = subst Q c.in_default-2.is c.in_ok-shape.ensures in
+    let r = rw c.in_default-2.is at c.in_ok-shape.ensures in
     let forward = r.5 in
     subst (λ n. Passed c.args.self.now.lexer c.args.self.now.list c.args.self.now.skipped c.read_map.new.lexer c.loop-member.self.list n) (sym c.with_one_more-self.ensures)
     (Passed-skipped _ _ _ _ _ _ _ _ c.loop-member.invariant (omega arith) (r.4 ∙ short.2)
@@ -158,8 +142,7 @@ loop-member-preserved c =
 
 pub returns-in-Some-list-clause-next : goal.returns-in-Some-list-clause-next
 returns-in-Some-list-clause-next c =
-    let P : Option Member → Type 0 = λ x. NextMember c.loop-member.self.lexer (Ok x) c.next_member.new.lexer in
-    let h = subst P c.in_default.is c.in_ok-member.ensures in
+    let h = rw c.in_default.is at c.in_ok-member.ensures in
     let i = c.loop-member.invariant in
     let reads : (o : Open) → AreOpen c.loop-member.self.lexer c.loop-member.self.list o → ReadsAs c.loop-member.self.lexer o (record { entries = []; fault = Some (byte_fault Unclosed c.in-Some-list.opener.start) }) =
     λ o is. end_unclosed c.loop-member.self.lexer c.next_member.new.lexer h c.in-Some-list.opener o
@@ -168,8 +151,7 @@ returns-in-Some-list-clause-next c =
 
 pub returns-in-None-clause-next : goal.returns-in-None-clause-next
 returns-in-None-clause-next c =
-    let P : Option Member → Type 0 = λ x. NextMember c.loop-member.self.lexer (Ok x) c.next_member.new.lexer in
-    let h = subst P c.in_default.is c.in_ok-member.ensures in
+    let h = rw c.in_default.is at c.in_ok-member.ensures in
     let i = c.loop-member.invariant in
     let reads : (o : Open) → AreOpen c.loop-member.self.lexer c.loop-member.self.list o → ReadsAs c.loop-member.self.lexer o (record { entries = []; fault = None }) =
     λ o is. end_reads c.loop-member.self.lexer c.next_member.new.lexer h o
@@ -178,8 +160,7 @@ returns-in-None-clause-next c =
 
 pub returns-in-None-clause-few : goal.returns-in-None-clause-few
 returns-in-None-clause-few c =
-    let P : Option Member → Type 0 = λ x. NextMember c.loop-member.self.lexer (Ok x) c.next_member.new.lexer in
-    let h = subst P c.in_default.is c.in_ok-member.ensures in
+    let h = rw c.in_default.is at c.in_ok-member.ensures in
     let few = c.loop-member.invariant.few in
     let forward = h.forward in
     omega arith
