@@ -10,6 +10,9 @@ use std::alloc::{AllocError, Global};
 /// How many values of a key have places in the table of pairs: those with the smallest numbers.
 pub(crate) const VALUES_OF_KEY: usize = 64;
 
+/// How many slots for each pair a new table has. It is left for a larger one when it has fewer than half as many.
+pub(crate) const SLOTS_OF_PAIR: usize = 4;
+
 /// The place of a pair in a table with n slots: that of a small key and a small value, by their numbers. The values
 /// of a key are side by side.
 pub(crate) fn slot_of(pair: (usize, Option<usize>), slots: usize) -> Option<usize>

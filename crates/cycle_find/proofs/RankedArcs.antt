@@ -1,17 +1,21 @@
 -- Ranks along the arcs of a graph.
-use Rattle.std.proofs.Common.{◌≡◌, ◌∙◌, ◌<◌, ◌≤◌, ◌+◌, ◌-◌, ℕ, zero, suc, List, [], ◌∷◌, length, get_or, inl, inr, Result, Ok, Err, IfOk, Bool, if◌then◌else◌, Contains, refl, ap, sym, subst, arith}
+use Rattle.std.proofs.Common.{◌≡◌, ◌∙◌, ◌<◌, ◌≤◌, ◌+◌, ◌-◌, ℕ, zero, suc, List, [], ◌∷◌, length, get_or, inl, inr, Result, Ok, Err, IfOk, Bool, if◌then◌else◌, Contains, IsTrue, ◌⊎◌, refl, ap, sym, subst, arith}
+use Rattle.std.proofs.lemmas.Bool.{false≢true}
 use Rattle.std.proofs.lemmas.Option.{slice_get_within}
+use Rattle.hist_types.specs.Edges.{Label, ww, wr, rw, process, realtime, edge}
+use Rattle.hist_types.specs.Transactions.{Transaction}
 use Rattle.hist_types.specs.declared.types.Level.{Level}
 use Rattle.hist_types.specs.declared.types.Level.TheVariants.{Plain, Process, Realtime}
 use Rattle.graph_search.specs.Graphs.{Graph, AreRanks, IsWalk}
 use Rattle.dep_edges.specs.Tables.{IsPlace}
-use Rattle.edge_graph.specs.Kinds.{kinds_of, AreAmong}
-use Rattle.edge_graph.specs.Parts.{Parts}
-use Rattle.edge_graph.specs.Vertices.{Vertex, txn, version, IsVertex, IsArc, LeadsTo, graph_by, AreArcs}
+use Rattle.edge_graph.specs.Kinds.{kinds_of, includes_directly, AreAmong}
+use Rattle.edge_graph.specs.Parts.{Parts, HasEdge}
+use Rattle.edge_graph.specs.Vertices.{Vertex, txn, version, IsVertex, IsArc, LeadsDirectly, LeadsTo, graph_by, AreArcs}
 use Rattle.edge_graph.specs.declared.types.Dependencies.{Dependencies}
-use Rattle.edge_graph.specs.declared.types.Dependencies.TheVariants.{All}
+use Rattle.edge_graph.specs.declared.types.Dependencies.TheVariants.{Ww, All}
 use Rattle.edge_graph.specs.declared.types.Kinds.{Kinds}
 use Rattle.edge_graph.proofs.EdgeArcs.{more_at_level, more_than_plain}
+use Rattle.edge_graph.proofs.EdgesIn.{dependency_of, listed}
 use Rattle.cycle_find.specs.Ranked.{AreRanksAtAll, AreRanksOver, AreRanksWithin}
 use Rattle.cycle_find.specs.Sharing.{AreSharing, leaving}
 
@@ -112,9 +116,6 @@ fewer_within g few more level coarse ranks among are = record { one_each = are.o
 pub fewer_within_plain : (g : Parts) (few more : Dependencies) (level : Level) (coarse ranks : List ℕ) → AreAmong few more → AreRanksWithin g (kinds_of more level) coarse ranks → AreRanksWithin g (kinds_of few Plain) coarse ranks
 fewer_within_plain g few more level coarse ranks among are = record { one_each = are.one_each; rising = λ v w h same. are.rising v w (more_than_plain g few more among level v w h) same }
 
-pub over_within : (g : Parts) (kinds : Kinds) (coarse ranks : List ℕ) → AreRanksOver g kinds ranks → AreRanksWithin g kinds coarse ranks
-over_within g kinds coarse ranks are = record { one_each = are.one_each; rising = λ v w h same. are.rising v w h }
-
 pub among_itself : (dependencies : Dependencies) → AreAmong dependencies dependencies
 among_itself dependencies = record { ww = λ h. h; wr = λ h. h; rw = λ h. h }
 
@@ -141,6 +142,30 @@ flat_over g kinds n ranks count each = record {
 pub flat_at_all : {E : Type 0} (g : Parts) (n : ℕ) (result : Result (List ℕ) E) → n ≡ length g.txns + length g.versions → ((graph : Graph) → graph.count ≡ n → IfOk result (AreRanks graph)) → IfOk result (AreRanksAtAll g)
 flat_at_all g n (Ok ranks) count each = record { process = flat_over g (kinds_of All Process) n ranks count each; realtime = flat_over g (kinds_of All Realtime) n ranks count each }
 flat_at_all g n (Err fault) count each = tt
+
+-- an arc of a process is a ww edge or an order edge, or it is one in real time too
+process_leads : (g : Parts) (t u : Transaction) (label : Label) → HasEdge g Process (edge t u label) → IsTrue (includes_directly (kinds_of All Process) label)
+    → LeadsDirectly g (kinds_of Ww Process) t u ⊎ LeadsDirectly g (kinds_of All Realtime) t u
+process_leads g t u (ww a b) has is = inl (ww a b, has, refl)
+process_leads g t u (wr a) has is = let e = edge t u (wr a) in inr (wr a, inl (dependency_of g Process e ((listed g Process e).1 has) refl), refl)
+process_leads g t u (rw a b) has is = absurd (false≢true is)
+process_leads g t u (process n) has is = inl (process n, has, refl)
+process_leads g t u (realtime c i) has is = inl (realtime c i, has, refl)
+
+process_rising : (g : Parts) (ranks : List ℕ) → AreRanksOver g (kinds_of Ww Process) ranks → AreRanksOver g (kinds_of All Realtime) ranks
+    → (v w : ℕ) → IsArc g (kinds_of All Process) v w → get_or ranks v 0 ≤ get_or ranks w 0
+process_rising g ranks few all v w (txn t, txn u, at, at', (label, has, is)) =
+    elim (process_leads g t u label has is) [
+      | inl leads ↦ few.rising v w (txn t, txn u, at, at', leads)
+      | inr leads ↦ all.rising v w (txn t, txn u, at, at', leads)
+    ]
+process_rising g ranks few all v w (txn t, version a, at, at', leads) = all.rising v w (txn t, version a, at, at', leads)
+process_rising g ranks few all v w (version a, txn u, at, at', leads) = all.rising v w (version a, txn u, at, at', leads)
+process_rising g ranks few all v w (version a, version b, at, at', leads) = absurd leads
+
+-- ranks over the arcs in real time are ranks over those of processes, where they don't fall along the latter's order
+pub in_process_too : (g : Parts) (ranks : List ℕ) → AreRanksOver g (kinds_of Ww Process) ranks → AreRanksOver g (kinds_of All Realtime) ranks → AreRanksOver g (kinds_of All Process) ranks
+in_process_too g ranks few all = record { one_each = all.one_each; rising = process_rising g ranks few all }
 
 -- ranks over the arcs that leave vertices which share their coarse rank
 pub ranks_within : (g : Parts) (kinds : Kinds) (lists : List (List ℕ)) (coarse ranks : List ℕ) (shared : List Bool) → AreArcs g kinds lists → AreRanksOver g kinds coarse → AreSharing coarse shared → AreRanks (leaving (graph_by lists) shared) ranks

@@ -1,5 +1,5 @@
 -- Which vertices share their rank with another one.
-use Rattle.std.specs.Prelude.{◌≡◌, ◌⊎◌, ℕ, ◌-◌, ◌<◌, min, List, length, slice_index, slice_index_or, Bool, false, IsTrue, if◌then◌else◌, []}
+use Rattle.std.specs.Prelude.{◌≡◌, ◌⊎◌, ℕ, ◌-◌, ◌<◌, min, List, length, slice_index, slice_index_or, Bool, false, IsTrue, if◌then◌else◌, [], All, Contains}
 use Rattle.graph_search.specs.Graphs.{Graph}
 
 -- where vertices of its rank are counted
@@ -25,6 +25,11 @@ pub record AreSharing (ranks : List ℕ) (shared : List Bool) : Type 0 where
       → w < length ranks
       → slice_index ranks v ≡ slice_index ranks w
       → (v ≡ w) ⊎ IsTrue (slice_index_or shared v false)
+
+-- the vertices on the list are among those that have flags, and all are on it whose flag is true
+pub record AreListed (flags : List Bool) (list : List ℕ) : Type 0 where
+  pub within : All (λ v. v < length flags) list
+  pub each : (v : ℕ) → IsTrue (slice_index_or flags v false) → Contains list v
 
 -- the arcs of a graph that leave some of its vertices
 abbrev pub leaving : Graph → List Bool → Graph

@@ -14,7 +14,7 @@ use crate::kinds::uses_only;
 use crate::ranked_level::RankedLevel;
 use crate::ranking::{ranks_over, ranks_within};
 use crate::settle::shows_none;
-use crate::sharing::sharing;
+use crate::sharing::Shared;
 use edge_graph::graph::Graph;
 use edge_graph::types::Dependencies;
 use graph_search::arcs::Arcs;
@@ -31,7 +31,7 @@ pub struct RankedGraph<'r, 'g, 'v, 'a> {
     /// Ranks that fall along no arc at any level.
     ranks: Ranks,
     /// Which vertices share their rank with another one. All cycles are among them.
-    shared: Vec<bool>,
+    shared: Shared,
     /// Dependencies with which no cycle at real time does without others, if there are such.
     acyclic: Option<Dependencies>,
 }
@@ -48,7 +48,7 @@ impl<'r, 'g, 'v, 'a> Model for RankedGraph<'r, 'g, 'v, 'a> {
     ghost view = { λ r. r.graph.now };
 
     ghost invariant = { λ r. AreRanksAtAll r.graph.now r.ranks
-        × AreSharing r.ranks r.shared.items
+        × AreSharing r.ranks r.shared
         × ShowNoneOverAny r.acyclic (edges_in r.graph.now Realtime) };
 }
 
@@ -57,8 +57,9 @@ fn ranks_at_all_levels(alloc: Global, graph: &Graph<'_, '_, '_>) -> Result<Ranks
     ensures { IfOk result (AreRanksAtAll graph.now) }
 {
     let ranks = ranks_over(alloc, graph, Dependencies::All, Level::Realtime)?;
-    // The order of each process goes along walks in real time, so these ranks serve for it too. That is only checked.
-    let in_process = graph.arcs(Dependencies::All, Level::Process);
+    // The order of each process goes along walks in real time, so these ranks serve for it too. That is only checked. The other
+    // dependencies are those that the ranks are over.
+    let in_process = graph.arcs(Dependencies::Ww, Level::Process);
     if ranks.hold_in(&in_process) {
         Ok(ranks)
     } else {
@@ -72,7 +73,7 @@ fn acyclic(
     alloc: Global,
     graph: &Graph<'_, '_, '_>,
     coarse: &Ranks,
-    shared: &[bool],
+    shared: &Shared,
 ) -> Result<Option<Dependencies>, AllocError>
     requires coarse { AreRanksAtAll graph.now coarse.now }
     requires shared { AreSharing coarse.now shared.now }
@@ -97,7 +98,7 @@ impl<'r, 'g, 'v, 'a> RankedGraph<'r, 'g, 'v, 'a> {
         ensures err { IfErr result (λ fault. fault ≡ memory_fault) }
     {
         let ranks = ranks_at_all_levels(alloc, graph)?;
-        let shared = sharing(alloc, &ranks)?;
+        let shared = Shared::of(alloc, &ranks)?;
         let acyclic = acyclic(alloc, graph, &ranks, &shared)?;
         Ok(RankedGraph {
             alloc,

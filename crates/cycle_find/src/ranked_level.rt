@@ -12,6 +12,7 @@ ghost use Rattle.cycle_find.specs.Sharing.{AreSharing};
 use crate::finder::Finder;
 use crate::ranking::ranks_within;
 use crate::settle::shows_none;
+use crate::sharing::Shared;
 use crate::types::Walk;
 use edge_graph::graph::Graph;
 use edge_graph::types::Dependencies;
@@ -29,7 +30,7 @@ pub struct RankedLevel<'r, 'g, 'v, 'a> {
     /// Ranks that fall along no arc at the level.
     coarse: &'r Ranks,
     /// Which vertices share their rank with another one. All cycles are among them.
-    shared: &'r [bool],
+    shared: &'r Shared,
     /// Finer ranks, over the same arcs.
     ranks: Ranks,
     /// Ranks over ww and wr edges and the order of the level: finer still.
@@ -55,7 +56,7 @@ impl<'r, 'g, 'v, 'a> RankedLevel<'r, 'g, 'v, 'a> {
         graph: &'r Graph<'g, 'v, 'a>,
         level: Level,
         coarse: &'r Ranks,
-        shared: &'r [bool],
+        shared: &'r Shared,
     ) -> Result<Option<Self>, AllocError>
         requires coarse { AreRanksAtAll graph.now coarse.now }
         requires shared { AreSharing coarse.now shared.now }

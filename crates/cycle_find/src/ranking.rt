@@ -6,6 +6,7 @@ ghost use Rattle.edge_graph.specs.Vertices.{graph_by};
 ghost use Rattle.cycle_find.specs.Ranked.{AreRanksOver, AreRanksWithin};
 ghost use Rattle.cycle_find.specs.Sharing.{AreSharing, leaving};
 
+use crate::sharing::Shared;
 use edge_graph::arcs::GraphArcs;
 use edge_graph::graph::Graph;
 use edge_graph::types::Dependencies;
@@ -32,7 +33,7 @@ pub(crate) fn ranks_within(
     alloc: Global,
     graph: &Graph<'_, '_, '_>,
     coarse: &Ranks,
-    shared: &[bool],
+    shared: &Shared,
     dependencies: Dependencies,
     level: Level,
 ) -> Result<Ranks, AllocError>
@@ -44,15 +45,14 @@ pub(crate) fn ranks_within(
         arcs: graph.arcs(dependencies, level),
         some: shared,
     };
-    Ranks::of(alloc, &arcs)
+    Ranks::of_leaving(alloc, &arcs, shared.list())
 }
 
 /// The arcs of a graph that leave some of its vertices.
 #[derive(Drop)]
 struct ArcsLeaving<'r> {
     arcs: GraphArcs<'r>,
-    /// For each vertex, whether they leave it.
-    some: &'r [bool],
+    some: &'r Shared,
     ghost one_each: { length some.now ≡ length arcs },
 }
 
@@ -64,7 +64,7 @@ impl Arcs for ArcsLeaving<'_> {
     }
 
     fn successors(&self, vertex: usize) -> Successors<'_> {
-        if self.some[vertex] {
+        if self.some.contains(vertex) {
             self.arcs.successors(vertex)
         } else {
             Successors::new(self.arcs.vertices(), &[], &[])

@@ -1,10 +1,30 @@
 //! Which vertices share their rank with another one. All cycles are among them.
 
-ghost use Rattle.std.specs.Prelude.{◌≡◌, ◌<◌, ◌-◌, length, min, slice_index, IfOk};
-ghost use Rattle.cycle_find.specs.Sharing.{AreCounted, AreSharing, slot};
+ghost use Rattle.std.specs.Prelude.{◌≡◌, ◌<◌, ◌-◌, false, length, min, slice_index, slice_index_or, IfOk};
+ghost use Rattle.cycle_find.specs.Sharing.{AreCounted, AreListed, AreSharing, slot};
 
 use graph_search::ranks::Ranks;
 use std::alloc::{AllocError, Global};
+use std::marker::Model;
+
+/// For each of some vertices, whether another one has its rank.
+#[derive(Drop)]
+pub(crate) struct Shared {
+    flags: Vec<bool>,
+    /// The vertices of which it is true.
+    list: Vec<u32>,
+}
+
+impl Model for Shared {
+    ghost use Rattle.std.specs.Prelude.{List, Bool};
+    ghost use Rattle.cycle_find.specs.Sharing.{AreListed};
+
+    ghost Value = { List Bool };
+
+    ghost view = { λ s. s.flags.items };
+
+    ghost invariant = { λ s. AreListed s.flags.items s.list.items };
+}
 
 /// Where a vertex is counted: by its rank, which is less than the number of vertices.
 fn slot(ranks: &Ranks, vertex: usize) -> usize
@@ -27,7 +47,7 @@ fn counts(alloc: Global, ranks: &Ranks) -> Result<Vec<u8>, AllocError>
 }
 
 /// For each vertex, whether another one has its rank.
-pub(crate) fn sharing(alloc: Global, ranks: &Ranks) -> Result<Vec<bool>, AllocError>
+fn flags(alloc: Global, ranks: &Ranks) -> Result<Vec<bool>, AllocError>
     ensures { IfOk result (λ shared. AreSharing ranks.now shared.items) }
 {
     let counts = counts(alloc, ranks)?;
@@ -36,4 +56,42 @@ pub(crate) fn sharing(alloc: Global, ranks: &Ranks) -> Result<Vec<bool>, AllocEr
         shared[vertex] = counts[slot(ranks, vertex)] > 1;
     }
     Ok(shared)
+}
+
+/// The numbers of the flags that are true.
+fn list_of(alloc: Global, flags: &[bool]) -> Result<Vec<u32>, AllocError>
+    ensures { IfOk result (λ list. AreListed flags.now list.items) }
+{
+    let mut list = Vec::new(alloc);
+    for (vertex, flag) in flags.iter().enumerate() {
+        if *flag {
+            list.push(u32::try_from(vertex).map_err(|_| AllocError)?)?;
+        }
+    }
+    Ok(list)
+}
+
+impl Shared {
+    pub fn of(alloc: Global, ranks: &Ranks) -> Result<Shared, AllocError>
+        ensures { IfOk result (AreSharing ranks.now) }
+    {
+        let flags = flags(alloc, ranks)?;
+        let list = list_of(alloc, &flags)?;
+        Ok(Shared { flags, list })
+    }
+
+    /// Whether the vertex shares its rank.
+    pub fn contains(&self, vertex: usize) -> bool
+        requires { vertex < length self.now }
+        ensures { result ≡ slice_index_or self.now vertex false }
+    {
+        self.flags[vertex]
+    }
+
+    /// The vertices that share their rank.
+    pub fn list(&self) -> &[u32]
+        ensures { AreListed self.now result.now }
+    {
+        &self.list
+    }
 }

@@ -192,6 +192,30 @@ word_bytes text start xs word same begins =
     let n : start + length word - start ≡ length word = omega arith in
     ap (λ (k : ℕ). take k (drop start text)) n ∙ ap (take (length word)) (sym same) ∙ sym begins
 
+-- ---- a space
+
+-- the text begins with a space
+pub record BeginsWithSpace (xs : List ℕ) : Type 0 where
+  pub some : 0 < length xs
+  pub first : first_byte xs ≡ 32
+  pub no_run : run_len xs ≡ 0
+
+pub space_first : (xs : List ℕ) → codes " " ≡ take 1 xs → BeginsWithSpace xs
+space_first [] e = absurd (let n = ap length e in omega arith)
+space_first (x ∷ xs) e =
+    let is : 32 ≡ x = ap first_byte e in
+    subst (λ (b : ℕ). BeginsWithSpace (b ∷ xs)) is (record { some = omega arith; first = refl; no_run = refl })
+
+pub space_gap : (text : List ℕ) (at : ℕ) → BeginsWithSpace (drop at text) → IsGap text at (at + 1)
+space_gap text at space =
+    let some = space.some in
+    let here : get_or text at 0 ≡ 32 = ap (λ (n : ℕ). get_or text n 0) (let e : at ≡ at + 0 = omega arith in e) ∙ sym (get_or-drop at text 0 0) ∙ space.first in
+    record {
+      low = omega arith;
+      fits = omega (arith, length-drop at text);
+      blanks = λ k low high. let same : k ≡ at = omega arith in ap is_blank (ap (λ (n : ℕ). get_or text n 0) same ∙ here);
+    }
+
 -- a text that begins with the tag of a record, where no run goes on behind it
 pub record_begins :
     (text : List ℕ) (start : ℕ) (xs : List ℕ) (t : Token) → xs ≡ drop start text → codes "#jepsen.history.Op" ≡ take 18 xs → run_len (drop 18 xs) ≡ 0 →

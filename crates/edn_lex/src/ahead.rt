@@ -1,6 +1,6 @@
 //! Tokens by looking ahead, as printers write them: after blanks alone.
 
-ghost use Rattle.std.specs.Prelude.{◌≡◌, ◌≤◌, length, IfSome};
+ghost use Rattle.std.specs.Prelude.{◌≡◌, ◌≤◌, ◌+◌, ℕ, length, take, true, IfSome};
 ghost use Rattle.hist_types.specs.Bytes.{open_square, close_square, open_brace, close_brace};
 ghost use Rattle.edn_lex.specs.Ahead.{is_lone, IsGap, IsWord, IsTokenAt, IsLoneAt, GivesAhead, GivesLone, GivesOpener, GivesCloser};
 ghost use Rattle.edn_lex.specs.Kinds.{kind_of, item_of};
@@ -8,7 +8,7 @@ ghost use Rattle.edn_lex.specs.declared.types.TokenKind.TheVariants.{Int, Tag};
 
 use crate::pieces::first_piece;
 use crate::runs::has_no_leading_zero;
-use crate::scan::{digits_len, ends_run, is_blank, utf8_end};
+use crate::scan::{digits_alone, ends_run, is_blank, utf8_end};
 use crate::types::{Token, TokenKind};
 
 /// How many collections may be opened one within another in what is looked at ahead.
@@ -37,6 +37,33 @@ pub fn behind_blanks(text: &[u8], offset: usize) -> usize
     at
 }
 
+/// The first offset from this one on where no blank is, or the text's end. Often a comma and one blank come first.
+#[inline(always)]
+pub fn behind_comma(text: &[u8], offset: usize) -> usize
+    requires { offset ≤ length text.now }
+    ensures { IsGap text.now offset result }
+{
+    match &text[offset..] {
+        [b',', b' ', ..] => behind_blanks(text, offset + 2),
+        _ => behind_blanks(text, offset),
+    }
+}
+
+/// Whether the text begins with a word. This is inlined, so that a word that is known costs a compare or two.
+#[inline(always)]
+fn begins_with(text: &[u8], word: &[u8]) -> bool
+    ensures { result ≡ true → word.now ≡ take (length word.now) text.now }
+{
+    if text.len() < word.len() {
+        return false;
+    }
+    let mut same = true;
+    for i in 0..word.len() {
+        same &= text[i] == word[i];
+    }
+    same
+}
+
 /// The token that begins here, if it is this word.
 #[inline(always)]
 pub fn word_at(text: &[u8], start: usize, word: &[u8], kind: TokenKind) -> Option<Token>
@@ -48,7 +75,28 @@ pub fn word_at(text: &[u8], start: usize, word: &[u8], kind: TokenKind) -> Optio
     ensures fits { IfSome result (λ token. token.end ≤ length text.now) }
 {
     let rest = &text[start..];
-    if !rest.starts_with(word) || !ends_run(&rest[word.len()..]) {
+    if !begins_with(rest, word) || !ends_run(&rest[word.len()..]) {
+        return None;
+    }
+    Some(Token {
+        kind,
+        start,
+        end: start + word.len(),
+    })
+}
+
+/// The token that begins here, if it is this word with a space after it.
+#[inline(always)]
+pub fn spaced_word_at(text: &[u8], start: usize, word: &[u8], kind: TokenKind) -> Option<Token>
+    requires start { start ≤ length text.now }
+    requires word { IsWord word.now (kind_of kind) }
+    ensures lone { IfSome result (IsLoneAt text.now start) }
+    ensures is { IfSome result (λ token. (item_of text.now token).bytes ≡ word.now) }
+    ensures kind { IfSome result (λ token. token.kind ≡ kind) }
+    ensures space { IfSome result (λ token. IsGap text.now token.end (token.end + 1)) }
+{
+    let rest = &text[start..];
+    if !begins_with(rest, word) || !begins_with(&rest[word.len()..], b" ") {
         return None;
     }
     Some(Token {
@@ -67,8 +115,8 @@ pub fn number_at(text: &[u8], start: usize) -> Option<Token>
     ensures fits { IfSome result (λ token. token.end ≤ length text.now) }
 {
     let rest = &text[start..];
-    let len = digits_len(rest);
-    if len == 0 || !has_no_leading_zero(&rest[..len]) || !ends_run(&rest[len..]) {
+    let len = digits_alone(rest)?;
+    if len == 0 || !has_no_leading_zero(&rest[..len]) {
         return None;
     }
     Some(Token {
@@ -251,14 +299,13 @@ pub fn vector_closer(text: &[u8], offset: usize) -> Option<Token>
     }
 }
 
-/// The next token, if it closes a map or a set.
+/// The token that begins here, if it closes a map or a set.
 #[inline(always)]
-pub fn map_closer(text: &[u8], offset: usize) -> Option<Token>
-    requires { offset ≤ length text.now }
-    ensures gives { IfSome result (GivesCloser text.now offset close_brace) }
+pub fn map_closer(text: &[u8], start: usize) -> Option<Token>
+    ensures gives { IfSome result (λ token. (offset : ℕ) → IsGap text.now offset start
+        → GivesCloser text.now offset close_brace token) }
     ensures fits { IfSome result (λ token. token.end ≤ length text.now) }
 {
-    let start = behind_blanks(text, offset);
     if start < text.len() && text[start] == b'}' {
         Some(Token {
             kind: TokenKind::Close,

@@ -5,6 +5,6 @@ pub mod ahead;
 pub mod laws;
 pub mod lexer;
 mod pieces;
-mod runs;
+pub mod runs;
 mod scan;
 pub mod types;

@@ -18,14 +18,11 @@ fn without_sign(run: &[u8]) -> &[u8]
     }
 }
 
-fn without_n(run: &[u8]) -> &[u8]
+/// An integer may end with an `N`.
+pub fn without_n(run: &[u8]) -> &[u8]
     ensures { result.now ≡ before_n run.now }
 {
-    if run.ends_with(b"N") {
-        &run[..run.len() - 1]
-    } else {
-        run
-    }
+    run.strip_suffix(b"N").unwrap_or(run)
 }
 
 fn all_digits(bytes: &[u8]) -> bool

@@ -1,6 +1,6 @@
 //! Where items end. The scans of what is seldom found are not inlined, so that those of the frequent items stay short.
 
-ghost use Rattle.std.specs.Prelude.{◌≡◌, ◌<◌, ◌≤◌, ◌==◌, length, take, true, false, IsTrue, not, IfSome};
+ghost use Rattle.std.specs.Prelude.{◌≡◌, ◌<◌, ◌≤◌, ◌==◌, length, take, drop, true, false, IsTrue, not, IfSome};
 ghost use Rattle.std.specs.Char.{is_ascii_digit};
 ghost use Rattle.std.specs.List.{prefix_len, list_all};
 ghost use Rattle.std.specs.Str.{IsAscii};
@@ -58,11 +58,12 @@ fn flags_of(b: u8) -> u8
     FLAGS[b as usize]
 }
 
-/// Whether the byte is a blank.
+/// Whether the byte is a blank. Most bytes come after the last blank, the comma.
+#[inline(always)]
 pub(crate) fn is_blank(b: u8) -> bool
     ensures { result ≡ is_blank_byte b }
 {
-    flags_of(b) & BLANK != 0
+    b <= b',' && flags_of(b) & BLANK != 0
 }
 
 /// Whether no run goes on here: a blank, a bracket, a quote or a semicolon comes first, or the text's end.
@@ -76,17 +77,26 @@ pub(crate) fn ends_run(text: &[u8]) -> bool
     }
 }
 
-/// How many decimal digits are at the front of the text.
+/// How many decimal digits are at the front of the text, if no run goes on after them.
 #[inline(always)]
-pub(crate) fn digits_len(text: &[u8]) -> usize
-    ensures fits { result ≤ length text.now }
-    ensures digits { list_all is_ascii_digit (take result text.now) ≡ true }
+pub(crate) fn digits_alone(text: &[u8]) -> Option<usize>
+    ensures fits { IfSome result (λ len. len ≤ length text.now) }
+    ensures digits { IfSome result (λ len. list_all is_ascii_digit (take len text.now) ≡ true) }
+    ensures alone { IfSome result (λ len. longest_run (drop len text.now) ≡ 0) }
 {
     let mut len = 0;
-    while len < text.len() && text[len].is_ascii_digit() {
+    while len < text.len() {
+        let byte = text[len];
+        if !byte.is_ascii_digit() {
+            return if flags_of(byte) & ENDS_RUN != 0 {
+                Some(len)
+            } else {
+                None
+            };
+        }
         len += 1;
     }
-    len
+    Some(len)
 }
 
 /// The longest run at the front of the text.

@@ -1,7 +1,7 @@
 -- An integer's spelling without its `N` and its plus is how its number is written.
-use Rattle.std.proofs.Common.{◌≡◌, ◌⊎◌, inl, inr, ℕ, ℤ, pos, zero, suc, ◌+◌, ◌*◌, ◌-◌, ◌<◌, ◌≤◌, ◌^◌, List, [], ◌∷◌, length, take, drop, get_or, Bool, true, false, not, cond, refl, sym, ◌∙◌, ap, subst, arith}
+use Rattle.std.proofs.Common.{◌≡◌, ◌⊎◌, inl, inr, ℕ, ℤ, pos, zero, suc, ◌-◌, ◌<◌, ◌^◌, List, [], ◌∷◌, length, take, drop, get_or, Bool, true, false, not, cond, refl, sym, ◌∙◌, ap, subst, arith}
 use Rattle.std.specs.Prelude.{◌==◌, ◌&&◌, nat_eq, nat_lt, bytes_eq, codes, decimal}
-use Rattle.std.specs.Char.{is_ascii_digit, digit_value}
+use Rattle.std.specs.Char.{is_ascii_digit}
 use Rattle.std.specs.Cmp.Lexicographic.{bytes_decides}
 use Rattle.std.specs.Fmt.{signed_decimal}
 use Rattle.std.specs.List.{list_all}
@@ -13,10 +13,7 @@ use Rattle.std.proofs.lemmas.Fmt.{decimal-digits_value, decimal_digit}
 use Rattle.hist_types.specs.AtomTokens.{int_value, is_64_bit}
 use Rattle.hist_types.specs.Bytes.{letter_n, plus, minus}
 use Rattle.hist_types.specs.Tokens.{is_int, is_whole, is_sign, first_byte, without_n}
-use Rattle.std.proofs.lemmas.Bool.Decides.{nat_tests}
-use Rattle.std.proofs.lemmas.Int.Digits.{digits_value_more}
-use Rattle.std.proofs.lemmas.Str.{digit_value_digit}
-use Rattle.edn_lex.proofs.RunKinds.{no_n, no_sign}
+use Rattle.edn_lex.proofs.RunKinds.{no_sign}
 use Rattle.edn_ops.specs.SourceTexts.{decimal_spelling}
 use Rattle.edn_ops.proofs.ReadsBack.Runs.{IsDecimal, is_digit, own, unsigned_value}
 
@@ -116,22 +113,3 @@ spelled number (inr signed) fits =
 
 pub decimal_spelled : (run : List ℕ) → is_int run ≡ true → is_64_bit (int_value run) ≡ true → decimal_spelling (without_n run) ≡ signed_decimal (int_value run)
 decimal_spelled run h fits = spelled (without_n run) (number_parts run h) fits
-
--- ---- digits alone
-
--- they mean their number
-pub digits_mean : (ds : List ℕ) (n : ℕ) → is_int ds ≡ true → list_all is_ascii_digit ds ≡ true → digits_value 10 ds ≡ n → int_value ds ≡ pos n
-digits_mean [] n h digits is = absurd (true≢false (sym h))
-digits_mean (b ∷ bs) n h digits is =
-    let no_letter : without_n (b ∷ bs) ≡ b ∷ bs = no_n (b ∷ bs) digits in
-    let whole : is_whole (b ∷ bs) ≡ true = subst (λ (xs : List ℕ). is_whole xs ≡ true) (ap without_n (no_sign (b ∷ bs) (omega arith) digits) ∙ no_letter) h in
-    ap (signed_digits_value 10) no_letter ∙ unsigned_value (b ∷ bs) (decimal_from_whole (b ∷ bs) whole) ∙ ap pos is
-
--- one digit more
-pub digit_more : (ds : List ℕ) (i n : ℕ) → i < length ds → digits_value 10 (take i ds) ≡ n → is_ascii_digit (get_or ds i 0) ≡ true → digits_value 10 (take (i + 1) ds) ≡ n * 10 + (get_or ds i 0 - 48)
-digit_more ds i n within is digit =
-    let low : 48 ≤ get_or ds i 0 = grind (arith, nat_tests) in
-    let high : get_or ds i 0 ≤ 57 = grind (arith, nat_tests) in
-    let value = digit_value_digit (get_or ds i 0) (omega arith, omega arith) in
-    let one : digit_value (get_or ds i 0) ≡ get_or ds i 0 - 48 = omega arith in
-    digits_value_more 10 ds i within ∙ ap (λ (k : ℕ). k * 10 + digit_value (get_or ds i 0)) is ∙ ap (λ (k : ℕ). n * 10 + k) one

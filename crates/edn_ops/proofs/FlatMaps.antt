@@ -3,7 +3,7 @@ use Rattle.std.proofs.Common.{◌≡◌, ℕ, ℤ, ◌+◌, ◌-◌, ◌<◌, �
 use Rattle.std.specs.List.{slice_get}
 use Rattle.std.specs.Prelude.{IfSome, slice_range}
 use Rattle.std.specs.Option.{is_some}
-use Rattle.std.proofs.lemmas.Bool.{true≢false, false_from_ne_true}
+use Rattle.std.proofs.lemmas.Bool.{true≢false, false_from_ne_true, cases_lt}
 use Rattle.hist_types.specs.AtomTokens.{int_value, process_of}
 use Rattle.hist_types.specs.Bytes.{close_brace, open_square, close_square}
 use Rattle.hist_types.specs.Entries.{◌>>=◌, is_write_of, or_refuse, the_one, is_named, int_of, kind_of as kind_of_form, micro_ops_of, transaction_of, client_operation, end_of, entry_by, entry_of}
@@ -14,7 +14,7 @@ use Rattle.hist_types.specs.declared.types.Fault.{Fault}
 use Rattle.hist_types.specs.declared.types.OpKind.{OpKind}
 use Rattle.hist_types.specs.declared.types.OpKind.TheVariants as op_kinds
 use Rattle.hist_types.specs.declared.types.Refusal.TheVariants.{NotTxn}
-use Rattle.edn_lex.specs.Ahead.{going_at, IsLoneAt, GivesLone, GivesOpener, GivesCloser, GivesTriple}
+use Rattle.edn_lex.specs.Ahead.{going_at, IsGap, IsLoneAt, GivesLone, GivesOpener, GivesCloser, GivesTriple}
 use Rattle.edn_lex.specs.Kinds.{item_of}
 use Rattle.edn_lex.specs.declared.ahead.TheConstants.{LEVELS_AHEAD}
 use Rattle.edn_lex.specs.declared.ahead.Triple.{Triple}
@@ -22,8 +22,6 @@ use Rattle.edn_lex.specs.declared.types.Token.{Token}
 use Rattle.edn_lex.specs.declared.types.TokenKind.TheVariants as kinds
 use Rattle.edn_ops.specs.declared.atoms.TheConstants.{LONG_INTEGER}
 use Rattle.edn_ops.specs.declared.flat.FlatFields.{FlatFields}
-use Rattle.edn_ops.specs.declared.flat.Name.{Name}
-use Rattle.edn_ops.specs.declared.flat.Name.TheVariants as names
 use Rattle.edn_ops.specs.declared.flat.Owner.{Owner}
 use Rattle.edn_ops.specs.declared.flat.Owner.TheVariants as owners
 use Rattle.edn_ops.specs.declared.flat.TheConstants.{VALUE_LEVELS}
@@ -33,7 +31,7 @@ use Rattle.edn_ops.specs.declared.types.Span.{Span}
 use Rattle.edn_ops.specs.declared.types.OpShape.{OpShape}
 use Rattle.edn_ops.specs.Collections.{ReadsMap}
 use Rattle.edn_ops.specs.Fields.{fields_named, members_of, mops_result, result_outline, IsEntry}
-use Rattle.edn_ops.specs.Flat.{ReadsAhead, PassesAhead, IsMopValue, GivesMop, ReadsFlatMop, ReadsFlatTransaction, IsName, ReadsFlatValue, ReadsFlatField, HasKind, NamesOwner, HasOwner, HasMops, may_have_mops, AreFlat, AddsFlat, ReadsFlatMap, AreFlatMops, IsComplete, IsFlatEntry}
+use Rattle.edn_ops.specs.Flat.{ReadsAhead, PassesAhead, IsMopValue, GivesMop, ReadsFlatMop, ReadsFlatTransaction, ReadsFlatValue, ReadsFlatField, HasKind, NamesOwner, HasOwner, HasMops, may_have_mops, AreFlat, AddsFlat, ReadsFlatMap, AreFlatMops, IsComplete, IsFlatEntry}
 use Rattle.edn_ops.specs.Leads.{is_mark_kind}
 use Rattle.edn_ops.specs.Outlines.{outline, outline_of, number_of, IsTokenIn}
 use Rattle.edn_ops.proofs.Closing.{IsAt, by_process, entry_from, entry_is, entry_skipped, has_value, is_operation, value_mops, bind_ok}
@@ -154,6 +152,20 @@ mop_given text offset true t key value given fits name h g key_is value_is =
 mop_given text offset false t key value given fits name h g key_is value_is =
     let within = triple_in text offset t given in
     (t, given, refl, fits, grind (arith, token_end text t.second within.1, token_end text t.third within.2))
+
+-- two gaps are one
+pub gap_more : (text : List ℕ) (offset middle start : ℕ) → IsGap text offset middle → IsGap text middle start → IsGap text offset start
+gap_more text offset middle start first second =
+    let low = first.low in
+    let high = second.low in
+    record {
+      low = omega arith;
+      fits = second.fits;
+      blanks = λ k above below. elim (cases_lt k middle) [
+        | inl before ↦ first.blanks k above before
+        | inr behind ↦ second.blanks k behind below
+      ];
+    }
 
 -- a token that begins at the offset
 pub lone_here : (text : List ℕ) (offset : ℕ) (token : Token) → offset ≤ length text → IsLoneAt text offset token → GivesLone text offset token
@@ -337,7 +349,7 @@ flat_map_read text opener shape end outer h is_a_map room =
 -- the value of `:type`
 pub kind_read :
     (text : List ℕ) (offset : ℕ) (token : Token) (old : FlatFields) (kind : OpKind) → is_some old.kind ≡ false → GivesLone text offset token → token.end ≤ length text → Some kind ≡ kind_of_form (plain (item_of text token)) →
-    ReadsFlatValue text offset names.Kind old (Some token.end) (record old { kind = Some kind })
+    ReadsFlatValue text offset (codes ":type") old (Some token.end) (record old { kind = Some kind })
 kind_read text offset token old kind none gives fits is = (
   plain (item_of text token),
   lone_form text VALUE_LEVELS offset token fits gives,
@@ -350,7 +362,7 @@ process_no_type f h = false_from_ne_true (is_named (codes ":type") f) (λ k. tru
 -- the value of `:process`
 pub owner_read :
     (text : List ℕ) (offset : ℕ) (token : Token) (old : FlatFields) (owner : Owner) → is_some old.owner ≡ false → GivesLone text offset token → token.end ≤ length text → NamesOwner (plain (item_of text token)) owner →
-    ReadsFlatValue text offset names.Process old (Some token.end) (record old { owner = Some owner })
+    ReadsFlatValue text offset (codes ":process") old (Some token.end) (record old { owner = Some owner })
 owner_read text offset token old owner none gives fits is = (
   plain (item_of text token),
   lone_form text VALUE_LEVELS offset token fits gives,
@@ -359,24 +371,24 @@ owner_read text offset token old owner none gives fits is = (
 
 -- a value that is no transaction
 pub value_read :
-    (text : List ℕ) (key : Token) (name : Name) (old : FlatFields) (shapes : List MopShape) (o : Option ℕ) (new : FlatFields) → IsName name (plain (item_of text key)) → ReadsFlatValue text key.end name old o new →
-    ReadsFlatField text key old shapes (Ok o) new shapes
-value_read text key name old shapes None new is r = tt
-value_read text key name old shapes (Some end) new is r = (r.0, r.1, r.2 (plain (item_of text key)) shapes is)
+    (text : List ℕ) (start : ℕ) (key : Token) (name : List ℕ) (old : FlatFields) (shapes : List MopShape) (o : Option ℕ) (new : FlatFields) → IsLoneAt text start key → is_named name (plain (item_of text key)) ≡ true →
+    ReadsFlatValue text key.end name old o new → ReadsFlatField text start old shapes (Ok o) new shapes
+value_read text start key name old shapes None new lone is r = tt
+value_read text start key name old shapes (Some end) new lone is r = (key, lone, r.0, r.1, r.2 (plain (item_of text key)) shapes is)
 
 -- a value that says nothing
 pub value_passed :
-    (text : List ℕ) (key : Token) (fields : FlatFields) (shapes : List MopShape) (o : Option ℕ) → (let k = plain (item_of text key) in is_named (codes ":type") k ≡ false) →
+    (text : List ℕ) (start : ℕ) (key : Token) (fields : FlatFields) (shapes : List MopShape) (o : Option ℕ) → IsLoneAt text start key → (let k = plain (item_of text key) in is_named (codes ":type") k ≡ false) →
     (let k = plain (item_of text key) in is_named (codes ":process") k ≡ false) → (let k = plain (item_of text key) in may_have_mops fields.kind ≡ true → is_named (codes ":value") k ≡ false) →
-    PassesAhead text VALUE_LEVELS key.end o → ReadsFlatField text key fields shapes (Ok o) fields shapes
-value_passed text key fields shapes None type process other passes = tt
-value_passed text key fields shapes (Some end) type process other passes = (passes.0, passes.1, adds_other fields shapes (plain (item_of text key)) passes.0 type process other)
+    PassesAhead text VALUE_LEVELS key.end o → ReadsFlatField text start fields shapes (Ok o) fields shapes
+value_passed text start key fields shapes None lone type process other passes = tt
+value_passed text start key fields shapes (Some end) lone type process other passes = (key, lone, passes.0, passes.1, adds_other fields shapes (plain (item_of text key)) passes.0 type process other)
 
 -- a transaction that is the value of the first `:value`
 pub value_ahead :
-    (text : List ℕ) (key : Token) (old : FlatFields) (shapes more : List MopShape) (result : Result (Option ℕ) Fault) → is_named (codes ":value") (plain (item_of text key)) ≡ true → may_have_mops old.kind ≡ true → old.has_value ≡ false →
-    ReadsFlatTransaction text key.end result more → ReadsFlatField text key old shapes result (record old { has_value = true }) more
-value_ahead text key old shapes more (Ok None) named may first r = tt
-value_ahead text key old shapes more (Ok (Some end)) named may first r =
-    (r.0, deeper text 2 VALUE_LEVELS key.end r.0 end (lit≤ tt) r.1, adds_value old shapes more (plain (item_of text key)) r.0 named may first r.2)
-value_ahead text key old shapes more (Err fault) named may first r = r
+    (text : List ℕ) (start : ℕ) (key : Token) (old : FlatFields) (shapes more : List MopShape) (result : Result (Option ℕ) Fault) → IsLoneAt text start key → is_named (codes ":value") (plain (item_of text key)) ≡ true →
+    may_have_mops old.kind ≡ true → old.has_value ≡ false → ReadsFlatTransaction text key.end result more → ReadsFlatField text start old shapes result (record old { has_value = true }) more
+value_ahead text start key old shapes more (Ok None) lone named may first r = tt
+value_ahead text start key old shapes more (Ok (Some end)) lone named may first r =
+    (key, lone, r.0, deeper text 2 VALUE_LEVELS key.end r.0 end (lit≤ tt) r.1, adds_value old shapes more (plain (item_of text key)) r.0 named may first r.2)
+value_ahead text start key old shapes more (Err fault) lone named may first r = r

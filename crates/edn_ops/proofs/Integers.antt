@@ -1,5 +1,5 @@
 -- What a parsed integer is: the number that its spelling means.
-use Rattle.std.proofs.Common.{◌≡◌, ℕ, zero, suc, ◌-◌, ◌^◌, ◌<◌, ℤ, pos, negsuc, Bool, true, false, cond, nat_lt, ◌==◌, ◌&&◌, List, [], ◌∷◌, length, take, drop, Option, Some, None, Result, Ok, Err, refl, sym, ap, subst, ◌∙◌, arith, inl, inr, lit<}
+use Rattle.std.proofs.Common.{◌≡◌, ℕ, zero, suc, ◌+◌, ◌-◌, ◌*◌, ◌^◌, ◌<◌, ◌⊎◌, ℤ, pos, negsuc, to_z, of_z, Bool, true, false, cond, nat_lt, ◌==◌, ◌&&◌, List, [], ◌∷◌, length, length-take-le, get_or, take, drop, Option, Some, None, Result, Ok, Err, refl, sym, ap, subst, ◌∙◌, arith, inl, inr, lit<}
 use Rattle.std.specs.Prelude.{◌≤◌, nat_eq, bytes_eq, slice_index, neg_ℤ}
 use Rattle.std.specs.Bool.{then_some}
 use Rattle.std.specs.Char.{is_ascii_digit}
@@ -8,14 +8,16 @@ use Rattle.std.specs.Int.RustNames.{FitsSigned}
 use Rattle.std.specs.List.{list_all, ends_with}
 use Rattle.std.specs.Result.{result_ok}
 use Rattle.std.specs.Str.{all_ascii_digits, IsUtf8, IsAscii}
-use Rattle.std.specs.Str.Parse.{IsNumeral, digits_value, ParsesSigned, without_leading_sign, without_leading_plus, starts_with_minus}
-use Rattle.std.proofs.lemmas.Bool.{ltb-true, lt-ltb, eqb-true, and_parts, or_cases, false_from_ne_true, ne_eqb, cond-false}
+use Rattle.std.specs.Str.Parse.{IsNumeral, digits_value, signed_digits_value, ParsesSigned, without_leading_sign, without_leading_plus, starts_with_minus}
+use Rattle.std.proofs.lemmas.Bool.{ltb-true, lt-ltb, eqb-true, and_parts, and_from, or_cases, false_from_ne_true, ne_eqb, cond-false}
 use Rattle.std.proofs.Math.Nat.{pow-le-pow_right}
-use Rattle.std.proofs.lemmas.Int.Digits.{digits_value-lt}
-use Rattle.std.proofs.lemmas.List.{length-drop, length-take}
+use Rattle.std.proofs.lemmas.Int.{to_z_pos, to_z-of_z}
+use Rattle.std.proofs.lemmas.Int.Digits.{digits_value-lt, digits_value_more}
+use Rattle.std.proofs.lemmas.List.{length-drop, length-take, take_all}
+use Rattle.std.proofs.lemmas.List.Folds.{list_all_more}
 use Rattle.std.proofs.lemmas.Fmt.{IsAscii-from_digits}
-use Rattle.std.proofs.lemmas.Str.{IsUtf8-from_ascii}
-use Rattle.std.proofs.lemmas.Str.Parse.{digit_at, IsNumeralModel, numerals_by_value, tells_all_ascii_digits}
+use Rattle.std.proofs.lemmas.Str.{IsUtf8-from_ascii, digit_value_digit}
+use Rattle.std.proofs.lemmas.Str.Parse.{digit_at, IsNumeralModel, numerals_by_value, tells_all_ascii_digits, digits_value_short}
 use Rattle.hist_types.specs.Bytes.{plus, minus, letter_n}
 use Rattle.std.specs.Option.{is_some}
 use Rattle.hist_types.specs.Atoms.{Atom, integer}
@@ -23,7 +25,9 @@ use Rattle.hist_types.specs.AtomTokens.{is_64_bit, int_value, atom_of_token}
 use Rattle.edn_lex.specs.Kinds.{kind_of}
 use Rattle.edn_lex.specs.declared.types.TokenKind.{TokenKind}
 use Rattle.edn_lex.specs.declared.types.TokenKind.TheVariants as kinds
+use Rattle.edn_lex.proofs.RunKinds.{no_n}
 use Rattle.edn_ops.specs.Outlines.{IsSpelled}
+use Rattle.edn_ops.specs.SourceTexts.{IsNumberOf}
 use Rattle.hist_types.specs.Tokens.{is_int, is_whole, is_sign, first_byte, without_n}
 
 -- two spellings of one test
@@ -178,3 +182,62 @@ pub short_atom :
 short_atom kind bytes e spelled short =
     let P : TokenKind → Type 0 = λ k. IsSpelled (kind_of k) bytes → nat_lt (length bytes) 19 ≡ is_some (atom_of_token (kind_of k) bytes) in
     subst P (sym e) (λ h. lt-ltb (length bytes) 19 short ∙ sym (known_atom (is_64_bit (int_value bytes)) (integer (int_value bytes)) (short_int bytes h short))) spelled
+
+-- ---- digits alone
+
+pub digit_range : (b : ℕ) (bs : List ℕ) → list_all is_ascii_digit (b ∷ bs) ≡ true → (48 ≤ b) × (b ≤ 57)
+digit_range b bs h = (tells_all_ascii_digits.parts b bs (sym (all_is (b ∷ bs)) ∙ h)).0
+
+pub other_byte : (b c : ℕ) → (48 ≤ b) × (b ≤ 57) → (c < 48) ⊎ (57 < c) → (b == c) ≡ false
+other_byte b c range (inl below) = false_from_ne_true _ (λ h. omega (arith, eqb-true b c h, range.0, below))
+other_byte b c range (inr above) = false_from_ne_true _ (λ h. omega (arith, eqb-true b c h, range.1, above))
+
+plain_sign : (ds : List ℕ) → list_all is_ascii_digit ds ≡ true → signed_digits_value 10 ds ≡ pos (digits_value 10 ds)
+plain_sign [] h = refl
+plain_sign (b ∷ bs) h =
+    let range = digit_range b bs h in
+    rw (other_byte b minus range (inl (omega arith)), other_byte b plus range (inl (omega arith))) refl
+
+-- The first bytes are digits, and this is the number that they write.
+pub record AreDigitsUpTo (text : List ℕ) (count number : ℕ) : Type 0 where
+  pub digits : list_all is_ascii_digit (take count text) ≡ true
+  pub value : number ≡ digits_value 10 (take count text)
+
+pub no_digits : (text : List ℕ) → AreDigitsUpTo text 0 0
+no_digits text = record { digits = refl; value = refl }
+
+pub digit_more :
+    (text : List ℕ) (count number digit : ℕ)
+    → count < length text → is_ascii_digit (get_or text count 0) ≡ true → digit ≡ get_or text count 0 - 48
+    → AreDigitsUpTo text count number → AreDigitsUpTo text (count + 1) (number * 10 + digit)
+digit_more text count number digit within is value h =
+    let range = digit_range (get_or text count 0) [] (and_from _ _ is refl) in
+    record {
+      digits = list_all_more is_ascii_digit text count 0 within ∙ and_from _ _ h.digits is;
+      value = omega (arith, h.value, value, digits_value_more 10 text count within, digit_value_digit (get_or text count 0) range);
+    }
+
+pub digits_below : (text : List ℕ) (count number most : ℕ) → count ≤ length text → count ≤ most → AreDigitsUpTo text count number → number < 10 ^ most
+digits_below text count number most within few h =
+    let size : length (take count text) ≤ most = omega (arith, length-take-le count text within) in
+    omega (arith, h.value, digits_value_short own (take count text) most (sym (all_is (take count text)) ∙ h.digits) size)
+
+pub digits_number : (text : List ℕ) (count number : ℕ) → length text ≤ count → number < 2 ^ 63 → AreDigitsUpTo text count number → IsNumberOf text (to_z w64 number)
+digits_number text count number whole fits h =
+    let all = take_all count text whole in
+    let digits : list_all is_ascii_digit text ≡ true = subst (λ (ds : List ℕ). list_all is_ascii_digit ds ≡ true) all h.digits in
+    let value : pos (digits_value 10 text) ≡ to_z w64 number = ap (λ (ds : List ℕ). pos (digits_value 10 ds)) (sym all) ∙ ap pos (sym h.value) ∙ sym (to_z_pos w64 number fits) in
+    record {
+      digits = digits;
+      means = ap (signed_digits_value 10) (no_n text digits) ∙ plain_sign text digits ∙ value;
+      fits = ap is_64_bit (to_z_pos w64 number fits) ∙ lt-ltb number (2 ^ 63) fits;
+    }
+
+-- as the machine holds it
+pub number_kept : (text : List ℕ) (number : ℤ) → IsNumberOf text number → to_z w64 (of_z w64 number) ≡ number
+number_kept text number h = to_z-of_z w64 number (is_fits number h.fits)
+
+pub number_from_digits : (text : List ℕ) (number : ℤ) → IsNumberOf text number → Some (to_z w64 (of_z w64 number)) ≡ then_some (is_64_bit (int_value text)) (int_value text)
+number_from_digits text number h =
+    let holds : is_64_bit (int_value text) ≡ true = ap is_64_bit h.means ∙ h.fits in
+    ap (λ (z : ℤ). Some z) (number_kept text number h ∙ sym h.means) ∙ sym (kept (is_64_bit (int_value text)) (int_value text) holds)

@@ -20,7 +20,8 @@ pub mod FlatForms
 pub mod FlatMaps
 pub mod FlatPlaces
 pub mod ReadsBack
-mod Tokens
+pub mod Tokens
+pub mod KindsByFront
 mod Decimals
 mod StringSources
 mod ValueFronts

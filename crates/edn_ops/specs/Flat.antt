@@ -12,7 +12,7 @@ use Rattle.hist_types.specs.declared.types.Fault.{Fault}
 use Rattle.hist_types.specs.declared.types.OpKind.{OpKind}
 use Rattle.hist_types.specs.declared.types.OpKind.TheVariants as kinds
 use Rattle.smallvec.specs.SmallVec.{SmallVec}
-use Rattle.edn_lex.specs.Ahead.{going_at, GivesAhead, GivesOpener, GivesCloser, GivesTriple}
+use Rattle.edn_lex.specs.Ahead.{going_at, IsLoneAt, GivesAhead, GivesOpener, GivesCloser, GivesTriple}
 use Rattle.edn_lex.specs.Kinds.{item_of}
 use Rattle.edn_lex.specs.declared.ahead.Triple.{Triple}
 use Rattle.edn_lex.specs.declared.types.Token.{Token}
@@ -21,8 +21,6 @@ use Rattle.edn_ops.specs.declared.flat.FlatEntry.{FlatEntry}
 use Rattle.edn_ops.specs.declared.flat.FlatEntry.TheVariants as entries
 use Rattle.edn_ops.specs.declared.flat.FlatFields.{FlatFields}
 use Rattle.edn_ops.specs.declared.flat.FlatOperation.{FlatOperation}
-use Rattle.edn_ops.specs.declared.flat.Name.{Name}
-use Rattle.edn_ops.specs.declared.flat.Name.TheVariants as names
 use Rattle.edn_ops.specs.declared.flat.Owner.{Owner}
 use Rattle.edn_ops.specs.declared.flat.Owner.TheVariants as owners
 use Rattle.edn_ops.specs.declared.flat.TheConstants.{VALUE_LEVELS}
@@ -30,6 +28,7 @@ use Rattle.edn_ops.specs.declared.outline.Outline.{Outline}
 use Rattle.edn_ops.specs.declared.outline.Outline.TheVariants as outlines
 use Rattle.edn_ops.specs.declared.types.MopShape.{MopShape}
 use Rattle.edn_ops.specs.declared.types.OpShape.{OpShape}
+use Rattle.edn_ops.specs.declared.types.Span.{Span}
 use Rattle.edn_ops.specs.Collections.{ReadsMember, ReadsMembers, outlined_mop}
 use Rattle.edn_ops.specs.Fields.{IsEntry, fields_named, members_of, mops_result}
 
@@ -64,6 +63,9 @@ GivesMop text offset shape end =
     (triple : Triple) × GivesTriple text offset triple × (end ≡ triple.closer.end)
     × (triple.closer.end ≤ length text)
     × (Ok shape ≡ outlined_mop text triple.opener.start (three_of triple))
+
+abbrev pub shape_of : Bool → Span → Span → MopShape
+shape_of is_write key value = record { is_write = is_write; key = key; value = value }
 
 -- a call read one more micro-operation, up to the end that it gives
 abbrev pub ReadsFlatMop :
@@ -138,32 +140,30 @@ AddsFlat old shapes key value new more =
     (pairs : List (Form × Form)) → AreFlat old shapes pairs →
     AreFlat new more (pairs ++ (key, value) ∷ [])
 
--- the key is of the field with this name
-abbrev pub IsName : Name → Form → Type 0
-IsName names.Kind key = is_named (codes ":type") key ≡ true
-IsName names.Process key = is_named (codes ":process") key ≡ true
-IsName names.Value key = is_named (codes ":value") key ≡ true
-IsName names.Other key =
+-- the key is of a field that says nothing
+abbrev pub IsOther : Form → Type 0
+IsOther key =
     (is_named (codes ":type") key ≡ false) × (is_named (codes ":process") key ≡ false)
     × (is_named (codes ":value") key ≡ false)
 
 -- a call read the value of the field with this name, which is no transaction
-abbrev pub ReadsFlatValue : List ℕ → ℕ → Name → FlatFields → Option ℕ → FlatFields → Type 0
+abbrev pub ReadsFlatValue : List ℕ → ℕ → List ℕ → FlatFields → Option ℕ → FlatFields → Type 0
 ReadsFlatValue text offset name old None new = Unit {0}
 ReadsFlatValue text offset name old (Some end) new =
     (value : Form) × ReadsAhead text VALUE_LEVELS offset value end
-    × ((key : Form) (shapes : List MopShape) → IsName name key →
+    × ((key : Form) (shapes : List MopShape) → is_named name key ≡ true →
     AddsFlat old shapes key value new shapes)
 
--- a call read the value of a key
+-- a call read the field whose key begins here
 abbrev pub ReadsFlatField :
-    List ℕ → Token → FlatFields → List MopShape →
+    List ℕ → ℕ → FlatFields → List MopShape →
     Result (Option ℕ) Fault → FlatFields → List MopShape → Type 0
-ReadsFlatField text key old shapes (Ok None) new more = Unit {0}
-ReadsFlatField text key old shapes (Ok (Some end)) new more =
-    (value : Form) × ReadsAhead text VALUE_LEVELS key.end value end
+ReadsFlatField text start old shapes (Ok None) new more = Unit {0}
+ReadsFlatField text start old shapes (Ok (Some end)) new more =
+    (key : Token) × IsLoneAt text start key
+    × (value : Form) × ReadsAhead text VALUE_LEVELS key.end value end
     × AddsFlat old shapes (plain (item_of text key)) value new more
-ReadsFlatField text key old shapes (Err fault) new more = fault ≡ memory_fault
+ReadsFlatField text start old shapes (Err fault) new more = fault ≡ memory_fault
 
 -- ---- maps
 

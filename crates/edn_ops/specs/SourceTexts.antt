@@ -1,16 +1,22 @@
 -- Source texts of atoms and micro-operations, and how they are written canonically.
-use Rattle.std.specs.Prelude.{◌≡◌, ℕ, List, [], ◌∷◌, ◌++◌, Bool, true, false, ◌==◌, if◌then◌else◌, bytes_eq, drop, codes, Some, None, Result, OnOk, Vec}
+use Rattle.std.specs.Prelude.{◌≡◌, ℕ, ℤ, List, [], ◌∷◌, ◌++◌, Bool, true, false, ◌==◌, if◌then◌else◌, bytes_eq, drop, codes, Some, None, Result, OnOk, Vec}
+use Rattle.std.specs.Char.{is_ascii_digit}
+use Rattle.std.specs.List.{list_all}
 use Rattle.hist_types.specs.Atoms.{Atom, Value}
-use Rattle.hist_types.specs.AtomTokens.{atom_of_token}
-use Rattle.hist_types.specs.Bytes.{plus}
+use Rattle.hist_types.specs.AtomTokens.{atom_of_token, int_value, is_64_bit}
+use Rattle.hist_types.specs.Bytes.{plus, quote, colon}
 use Rattle.hist_types.specs.Operations.{Mop, read, write, Operation}
 use Rattle.reading_laws.specs.Placed.{IsTokenAlone}
 use Rattle.hist_types.specs.CanonicalText.{operation_text}
-use Rattle.hist_types.specs.Tokens.{ItemKind, first_byte}
+use Rattle.hist_types.specs.Tokens.{ItemKind, Int, Keyword, Symbol, Str, first_byte, begins_with_number}
 use Rattle.hist_types.specs.declared.types.OpKind.{OpKind}
 use Rattle.edn_ops.specs.declared.write.MopText.{MopText}
 
--- The text is one token, and that token is the atom.
+-- The text is one token of this kind, and that token is the atom.
+abbrev pub IsTokenOf : ItemKind → List ℕ → Atom → Type 0
+IsTokenOf kind text atom = IsTokenAlone kind text × (atom_of_token kind text ≡ Some atom)
+
+-- the same, whichever kind it is
 abbrev pub IsAtomText : List ℕ → Atom → Type 0
 IsAtomText text atom =
     (kind : ItemKind) × IsTokenAlone kind text × (atom_of_token kind text ≡ Some atom)
@@ -26,6 +32,20 @@ IsMopText t (read key value) =
     (t.is_write ≡ false) × IsAtomText t.key.now key × IsValueText t.value.now value
 IsMopText t (write key value) =
     (t.is_write ≡ true) × IsAtomText t.key.now key × IsAtomText t.value.now value
+
+-- the kind of an atom's token, by the first bytes of its text
+abbrev pub kind_by_front : List ℕ → ItemKind
+kind_by_front text =
+    if first_byte text == quote then Str
+    else (if first_byte text == colon then Keyword
+    else (if begins_with_number text then Int
+    else Symbol))
+
+-- The text is digits alone, and the number that they write has 64 bits.
+pub record IsNumberOf (text : List ℕ) (number : ℤ) : Type 0 where
+  pub digits : list_all is_ascii_digit text ≡ true
+  pub means : int_value text ≡ number
+  pub fits : is_64_bit number ≡ true
 
 -- one for one, in order
 abbrev pub AreMopTexts : List MopText → List Mop → Type 0

@@ -1,61 +1,102 @@
-//! Atoms as tokens, and the numbers of processes.
+//! What the tokens of atoms mean, and the numbers of processes.
 
-ghost use Rattle.std.specs.Prelude.{◌≡◌, true, false, pos, slice_range, IfSome};
+ghost use Rattle.std.specs.Prelude.{◌≡◌, true, false, IfSome};
 ghost use Rattle.std.specs.Bool.{then_some};
 ghost use Rattle.std.specs.Option.{is_some};
-ghost use Rattle.hist_types.specs.AtomTokens.{int_value, is_64_bit, escape_value, decoded, atom_of_token, process_of as process_of_number};
-ghost use Rattle.hist_types.specs.Tokens.{is_int, without_n as before_n};
+ghost use Rattle.hist_types.specs.AtomTokens.{int_value, is_64_bit, escape_value as value_of_escape, between_quotes as bytes_between_quotes, decoded, atom_of_token, process_of as process_of_number};
+ghost use Rattle.hist_types.specs.Tokens.{is_int, begins_with_number};
 ghost use Rattle.edn_lex.specs.Kinds.{kind_of};
 ghost use Rattle.edn_ops.specs.Outlines.{IsSpelled};
+ghost use Rattle.edn_ops.specs.SourceTexts.{IsNumberOf, kind_by_front};
 
+use edn_lex::runs::without_n;
 use edn_lex::types::TokenKind;
-use hist_types::limits::MAX_PROCESS;
 use hist_types::types::Process;
 use std::str;
 
-fn without_n(spelling: &[u8]) -> &[u8]
-    ensures { result.now ≡ before_n spelling.now }
+/// An integer of fewer bytes has 64 bits.
+pub(crate) const LONG_INTEGER: usize = 19;
+
+/// The number of digits alone, if they are so few that it has 64 bits.
+pub fn number_of_digits(text: &[u8]) -> Option<i64>
+    ensures { IfSome result (IsNumberOf text.now) }
 {
-    if spelling.ends_with(b"N") {
-        &spelling[..spelling.len() - 1]
-    } else {
-        spelling
+    if text.len() >= LONG_INTEGER {
+        return None;
     }
+    let mut number: u64 = 0;
+    for byte in text {
+        if !byte.is_ascii_digit() {
+            return None;
+        }
+        number = number * 10 + u64::from(byte - b'0');
+    }
+    Some(number as i64)
 }
 
 /// The number that an integer's spelling means, if it has 64 bits.
-fn integer_of(spelling: &[u8]) -> Option<i64>
+pub fn integer_of(spelling: &[u8]) -> Option<i64>
     requires { is_int spelling.now ≡ true }
     ensures { result ≡ then_some (is_64_bit (int_value spelling.now)) (int_value spelling.now) }
 {
+    // Most integers are short and have no sign.
+    if let Some(number) = number_of_digits(spelling) {
+        return Some(number);
+    }
     let Ok(text) = str::from_utf8(without_n(spelling)) else {
         return None;
     };
     text.parse::<i64>().ok()
 }
 
-fn is_escape(byte: u8) -> bool
-    ensures { result ≡ is_some (escape_value byte) }
+/// The process whose number is spelled so.
+pub(crate) fn process_of(spelling: &[u8]) -> Option<Process>
+    requires { is_int spelling.now ≡ true }
+    ensures { result ≡ process_of_number (int_value spelling.now) }
 {
-    matches!(byte, b't' | b'r' | b'n' | b'\\' | b'"' | b'b' | b'f')
+    let number = u64::try_from(integer_of(spelling)?).ok()?;
+    Process::new(number)
+}
+
+/// What is between the quotes of a string.
+pub fn between_quotes(text: &[u8]) -> &[u8]
+    ensures { result.now ≡ bytes_between_quotes text.now }
+{
+    match text {
+        [_, between @ .., _] => between,
+        _ => &[],
+    }
+}
+
+/// The byte that an escape means, by the byte after its backslash.
+pub fn escape_value(escape: u8) -> Option<u8>
+    ensures { result ≡ value_of_escape escape }
+{
+    match escape {
+        b't' => Some(b'\t'),
+        b'r' => Some(b'\r'),
+        b'n' => Some(b'\n'),
+        b'\\' => Some(b'\\'),
+        b'"' => Some(b'"'),
+        b'b' => Some(8),
+        b'f' => Some(12),
+        _ => None,
+    }
 }
 
 /// Whether each backslash in a string takes a byte that means one.
-fn has_known_escapes(content: &[u8]) -> bool
+pub fn has_known_escapes(content: &[u8]) -> bool
     ensures { result ≡ is_some (decoded false content.now) }
 {
     let mut taken = false;
     for byte in content {
-        if taken && !is_escape(*byte) {
+        if taken && escape_value(*byte).is_none() {
             return false;
         }
         taken = *byte == b'\\' && !taken;
     }
     !taken
 }
-
-/// An integer of fewer bytes has 64 bits.
-pub(crate) const LONG_INTEGER: usize = 19;
 
 /// Whether a token is an atom: a key, or a value that is not nil.
 #[inline(always)]
@@ -66,48 +107,30 @@ pub(crate) fn is_atom(kind: TokenKind, bytes: &[u8]) -> bool
     match kind {
         TokenKind::Int => bytes.len() < LONG_INTEGER || integer_of(bytes).is_some(),
         TokenKind::Keyword | TokenKind::Symbol => true,
-        TokenKind::Str => match bytes {
-            [_, content @ .., _] => has_known_escapes(content),
-            _ => true,
-        },
+        TokenKind::Str => has_known_escapes(between_quotes(bytes)),
         _ => false,
     }
 }
 
-/// The number that digits alone mean, if it is not too large for a process.
-#[inline(always)]
-fn number_of_digits(spelling: &[u8]) -> Option<u64>
-    requires { is_int spelling.now ≡ true }
-    ensures { IfSome result (λ number. int_value spelling.now ≡ pos number) }
+/// A digit, or a sign and a digit.
+fn begins_as_int(text: &[u8]) -> bool
+    ensures { result ≡ begins_with_number text.now }
 {
-    let mut number: u64 = 0;
-    for byte in spelling {
-        if !byte.is_ascii_digit() || number > MAX_PROCESS {
-            return None;
-        }
-        number = number * 10 + u64::from(*byte - b'0');
-    }
-    Some(number)
-}
-
-/// The process whose number is spelled so. Most are spelled by a few digits alone.
-pub(crate) fn process_of(spelling: &[u8]) -> Option<Process>
-    requires { is_int spelling.now ≡ true }
-    ensures { result ≡ process_of_number (int_value spelling.now) }
-{
-    match number_of_digits(spelling) {
-        Some(number) => Process::new(number),
-        None => any_process_of(spelling),
+    match text {
+        [b'+' | b'-', second, ..] => second.is_ascii_digit(),
+        [first, ..] => first.is_ascii_digit(),
+        [] => false,
     }
 }
 
-/// The integer that a token spells, however it is spelled.
-#[inline(never)]
-fn any_process_of(spelling: &[u8]) -> Option<Process>
-    requires { is_int spelling.now ≡ true }
-    ensures { result ≡ process_of_number (int_value spelling.now) }
+/// The kind of token that an atom's text is, by its first bytes. The text of nil counts as a symbol.
+pub fn token_kind(text: &[u8]) -> TokenKind
+    ensures { kind_of result ≡ kind_by_front text.now }
 {
-    let number = integer_of(spelling)?;
-    let number = u64::try_from(number).ok()?;
-    Process::new(number)
+    match text.first() {
+        Some(b'"') => TokenKind::Str,
+        Some(b':') => TokenKind::Keyword,
+        _ if begins_as_int(text) => TokenKind::Int,
+        _ => TokenKind::Symbol,
+    }
 }

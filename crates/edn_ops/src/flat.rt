@@ -1,22 +1,23 @@
 //! Maps as printers write them, read in one pass over their bytes: keys are forms by themselves, and there are no tags, no `#_`
 //! and no comments.
 
-ghost use Rattle.std.specs.Prelude.{◌≡◌, ◌≤◌, [], length, true, false, Some, IfSome};
-ghost use Rattle.hist_types.specs.Entries.{is_write_of};
+ghost use Rattle.std.specs.Prelude.{◌≡◌, ◌≤◌, ◌+◌, [], List, length, codes, true, false, Some, Ok, IfSome};
+ghost use Rattle.hist_types.specs.Entries.{is_named, is_write_of};
 ghost use Rattle.hist_types.specs.Forms.{plain};
-ghost use Rattle.edn_lex.specs.Ahead.{IsLoneAt, GivesLone};
+ghost use Rattle.hist_types.specs.Tokens.{Keyword};
+ghost use Rattle.edn_lex.specs.Ahead.{IsGap, IsWord, IsLoneAt, GivesLone};
 ghost use Rattle.edn_lex.specs.Kinds.{item_of};
 ghost use Rattle.edn_ops.specs.declared.flat.TheConstants.{VALUE_LEVELS};
 ghost use Rattle.edn_ops.specs.Outlines.{outline_of, IsTokenIn, IsOutlineIn};
-ghost use Rattle.edn_ops.specs.Flat.{PassesAhead, NamesKind, NamesOwner, IsMopValue, GivesMop, ReadsFlatMop, ReadsFlatTransaction, may_have_mops, AreFlat, IsName, ReadsFlatValue, ReadsFlatField, IsComplete, GivesFlatMap, OpensOperation, GivesFlatEntry};
+ghost use Rattle.edn_ops.specs.Flat.{PassesAhead, NamesKind, NamesOwner, IsMopValue, GivesMop, shape_of, ReadsFlatMop, ReadsFlatTransaction, may_have_mops, AreFlat, IsOther, ReadsFlatValue, ReadsFlatField, IsComplete, GivesFlatMap, OpensOperation, GivesFlatEntry};
 
 use crate::atoms::{self, LONG_INTEGER};
 use crate::outline::{Outline, bytes_of, span};
 use crate::passing::form_end;
 use crate::types::{MopShape, Span};
 use edn_lex::ahead::{
-    LEVELS_AHEAD, behind_blanks, form_at, lone_token, map_closer, map_opener, number_at, tag_token,
-    token_at, vector_closer, vector_opener, word_at,
+    LEVELS_AHEAD, behind_blanks, behind_comma, form_at, lone_token, map_closer, map_opener,
+    number_at, spaced_word_at, tag_token, token_at, vector_closer, vector_opener, word_at,
 };
 use edn_lex::types::{Token, TokenKind};
 use hist_types::limits::{MAX_MICRO_OPS, MAX_OPERATION_BYTES};
@@ -58,23 +59,6 @@ pub(crate) enum FlatEntry {
     Operation(FlatOperation),
     /// An operation that is skipped, by the map's end.
     Skipped(usize),
-}
-
-/// The fields of a map that say something.
-#[derive(Clone, Copy)]
-pub(crate) enum Name {
-    Kind,
-    Process,
-    Value,
-    /// A field that says nothing.
-    Other,
-}
-
-/// Whether an operation of this kind has a transaction.
-fn has_transaction(kind: OpKind) -> bool
-    ensures { result ≡ may_have_mops (Some kind) }
-{
-    matches!(kind, OpKind::Invoke | OpKind::Ok)
 }
 
 /// Whose operation a map is, by the value of its `:process`; none where the integer is no process.
@@ -149,7 +133,7 @@ impl FlatFields {
     #[inline(always)]
     fn read_kind(&mut self, text: &[u8], offset: usize) -> Option<usize>
         requires { offset ≤ length text.now }
-        ensures { ReadsFlatValue text.now offset Name.Kind self.old result self.new }
+        ensures { ReadsFlatValue text.now offset (codes ":type") self.old result self.new }
     {
         if self.kind.is_some() {
             return None;
@@ -163,7 +147,7 @@ impl FlatFields {
     #[inline(always)]
     fn read_owner(&mut self, text: &[u8], offset: usize) -> Option<usize>
         requires { offset ≤ length text.now }
-        ensures { ReadsFlatValue text.now offset Name.Process self.old result self.new }
+        ensures { ReadsFlatValue text.now offset (codes ":process") self.old result self.new }
     {
         if self.owner.is_some() {
             return None;
@@ -196,7 +180,7 @@ impl FlatFields {
         ensures { IfSome result (IsComplete self.now) }
     {
         let kind = self.kind?;
-        if self.has_value == has_transaction(kind) {
+        if self.has_value == self.may_have_mops() {
             Some(kind)
         } else {
             None
@@ -204,19 +188,19 @@ impl FlatFields {
     }
 }
 
-/// The token that begins here, if it is `:w` or `:r`, and whether it is `:w`.
+/// The token that begins here, if it is `:w` or `:r` with a space after it, and whether it is `:w`.
 #[inline(always)]
 fn mop_name(text: &[u8], start: usize) -> Option<(bool, Token)>
     requires { start ≤ length text.now }
     ensures lone { IfSome result (λ name. IsLoneAt text.now start name.1) }
     ensures is_write { IfSome result (λ name.
         is_write_of (plain (item_of text.now name.1)) ≡ Some name.0) }
-    ensures fits { IfSome result (λ name. name.1.end ≤ length text.now) }
+    ensures space { IfSome result (λ name. IsGap text.now name.1.end (name.1.end + 1)) }
 {
-    if let Some(token) = word_at(text, start, b":w", TokenKind::Keyword) {
+    if let Some(token) = spaced_word_at(text, start, b":w", TokenKind::Keyword) {
         return Some((true, token));
     }
-    let token = word_at(text, start, b":r", TokenKind::Keyword)?;
+    let token = spaced_word_at(text, start, b":r", TokenKind::Keyword)?;
     Some((false, token))
 }
 
@@ -266,24 +250,19 @@ fn mop_value(text: &[u8], offset: usize, is_write: bool) -> Option<Token>
     }
 }
 
-/// The micro-operation that the next five tokens are, and where it ends, if they are a vector of `:w` or `:r` and two forms by
-/// themselves without a fault.
+/// Whether the micro-operation that the next five tokens are is a write, where its key and value are and where it ends, if they
+/// are a vector of `:w` or `:r` and two forms by themselves without a fault.
 #[inline(always)]
-fn next_mop(text: &[u8], offset: usize) -> Option<(MopShape, usize)>
+fn next_mop(text: &[u8], offset: usize) -> Option<(bool, Span, Span, usize)>
     requires { offset ≤ length text.now }
-    ensures { IfSome result (λ mop. GivesMop text.now offset mop.0 mop.1) }
+    ensures { IfSome result (λ mop. GivesMop text.now offset (shape_of mop.0 mop.1 mop.2) mop.3) }
 {
     let opener = vector_opener(text, offset)?;
     let (is_write, name) = mop_name(text, opener.end)?;
-    let key = atom_at(text, behind_blanks(text, name.end))?;
+    let key = atom_at(text, behind_blanks(text, name.end + 1))?;
     let value = mop_value(text, key.end, is_write)?;
     let closer = vector_closer(text, value.end)?;
-    let shape = MopShape {
-        is_write,
-        key: span(key),
-        value: span(value),
-    };
-    Some((shape, closer.end))
+    Some((is_write, span(key), span(value), closer.end))
 }
 
 /// Reads one more micro-operation, up to the end that is given, if it is a vector of three forms by themselves without a fault.
@@ -292,7 +271,7 @@ fn flat_mop(text: &[u8], offset: usize, mops: &mut Mops) -> Result<Option<usize>
     requires { offset ≤ length text.now }
     ensures { ReadsFlatMop text.now offset mops.old.items result mops.new.items }
 {
-    let Some((shape, end)) = next_mop(text, offset) else {
+    let Some((is_write, key, value, end)) = next_mop(text, offset) else {
         return Ok(None);
     };
     if mops.len() >= MAX_MICRO_OPS {
@@ -301,7 +280,11 @@ fn flat_mop(text: &[u8], offset: usize, mops: &mut Mops) -> Result<Option<usize>
     if mops.len() == mops.capacity() {
         mops.reserve(1)?;
     }
-    mops.push_reserved(shape);
+    mops.push_reserved(MopShape {
+        is_write,
+        key,
+        value,
+    });
     Ok(Some(end))
 }
 
@@ -324,60 +307,22 @@ fn flat_transaction(text: &[u8], offset: usize, mops: &mut Mops) -> Result<Optio
     }
 }
 
-/// The key that begins here, if it is one that printers write, and which field it names.
+/// The key that begins here, if it is this one.
 #[inline(always)]
-fn printed_key(text: &[u8], start: usize) -> Option<(Name, Token)>
-    requires { start ≤ length text.now }
-    ensures lone { IfSome result (λ key. IsLoneAt text.now start key.1) }
-    ensures name { IfSome result (λ key. IsName key.0 (plain (item_of text.now key.1))) }
+fn key_at(text: &[u8], start: usize, name: &[u8]) -> Option<Token>
+    requires start { start ≤ length text.now }
+    requires name { IsWord name.now Keyword }
+    ensures lone { IfSome result (IsLoneAt text.now start) }
+    ensures named { IfSome result (λ key. is_named name.now (plain (item_of text.now key)) ≡ true) }
+    ensures fits { IfSome result (λ key. key.end ≤ length text.now) }
 {
-    match *text.get(start + 1)? {
-        b't' => {
-            if let Some(token) = word_at(text, start, b":type", TokenKind::Keyword) {
-                return Some((Name::Kind, token));
-            }
-            let token = word_at(text, start, b":time", TokenKind::Keyword)?;
-            Some((Name::Other, token))
-        }
-        b'p' => {
-            let token = word_at(text, start, b":process", TokenKind::Keyword)?;
-            Some((Name::Process, token))
-        }
-        b'v' => {
-            let token = word_at(text, start, b":value", TokenKind::Keyword)?;
-            Some((Name::Value, token))
-        }
-        b'f' => {
-            let token = word_at(text, start, b":f", TokenKind::Keyword)?;
-            Some((Name::Other, token))
-        }
-        b'i' => {
-            let token = word_at(text, start, b":index", TokenKind::Keyword)?;
-            Some((Name::Other, token))
-        }
-        _ => None,
-    }
-}
-
-/// The key that begins here, if it is a form by itself, and names a field that says nothing.
-#[inline(never)]
-fn other_key(text: &[u8], start: usize) -> Option<(Name, Token)>
-    requires { start ≤ length text.now }
-    ensures lone { IfSome result (λ key. IsLoneAt text.now start key.1) }
-    ensures name { IfSome result (λ key. IsName key.0 (plain (item_of text.now key.1))) }
-{
-    let token = form_at(text, start)?;
-    if is_other(text, token) {
-        Some((Name::Other, token))
-    } else {
-        None
-    }
+    word_at(text, start, name, TokenKind::Keyword)
 }
 
 /// Whether a key names a field that says nothing.
 fn is_other(text: &[u8], key: Token) -> bool
     requires { IsTokenIn text.now key }
-    ensures { result ≡ true → IsName Name.Other (plain (item_of text.now key)) }
+    ensures { result ≡ true → IsOther (plain (item_of text.now key)) }
 {
     let name = Outline::Plain(key);
     !name.is_named(text, b":type")
@@ -385,52 +330,78 @@ fn is_other(text: &[u8], key: Token) -> bool
         && !name.is_named(text, b":value")
 }
 
-/// The next key, if it is a form by itself, and which field it names.
+/// The key that begins here, if it is a form by itself, and names a field that says nothing. Jepsen prints three such fields.
 #[inline(always)]
-fn next_key(text: &[u8], offset: usize) -> Option<(Name, Token)>
-    requires { offset ≤ length text.now }
-    ensures gives { IfSome result (λ key. GivesLone text.now offset key.1) }
-    ensures name { IfSome result (λ key. IsName key.0 (plain (item_of text.now key.1))) }
+fn other_key(text: &[u8], start: usize) -> Option<Token>
+    requires { start ≤ length text.now }
+    ensures lone { IfSome result (IsLoneAt text.now start) }
+    ensures name { IfSome result (λ key. IsOther (plain (item_of text.now key))) }
+    ensures fits { IfSome result (λ key. key.end ≤ length text.now) }
 {
-    let start = behind_blanks(text, offset);
-    if let Some(key) = printed_key(text, start) {
+    if let Some(key) = key_at(text, start, b":index") {
         return Some(key);
     }
-    if text[start..].starts_with(b"}") {
-        return None;
+    if let Some(key) = key_at(text, start, b":time") {
+        return Some(key);
     }
-    other_key(text, start)
+    if let Some(key) = key_at(text, start, b":f") {
+        return Some(key);
+    }
+    any_other_key(text, start)
 }
 
-/// Reads the value of a key, up to the end that is given, if it can be read so.
+/// The key that begins here, if it is a form by itself, and names a field that says nothing, whichever it is.
+#[inline(never)]
+fn any_other_key(text: &[u8], start: usize) -> Option<Token>
+    requires { start ≤ length text.now }
+    ensures lone { IfSome result (IsLoneAt text.now start) }
+    ensures name { IfSome result (λ key. IsOther (plain (item_of text.now key))) }
+    ensures fits { IfSome result (λ key. key.end ≤ length text.now) }
+{
+    let key = form_at(text, start)?;
+    if is_other(text, key) { Some(key) } else { None }
+}
+
+/// Passes over a field that says nothing, up to the end that is given, if it can be read so.
+#[inline(always)]
+fn other_field(text: &[u8], start: usize) -> Option<usize>
+    requires { start ≤ length text.now }
+    ensures { (fields : FlatFields) (shapes : List MopShape) →
+        ReadsFlatField text.now start fields shapes (Ok result) fields shapes }
+{
+    let key = other_key(text, start)?;
+    passed_value(text, key.end)
+}
+
+/// Reads the field that begins here, up to the end that is given, if it can be read so.
+#[inline(always)]
 fn flat_field(
     text: &[u8],
-    name: Name,
-    key: Token,
+    start: usize,
     fields: &mut FlatFields,
     mops: &mut Mops,
 ) -> Result<Option<usize>, Fault>
-    requires key { IsTokenIn text.now key }
-    requires name { IsName name (plain (item_of text.now key)) }
+    requires start { start ≤ length text.now }
     requires none { fields.old.has_value ≡ false → mops.old.items ≡ [] }
-    ensures { ReadsFlatField text.now key fields.old mops.old.items result fields.new mops.new.items }
+    ensures { ReadsFlatField text.now start fields.old mops.old.items result fields.new mops.new.items }
 {
-    let offset = key.end;
-    match name {
-        Name::Kind => Ok(fields.read_kind(text, offset)),
-        Name::Process => Ok(fields.read_owner(text, offset)),
-        Name::Other => Ok(passed_value(text, offset)),
-        Name::Value => {
-            if !fields.may_have_mops() {
-                return Ok(passed_value(text, offset));
-            }
-            if fields.has_value {
-                return Ok(None);
-            }
-            fields.has_value = true;
-            flat_transaction(text, offset, mops)
-        }
+    if let Some(key) = key_at(text, start, b":type") {
+        return Ok(fields.read_kind(text, key.end));
     }
+    if let Some(key) = key_at(text, start, b":process") {
+        return Ok(fields.read_owner(text, key.end));
+    }
+    let Some(key) = key_at(text, start, b":value") else {
+        return Ok(other_field(text, start));
+    };
+    if !fields.may_have_mops() {
+        return Ok(passed_value(text, key.end));
+    }
+    if fields.has_value {
+        return Ok(None);
+    }
+    fields.has_value = true;
+    flat_transaction(text, key.end, mops)
 }
 
 /// Reads the fields of a map, up to the end that is given, if all can be read so.
@@ -446,15 +417,15 @@ fn flat_map(
     ensures { GivesFlatMap text.now offset result fields.new mops.new.items }
 {
     let mut at = offset;
-    while let Some((name, key)) = next_key(text, at) {
-        match flat_field(text, name, key, fields, mops)? {
+    loop {
+        let start = behind_comma(text, at);
+        if let Some(closer) = map_closer(text, start) {
+            return Ok(Some(closer.end));
+        }
+        match flat_field(text, start, fields, mops)? {
             Some(end) => at = end,
             None => return Ok(None),
         }
-    }
-    match map_closer(text, at) {
-        Some(closer) => Ok(Some(closer.end)),
-        None => Ok(None),
     }
 }
 

@@ -1,7 +1,7 @@
 //! Operations of a text (EDN as Jepsen prints it): reading them, and their canonical text.
 #![tactic(auto)]
 
-mod atoms;
+pub mod atoms;
 mod faults;
 mod fields;
 mod flat;

@@ -213,16 +213,15 @@ impl<'a> OpReader<'a> {
         ensures text { self.new.state.text ≡ self.old.state.text }
     {
         let mut mops = SmallVec::new(self.alloc);
-        match self.flat_op(&mut mops) {
-            Ok(None) => self.any_op(),
-            Ok(Some(operation)) => Ok(Some(OpShape {
-                span: operation.span,
-                kind: operation.kind,
-                process: operation.process,
-                mops,
-            })),
-            Err(fault) => Err(fault),
-        }
+        let Some(operation) = self.flat_op(&mut mops)? else {
+            return self.any_op();
+        };
+        Ok(Some(OpShape {
+            span: operation.span,
+            kind: operation.kind,
+            process: operation.process,
+            mops,
+        }))
     }
 
     /// The next operation, whose micro-operations are read into the empty list, if it can be read in one pass. Else the reader is

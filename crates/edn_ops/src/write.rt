@@ -1,15 +1,17 @@
 //! Canonical text of atoms and of operations, from texts that spell them.
 
-ghost use Rattle.std.specs.Prelude.{◌≡◌, ◌==◌, ◌++◌, ◌∷◌, [], true, ℤ, List, flat_map, MatchOption, OnOk, OnErr};
+ghost use Rattle.std.specs.Prelude.{◌≡◌, ◌++◌, ◌∷◌, [], true, ℤ, List, flat_map, MatchOption, OnOk, OnErr};
 ghost use Rattle.std.specs.Fmt.{signed_decimal};
 ghost use Rattle.hist_types.specs.Atoms.{Atom, Value};
 ghost use Rattle.hist_types.specs.AtomTokens.{int_value, is_64_bit};
-ghost use Rattle.hist_types.specs.Bytes.{quote};
 ghost use Rattle.hist_types.specs.Operations.{Mop};
 ghost use Rattle.hist_types.specs.CanonicalText.{atom_text, value_text, mop_text, mops_text, kind_text as text_of_kind, value_field_text};
-ghost use Rattle.hist_types.specs.Tokens.{is_int, first_byte, begins_with_number, without_n as before_n};
+ghost use Rattle.hist_types.specs.Tokens.{is_int};
 ghost use Rattle.edn_ops.specs.SourceTexts.{IsAtomText, IsValueText, IsMopText, AreMopTexts, op_text, Writes, front_of_mop, source_byte_text, decimal_spelling, IsLonger};
 
+use crate::atoms::token_kind;
+use edn_lex::runs::without_n;
+use edn_lex::types::TokenKind;
 use hist_types::types::{OpKind, Process};
 use itoa::Buffer;
 use std::alloc::AllocError;
@@ -51,13 +53,6 @@ fn append_string(out: &mut Vec<u8>, text: &[u8]) -> Result<(), AllocError>
     Ok(())
 }
 
-/// An integer may end with an `N`.
-fn without_n(text: &[u8]) -> &[u8]
-    ensures { result.now ≡ before_n text.now }
-{
-    text.strip_suffix(b"N").unwrap_or(text)
-}
-
 /// An integer in decimal, by its spelling without the `N`.
 fn without_plus(number: &[u8]) -> &[u8]
     ensures { result.now ≡ decimal_spelling number.now }
@@ -79,36 +74,17 @@ fn decimal_of(text: &[u8]) -> &[u8]
     without_plus(without_n(text))
 }
 
-fn begins_as_string(text: &[u8]) -> bool
-    ensures { result ≡ (first_byte text.now == quote) }
-{
-    matches!(text, [b'"', ..])
-}
-
-/// A digit, or a sign and a digit.
-fn begins_as_int(text: &[u8]) -> bool
-    ensures { result ≡ begins_with_number text.now }
-{
-    match text {
-        [b'+' | b'-', second, ..] => second.is_ascii_digit(),
-        [first, ..] => first.is_ascii_digit(),
-        [] => false,
-    }
-}
-
 /// Appends the canonical text of an atom or of nil.
 fn append_value(out: &mut Vec<u8>, text: &[u8]) -> Result<(), AllocError>
     requires { (value : Value) × IsValueText text.now value }
     ensures ok { Writes (IsValueText text.now) value_text result out.old out.new }
     ensures err { OnErr result (IsLonger out.new.items out.old.items) }
 {
-    if begins_as_string(text) {
-        return append_string(out, text);
+    match token_kind(text) {
+        TokenKind::Str => append_string(out, text),
+        TokenKind::Int => out.extend_from_slice(decimal_of(text)),
+        _ => out.extend_from_slice(text),
     }
-    if begins_as_int(text) {
-        return out.extend_from_slice(decimal_of(text));
-    }
-    out.extend_from_slice(text)
 }
 
 /// What a micro-operation's text has before its key.

@@ -44,6 +44,14 @@ abbrev pub IsWalkIfAny : (ℕ → ℕ → Type 0) → ℕ → ℕ → Option (Li
 IsWalkIfAny Leads from to None = (walk : List ℕ) → ¬ IsWalk Leads from to walk
 IsWalkIfAny Leads from to (Some walk) = IsWalk Leads from to walk
 
+-- ranks of which none falls along an arc that leaves the vertex
+abbrev pub NeverFallFrom : Graph → (ranks : List ℕ) → (vertex : ℕ) → Type 0
+NeverFallFrom g ranks v = (w : ℕ) → HasArc g v w → slice_index ranks v ≤ slice_index ranks w
+
+-- each arc leaves one of these vertices
+abbrev pub AllLeave : Graph → (vertices : List ℕ) → Type 0
+AllLeave g vertices = (v w : ℕ) → HasArc g v w → Contains vertices v
+
 -- a rank for each vertex, none of which falls along an arc
 pub record AreRanks (g : Graph) (ranks : List ℕ) : Type 0 where
   pub one_each : length ranks ≡ g.count

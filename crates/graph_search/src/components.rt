@@ -169,6 +169,23 @@ impl Components {
         }
         Ok(())
     }
+
+    /// Completes the components of a vertex and of all that it leads to, as far as they aren't
+    /// complete.
+    fn reach<G: Arcs>(&mut self, graph: &G, root: usize) -> Result<(), AllocError>
+        requires graph { (G.graph graph.now).count ≡ length self.old.numbers.items }
+        requires root { root < length self.old.numbers.items }
+        ensures { length self.new.numbers.items ≡ length self.old.numbers.items }
+    {
+        if self.numbers[root] != UNSEEN {
+            Ok(())
+        } else if graph.successors(root).is_empty() {
+            self.complete_alone(root);
+            Ok(())
+        } else {
+            self.search(graph, root)
+        }
+    }
 }
 
 /// For each vertex a number of its strongly connected component, which don't fall along any arc.
@@ -177,14 +194,23 @@ pub(crate) fn component_ranks<G: Arcs>(alloc: Global, graph: &G) -> Result<Vec<u
 {
     let mut components = Components::new(alloc, graph.vertices())?;
     for root in 0..graph.vertices() {
-        if components.numbers[root] != UNSEEN {
-            continue;
-        }
-        if graph.successors(root).is_empty() {
-            components.complete_alone(root);
-        } else {
-            components.search(graph, root)?;
-        }
+        components.reach(graph, root)?;
+    }
+    Ok(components.numbers)
+}
+
+/// The same for these vertices and all that they lead to. The others have the highest number.
+pub(crate) fn component_ranks_from<G: Arcs>(
+    alloc: Global,
+    graph: &G,
+    roots: &[u32],
+) -> Result<Vec<u32>, AllocError>
+    requires { All (λ root. root < (G.graph graph.now).count) roots.now }
+    ensures { IfOk result (λ numbers. length numbers.items ≡ (G.graph graph.now).count) }
+{
+    let mut components = Components::new(alloc, graph.vertices())?;
+    for root in roots {
+        components.reach(graph, *root as usize)?;
     }
     Ok(components.numbers)
 }

@@ -1,10 +1,11 @@
 //! Ranks of vertices, which don't fall along any arc.
 
-ghost use Rattle.std.specs.Prelude.{◌≡◌, ◌↔◌, ℕ, ◌<◌, ◌≤◌, List, length, slice_index, IfOk, IsTrue};
-ghost use Rattle.graph_search.specs.Graphs.{Graph, AreRanks, HasArc, of_rank};
+ghost use Rattle.std.specs.Prelude.{◌≡◌, ◌↔◌, ℕ, ◌<◌, ◌≤◌, List, length, slice_index, All, IfOk, IsTrue};
+ghost use Rattle.std.specs.Bool.{OnTrue};
+ghost use Rattle.graph_search.specs.Graphs.{Graph, AllLeave, AreRanks, HasArc, NeverFallFrom, of_rank};
 
 use crate::arcs::{Arcs, Vertices};
-use crate::components::component_ranks;
+use crate::components::{component_ranks, component_ranks_from};
 use std::alloc::{AllocError, Global};
 use std::marker::Model;
 
@@ -32,6 +33,24 @@ impl Ranks {
     {
         let mut ranks = component_ranks(alloc, graph)?;
         if !never_fall(graph, &ranks) {
+            ranks.fill(0);
+        }
+        Ok(Ranks { ranks })
+    }
+
+    /// Such ranks of a graph whose arcs all leave vertices on the list. Beside a number for each
+    /// vertex, it takes no more than these vertices and their arcs do.
+    pub fn of_leaving<G: Arcs>(
+        alloc: Global,
+        graph: &G,
+        vertices: &[u32],
+    ) -> Result<Ranks, AllocError>
+        requires within { All (λ v. v < (G.graph graph.now).count) vertices.now }
+        requires leave { AllLeave (G.graph graph.now) vertices.now }
+        ensures { IfOk result (AreRanks (G.graph graph.now)) }
+    {
+        let mut ranks = component_ranks_from(alloc, graph, vertices)?;
+        if !never_fall_leaving(graph, &ranks, vertices) {
             ranks.fill(0);
         }
         Ok(Ranks { ranks })
@@ -73,9 +92,7 @@ impl Ranks {
 fn never_fall_from<G: Arcs>(graph: &G, ranks: &[u32], vertex: usize) -> bool
     requires ranks { length ranks.now ≡ (G.graph graph.now).count }
     requires vertex { vertex < (G.graph graph.now).count }
-    ensures { IsTrue result
-        ↔ ((w : ℕ) → HasArc (G.graph graph.now) vertex w
-        → slice_index ranks.now vertex ≤ slice_index ranks.now w) }
+    ensures { IsTrue result ↔ NeverFallFrom (G.graph graph.now) ranks.now vertex }
 {
     let rank = ranks[vertex];
     let successors = graph.successors(vertex);
@@ -94,6 +111,21 @@ fn never_fall<G: Arcs>(graph: &G, ranks: &[u32]) -> bool
 {
     for vertex in 0..graph.vertices() {
         if !never_fall_from(graph, ranks, vertex) {
+            return false;
+        }
+    }
+    true
+}
+
+/// The same where all arcs leave vertices on the list.
+fn never_fall_leaving<G: Arcs>(graph: &G, ranks: &[u32], vertices: &[u32]) -> bool
+    requires ranks { length ranks.now ≡ (G.graph graph.now).count }
+    requires within { All (λ v. v < (G.graph graph.now).count) vertices.now }
+    requires leave { AllLeave (G.graph graph.now) vertices.now }
+    ensures { OnTrue result (AreRanks (G.graph graph.now) ranks.now) }
+{
+    for vertex in vertices {
+        if !never_fall_from(graph, ranks, *vertex as usize) {
             return false;
         }
     }

@@ -282,7 +282,7 @@ impl fmt::Display for Fault {
 /// The number of a process of a test run: 0 to 2,147,483,647.
 #[derive(Clone, Copy, Debug, PartialEq, Eq, Hash)]
 pub struct Process {
-    number: u64,
+    number: u32,
 }
 
 impl Model for Process {
@@ -305,7 +305,9 @@ impl Process {
         ensures number { IfSome result (λ p. p ≡ number) }
     {
         if number <= MAX_PROCESS {
-            Some(Process { number })
+            Some(Process {
+                number: number as u32,
+            })
         } else {
             None
         }
@@ -315,6 +317,6 @@ impl Process {
         ensures number { result ≡ self }
         ensures range { result ≤ MAX_PROCESS }
     {
-        self.number
+        u64::from(self.number)
     }
 }

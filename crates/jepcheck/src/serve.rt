@@ -58,6 +58,36 @@ fn serve_clients<R: Threads + Wait + Sync>(
     Ok(status_of(&ends))
 }
 
+/// Prints that no thread could be started.
+fn print_no_thread<T: Sink>(sink: &mut T) -> Status {
+    match write_all(sink, b"refused 11 NoThread\n") {
+        Ok(()) => Status::Memory,
+        Err(_) => Status::DeviceFault,
+    }
+}
+
+/// Serves the pairs of paths that were opened, and prints what keeps it from that.
+fn serve_opened<R: Threads + Wait + Sync, T: Sink>(
+    rt: &R,
+    alloc: Global,
+    cells: usize,
+    keys: KeyOrder,
+    opened: io::Result<Vec<FileClient>>,
+    sink: &mut T,
+) -> Status {
+    let clients = match opened {
+        Ok(clients) => clients,
+        Err(error) if error.kind() == ErrorKind::OutOfMemory => return print_memory(sink),
+        Err(_) => return Status::DeviceFault,
+    };
+    match serve_clients(rt, alloc, cells, keys, clients) {
+        Ok(Status::Memory) => print_memory(sink),
+        Ok(status) => status,
+        Err(fault) if fault.refusal == Refusal::NoThread => print_no_thread(sink),
+        Err(_) => print_memory(sink),
+    }
+}
+
 /// Serves the pairs of paths that were opened. To the sink it prints what kept it from that, to the one for errors that a device
 /// failed.
 pub fn serve<R: Threads + Wait + Sync, T: Sink, E: Sink>(
@@ -69,25 +99,9 @@ pub fn serve<R: Threads + Wait + Sync, T: Sink, E: Sink>(
     sink: &mut T,
     errors: &mut E,
 ) -> Status {
-    let clients = match opened {
-        Ok(clients) => clients,
-        Err(error) if error.kind() == ErrorKind::OutOfMemory => return print_memory(sink),
-        Err(_) => {
-            let _ = write_all(errors, b"device fault\n");
-            return Status::DeviceFault;
-        }
-    };
-    match serve_clients(rt, alloc, cells, keys, clients) {
-        Ok(Status::DeviceFault) => {
-            let _ = write_all(errors, b"device fault\n");
-            Status::DeviceFault
-        }
-        Ok(Status::Memory) => print_memory(sink),
-        Ok(status) => status,
-        Err(fault) if fault.refusal == Refusal::NoThread => {
-            let _ = write_all(sink, b"refused 11 NoThread\n");
-            Status::Memory
-        }
-        Err(_) => print_memory(sink),
+    let status = serve_opened(rt, alloc, cells, keys, opened, sink);
+    if status == Status::DeviceFault {
+        let _ = write_all(errors, b"device fault\n");
     }
+    status
 }

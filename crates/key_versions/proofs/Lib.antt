@@ -18,4 +18,6 @@ mod Pairs
 mod Seen
 mod Stepping
 mod Interleaved
+mod Marked
+mod UpTo
 mod Sequenced

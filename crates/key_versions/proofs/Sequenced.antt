@@ -1,17 +1,19 @@
 -- The table of a history whose keys are sequential, from the one where they are basic and the steps of its processes.
-use Rattle.std.proofs.Common.{◌≡◌, inl, inr, ◌<◌, ◌+◌, ℕ, zero, suc, List, [], ◌∷◌, ◌++◌, length, map, get_or, Bool, true, false, cond, All, Option, Some, is_some, refl, sym, ◌∙◌, ap, subst, arith}
-use Rattle.std.specs.Prelude.{slice_get, filter, ◌&&◌, ◌||◌, ◌==◌}
-use Rattle.std.specs.List.{list_any, AllByRecursion, IsDistinct}
+use Rattle.std.proofs.Common.{◌≡◌, inl, inr, ◌<◌, ◌≤◌, ◌+◌, ℕ, zero, suc, List, [], ◌∷◌, ◌++◌, length, map, get_or, Bool, true, false, cond, All, Option, Some, is_some, refl, sym, ◌∙◌, ap, subst, arith}
+use Rattle.std.specs.Prelude.{⊤, slice_get, filter, not, ◌&&◌, ◌||◌, ◌==◌}
+use Rattle.std.specs.List.{list_any}
 use Rattle.std.specs.Option.{is_none}
 use Rattle.std.proofs.Math.Bool.{and_comm}
-use Rattle.std.proofs.lemmas.Bool.{cases_Bool, and_parts, and_from, or_cases, or_left, or_right, true≢false, false≢true, false_from_ne_true, eqb-true, eq-eqb}
-use Rattle.std.proofs.lemmas.List.{append-nil, map-append, length-map}
-use Rattle.std.proofs.lemmas.Map.Keys.{IsDistinct-head, IsDistinct-tail}
+use Rattle.std.proofs.lemmas.Bool.{cases_Bool, and_parts, or_parts, true≢false, false≢true, false_from_ne_true, eqb-true, eq-eqb}
+use Rattle.std.proofs.lemmas.List.{map-append, length-map}
 use Rattle.std.proofs.lemmas.Option.{slice_get_within, get_or_from_slice_get}
 use Rattle.flat_groups.specs.Groups.{group, groups_from, IsNumbered}
-use Rattle.hist_types.specs.Transactions.{Transaction, Version, version_eq, installed_by, is_known_to_read}
+use Rattle.hist_types.specs.Atoms.{Atom, atom_eq, value_eq}
+use Rattle.hist_types.specs.Journal.{Write, writes_of}
+use Rattle.hist_types.specs.Transactions.{Transaction, Version, version_eq, version_of, installed_by, is_known_to_read, has_key, last_writes}
 use Rattle.hist_types.specs.Versions.{VersionPair, pair, is_change, process_pairs}
 use Rattle.hist_types.specs.declared.types.KeyOrder.TheVariants.{Basic, Sequential}
+use Rattle.hist_types.proofs.Equality.{atom_eq-same}
 use Rattle.hist_types.proofs.Members.{In, Contains_from_in, in_map, in_mapped}
 use Rattle.history_laws.proofs.ProcessPairs.{is_step_of}
 use Rattle.atom_index.specs.Numbers.{AreNumbered}
@@ -19,8 +21,8 @@ use Rattle.key_versions.specs.declared.types.Writer.{Writer}
 use Rattle.key_versions.specs.declared.types.Follower.{Follower}
 use Rattle.key_versions.specs.Histories.{same_pair, has_pair, installs_behind, from_place, followers_of}
 use Rattle.key_versions.specs.Rows.{Known, Accessed}
-use Rattle.key_versions.specs.Steps.{same_numbers, step_followers, unless_some, followers_by, stepped_rows, FollowersArePlaced, InstallsAreBelow, AreBelow}
-use Rattle.key_versions.specs.Stepped.{step_at, as_step, HasStepsOf}
+use Rattle.key_versions.specs.Steps.{same_numbers, is_step, or_one, followed_at, followers_by, stepped_rows, FollowersAreUpTo, InstallsAreBelow, AreBelow}
+use Rattle.key_versions.specs.Stepped.{step_at, as_step, AreStepsAs}
 use Rattle.key_versions.specs.Tables.{IsTableOf, versions_at, followers_at}
 use Rattle.key_versions.specs.Views.{table_by}
 use Rattle.key_versions.proofs.ByPlace.{from_some_place, part_at}
@@ -37,41 +39,19 @@ eq_swap i j = elim (cases_Bool (i == j)) [
   | inr differ ↦ differ ∙ sym (false_from_ne_true (j == i) (λ is. true≢false (sym (eq-eqb i j (sym (eqb-true j i is))) ∙ differ)))
 ]
 
-none_any : {A : Type 0} (p : A → Bool) (xs : List A) → AllByRecursion (λ x. p x ≡ false) xs → list_any p xs ≡ false
-none_any p [] all = refl
-none_any p (x ∷ xs) all = ap (λ b. b || list_any p xs) all.0 ∙ none_any p xs all.1
-
--- an earlier version comes once before a later one
-once :
-    (later n : ℕ) (steps : List (ℕ × ℕ)) → IsDistinct same_numbers steps
-    → filter (λ (e : ℕ). e == n) (group later steps) ≡ cond (list_any (same_numbers (later, n)) steps) (n ∷ []) []
-once later n [] distinct = refl
-once later n (s ∷ steps) distinct =
-    by (s.0 == later) (s.1 == n) refl refl (once later n steps (IsDistinct-tail same_numbers s steps distinct)) (none_any (same_numbers s) steps (IsDistinct-head same_numbers s steps distinct))
+-- whether an earlier version comes before a later one
+any_group : (later n : ℕ) (steps : List (ℕ × ℕ)) → list_any (λ (e : ℕ). e == n) (group later steps) ≡ list_any (same_numbers (later, n)) steps
+any_group later n [] = refl
+any_group later n (s ∷ steps) =
+    by (s.0 == later) (any_group later n steps)
+    ∙ ap (λ b. (b && (s.1 == n)) || list_any (same_numbers (later, n)) steps) (eq_swap s.0 later)
+    ∙ ap (λ b. ((later == s.0) && b) || list_any (same_numbers (later, n)) steps) (eq_swap s.1 n)
   where
-    rest : List ℕ
-    rest = filter (λ (e : ℕ). e == n) (group later steps)
-
-    more : Bool
-    more = list_any (same_numbers (later, n)) steps
-
     by :
-        (b b' : Bool) → (s.0 == later) ≡ b → (s.1 == n) ≡ b' → rest ≡ cond more (n ∷ []) [] → list_any (same_numbers s) steps ≡ false
-        → filter (λ (e : ℕ). e == n) (cond b (s.1 ∷ group later steps) (group later steps)) ≡ cond (((later == s.0) && (n == s.1)) || more) (n ∷ []) []
-    by false b' first second tail none =
-        tail ∙ ap (λ t. cond ((t && (n == s.1)) || more) (n ∷ []) []) (sym (eq_swap later s.0 ∙ first))
-    by true false first second tail none =
-        ap (λ t. cond t (s.1 ∷ rest) rest) second ∙ tail
-        ∙ ap (λ t. cond ((true && t) || more) (n ∷ []) []) (sym (eq_swap n s.1 ∙ second))
-        ∙ ap (λ t. cond ((t && (n == s.1)) || more) (n ∷ []) []) (sym (eq_swap later s.0 ∙ first))
-    by true true first second tail none =
-        let same : s ≡ (later, n) = ap (λ (i : ℕ). (i, s.1)) (eqb-true s.0 later first) ∙ ap (λ (i : ℕ). (later, i)) (eqb-true s.1 n second) in
-        let no_more : more ≡ false = ap (λ (p : ℕ × ℕ). list_any (same_numbers p) steps) (sym same) ∙ none in
-        ap (λ t. cond t (s.1 ∷ rest) rest) second
-        ∙ ap (λ (i : ℕ). i ∷ rest) (eqb-true s.1 n second)
-        ∙ ap (λ (is : List ℕ). n ∷ is) (tail ∙ ap (λ t. cond t (n ∷ []) []) no_more)
-        ∙ ap (λ t. cond ((true && t) || more) (n ∷ []) []) (sym (eq_swap n s.1 ∙ second))
-        ∙ ap (λ t. cond ((t && (n == s.1)) || more) (n ∷ []) []) (sym (eq_swap later s.0 ∙ first))
+        (b : Bool) → list_any (λ (e : ℕ). e == n) (group later steps) ≡ list_any (same_numbers (later, n)) steps
+        → list_any (λ (e : ℕ). e == n) (cond b (s.1 ∷ group later steps) (group later steps)) ≡ ((b && (s.1 == n)) || list_any (same_numbers (later, n)) steps)
+    by true rest = ap (λ b. (s.1 == n) || b) rest
+    by false rest = rest
 
 -- ---- in one place
 
@@ -92,9 +72,15 @@ nothing_found : (place : ℕ) (us : List Version) → [] ≡ map (install_at pla
 nothing_found place [] h = refl
 nothing_found place (u ∷ us) h = absurd (cc)
 
-one_or_none : {A : Type 0} (b : Bool) (x : A) (xs : List A) → cond b (x ∷ xs) xs ≡ cond b (x ∷ []) [] ++ xs
-one_or_none true x xs = refl
-one_or_none false x xs = refl
+some_stay : (steps : List (List ℕ)) (n place : ℕ) (f : Follower) (fs : List Follower) (installs : List ℕ) → followed_at steps n place (f ∷ fs) installs ≡ f ∷ fs
+some_stay steps n place f fs [] = refl
+some_stay steps n place f fs (v ∷ installs) = by (is_step steps n v) (some_stay steps n place f fs installs)
+  where
+    by :
+        (b : Bool) → followed_at steps n place (f ∷ fs) installs ≡ f ∷ fs
+        → followed_at steps n place (cond b (or_one (f ∷ fs) (record { txn = place; version = v })) (f ∷ fs)) installs ≡ f ∷ fs
+    by true rest = rest
+    by false rest = rest
 
 abbrev as_found : ℕ × Version → ℕ × Option Version
 as_found p = (p.0, Some p.1)
@@ -134,8 +120,37 @@ filter_as_found place (p ∷ ps) = by (p.0 == place) (filter_as_found place ps)
     by true rest = ap (λ (qs : List (ℕ × Option Version)). as_found p ∷ qs) rest
     by false rest = rest
 
-module _ (ts : List Transaction) (vs : List Version) (numbered : AreNumbered version_eq vs) (steps : List (ℕ × ℕ)) (distinct : IsDistinct same_numbers steps)
-    (has : HasStepsOf vs (process_pairs Sequential ts) (λ s. list_any (same_numbers s) steps)) where
+-- ---- a transaction installs one version of a key
+
+-- where one passes, none of those after it does
+abbrev IsOneAtMost : (Version → Bool) → List Version → Type 0
+IsOneAtMost p [] = ⊤
+IsOneAtMost p (v ∷ vs) = (p v ≡ true → filter p vs ≡ []) × IsOneAtMost p vs
+
+module _ (key : Atom) (p : Version → Bool) (of_key : (v : Version) → p v ≡ true → atom_eq key v.key ≡ true) where
+  none_installed : (ws : List Write) → has_key key ws ≡ false → filter p (map version_of (last_writes ws)) ≡ []
+  none_installed [] none = refl
+  none_installed (w ∷ ws) none =
+      let parts = or_parts (atom_eq key w.key) (has_key key ws) none in
+      let fails : p (version_of w) ≡ false = false_from_ne_true (p (version_of w)) (λ is. true≢false (sym (of_key (version_of w) is) ∙ parts.0)) in
+      by (has_key w.key ws) fails (none_installed ws parts.1)
+    where
+      by :
+          (b : Bool) → p (version_of w) ≡ false → filter p (map version_of (last_writes ws)) ≡ []
+          → filter p (map version_of (cond b (last_writes ws) (w ∷ last_writes ws))) ≡ []
+      by true fails rest = rest
+      by false fails rest = ap (λ b. cond b (version_of w ∷ filter p (map version_of (last_writes ws))) (filter p (map version_of (last_writes ws)))) fails ∙ rest
+
+  one_installed : (ws : List Write) → IsOneAtMost p (map version_of (last_writes ws))
+  one_installed [] = tt
+  one_installed (w ∷ ws) = by (has_key w.key ws) refl (one_installed ws)
+    where
+      by : (b : Bool) → has_key w.key ws ≡ b → IsOneAtMost p (map version_of (last_writes ws)) → IsOneAtMost p (map version_of (cond b (last_writes ws) (w ∷ last_writes ws)))
+      by true again rest = rest
+      by false last rest = (λ is. none_installed ws (ap (λ k. has_key k ws) (atom_eq-same key w.key (of_key (version_of w) is)) ∙ last), rest)
+
+module _ (ts : List Transaction) (vs : List Version) (numbered : AreNumbered version_eq vs) (steps : List (ℕ × ℕ))
+    (are : AreStepsAs vs (process_pairs Sequential ts) steps) where
   number_test : (i j : ℕ) (v u : Version) → slice_get vs i ≡ Some v → slice_get vs j ≡ Some u → (i == j) ≡ version_eq v u
   number_test i j v u at at' = eq_swap i j ∙ same_version vs numbered v u i j at at'
 
@@ -166,38 +181,36 @@ module _ (ts : List Transaction) (vs : List Version) (numbered : AreNumbered ver
       let zero_first : 0 + m ≡ m = omega arith in
       get_or_from_slice_get earlier m (group m steps) [] (group_at 0 (length vs) m steps below ∙ ap (λ k. Some (group k steps)) zero_first)
 
-  piece :
-      (n m place : ℕ) (v w : Version) → slice_get vs n ≡ Some v → slice_get vs m ≡ Some w
-      → followers_at vs (map (λ (e : ℕ). record { txn = place; version = m }) (filter (λ (e : ℕ). e == n) (get_or earlier m [])))
-      ≡ map (install_at place) (cond (has_pair ps (pair v w)) (w ∷ []) [])
-  piece n m place v w at at' =
-      let f : Follower = record { txn = place; version = m } in
-      ap (λ (es : List ℕ). followers_at vs (map (λ (e : ℕ). f) (filter (λ (e : ℕ). e == n) es))) (earlier_of m (slice_get_within vs m w at'))
-      ∙ ap (λ (es : List ℕ). followers_at vs (map (λ (e : ℕ). f) es)) (once m n steps distinct)
-      ∙ ap (λ b. followers_at vs (map (λ (e : ℕ). f) (cond b (n ∷ []) []))) (has.2 (m, n) ∙ any_pair n m v w at at' has.0 ps has.1)
-      ∙ by (has_pair ps (pair v w))
-    where
-      by :
-          (b : Bool) → followers_at vs (map (λ (e : ℕ). record { txn = place; version = m }) (cond b (n ∷ []) [])) ≡ map (install_at place) (cond b (w ∷ []) [])
-      by true = ap (λ (o : Option Version). (place, o) ∷ []) at'
-      by false = refl
+  step_is : (n m : ℕ) (v w : Version) → slice_get vs n ≡ Some v → slice_get vs m ≡ Some w → is_step earlier n m ≡ has_pair ps (pair v w)
+  step_is n m v w at at' =
+      ap (list_any (λ (e : ℕ). e == n)) (earlier_of m (slice_get_within vs m w at')) ∙ any_group m n steps ∙ any_pair n m v w at at' steps ps are
 
   by_steps :
       (n place : ℕ) (v : Version) → slice_get vs n ≡ Some v → (ns : List ℕ) (us : List Version) → versions_at vs ns ≡ map Some us
-      → followers_at vs (step_followers earlier n place ns) ≡ map (install_at place) (filter (λ (w : Version). has_pair ps (pair v w)) us)
-  by_steps n place v at [] [] h = refl
-  by_steps n place v at [] (u ∷ us) h = absurd (cc)
-  by_steps n place v at (m ∷ ns) [] h = absurd (cc)
-  by_steps n place v at (m ∷ ns) (u ∷ us) h =
+      → IsOneAtMost (λ (w : Version). has_pair ps (pair v w)) us
+      → followers_at vs (followed_at earlier n place [] ns) ≡ map (install_at place) (filter (λ (w : Version). has_pair ps (pair v w)) us)
+  by_steps n place v at [] [] h one = refl
+  by_steps n place v at [] (u ∷ us) h one = absurd (cc)
+  by_steps n place v at (m ∷ ns) [] h one = absurd (cc)
+  by_steps n place v at (m ∷ ns) (u ∷ us) h one =
       let here : slice_get vs m ≡ Some u = cc in
       let rest : versions_at vs ns ≡ map Some us = cc in
-      let kept = filter (λ (w : Version). has_pair ps (pair v w)) us in
-      let first = map (λ (e : ℕ). record { txn = place; version = m }) (filter (λ (e : ℕ). e == n) (get_or earlier m [])) in
-      map-append (found vs) first (step_followers earlier n place ns)
-      ∙ ap (λ (qs : List (ℕ × Option Version)). qs ++ followers_at vs (step_followers earlier n place ns)) (piece n m place v u at here)
-      ∙ ap (λ (qs : List (ℕ × Option Version)). map (install_at place) (cond (has_pair ps (pair v u)) (u ∷ []) []) ++ qs) (by_steps n place v at ns us rest)
-      ∙ sym (map-append (install_at place) (cond (has_pair ps (pair v u)) (u ∷ []) []) kept)
-      ∙ ap (map (install_at place)) (sym (one_or_none (has_pair ps (pair v u)) u kept))
+      let f : Follower = record { txn = place; version = m } in
+      ap (λ b. followers_at vs (followed_at earlier n place (cond b (f ∷ []) []) ns)) (step_is n m v u at here)
+      ∙ by (has_pair ps (pair v u)) refl here (by_steps n place v at ns us rest one.1)
+    where
+      kept : List Version
+      kept = filter (λ (w : Version). has_pair ps (pair v w)) us
+
+      by :
+          (b : Bool) → has_pair ps (pair v u) ≡ b → slice_get vs m ≡ Some u
+          → followers_at vs (followed_at earlier n place [] ns) ≡ map (install_at place) kept
+          → followers_at vs (followed_at earlier n place (cond b (record { txn = place; version = m } ∷ []) []) ns) ≡ map (install_at place) (cond b (u ∷ kept) kept)
+      by true is here rest =
+          ap (followers_at vs) (some_stay earlier n place (record { txn = place; version = m }) [] ns)
+          ∙ ap (λ (o : Option Version). (place, o) ∷ []) here
+          ∙ sym (ap (λ (us : List Version). map (install_at place) (u ∷ us)) (one.0 is))
+      by false not_one here rest = rest
 
   changes : (v w : Version) → has_pair ps (pair v w) ≡ true → is_change (pair v w) ≡ true
   changes v w step =
@@ -207,7 +220,7 @@ module _ (ts : List Transaction) (vs : List Version) (numbered : AreNumbered ver
   part_is :
       (n place : ℕ) (v : Version) → slice_get vs n ≡ Some v → (t : Transaction) (installs : List ℕ) (known : List Follower)
       → followers_at vs known ≡ map (install_at place) (installs_behind [] t v) → versions_at vs installs ≡ map Some (installed_by t)
-      → followers_at vs (known ++ unless_some known (step_followers earlier n place installs)) ≡ map (install_at place) (installs_behind ps t v)
+      → followers_at vs (followed_at earlier n place known installs) ≡ map (install_at place) (installs_behind ps t v)
   part_is n place v at t installs known old installed = by (is_none v.value || is_known_to_read t v) known old
     where
       us : List Version
@@ -219,6 +232,9 @@ module _ (ts : List Transaction) (vs : List Version) (numbered : AreNumbered ver
       step : Version → Bool
       step w = has_pair ps (pair v w)
 
+      one : IsOneAtMost step us
+      one = one_installed v.key step (λ w is. (and_parts (atom_eq v.key w.key) (not (value_eq v.value w.value)) (changes v w is)).0) (writes_of t.mops)
+
       only_step : (w : Version) → step w ≡ ((step w || false) && change w)
       only_step w = elim (cases_Bool (has_pair ps (pair v w))) [
         | inl is ↦ is ∙ sym (ap (λ b. (b || false) && is_change (pair v w)) is ∙ changes v w is)
@@ -227,18 +243,18 @@ module _ (ts : List Transaction) (vs : List Version) (numbered : AreNumbered ver
 
       by :
           (b : Bool) (known : List Follower) → followers_at vs known ≡ map (install_at place) (filter (λ (w : Version). b && is_change (pair v w)) (installed_by t))
-          → followers_at vs (known ++ unless_some known (step_followers earlier n place installs))
+          → followers_at vs (followed_at earlier n place known installs)
           ≡ map (install_at place) (filter (λ (w : Version). (has_pair ps (pair v w) || b) && is_change (pair v w)) (installed_by t))
       by true [] h =
           let none : filter change us ≡ [] = nothing_found place (filter change us) h in
-          by_steps n place v at installs us installed
+          by_steps n place v at installs us installed one
           ∙ ap (map (install_at place)) (less_filtered change step (λ w. changes v w) us none)
           ∙ sym (ap (map (install_at place)) (same_filter (λ (w : Version). (step w || true) && change w) change (λ w. ap (λ b. b && change w) (or_true (step w))) us ∙ none))
       by true (f ∷ fs) h =
-          ap (followers_at vs) (append-nil (f ∷ fs)) ∙ h
+          ap (followers_at vs) (some_stay earlier n place f fs installs) ∙ h
           ∙ sym (ap (map (install_at place)) (same_filter (λ (w : Version). (step w || true) && change w) change (λ w. ap (λ b. b && change w) (or_true (step w))) us))
       by false [] h =
-          by_steps n place v at installs us installed
+          by_steps n place v at installs us installed one
           ∙ ap (map (install_at place)) (same_filter step (λ (w : Version). (step w || false) && change w) only_step us)
       by false (f ∷ fs) h =
           let none : map (install_at place) (filter (λ (w : Version). false) us) ≡ [] = ap (map (install_at place)) (none_pass us) in
@@ -270,7 +286,7 @@ module _ (ts : List Transaction) (vs : List Version) (numbered : AreNumbered ver
         let same : place + 0 ≡ place = omega arith in
         let now : slice_get ts place ≡ Some t = ap (slice_get ts) (sym same) ∙ there 0 t refl in
         let known = filter (λ (f : Follower). f.txn == place) fs in
-        let own = known ++ unless_some known (step_followers earlier n place a.installs) in
+        let own = followed_at earlier n place known a.installs in
         let later = followers_by earlier n fs (place + 1) accesses in
         let new = map (with_place place) (installs_behind ps t v) in
         let others = from_place (λ place t. map (λ w. (place, w)) (installs_behind ps t v)) (place + 1) us in
@@ -282,7 +298,7 @@ module _ (ts : List Transaction) (vs : List Version) (numbered : AreNumbered ver
         rest)
         ∙ sym (map-append as_found new others)
 
-  module _ (accesses : List Accessed) (are : map (versions_at vs) (map (λ (a : Accessed). a.installs) accesses) ≡ map (λ t. map Some (installed_by t)) ts) where
+  module _ (accesses : List Accessed) (installed : map (versions_at vs) (map (λ (a : Accessed). a.installs) accesses) ≡ map (λ t. map Some (installed_by t)) ts) where
     abbrev followers_in : List Known → List (List Follower)
     followers_in rows = map (λ (r : Known). r.followers) rows
 
@@ -299,39 +315,29 @@ module _ (ts : List Transaction) (vs : List Version) (numbered : AreNumbered ver
         let same : n + 0 ≡ n = omega arith in
         let at : slice_get vs n ≡ Some v = ap (slice_get vs) (sym same) ∙ there 0 v refl in
         let first : followers_at vs (followers_by earlier n r.followers 0 accesses) ≡ map as_found (followers_of Sequential ts v) =
-        all_parts n v at r.followers here 0 ts accesses (λ i t e. let first : i ≡ 0 + i = omega arith in ap (slice_get ts) (sym first) ∙ e) are in
+        all_parts n v at r.followers here 0 ts accesses (λ i t e. let first : i ≡ 0 + i = omega arith in ap (slice_get ts) (sym first) ∙ e) installed in
         ap (λ (qs : List (ℕ × Option Version)). qs ∷ map (followers_at vs) (followers_in (stepped_rows earlier accesses (n + 1) rows))) first
         ∙ ap (λ (qss : List (List (ℕ × Option Version))). map as_found (followers_of Sequential ts v) ∷ qss)
         (each_row (n + 1) rows us (λ i u e. let next : n + suc i ≡ n + 1 + i = omega arith in ap (slice_get vs) (sym next) ∙ there (suc i) u e) rest)
 
 -- ---- steps are of versions that have a number
 
-module _ (vs : List Version) (steps : List (ℕ × ℕ)) (ps : List VersionPair) (has : HasStepsOf vs ps (λ s. list_any (same_numbers s) steps)) where
-  any_in_range :
-      (s : ℕ × ℕ) (all : List (ℕ × ℕ)) (ps : List VersionPair) → map (step_at vs) all ≡ map as_step ps → list_any (same_numbers s) all ≡ true
-      → (s.0 < length vs) × (s.1 < length vs)
-  any_in_range s [] ps h e = absurd (false≢true e)
-  any_in_range s (r ∷ all) [] h e = absurd (cc)
-  any_in_range s (r ∷ all) (p ∷ ps) h e =
-      let both : step_at vs r ≡ as_step p = cc in
-      let rest : map (step_at vs) all ≡ map as_step ps = cc in
-      elim (or_cases (same_numbers s r) (list_any (same_numbers s) all) e) [
-        | inl is ↦ (
-            let (first, second) = and_parts (s.0 == r.0) (s.1 == r.1) is in
-            let later = slice_get_within vs r.0 p.later (ap (λ (q : Option Version × Option Version). q.0) both) in
-            let earlier = slice_get_within vs r.1 p.earlier (ap (λ (q : Option Version × Option Version). q.1) both) in
-            (subst (λ i. i < length vs) (sym (eqb-true s.0 r.0 first)) later, subst (λ i. i < length vs) (sym (eqb-true s.1 r.1 second)) earlier))
-        | inr further ↦ any_in_range s all ps rest further
-      ]
-
-  itself : (all : List (ℕ × ℕ)) (s : ℕ × ℕ) → In s all → list_any (same_numbers s) all ≡ true
-  itself [] s i = elim i [ ]
-  itself (r ∷ all) s (inl e) =
-      or_left (same_numbers s r) (list_any (same_numbers s) all) (subst (λ (q : ℕ × ℕ). same_numbers s q ≡ true) (sym e) (and_from (s.0 == s.0) (s.1 == s.1) (eq-eqb s.0 s.0 refl) (eq-eqb s.1 s.1 refl)))
-  itself (r ∷ all) s (inr i) = or_right (same_numbers s r) (list_any (same_numbers s) all) (itself all s i)
-
+module _ (vs : List Version) (steps : List (ℕ × ℕ)) (ps : List VersionPair) (are : AreStepsAs vs ps steps) where
   step_in_range : (s : ℕ × ℕ) → In s steps → (s.0 < length vs) × (s.1 < length vs)
-  step_in_range s i = any_in_range s has.0 ps has.1 (sym (has.2 s) ∙ itself steps s i)
+  step_in_range s i = each steps ps are i
+    where
+      each : (all : List (ℕ × ℕ)) (ps : List VersionPair) → map (step_at vs) all ≡ map as_step ps → In s all → (s.0 < length vs) × (s.1 < length vs)
+      each [] ps h i = elim i [ ]
+      each (r ∷ all) [] h i = absurd (cc)
+      each (r ∷ all) (p ∷ ps) h (inl e) =
+          let both : step_at vs r ≡ as_step p = cc in
+          subst (λ (q : ℕ × ℕ). (q.0 < length vs) × (q.1 < length vs)) e (
+            slice_get_within vs r.0 p.later (ap (λ (q : Option Version × Option Version). q.0) both),
+            slice_get_within vs r.1 p.earlier (ap (λ (q : Option Version × Option Version). q.1) both),
+          )
+      each (r ∷ all) (p ∷ ps) h (inr i) =
+          let rest : map (step_at vs) all ≡ map as_step ps = cc in
+          each all ps rest i
 
   pub steps_numbered : All (IsNumbered (length vs)) steps
   steps_numbered = all_in (IsNumbered (length vs)) steps (λ s i. (step_in_range s i).0)
@@ -369,10 +375,9 @@ readers-stepped earlier accesses n (r ∷ rows) = ap (λ (ws : List (List ℕ)).
 
 pub sequenced :
     (ts : List Transaction) (vs : List Version) (rows : List Known) (accesses : List Accessed) (steps : List (ℕ × ℕ))
-    → IsTableOf Basic ts (table_by vs rows accesses) → IsDistinct same_numbers steps
-    → HasStepsOf vs (process_pairs Sequential ts) (λ s. list_any (same_numbers s) steps)
+    → IsTableOf Basic ts (table_by vs rows accesses) → AreStepsAs vs (process_pairs Sequential ts) steps
     → IsTableOf Sequential ts (table_by vs (stepped_rows (groups_from 0 (length vs) steps) accesses 0 rows) accesses)
-sequenced ts vs rows accesses steps is distinct has =
+sequenced ts vs rows accesses steps is are =
     let earlier = groups_from 0 (length vs) steps in
     record {
       distinct = is.distinct;
@@ -380,7 +385,7 @@ sequenced ts vs rows accesses steps is distinct has =
       writers = writers-stepped earlier accesses 0 rows ∙ is.writers;
       readers = readers-stepped earlier accesses 0 rows ∙ is.readers;
       followers =
-          each_row ts vs is.distinct steps distinct has accesses is.installs 0 rows vs (λ i v e. let first : i ≡ 0 + i = omega arith in ap (slice_get vs) (sym first) ∙ e) is.followers;
+          each_row ts vs is.distinct steps are accesses is.installs 0 rows vs (λ i v e. let first : i ≡ 0 + i = omega arith in ap (slice_get vs) (sym first) ∙ e) is.followers;
       reads = is.reads;
       installs = is.installs;
     }
@@ -393,9 +398,9 @@ module _ (ts : List Transaction) (vs : List Version) (rows : List Known) (access
       sym (length-map accesses (λ (a : Accessed). a.installs)) ∙ sym (length-map (map (λ (a : Accessed). a.installs) accesses) (versions_at vs)) ∙ ap length is.installs
       ∙ length-map ts (λ t. map Some (installed_by t))
 
-  placed_in : (v : Version) (fs : List Follower) → followers_at vs fs ≡ map as_found (followers_of Basic ts v) → All (λ (f : Follower). f.txn < length accesses) fs
-  placed_in v fs told =
-      all_in (λ (f : Follower). f.txn < length accesses) fs (λ f i.
+  up_to_in : (v : Version) (fs : List Follower) → followers_at vs fs ≡ map as_found (followers_of Basic ts v) → All (λ (f : Follower). f.txn ≤ length accesses) fs
+  up_to_in v fs told =
+      all_in (λ (f : Follower). f.txn ≤ length accesses) fs (λ f i.
       let there : In (f.txn, slice_get vs f.version) (map as_found (followers_of Basic ts v)) = subst (In (f.txn, slice_get vs f.version)) told (in_mapped (found vs) f fs i) in
       let (q, among, same) = in_map as_found (f.txn, slice_get vs f.version) (followers_of Basic ts v) there in
       let (j, t, at, own) = from_some_place (λ place t. map (λ w. (place, w)) (installs_behind [] t v)) 0 ts q among in
@@ -406,17 +411,17 @@ module _ (ts : List Transaction) (vs : List Version) (rows : List Known) (access
       let many = count in
       omega (arith, below, first, second, many))
 
-  pub rows_placed : All (FollowersArePlaced (length accesses)) rows
-  rows_placed = all_in (FollowersArePlaced (length accesses)) rows (λ row i. each rows vs is.followers row i)
+  pub rows_up_to : All (FollowersAreUpTo (length accesses)) rows
+  rows_up_to = all_in (FollowersAreUpTo (length accesses)) rows (λ row i. each rows vs is.followers row i)
     where
       each :
           (rows : List Known) (us : List Version) → map (followers_at vs) (map (λ (r : Known). r.followers) rows) ≡ map (λ v. map as_found (followers_of Basic ts v)) us
-          → (row : Known) → In row rows → FollowersArePlaced (length accesses) row
+          → (row : Known) → In row rows → FollowersAreUpTo (length accesses) row
       each [] us h row i = elim i [ ]
       each (r ∷ rows) [] h row i = absurd (cc)
       each (r ∷ rows) (v ∷ us) h row (inl e) =
           let here : followers_at vs r.followers ≡ map as_found (followers_of Basic ts v) = cc in
-          subst (FollowersArePlaced (length accesses)) e (placed_in v r.followers here)
+          subst (FollowersAreUpTo (length accesses)) e (up_to_in v r.followers here)
       each (r ∷ rows) (v ∷ us) h row (inr i) =
           let rest : map (followers_at vs) (map (λ (r : Known). r.followers) rows) ≡ map (λ v. map as_found (followers_of Basic ts v)) us = cc in
           each rows us rest row i

@@ -1,11 +1,10 @@
 -- The steps of a history with one transaction more, by the numbers of versions.
 use Rattle.std.proofs.Common.{◌≡◌, ℕ, List, [], ◌∷◌, ◌++◌, map, flat_map, fold, Bool, true, false, cond, Option, Some, None, is_some, refl, sym, ◌∙◌, ap, subst}
-use Rattle.std.specs.Prelude.{⊤, slice_get, not, ◌&&◌, ◌||◌, ◌==◌}
+use Rattle.std.specs.Prelude.{⊤, slice_get, not, ◌&&◌, ◌==◌}
 use Rattle.std.specs.List.{list_any}
 use Rattle.std.specs.Option.{option_or}
 use Rattle.std.proofs.lemmas.Grind.{flat_map-append}
 use Rattle.std.proofs.lemmas.List.{append_assoc, append-nil, map-append}
-use Rattle.std.proofs.lemmas.List.Folds.{list_any-append}
 use Rattle.std.proofs.lemmas.List.Sums.{fold-append}
 use Rattle.hist_types.specs.Atoms.{Value, atom_eq, value_eq}
 use Rattle.hist_types.specs.Journal.{writes_of}
@@ -17,8 +16,8 @@ use Rattle.atom_index.specs.Numbers.{AreNumbered}
 use Rattle.key_versions.specs.declared.pending.Access.{Access}
 use Rattle.key_versions.specs.Numbering.{IsAccess, AreAccesses}
 use Rattle.key_versions.specs.Rows.{has_nil, lasts}
-use Rattle.key_versions.specs.Steps.{same_numbers, last_number, seen_after, with_first, firsts, step_from, steps_to}
-use Rattle.key_versions.specs.Stepped.{step_at, as_step, HasLastSeen, HasStepsOf}
+use Rattle.key_versions.specs.Steps.{last_number, seen_after, with_first, firsts, step_from, steps_to}
+use Rattle.key_versions.specs.Stepped.{step_at, as_step, HasLastSeen, AreStepsAs}
 use Rattle.key_versions.proofs.Accessing.{accesses_stay, same_nil, has_nil_key}
 use Rattle.key_versions.proofs.Joined.{same_version, lasts_are}
 use Rattle.key_versions.proofs.Seen.{last_number-append}
@@ -181,7 +180,7 @@ module _ (vs us : List Version) (stay : (n : ℕ) (v : Version) → slice_get vs
   pub last_stays : (seen : List Version) (last : ℕ → Option ℕ) → HasLastSeen vs seen last → HasLastSeen us seen last
   last_stays seen last has = (has.0, accesses_stay vs us stay seen has.0 has.1, has.2)
 
-  steps_stay : (steps : List (ℕ × ℕ)) (ps : List VersionPair) → map (step_at vs) steps ≡ map as_step ps → map (step_at us) steps ≡ map as_step ps
+  pub steps_stay : (steps : List (ℕ × ℕ)) (ps : List VersionPair) → AreStepsAs vs ps steps → AreStepsAs us ps steps
   steps_stay [] ps h = h
   steps_stay (s ∷ steps) [] h = absurd (cc)
   steps_stay (s ∷ steps) (p ∷ ps) h =
@@ -192,9 +191,6 @@ module _ (vs us : List Version) (stay : (n : ℕ) (v : Version) → slice_get vs
       ap (λ (o : Option Version). (o, slice_get us s.1) ∷ map (step_at us) steps) later
       ∙ ap (λ (o : Option Version). (Some p.later, o) ∷ map (step_at us) steps) earlier
       ∙ ap (λ (qs : List (Option Version × Option Version)). as_step p ∷ qs) (steps_stay steps ps rest)
-
-  pub pairs_stay : (ps : List VersionPair) (has : ℕ × ℕ → Bool) → HasStepsOf vs ps has → HasStepsOf us ps has
-  pairs_stay ps has is = (is.0, steps_stay is.0 ps is.1, is.2)
 
 -- ---- more that is seen and more steps
 
@@ -208,17 +204,13 @@ sees_more vs seen own last last' accs has are now = (
 )
 
 pub steps_more :
-    (vs : List Version) (ps qs : List VersionPair) (has has' : ℕ × ℕ → Bool) (steps : List (ℕ × ℕ)) → HasStepsOf vs ps has
-    → map (step_at vs) steps ≡ map as_step qs → ((step : ℕ × ℕ) → has' step ≡ (has step || list_any (same_numbers step) steps))
-    → HasStepsOf vs (ps ++ qs) has'
-steps_more vs ps qs has has' steps is are now = (
-  is.0 ++ steps,
-  map-append (step_at vs) is.0 steps
-      ∙ ap (λ (xs : List (Option Version × Option Version)). xs ++ map (step_at vs) steps) is.1
-      ∙ ap (λ (xs : List (Option Version × Option Version)). map as_step ps ++ xs) are
-      ∙ sym (map-append as_step ps qs),
-  λ step. now step ∙ ap (λ b. b || list_any (same_numbers step) steps) (is.2 step) ∙ sym (list_any-append (same_numbers step) is.0 steps),
-)
+    (vs : List Version) (ps qs : List VersionPair) (taken more : List (ℕ × ℕ)) → AreStepsAs vs ps taken → AreStepsAs vs qs more
+    → AreStepsAs vs (ps ++ qs) (taken ++ more)
+steps_more vs ps qs taken more are others =
+    map-append (step_at vs) taken more
+    ∙ ap (λ (xs : List (Option Version × Option Version)). xs ++ map (step_at vs) more) are
+    ∙ ap (λ (xs : List (Option Version × Option Version)). map as_step ps ++ xs) others
+    ∙ sym (map-append as_step ps qs)
 
 -- ---- what an ok transaction adds
 
@@ -231,13 +223,13 @@ seen_step false vs seen own last last' accs has are now =
 
 pub stepped_ok :
     (ts : List Transaction) (t : Transaction) (vs : List Version) (numbered : AreNumbered version_eq vs) (rs ws ss : List Access)
-    (last last' : ℕ → ℕ → Option ℕ) (has has' : ℕ × ℕ → Bool) → is_ok t ≡ true
+    (last last' : ℕ → ℕ → Option ℕ) (taken taken' : List (ℕ × ℕ)) → is_ok t ≡ true
     → AreAccesses vs (external_reads t) rs → AreAccesses vs (map version_of (writes_of t.mops)) ws → AreAccesses vs (map version_in t.mops) ss
-    → ((process : ℕ) → HasLastSeen vs (seen_by process ts) (last process)) → HasStepsOf vs (steps_after [] ts) has
+    → ((process : ℕ) → HasLastSeen vs (seen_by process ts) (last process)) → AreStepsAs vs (steps_after [] ts) taken
     → ((one nil : ℕ) → last' one nil ≡ seen_after t.process ss one nil (last one nil))
-    → ((step : ℕ × ℕ) → has' step ≡ (has step || list_any (same_numbers step) (steps_to (last t.process) (firsts rs ws))))
-    → ((process : ℕ) → HasLastSeen vs (seen_by process (ts ++ t ∷ [])) (last' process)) × HasStepsOf vs (steps_after [] (ts ++ t ∷ [])) has'
-stepped_ok ts t vs numbered rs ws ss last last' has has' ok read wrote seen sees took now_last now_has = (
+    → taken' ≡ taken ++ steps_to (last t.process) (firsts rs ws)
+    → ((process : ℕ) → HasLastSeen vs (seen_by process (ts ++ t ∷ [])) (last' process)) × AreStepsAs vs (steps_after [] (ts ++ t ∷ [])) taken'
+stepped_ok ts t vs numbered rs ws ss last last' taken taken' ok read wrote seen sees took now_last now_taken = (
   λ process.
       let own : own_of process t ≡ cond (t.process == process) (map version_in t.mops) [] = ap (λ b. cond (b && (t.process == process)) (map version_in t.mops) []) ok in
       subst (λ (us : List Version). HasLastSeen vs us (last' process)) (sym (seen-push process ts t ∙ ap (λ (us : List Version). seen_by process ts ++ us) own))
@@ -245,24 +237,25 @@ stepped_ok ts t vs numbered rs ws ss last last' has has' ok read wrote seen sees
   (
       let met : AreAccesses vs (met_by t) (firsts rs ws) = met_are vs numbered t rs ws read (lasts_are vs numbered (writes_of t.mops) ws wrote) in
       let added : steps_of ts t ≡ flat_map (step_to (seen_by t.process ts)) (met_by t) = ap (λ b. cond b (flat_map (step_to (seen_by t.process ts)) (met_by t)) []) ok in
-      subst (λ (ps : List VersionPair). HasStepsOf vs ps has') (sym (steps-push [] ts t ∙ ap (λ (ps : List VersionPair). steps_after [] ts ++ ps) added))
-      (steps_more vs (steps_after [] ts) (flat_map (step_to (seen_by t.process ts)) (met_by t)) has has' (steps_to (last t.process) (firsts rs ws)) took
-      (steps_are vs numbered (last t.process) (seen_by t.process ts) (met_by t) (firsts rs ws) (sees t.process) met) now_has)),
+      subst (λ (ps : List VersionPair). AreStepsAs vs ps taken') (sym (steps-push [] ts t ∙ ap (λ (ps : List VersionPair). steps_after [] ts ++ ps) added))
+      (subst (AreStepsAs vs (steps_after [] ts ++ flat_map (step_to (seen_by t.process ts)) (met_by t))) (sym now_taken)
+      (steps_more vs (steps_after [] ts) (flat_map (step_to (seen_by t.process ts)) (met_by t)) taken (steps_to (last t.process) (firsts rs ws)) took
+      (steps_are vs numbered (last t.process) (seen_by t.process ts) (met_by t) (firsts rs ws) (sees t.process) met)))),
 )
 
 -- ---- one that isn't ok adds nothing
 
 pub stepped_not :
-    (ts : List Transaction) (t : Transaction) (vs : List Version) (last : ℕ → ℕ → Option ℕ) (has : ℕ × ℕ → Bool) → is_ok t ≡ false
-    → ((process : ℕ) → HasLastSeen vs (seen_by process ts) (last process)) → HasStepsOf vs (steps_after [] ts) has
-    → ((process : ℕ) → HasLastSeen vs (seen_by process (ts ++ t ∷ [])) (last process)) × HasStepsOf vs (steps_after [] (ts ++ t ∷ [])) has
-stepped_not ts t vs last has not_ok sees took = (
+    (ts : List Transaction) (t : Transaction) (vs : List Version) (last : ℕ → ℕ → Option ℕ) (taken : List (ℕ × ℕ)) → is_ok t ≡ false
+    → ((process : ℕ) → HasLastSeen vs (seen_by process ts) (last process)) → AreStepsAs vs (steps_after [] ts) taken
+    → ((process : ℕ) → HasLastSeen vs (seen_by process (ts ++ t ∷ [])) (last process)) × AreStepsAs vs (steps_after [] (ts ++ t ∷ [])) taken
+stepped_not ts t vs last taken not_ok sees took = (
   λ process.
       let own : own_of process t ≡ [] = ap (λ b. cond (b && (t.process == process)) (map version_in t.mops) []) not_ok in
       subst (λ (us : List Version). HasLastSeen vs us (last process))
       (sym (seen-push process ts t ∙ ap (λ (us : List Version). seen_by process ts ++ us) own ∙ append-nil (seen_by process ts))) (sees process),
   (
       let added : steps_of ts t ≡ [] = ap (λ b. cond b (flat_map (step_to (seen_by t.process ts)) (met_by t)) []) not_ok in
-      subst (λ (ps : List VersionPair). HasStepsOf vs ps has)
+      subst (λ (ps : List VersionPair). AreStepsAs vs ps taken)
       (sym (steps-push [] ts t ∙ ap (λ (ps : List VersionPair). steps_after [] ts ++ ps) added ∙ append-nil (steps_after [] ts))) took),
 )

@@ -1,12 +1,11 @@
 -- The steps of a history's processes so far, beside the table of its transactions.
-use Rattle.std.specs.Prelude.{◌≡◌, ℕ, Bool, List, Option, Some, slice_get, map}
-use Rattle.std.specs.List.{list_any}
+use Rattle.std.specs.Prelude.{◌≡◌, ℕ, List, Option, Some, slice_get, map}
 use Rattle.hist_types.specs.Transactions.{Transaction, Version}
 use Rattle.hist_types.specs.Versions.{VersionPair, seen_by, process_pairs}
 use Rattle.hist_types.specs.declared.types.KeyOrder.TheVariants.{Basic, Sequential}
 use Rattle.key_versions.specs.declared.pending.Access.{Access}
 use Rattle.key_versions.specs.Numbering.{AreAccesses}
-use Rattle.key_versions.specs.Steps.{same_numbers, last_number}
+use Rattle.key_versions.specs.Steps.{last_number}
 use Rattle.key_versions.specs.Tables.{Table, IsTableOf}
 
 -- a step with its versions, if they have these numbers, and a pair in the same form
@@ -23,16 +22,13 @@ HasLastSeen versions seen last =
     × AreAccesses versions seen accesses
     × ((nil : ℕ) → last nil ≡ last_number nil accesses)
 
--- these are the steps of the pairs, in whatever order
-abbrev pub HasStepsOf : List Version → List VersionPair → (ℕ × ℕ → Bool) → Type 0
-HasStepsOf versions pairs has =
-    (steps : List (ℕ × ℕ))
-    × (map (step_at versions) steps ≡ map as_step pairs)
-    × ((step : ℕ × ℕ) → has step ≡ list_any (same_numbers step) steps)
+-- these are the steps of the pairs
+abbrev pub AreStepsAs : List Version → List VersionPair → List (ℕ × ℕ) → Type 0
+AreStepsAs versions pairs steps = map (step_at versions) steps ≡ map as_step pairs
 
--- what each process saw last of each key, and which steps were taken
+-- what each process saw last of each key, and the steps that were taken
 pub record AreStepsOf (ts : List Transaction) (table : Table) (last : ℕ → ℕ → Option ℕ)
-    (taken : ℕ × ℕ → Bool) : Type 0 where
+    (taken : List (ℕ × ℕ)) : Type 0 where
   pub table_of : IsTableOf Basic ts table
   pub seen : (process : ℕ) → HasLastSeen table.versions (seen_by process ts) (last process)
-  pub steps : HasStepsOf table.versions (process_pairs Sequential ts) taken
+  pub steps : AreStepsAs table.versions (process_pairs Sequential ts) taken

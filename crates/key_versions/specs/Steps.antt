@@ -1,10 +1,9 @@
 -- The steps that processes take from one version of a key to another, over numbers alone: versions
 -- go by number, keys by their nil versions. A step is written with its later version first.
-use Rattle.std.specs.Prelude.{◌<◌, ℕ, ◌+◌, List, [], ◌∷◌, ◌++◌, Bool, not, ◌&&◌, ◌==◌, if◌then◌else◌, Option, Some, None, All, fold, filter, map, flat_map, get_or}
+use Rattle.std.specs.Prelude.{◌≡◌, ◌<◌, ◌≤◌, ⊤, ℕ, suc, ◌+◌, List, [], ◌∷◌, ◌++◌, Bool, false, not, ◌&&◌, ◌==◌, if◌then◌else◌, Option, Some, None, All, fold, filter, flat_map, length, get_or}
 use Rattle.std.specs.List.{list_any}
 use Rattle.std.specs.Option.{option_or}
 use Rattle.indexmap.specs.IndexMap.{IndexMap, get}
-use Rattle.indexmap.specs.IndexSet.{IndexSet, contains}
 use Rattle.key_versions.specs.declared.types.Follower.{Follower}
 use Rattle.key_versions.specs.declared.pending.Access.{Access}
 use Rattle.key_versions.specs.Rows.{Accessed, Known, has_nil, lasts}
@@ -39,6 +38,16 @@ with_first met access = if has_nil access.nil met then met else met ++ access �
 abbrev pub firsts : (reads writes : List Access) → List Access
 firsts reads writes = fold with_first (fold with_first [] reads) (lasts writes)
 
+-- each of another key than those before it
+abbrev pub AreApart : (before : List Access) → List Access → Type 0
+AreApart before [] = ⊤
+AreApart before (a ∷ accesses) =
+    (has_nil a.nil before ≡ false) × AreApart (before ++ a ∷ []) accesses
+
+-- these are of the same keys
+abbrev pub AreOfSameKeys : List Access → List Access → Type 0
+AreOfSameKeys accesses others = (nil : ℕ) → has_nil nil accesses ≡ has_nil nil others
+
 -- from a version, if there is one, to another that isn't nil
 abbrev pub step_from : Option ℕ → Access → List (ℕ × ℕ)
 step_from None access = []
@@ -51,68 +60,92 @@ step_from (Some earlier) access =
 abbrev pub steps_to : (seen : ℕ → Option ℕ) → List Access → List (ℕ × ℕ)
 steps_to seen met = flat_map (λ (a : Access). step_from (seen a.nil) a) met
 
-abbrev pub has_step : {S : Type 0} → IndexSet (ℕ × ℕ) S → ℕ × ℕ → Bool
-has_step steps step = contains same_numbers steps step
-
 -- ---- followers by steps, which are given by the number of their later version
 
 -- whether one of them follows the version with this number
 abbrev pub has_earlier : ℕ → List (ℕ × Follower) → Bool
 has_earlier number followers = list_any (λ (p : ℕ × Follower). p.0 == number) followers
 
--- the follower behind each of these versions, unless its transaction is known to follow that one
-abbrev pub behind_all : List (ℕ × Follower) → Follower → (earlier : List ℕ) → List (ℕ × Follower)
-behind_all known follower earlier =
-    map (λ number. (number, follower)) (filter (λ number. not (has_earlier number known)) earlier)
+-- a follower more behind the version with this number, unless its transaction is known to follow it
+abbrev pub behind_once : Follower → (known : List (ℕ × Follower)) → ℕ → List (ℕ × Follower)
+behind_once follower known number =
+    if has_earlier number known then known else known ++ (number, follower) ∷ []
 
--- what a transaction installs, behind the earlier versions of its steps
-abbrev pub behind_steps : (steps : List (List ℕ)) → List (ℕ × Follower) → (place : ℕ)
+-- behind each of these versions
+abbrev pub behind_all : Follower → (known : List (ℕ × Follower)) → (earlier : List ℕ)
+    → List (ℕ × Follower)
+behind_all follower known earlier = fold (behind_once follower) known earlier
+
+-- the followers of a transaction: those that are known, and what it installs behind the earlier
+-- versions of the steps to it
+abbrev pub behind_steps : (steps : List (List ℕ)) → (place : ℕ) → (known : List (ℕ × Follower))
     → (installs : List ℕ) → List (ℕ × Follower)
-behind_steps steps known place installs =
-    flat_map
-    (λ version. behind_all known (record { txn = place; version = version })
-    (get_or steps version [])) installs
+behind_steps steps place known installs =
+    fold
+    (λ all version. behind_all (record { txn = place; version = version }) all
+    (get_or steps version [])) known installs
 
 -- the followers of a transaction among these
 abbrev pub of_place : ℕ → List (ℕ × Follower) → List (ℕ × Follower)
 of_place place followers = filter (λ (p : ℕ × Follower). p.1.txn == place) followers
 
--- the followers, each with the place of its transaction
-abbrev pub placed : List (ℕ × Follower) → List (ℕ × (ℕ × Follower))
-placed followers = map (λ (p : ℕ × Follower). (p.1.txn, p)) followers
+-- how many followers, from the first on, are of the transaction
+abbrev pub run_of : (place : ℕ) → List (ℕ × Follower) → ℕ
+run_of place [] = 0
+run_of place (p ∷ followers) = if p.1.txn == place then suc (run_of place followers) else 0
 
--- of each transaction from a place on the followers that are known, and those by steps
+-- the followers of each transaction from a place on
 abbrev pub followers_from : (steps : List (List ℕ)) → List (ℕ × Follower) → (place : ℕ)
     → List Accessed → List (ℕ × Follower)
 followers_from steps followers place [] = []
 followers_from steps followers place (a ∷ accesses) =
-    let known = of_place place followers in
-    known ++ behind_steps steps known place a.installs
+    behind_steps steps place (of_place place followers) a.installs
     ++ followers_from steps followers (place + 1) accesses
+
+abbrev pub AreBelow : (versions : ℕ) → List ℕ → Type 0
+AreBelow versions numbers = All (λ number. number < versions) numbers
+
+-- a version has this mark exactly if one of these follows it, and no mark is higher
+pub record AreMarked (mark : ℕ) (followers : List (ℕ × Follower)) (marks : List ℕ) : Type 0 where
+  pub marked :
+      (number : ℕ)
+      → number < length marks
+      → (get_or marks number 0 == mark) ≡ has_earlier number followers
+  pub most : AreBelow (mark + 1) marks
+
+-- the last of the followers are a transaction's own, and the versions that these follow are marked
+pub record AreFollowers (mark : ℕ) (before own followers : List (ℕ × Follower))
+    (marks : List ℕ) : Type 0 where
+  pub all : followers ≡ before ++ own
+  pub marked : AreMarked mark own marks
 
 -- ---- rows
 
--- what a transaction installs behind the version with this number, by steps
-abbrev pub step_followers : (steps : List (List ℕ)) → (number place : ℕ) → (installs : List ℕ)
-    → List Follower
-step_followers steps number place installs =
-    flat_map
-    (λ version. map (λ earlier. record { txn = place; version = version })
-    (filter (λ earlier. earlier == number) (get_or steps version []))) installs
+-- whether a step leads from the version with the number to the other one
+abbrev pub is_step : (steps : List (List ℕ)) → (number version : ℕ) → Bool
+is_step steps number version =
+    list_any (λ earlier. earlier == number) (get_or steps version [])
 
--- these where there are none of those
-abbrev pub unless_some : List Follower → List Follower → List Follower
-unless_some [] others = others
-unless_some (f ∷ known) others = []
+-- these, or the one where there are none
+abbrev pub or_one : List Follower → Follower → List Follower
+or_one [] follower = follower ∷ []
+or_one (first ∷ others) follower = first ∷ others
 
--- the followers of a version: of each transaction those that are known, or else those by steps
+-- the followers of a version in one place: those that are known, or else one by a step
+abbrev pub followed_at : (steps : List (List ℕ)) → (number place : ℕ) → (known : List Follower)
+    → (installs : List ℕ) → List Follower
+followed_at steps number place known installs =
+    fold
+    (λ followers version. if is_step steps number version
+    then or_one followers (record { txn = place; version = version })
+    else followers) known installs
+
+-- one place after the other
 abbrev pub followers_by : (steps : List (List ℕ)) → (number : ℕ) → List Follower → (place : ℕ)
     → List Accessed → List Follower
 followers_by steps number followers place [] = []
 followers_by steps number followers place (a ∷ accesses) =
-    let known = filter (λ (f : Follower). f.txn == place) followers in
-    known
-    ++ unless_some known (step_followers steps number place a.installs)
+    followed_at steps number place (filter (λ (f : Follower). f.txn == place) followers) a.installs
     ++ followers_by steps number followers (place + 1) accesses
 
 -- the rows of the versions from a number on
@@ -129,14 +162,9 @@ stepped_rows steps accesses number (row ∷ rows) =
 
 -- ---- what is in range
 
-abbrev pub IsPlaced : (places : ℕ) → ℕ × Follower → Type 0
-IsPlaced places p = p.1.txn < places
-
-abbrev pub FollowersArePlaced : (places : ℕ) → Known → Type 0
-FollowersArePlaced places row = All (λ (f : Follower). f.txn < places) row.followers
+-- the transactions that follow are at this place or before it
+abbrev pub FollowersAreUpTo : (place : ℕ) → Known → Type 0
+FollowersAreUpTo place row = All (λ (f : Follower). f.txn ≤ place) row.followers
 
 abbrev pub InstallsAreBelow : (versions : ℕ) → Accessed → Type 0
 InstallsAreBelow versions a = All (λ version. version < versions) a.installs
-
-abbrev pub AreBelow : (versions : ℕ) → List ℕ → Type 0
-AreBelow versions numbers = All (λ number. number < versions) numbers

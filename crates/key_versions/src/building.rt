@@ -1,11 +1,12 @@
 //! A table that takes one transaction after another.
 
-ghost use Rattle.std.specs.Prelude.{◌≡◌, ◌++◌, ◌∷◌, [], List, length, map, OnOk, IfOk};
+ghost use Rattle.std.specs.Prelude.{◌≡◌, ◌++◌, ◌∷◌, [], List, length, map, OnOk, IfOk, IsTrue};
 ghost use Rattle.hist_types.specs.Journal.{writes_of};
-ghost use Rattle.hist_types.specs.Transactions.{Transaction, version_of};
-ghost use Rattle.hist_types.specs.declared.types.KeyOrder.TheVariants.{Basic};
+ghost use Rattle.hist_types.specs.Transactions.{Transaction, is_ok, version_of};
+ghost use Rattle.hist_types.specs.declared.types.KeyOrder.TheVariants.{Basic, Sequential};
 ghost use Rattle.key_versions.specs.Histories.{named_by, read_by, seen_in};
 ghost use Rattle.key_versions.specs.Numbering.{with_versions, AreAccesses};
+ghost use Rattle.key_versions.specs.Steps.{AreOfSameKeys};
 ghost use Rattle.key_versions.specs.Tables.{IsTableOf};
 ghost use Rattle.key_versions.specs.Views.{with_order};
 
@@ -42,10 +43,9 @@ impl<'a, S: BuildHasher + Copy> Building<'a, S> {
     pub fn with_capacity(alloc: Global, hasher: S, transactions: usize) -> Result<Self, AllocError>
         ensures { IfOk result (IsTableOf Basic []) }
     {
-        let rows = Rows::with_capacity(alloc, transactions)?;
         Ok(Building {
-            numbering: Numbering::new(alloc, hasher),
-            rows,
+            numbering: Numbering::with_capacity(alloc, hasher, transactions)?,
+            rows: Rows::with_capacity(alloc, transactions)?,
         })
     }
 
@@ -58,6 +58,7 @@ impl<'a, S: BuildHasher + Copy> Building<'a, S> {
 
     /// Takes the next transaction.
     pub fn take(&mut self, txn: &Txn<'a>, keys: KeyOrder) -> Result<Accessed, AllocError>
+        requires { (ts : List Transaction) × IsTableOf Basic ts self.old }
         ensures table { (ts : List Transaction) → IsTableOf Basic ts self.old
             → OnOk result (IsTableOf Basic (ts ++ txn.now ∷ []) self.new) }
         ensures versions { OnOk result
@@ -69,6 +70,8 @@ impl<'a, S: BuildHasher + Copy> Building<'a, S> {
             (map version_of (writes_of txn.now.mops)) a.writes.items) }
         ensures seen { IfOk result
             (λ a. AreAccesses self.new.versions (seen_in keys txn.now) a.seen.items) }
+        ensures keys { keys ≡ Sequential → IsTrue (is_ok txn.now) → IfOk result
+            (λ a. AreOfSameKeys a.seen.items (a.reads.items ++ a.writes.items)) }
     {
         let accessed = self.numbering.take(txn, keys)?;
         self.rows.grow(self.numbering.len())?;

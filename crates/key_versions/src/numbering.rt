@@ -1,14 +1,16 @@
 //! Numbers for versions.
 
-ghost use Rattle.std.specs.Prelude.{◌≡◌, ◌<◌, ◌∷◌, slice_get, [], Some, length, IfOk, OnOk, map};
+ghost use Rattle.std.specs.Prelude.{◌≡◌, ◌<◌, ◌∷◌, ◌++◌, slice_get, [], Some, length, IfOk, OnOk, IsTrue, map};
 ghost use Rattle.atom_index.specs.Numbers.{number_in, with_item};
 ghost use Rattle.hist_types.specs.Atoms.{atom_eq};
 ghost use Rattle.hist_types.specs.Journal.{writes_of};
-ghost use Rattle.hist_types.specs.Transactions.{Version, version_of, version_eq};
+ghost use Rattle.hist_types.specs.Transactions.{Version, is_ok, version_of, version_eq};
 ghost use Rattle.hist_types.specs.Versions.{nil_of};
+ghost use Rattle.hist_types.specs.declared.types.KeyOrder.TheVariants.{Sequential};
 ghost use Rattle.key_versions.specs.Histories.{named_by, read_by, seen_in};
 ghost use Rattle.key_versions.specs.Rows.{with_access, with_read};
 ghost use Rattle.key_versions.specs.Numbering.{Numbers, key_at, version_with, versions_in, versions_of, AreInRange, with_versions, IsAccess, AreAccesses};
+ghost use Rattle.key_versions.specs.Steps.{AreOfSameKeys};
 
 use crate::pending::Access;
 use crate::rows::{has_key, number_of};
@@ -101,18 +103,19 @@ pub(crate) struct Numbered<'a> {
 }
 
 impl<'a, S: BuildHasher> Numbering<'a, S> {
-    pub fn new(alloc: Global, hasher: S) -> Self
+    /// No version yet, and tables as large as is best for n versions.
+    pub fn with_capacity(alloc: Global, hasher: S, versions: usize) -> Result<Self, AllocError>
     where
         S: Copy,
-        ensures { versions_of result ≡ [] }
+        ensures { IfOk result (λ numbering. versions_of numbering ≡ []) }
     {
-        Numbering {
+        Ok(Numbering {
             alloc,
             keys: AtomIndex::with_hasher(alloc, hasher),
             values: AtomIndex::with_hasher(alloc, hasher),
-            pairs: PairIndex::with_hasher(alloc, hasher),
+            pairs: PairIndex::with_capacity_and_hasher(alloc, versions, hasher)?,
             nils: Vec::new(alloc),
-        }
+        })
     }
 
     /// How many versions there are.
@@ -189,6 +192,8 @@ impl<'a, S: BuildHasher> Numbering<'a, S> {
             (map version_of (writes_of txn.now.mops)) a.writes.items) }
         ensures seen { IfOk result
             (λ a. AreAccesses (versions_of self.new) (seen_in keys txn.now) a.seen.items) }
+        ensures keys { keys ≡ Sequential → IsTrue (is_ok txn.now) → IfOk result
+            (λ a. AreOfSameKeys a.seen.items (a.reads.items ++ a.writes.items)) }
     {
         let is_ok = txn.status() == Status::Ok;
         let keeps_seen = is_ok && keys == KeyOrder::Sequential;

@@ -4,7 +4,7 @@ ghost use Rattle.std.specs.Prelude.{◌≡◌, ◌<◌, ◌++◌, ◌∷◌, [],
 ghost use Rattle.std.specs.Option.{option_or};
 ghost use Rattle.key_versions.specs.Pending.{writer_in};
 ghost use Rattle.key_versions.specs.Rows.{Known, change, is_behind, unknown, with_follower, with_place, with_reader, with_writer};
-ghost use Rattle.key_versions.specs.Steps.{stepped_rows, FollowersArePlaced, InstallsAreBelow, AreBelow};
+ghost use Rattle.key_versions.specs.Steps.{stepped_rows, FollowersAreUpTo, InstallsAreBelow, AreBelow};
 
 use crate::accesses::Accesses;
 use crate::interleaving::with_steps;
@@ -129,8 +129,10 @@ impl Pending {
         self.writers[version as usize] = self.writers[version as usize].or(writer);
     }
 
+    /// Followers are added in the order of their places.
     pub fn follow(&mut self, version: u32, follower: Follower) -> Result<(), AllocError>
-        requires { version < length self.old }
+        requires version { version < length self.old }
+        requires order { All (FollowersAreUpTo follower.txn) self.old }
         ensures { OnOk result (self.new ≡ change (with_follower follower) version self.old) }
     {
         self.followers.push((version, follower))?;
@@ -147,7 +149,8 @@ impl Pending {
 
     /// The transaction at the place reads the version. What it installs follows; after nil that is known already.
     pub fn read(&mut self, place: u32, read: Access, installs: &[Access]) -> Result<(), AllocError>
-        requires { read.version < length self.old }
+        requires version { read.version < length self.old }
+        requires order { All (FollowersAreUpTo place) self.old }
         ensures { OnOk result
             (self.new ≡ change (with_reader place read installs.now) read.version self.old) }
     {
@@ -166,19 +169,27 @@ impl Pending {
         Ok(())
     }
 
-    /// Adds what each transaction installs, after the earlier versions that each version has by steps of processes.
+    /// Adds what each transaction installs, after the earlier versions that each version has by steps of processes. Room is
+    /// made for this many steps.
     pub fn follow_steps(
         &mut self,
         alloc: Global,
         accesses: &Accesses,
         earlier: &Groups<u32>,
+        steps: usize,
     ) -> Result<(), AllocError>
-        requires followers { All (FollowersArePlaced (length accesses.now)) self.old }
         requires installs { All (InstallsAreBelow (length earlier.now)) accesses.now }
         requires earlier { All (AreBelow (length self.old)) earlier.now }
         ensures { OnOk result (self.new ≡ stepped_rows earlier.now accesses.now 0 self.old) }
     {
-        self.followers = with_steps(alloc, self.followers.as_slice(), accesses, earlier)?;
+        self.followers = with_steps(
+            alloc,
+            self.writers.len(),
+            self.followers.as_slice(),
+            accesses,
+            earlier,
+            steps,
+        )?;
         Ok(())
     }
 

@@ -2,6 +2,7 @@
 
 ghost use Rattle.std.specs.Prelude.{◌≡◌, ◌≤◌, ◌<◌, ◌++◌, ◌∷◌, [], length, IfOk, OnOk, All};
 ghost use Rattle.key_versions.specs.Rows.{has_nil, lasts, written_rows, installed_rows, has_number, read_rows, accessed, rows_after, grown, IsWithin};
+ghost use Rattle.key_versions.specs.Steps.{FollowersAreUpTo};
 
 use crate::accesses::Accesses;
 use crate::pending::{Access, Pending};
@@ -53,7 +54,8 @@ fn add_writes(
 
 /// Adds what a transaction installs after the nil version of each key.
 fn add_installs(rows: &mut Pending, place: u32, installs: &[Access]) -> Result<(), AllocError>
-    requires { All (IsWithin (length rows.old)) installs.now }
+    requires within { All (IsWithin (length rows.old)) installs.now }
+    requires order { All (FollowersAreUpTo place) rows.old }
     ensures { OnOk result (rows.new ≡ installed_rows place rows.old installs.now) }
 {
     for install in installs {
@@ -75,7 +77,8 @@ fn add_reads(
     reads: &[Access],
     installs: &[Access],
 ) -> Result<(), AllocError>
-    requires { All (IsWithin (length rows.old)) reads.now }
+    requires within { All (IsWithin (length rows.old)) reads.now }
+    requires order { All (FollowersAreUpTo place) rows.old }
     ensures { OnOk result (rows.new ≡ read_rows place installs.now rows.old [] reads.now) }
 {
     for (i, read) in reads.iter().enumerate() {
@@ -122,6 +125,7 @@ impl Rows {
     pub fn add(&mut self, reads: &[Access], writes: &[Access]) -> Result<(), AllocError>
         requires reads { All (IsWithin (length self.old.rows)) reads.now }
         requires writes { All (IsWithin (length self.old.rows)) writes.now }
+        requires order { All (FollowersAreUpTo (length self.old.accesses)) self.old.rows }
         ensures rows { OnOk result
             (self.new.rows
             ≡ rows_after (length self.old.accesses) reads.now writes.now self.old.rows) }

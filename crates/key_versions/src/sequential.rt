@@ -2,9 +2,9 @@
 
 ghost use Rattle.std.specs.Prelude.{◌≡◌, ◌++◌, ◌∷◌, [], List, OnOk, IfOk};
 ghost use Rattle.hist_types.specs.Transactions.{Transaction};
-ghost use Rattle.hist_types.specs.declared.types.KeyOrder.TheVariants.{Sequential};
+ghost use Rattle.hist_types.specs.declared.types.KeyOrder.TheVariants.{Basic, Sequential};
 ghost use Rattle.key_versions.specs.Stepped.{AreStepsOf};
-ghost use Rattle.key_versions.specs.Steps.{last_seen, has_step};
+ghost use Rattle.key_versions.specs.Steps.{last_seen};
 ghost use Rattle.key_versions.specs.Tables.{IsTableOf};
 
 use crate::building::Building;
@@ -20,10 +20,11 @@ fn take<'a, S: BuildHasher + Copy>(
     steps: &mut Steps<S>,
     txn: &Txn<'a>,
 ) -> Result<(), AllocError>
+    requires { (ts : List Transaction) × IsTableOf Basic ts building.old }
     ensures { (ts : List Transaction)
-        → AreStepsOf ts building.old (last_seen steps.old.last) (has_step steps.old.taken)
+        → AreStepsOf ts building.old (last_seen steps.old.last) steps.old.taken.items
         → OnOk result (AreStepsOf (ts ++ txn.now ∷ [])
-        building.new (last_seen steps.new.last) (has_step steps.new.taken)) }
+        building.new (last_seen steps.new.last) steps.new.taken.items) }
 {
     let accessed = building.take(txn, KeyOrder::Sequential)?;
     if txn.status() == Status::Ok {
@@ -38,9 +39,9 @@ fn take_all<'a, S: BuildHasher + Copy>(
     steps: &mut Steps<S>,
     txns: &[Txn<'a>],
 ) -> Result<(), AllocError>
-    requires { AreStepsOf [] building.old (last_seen steps.old.last) (has_step steps.old.taken) }
+    requires { AreStepsOf [] building.old (last_seen steps.old.last) steps.old.taken.items }
     ensures { OnOk result (AreStepsOf txns.now
-        building.new (last_seen steps.new.last) (has_step steps.new.taken)) }
+        building.new (last_seen steps.new.last) steps.new.taken.items) }
 {
     for txn in txns {
         take(building, steps, txn)?;
@@ -60,8 +61,10 @@ pub(crate) fn sequential<'a, S: BuildHasher + Copy>(
     let mut building = Building::with_capacity(alloc, hasher, txns.len())?;
     let mut steps = Steps::new(alloc, hasher);
     take_all(&mut building, &mut steps, txns)?;
+    let count = steps.taken.len();
     let earlier = steps.earlier(alloc, building.versions())?;
     let rows = &mut building.rows;
-    rows.rows.follow_steps(alloc, &rows.accesses, &earlier)?;
+    rows.rows
+        .follow_steps(alloc, &rows.accesses, &earlier, count)?;
     Ok(building)
 }

@@ -1,16 +1,15 @@
 //! The steps that processes take from one version of a key to another.
 
-ghost use Rattle.std.specs.Prelude.{◌≡◌, ◌<◌, ◌||◌, ℕ, [], None, false, fold, length, All, IfOk, OnOk};
-ghost use Rattle.std.specs.List.{list_any, IsDistinct};
+ghost use Rattle.std.specs.Prelude.{◌≡◌, ◌++◌, ◌&&◌, ◌==◌, if◌then◌else◌, ℕ, [], None, Some, fold, All, IfOk, OnOk};
 ghost use Rattle.flat_groups.specs.Groups.{IsNumbered, groups_from};
 ghost use Rattle.key_versions.specs.Rows.{lasts};
-ghost use Rattle.key_versions.specs.Steps.{same_numbers, last_number, last_seen, seen_after, with_first, firsts, step_from, steps_to, has_step};
+ghost use Rattle.key_versions.specs.Steps.{last_number, last_seen, seen_after, with_first, firsts, step_from, steps_to, AreApart, AreOfSameKeys};
 
 use crate::numbering::Accessed;
 use crate::pending::Access;
 use crate::rows::has_key;
 use flat_groups::groups::Groups;
-use indexmap::{IndexMap, IndexSet};
+use indexmap::IndexMap;
 use smallvec::SmallVec;
 use std::alloc::{AllocError, Global};
 use std::hash::BuildHasher;
@@ -47,13 +46,26 @@ fn meet_installs(met: &mut SmallVec<Access, 4>, writes: &[Access]) -> Result<(),
     Ok(())
 }
 
+/// The last version of the key with this nil version.
+fn last_of(seen: &[Access], nil: u32) -> Option<u32>
+    ensures { result ≡ last_number nil seen.now }
+{
+    let mut last = None;
+    for access in seen {
+        if access.nil == nil {
+            last = Some(access.version);
+        }
+    }
+    last
+}
+
 /// The steps of processes from one version of a key to another, by number.
 pub(crate) struct Steps<S: BuildHasher> {
     alloc: Global,
     /// The version that a process last read or wrote, by the process and the nil version of the key.
     pub last: IndexMap<(u64, u32), u32, S>,
-    /// The later and the earlier version of each step, each step once.
-    pub taken: IndexSet<(u32, u32), S>,
+    /// The later and the earlier version of each step. Where processes take the same step, it is repeated.
+    pub taken: Vec<(u32, u32)>,
 }
 
 // Written out, as what is derived is repeated wherever one is dropped.
@@ -73,54 +85,53 @@ impl<S: BuildHasher> Steps<S> {
     where
         S: Copy,
         ensures last { (process nil : ℕ) → last_seen result.last process nil ≡ None }
-        ensures taken { (step : ℕ × ℕ) → has_step result.taken step ≡ false }
+        ensures taken { result.taken.items ≡ [] }
     {
         Steps {
             alloc,
             last: IndexMap::with_hasher(alloc, hasher),
-            taken: IndexSet::with_hasher(alloc, hasher),
+            taken: Vec::new(alloc),
         }
     }
 
-    /// Adds the step of a process from what it last saw of a key to this version, if it is one.
-    fn step(&mut self, process: u64, to: Access) -> Result<(), AllocError>
-        ensures last { OnOk result (self.new.last ≡ self.old.last) }
+    /// Adds the step of a process from what it last saw of a key to this version, if it is one, and remembers what it sees last
+    /// now.
+    fn step(&mut self, process: u64, to: Access, last: u32) -> Result<(), AllocError>
         ensures taken { OnOk result
-            ((step : ℕ × ℕ) → has_step self.new.taken step
-            ≡ (has_step self.old.taken step
-            || list_any (same_numbers step) (step_from (last_seen self.old.last process to.nil) to))) }
+            (self.new.taken.items
+            ≡ self.old.taken.items ++ step_from (last_seen self.old.last process to.nil) to) }
+        ensures last { OnOk result
+            ((one nil : ℕ) → last_seen self.new.last one nil
+            ≡ (if (process == one) && (to.nil == nil)
+            then Some last else last_seen self.old.last one nil)) }
     {
-        if let Some(from) = self.last.get(&(process, to.nil)).copied() {
+        if let Some(from) = self.last.insert((process, to.nil), last)? {
             if to.version != from && to.version != to.nil {
-                self.taken.insert((to.version, from))?;
+                self.taken.push((to.version, from))?;
             }
         }
         Ok(())
     }
 
-    /// Adds the steps of a process to these versions.
-    fn step_to_all(&mut self, process: u64, met: &[Access]) -> Result<(), AllocError>
-        ensures last { OnOk result (self.new.last ≡ self.old.last) }
+    /// Adds the steps of a process to these versions of different keys, and remembers what it has seen of these keys.
+    fn step_to_all(
+        &mut self,
+        process: u64,
+        met: &[Access],
+        seen: &[Access],
+    ) -> Result<(), AllocError>
+        requires apart { AreApart [] met.now }
+        requires keys { AreOfSameKeys seen.now met.now }
         ensures taken { OnOk result
-            ((step : ℕ × ℕ) → has_step self.new.taken step
-            ≡ (has_step self.old.taken step
-            || list_any (same_numbers step) (steps_to (last_seen self.old.last process) met.now))) }
-    {
-        for access in met {
-            self.step(process, *access)?;
-        }
-        Ok(())
-    }
-
-    /// Remembers what a process reads and writes, in order.
-    fn see(&mut self, process: u64, seen: &[Access]) -> Result<(), AllocError>
-        ensures taken { OnOk result (self.new.taken ≡ self.old.taken) }
+            (self.new.taken.items
+            ≡ self.old.taken.items ++ steps_to (last_seen self.old.last process) met.now) }
         ensures last { OnOk result
             ((one nil : ℕ) → last_seen self.new.last one nil
             ≡ seen_after process seen.now one nil (last_seen self.old.last one nil)) }
     {
-        for access in seen {
-            self.last.insert((process, access.nil), access.version)?;
+        for to in met {
+            let last = last_of(seen, to.nil).unwrap_or(to.version);
+            self.step(process, *to, last)?;
         }
         Ok(())
     }
@@ -128,11 +139,12 @@ impl<S: BuildHasher> Steps<S> {
     /// Takes the next ok transaction of a process: its steps lead to what the transaction first reads of each key, or installs
     /// where it doesn't read the key.
     pub fn take(&mut self, process: u64, accessed: &Accessed) -> Result<(), AllocError>
+        requires { AreOfSameKeys accessed.now.seen.items
+            (accessed.now.reads.items ++ accessed.now.writes.items) }
         ensures taken { OnOk result
-            ((step : ℕ × ℕ) → has_step self.new.taken step
-            ≡ (has_step self.old.taken step
-            || list_any (same_numbers step) (steps_to (last_seen self.old.last process)
-            (firsts accessed.now.reads.items accessed.now.writes.items)))) }
+            (self.new.taken.items
+            ≡ self.old.taken.items ++ steps_to (last_seen self.old.last process)
+            (firsts accessed.now.reads.items accessed.now.writes.items)) }
         ensures last { OnOk result
             ((one nil : ℕ) → last_seen self.new.last one nil
             ≡ seen_after process accessed.now.seen.items one nil
@@ -141,17 +153,31 @@ impl<S: BuildHasher> Steps<S> {
         let mut met = SmallVec::new(self.alloc);
         meet_reads(&mut met, accessed.reads.as_slice())?;
         meet_installs(&mut met, accessed.writes.as_slice())?;
-        self.step_to_all(process, met.as_slice())?;
-        self.see(process, accessed.seen.as_slice())
+        self.step_to_all(process, met.as_slice(), accessed.seen.as_slice())
+    }
+
+    /// What processes saw is freed.
+    fn into_taken(self) -> Vec<(u32, u32)>
+    where
+        S: Drop,
+        ensures { result.items ≡ self.taken.items }
+    {
+        let Steps {
+            alloc: _,
+            last: _,
+            taken,
+        } = self;
+        taken
     }
 
     /// For each of n versions, the earlier ones of the steps to it.
-    pub fn earlier(&self, alloc: Global, versions: usize) -> Result<Groups<u32>, AllocError>
-        requires { All (IsNumbered versions) self.now.taken.keys }
-        ensures groups { IfOk result
-            (λ groups. groups ≡ groups_from 0 versions self.now.taken.keys) }
-        ensures once { IsDistinct same_numbers self.now.taken.keys }
+    pub fn earlier(self, alloc: Global, versions: usize) -> Result<Groups<u32>, AllocError>
+    where
+        S: Drop,
+        requires { All (IsNumbered versions) self.taken.items }
+        ensures { IfOk result (λ groups. groups ≡ groups_from 0 versions self.taken.items) }
     {
-        Groups::of(alloc, versions, self.taken.as_slice())
+        let taken = self.into_taken();
+        Groups::of(alloc, versions, taken.as_slice())
     }
 }

@@ -1,7 +1,4 @@
 pub mod Contents
-pub mod Numbers
-pub mod Tokens
-pub mod KindsByFront
 pub mod OnlyToken
 pub mod Spelled
 pub mod NilTokens

@@ -7,11 +7,10 @@ use Rattle.hist_types.specs.Tokens.{ItemKind, Int}
 use Rattle.op_view.specs.declared.spelling.Spelling.{Spelling}
 use Rattle.op_view.specs.declared.spelling.Spelling.TheVariants as spellings
 use Rattle.reading_laws.specs.Placed.{IsTokenAlone}
-use Rattle.edn_ops.specs.SourceTexts.{IsAtomText}
-use Rattle.op_view.specs.AtomTexts.{IsTokenOf, IsNumberOf}
+use Rattle.edn_ops.specs.SourceTexts.{IsTokenOf, IsAtomText, IsNumberOf}
 use Rattle.op_view.specs.Spellings.{IsSpelled, IsSpellingOf, kind_spelled, atom_spelled}
-use Rattle.op_view.proofs.KindsByFront.{digits_told}
-use Rattle.op_view.proofs.Tokens.{one_kind}
+use Rattle.edn_ops.proofs.KindsByFront.{digits_told}
+use Rattle.edn_ops.proofs.Tokens.{one_kind}
 
 no_atom : (atom : Atom) → None ≡ Some atom → ⊥
 no_atom atom e = cc

@@ -17,12 +17,11 @@ use Rattle.hist_types.specs.declared.types.OpKind.{OpKind}
 use Rattle.op_block.specs.Contents.{BlockOperation}
 use Rattle.op_block.specs.Shapes.{short_span_of, short_mop_of, IsShapeOf}
 use Rattle.op_block.specs.declared.shapes.ShapeRef.{ShapeRef}
-use Rattle.edn_ops.specs.SourceTexts.{IsAtomText, IsValueText, IsMopText}
+use Rattle.edn_ops.specs.SourceTexts.{IsTokenOf, IsAtomText, IsValueText, IsMopText}
 use Rattle.edn_ops.specs.declared.write.MopText.{MopText}
-use Rattle.op_view.specs.AtomTexts.{IsTokenOf}
 use Rattle.op_view.specs.Mops.{value_of}
 use Rattle.op_view.specs.MopTexts.{atom_in, is_nil, value_in, mop_in, IsAtom, bytes_at, mop_at, mops_at, operation_at, IsWithin, IsMopAt, AreMopsAt}
-use Rattle.op_view.proofs.KindsByFront.{kind_told}
+use Rattle.edn_ops.proofs.KindsByFront.{kind_told}
 use Rattle.op_view.proofs.NilTokens.{nil_text, atom_no_nil}
 
 -- each of an operation's keys and values is a token of its own

@@ -1,9 +1,6 @@
 -- Texts that are one atom.
-use Rattle.std.specs.Prelude.{◌≡◌, ℕ, ℤ, List, true, Option, Some, None}
-use Rattle.std.specs.Char.{is_ascii_digit}
-use Rattle.std.specs.List.{list_all}
+use Rattle.std.specs.Prelude.{ℕ, ℤ, List, Option, Some, None}
 use Rattle.hist_types.specs.Atoms.{Atom, integer}
-use Rattle.hist_types.specs.AtomTokens.{atom_of_token, int_value, is_64_bit}
 use Rattle.hist_types.specs.Tokens.{Item, ItemKind}
 use Rattle.reading_laws.specs.Placed.{IsTokenAlone}
 use Rattle.edn_ops.specs.SourceTexts.{IsAtomText}
@@ -22,10 +19,6 @@ HasTokenAlone text kind = IsTokenAlone (kind_of kind) text
 abbrev pub HasNoTokenAlone : List ℕ → Type 0
 HasNoTokenAlone text = (kind : ItemKind) → ¬ (IsTokenAlone kind text)
 
--- The text is one token of this kind, and that token is the atom.
-abbrev pub IsTokenOf : ItemKind → List ℕ → Atom → Type 0
-IsTokenOf kind text atom = IsTokenAlone kind text × (atom_of_token kind text ≡ Some atom)
-
 -- The text is no atom.
 abbrev pub IsNoAtomText : List ℕ → Type 0
 IsNoAtomText text = (atom : Atom) → ¬ (IsAtomText text atom)
@@ -34,9 +27,3 @@ IsNoAtomText text = (atom : Atom) → ¬ (IsAtomText text atom)
 abbrev pub number_of : Atom → Option ℤ
 number_of (integer number) = Some number
 number_of atom = None
-
--- The text is digits alone, and the number that they write has 64 bits.
-pub record IsNumberOf (text : List ℕ) (number : ℤ) : Type 0 where
-  pub digits : list_all is_ascii_digit text ≡ true
-  pub means : int_value text ≡ number
-  pub fits : is_64_bit number ≡ true

@@ -1,6 +1,5 @@
 pub mod AtomTexts
 pub mod Decoding
-pub mod Fronts
 pub mod Spellings
 pub mod Hashing
 pub mod AtomLaws

@@ -3,10 +3,10 @@ use Rattle.std.specs.Prelude.{◌≡◌, ℕ, List, false, Option, Some, None, M
 use Rattle.hist_types.specs.Atoms.{Atom, integer, keyword, string, symbol}
 use Rattle.hist_types.specs.AtomTokens.{atom_of_token, between_quotes}
 use Rattle.hist_types.specs.Tokens.{ItemKind, Int, Keyword, Symbol, Str}
-use Rattle.op_view.specs.AtomTexts.{IsTokenOf}
 use Rattle.op_view.specs.Decoding.{has_content, content_of}
 use Rattle.op_view.specs.declared.spelling.Spelling.{Spelling}
 use Rattle.op_view.specs.declared.spelling.Spelling.TheVariants as spellings
+use Rattle.edn_ops.specs.SourceTexts.{IsTokenOf}
 
 abbrev pub kind_spelled : Spelling → ItemKind
 kind_spelled (spellings.Integer number) = Int

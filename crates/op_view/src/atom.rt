@@ -9,10 +9,11 @@ ghost use Rattle.hist_types.proofs.AtomOrder.{atom_cmp_total};
 ghost use Rattle.op_view.specs.Hashing.{atom_writes};
 ghost use Rattle.op_view.specs.AtomLaws.{atom_eq_equiv, atom_ties, same_writes};
 
-use crate::content::{between_quotes, compare, feed};
+use crate::content::{compare, feed};
 use crate::spelling::{Spelling, known_spelling, spelling_of};
 use edn_lex::lexer::Lexer;
 use edn_lex::types::TokenKind;
+use edn_ops::atoms::between_quotes;
 use std::cmp::Ordering;
 use std::hash::{Hash, Hasher};
 use std::marker::Model;

@@ -3,38 +3,12 @@
 ghost use Rattle.std.specs.Prelude.{◌≡◌, true, List, MatchOption, fold};
 ghost use Rattle.std.specs.Cmp.Lexicographic.{slice_cmp};
 ghost use Rattle.std.specs.Ordering.{nat_cmp};
-ghost use Rattle.hist_types.specs.AtomTokens.{escape_value as value_of_escape, between_quotes as bytes_between_quotes};
 ghost use Rattle.op_view.specs.Decoding.{has_content, content_of, BeginsWithByte, HasNoByte};
 ghost use Rattle.op_view.specs.Hashing.{content_writes};
 
+use edn_ops::atoms::escape_value;
 use std::cmp::Ordering;
 use std::hash::Hasher;
-
-/// What is between the quotes of a string.
-pub(crate) fn between_quotes(text: &[u8]) -> &[u8]
-    ensures { result.now ≡ bytes_between_quotes text.now }
-{
-    match text {
-        [_, between @ .., _] => between,
-        _ => &[],
-    }
-}
-
-/// The byte that an escape means, by the byte after its backslash.
-fn escape_value(escape: u8) -> Option<u8>
-    ensures { result ≡ value_of_escape escape }
-{
-    match escape {
-        b't' => Some(b'\t'),
-        b'r' => Some(b'\r'),
-        b'n' => Some(b'\n'),
-        b'\\' => Some(b'\\'),
-        b'"' => Some(b'"'),
-        b'b' => Some(8),
-        b'f' => Some(12),
-        _ => None,
-    }
-}
 
 /// The first byte of the content, and what follows its spelling. None at the end, and where the escape is unknown.
 fn split_first(left: &[u8]) -> Option<(u8, &[u8])>
@@ -48,17 +22,6 @@ fn split_first(left: &[u8]) -> Option<(u8, &[u8])>
         [b'\\'] | [] => None,
         [byte, behind @ ..] => Some((*byte, behind)),
     }
-}
-
-/// Whether all escapes are known.
-pub(crate) fn is_content(between: &[u8]) -> bool
-    ensures { result ≡ has_content between.now }
-{
-    let mut left = between;
-    while let Some((_, behind)) = split_first(left) {
-        left = behind;
-    }
-    left.is_empty()
 }
 
 /// Compares two contents by their decoded bytes.

@@ -20,7 +20,7 @@ use std::marker::Model;
 pub struct Frontier {
     events: u64,
     /// The invocation that each process has open.
-    opened: HashMap<u64, u64>,
+    opened: HashMap<u64, u32>,
     moving: Moving,
 }
 
@@ -77,7 +77,7 @@ impl Frontier {
     {
         let index = self.events;
         let before = self.moving.before(alloc, process.number(), index)?;
-        self.opened.insert(process.number(), index)?;
+        self.opened.insert(process.number(), index as u32)?;
         self.events += 1;
         Ok(before)
     }
@@ -93,9 +93,9 @@ impl Frontier {
         let number = process.number();
         if let Some(invocation) = self.opened.get(&number).copied() {
             self.moving.complete(Completed {
-                completion: self.events,
+                completion: self.events as u32,
                 invocation,
-                process: number,
+                process: number as u32,
             })?;
             self.opened.remove(&number);
         }

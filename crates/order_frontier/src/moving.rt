@@ -78,7 +78,8 @@ impl Moving {
             ((p : ℕ) → value_of self.new.last p ≡ value_of self.old.last p) }
     {
         self.recent.reserve(1)?;
-        self.last.insert(done.process, done.predecessor())?;
+        let process = u64::from(done.process);
+        self.last.insert(process, done.predecessor())?;
         self.recent
             .retain(|earlier| earlier.completion >= done.invocation);
         self.recent.push_reserved(done.predecessor());

@@ -5,7 +5,7 @@ ghost use Rattle.order_frontier.specs.Pairs.{all_before, is_earlier};
 ghost use Rattle.order_frontier.specs.Predecessors.{AreOfEvents, HasOrderEdges, NoPredecessorTwice, name_of, names};
 
 use crate::completions::completions;
-use crate::types::{Completed, Order, Predecessor, Row, Span};
+use crate::types::{Completed, Order, Predecessor, Row, Span, short};
 use std::alloc::{AllocError, Global};
 use txn_pairs::types::Txn;
 
@@ -13,7 +13,7 @@ use txn_pairs::types::Txn;
 fn is_earlier(ok: &Completed, txn: &Txn<'_>) -> bool
     ensures { result ≡ is_earlier txn.now ok.now }
 {
-    ok.completion < txn.invocation() && ok.invocation != txn.invocation()
+    u64::from(ok.completion) < txn.invocation() && u64::from(ok.invocation) != txn.invocation()
 }
 
 /// Adds an ok transaction to the lists if it comes before the other.
@@ -30,7 +30,7 @@ fn push_earlier(
 {
     if is_earlier(ok, txn) {
         in_realtime.push(ok.predecessor())?;
-        if ok.process == txn.process() {
+        if u64::from(ok.process) == txn.process() {
             in_process.push(ok.predecessor())?;
         }
     }
@@ -83,8 +83,8 @@ fn row_of(
     let start = in_realtime.len();
     push_before(done, txn, in_process, in_realtime)?;
     Ok(Row {
-        process: txn.process(),
-        invocation: txn.invocation(),
+        process: short(txn.process())?,
+        invocation: short(txn.invocation())?,
         in_process: Span::new(first, in_process.len())?,
         in_realtime: Span::new(start, in_realtime.len())?,
     })

@@ -10,7 +10,7 @@ ghost use Rattle.order_frontier.specs.Ranges.{AreThinnedRows};
 
 use crate::completions::completions;
 use crate::moving::Moving;
-use crate::types::{Completed, Order, Predecessor, Row, Span};
+use crate::types::{Completed, Order, Predecessor, Row, Span, short};
 use std::alloc::{AllocError, Global};
 use txn_pairs::types::Txn;
 
@@ -28,7 +28,7 @@ fn advance(moving: &mut Moving, done: &[Completed], index: u64) -> Result<usize,
         → index ≤ (slice_index_or done.now count d).completion) }
 {
     for (count, ok) in done.iter().enumerate() {
-        if ok.completion >= index {
+        if u64::from(ok.completion) >= index {
             return Ok(count);
         }
         moving.complete(*ok)?;
@@ -63,8 +63,8 @@ fn row_of(
     }
     let start = taken - moving.frontier().len();
     Ok(Row {
-        process: txn.process(),
-        invocation: txn.invocation(),
+        process: short(txn.process())?,
+        invocation: short(txn.invocation())?,
         in_process: Span::new(first, in_process.len())?,
         in_realtime: Span::new(start, taken)?,
     })

@@ -11,16 +11,16 @@ use std::marker::Model;
 /// An ok transaction that comes before another one, by the indexes of its invocation and its completion.
 #[derive(Clone, Copy, Debug, Default, PartialEq, Eq)]
 pub struct Predecessor {
-    pub invocation: u64,
-    pub completion: u64,
+    pub invocation: u32,
+    pub completion: u32,
 }
 
 /// An ok transaction.
 #[derive(Clone, Copy, Default, PartialEq, Eq, PartialOrd, Ord, Drop)]
 pub(crate) struct Completed {
-    pub completion: u64,
-    pub invocation: u64,
-    pub process: u64,
+    pub completion: u32,
+    pub invocation: u32,
+    pub process: u32,
 }
 
 impl Completed {
@@ -135,6 +135,13 @@ fn number(place: usize) -> Result<u32, AllocError>
     u32::try_from(place).map_err(|_| AllocError)
 }
 
+/// No journal has more events or processes than there are such numbers.
+pub(crate) fn short(number: u64) -> Result<u32, AllocError>
+    ensures { IfOk result (λ n. n ≡ number) }
+{
+    u32::try_from(number).map_err(|_| AllocError)
+}
+
 impl Span {
     pub fn new(start: usize, end: usize) -> Result<Self, AllocError>
         ensures { IfOk result (λ span. span ≡ record { start = start; end = end }) }
@@ -157,8 +164,8 @@ impl Span {
 /// A transaction, and the ranges of its order's lists that come before it in its process and in real time.
 #[derive(Clone, Copy, Drop)]
 pub(crate) struct Row {
-    pub process: u64,
-    pub invocation: u64,
+    pub process: u32,
+    pub invocation: u32,
     pub in_process: Span,
     pub in_realtime: Span,
 }

@@ -168,4 +168,4 @@ impl<'a> Txns<'a> {
     }
 }
 
-const _: () = prove!(size_of::<Txn>() <= 64);
+const _: () = prove!(size_of::<Txn>() <= 56);

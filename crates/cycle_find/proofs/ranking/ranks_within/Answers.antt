@@ -11,6 +11,6 @@ pub returns : goal.returns
 returns c =
     let g = c.args.graph.now in
     let kinds = kinds_of c.args.dependencies c.args.level in
-    IfOk-weaker c.of.result (AreRanks (leaving (graph_by c.arcs.result) c.args.shared.now)) (AreRanksWithin g kinds c.args.coarse.now)
+    IfOk-weaker c.of_leaving.result (AreRanks (leaving (graph_by c.arcs.result) c.args.shared.now)) (AreRanksWithin g kinds c.args.coarse.now)
     (λ ranks are. ranks_within g kinds c.arcs.result c.args.coarse.now ranks c.args.shared.now c.arcs.ensures.arcs c.requires.coarse c.requires.shared are)
-    c.of.ensures
+    c.of_leaving.ensures

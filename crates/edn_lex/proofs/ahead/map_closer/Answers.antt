@@ -2,6 +2,4 @@ use Rattle.edn_lex.proofs.LookAhead.{map_closer_given}
 use Rattle.edn_lex.proofs.ahead.map_closer.Goals as goal
 
 pub returns-then-text-start-eq125-clause-gives : goal.returns-then-text-start-eq125-clause-gives
-returns-then-text-start-eq125-clause-gives c =
-    let start = c.behind_blanks-start in
-    map_closer_given c.args.text.now c.args.offset start.result start.ensures.low c.if-start-text.true start.ensures.blanks c.if-text-start-eq125.true
+returns-then-text-start-eq125-clause-gives c offset gap = map_closer_given c.args.text.now offset c.args.start gap.low c.if-start-text.true gap.blanks c.if-text-start-eq125.true

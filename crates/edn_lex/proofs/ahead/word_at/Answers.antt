@@ -1,6 +1,5 @@
 use Rattle.std.proofs.Common.{◌+◌, ◌-◌, length, drop, take, ap, ◌∙◌, sym, refl}
 use Rattle.std.proofs.lemmas.List.{take_rest}
-use Rattle.std.proofs.lemmas.Slice.Eq.{bytes_eq-Decides}
 use Rattle.hist_types.specs.Tokens.{run_len}
 use Rattle.edn_lex.specs.Kinds.{kind_of}
 use Rattle.edn_lex.proofs.LookAhead.{word_begins, word_bytes}
@@ -12,15 +11,9 @@ returns-clause-lone c =
     let start = c.args.start in
     let word = c.args.word.now in
     let xs = take (length text - start) (drop start text) in
-    let begins = (bytes_eq-Decides word (take (length word) xs)).0 (sym c.starts_with.ensures.value ∙ c.if-not-starts_with.false) in
-    word_begins text start xs word (kind_of c.args.kind) (record { kind = c.args.kind; start = start; end = start + length word }) (take_rest text start) begins
+    word_begins text start xs word (kind_of c.args.kind) (record { kind = c.args.kind; start = start; end = start + length word }) (take_rest text start) (c.begins_with.ensures c.if-not-begins_with.false)
     (ap run_len (sym (take_rest xs (length word))) ∙ c.ends_run.ensures c.if-not-ends_run.false) c.requires.word (refl, refl, refl)
 
 pub returns-clause-is : goal.returns-clause-is
 returns-clause-is c =
-    let text = c.args.text.now in
-    let start = c.args.start in
-    let word = c.args.word.now in
-    let xs = take (length text - start) (drop start text) in
-    let begins = (bytes_eq-Decides word (take (length word) xs)).0 (sym c.starts_with.ensures.value ∙ c.if-not-starts_with.false) in
-    word_bytes text start xs word (take_rest text start) begins
+    word_bytes c.args.text.now c.args.start (let text = c.args.text.now in take (length text - c.args.start) (drop c.args.start text)) c.args.word.now (take_rest c.args.text.now c.args.start) (c.begins_with.ensures c.if-not-begins_with.false)

@@ -1,5 +1,6 @@
+use Rattle.std.proofs.Common.{◌+◌}
 use Rattle.edn_lex.specs.declared.ahead.Triple.{Triple}
-use Rattle.edn_ops.proofs.FlatMaps.{lone_here, mop_given}
+use Rattle.edn_ops.proofs.FlatMaps.{lone_here, gap_more, mop_given}
 use Rattle.edn_ops.proofs.flat.next_mop.Goals as goal
 
 pub returns : goal.returns
@@ -15,7 +16,7 @@ returns c =
     (record {
       opener = opener.ensures.gives;
       first = lone_here text opener.opener.end name.name opener.ensures.fits name.ensures.lone;
-      second = key.ensures.lone name.name.end c.behind_blanks.ensures;
+      second = key.ensures.lone name.name.end (gap_more text name.name.end (name.name.end + 1) c.behind_blanks.result name.ensures.space c.behind_blanks.ensures);
       third = value.ensures.gives;
       closer = closer.ensures.gives;
     })

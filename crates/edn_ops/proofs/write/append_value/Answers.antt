@@ -1,31 +1,28 @@
-use Rattle.std.proofs.Common.{◌∙◌, sym}
-use Rattle.edn_ops.proofs.Appended.{appended_as, extended}
-use Rattle.edn_ops.proofs.ValueFronts.{string_written, integer_written, word_written}
+use Rattle.std.proofs.Common.{◌∙◌}
+use Rattle.edn_ops.proofs.Appended.{appended_as, extended, longer_unless, on_err}
+use Rattle.edn_ops.proofs.ValueFronts.{value_written, other_written}
 use Rattle.edn_ops.proofs.write.append_value.Goals as goal
 
-pub returns-then-begins_as_string-clause-ok : goal.returns-then-begins_as_string-clause-ok
-returns-then-begins_as_string-clause-ok c value h =
-    appended_as c.append_string.result _ _ _ _ (string_written c.args.text.now value (sym c.begins_as_string.ensures ∙ c.if-begins_as_string.true) h) c.append_string.ensures.ok
+pub returns-in-Str-clause-ok : goal.returns-in-Str-clause-ok
+returns-in-Str-clause-ok c value h =
+    let written = rw c.in-Str.is at (value_written c.token_kind.result c.args.text.now value c.token_kind.ensures h) in
+    appended_as c.append_string.result _ _ _ _ written c.append_string.ensures.ok
 
-pub decimal_of-requires-clause-int : goal.decimal_of-requires-clause-int
-decimal_of-requires-clause-int c =
-    (integer_written c.args.text.now c.requires.0 (sym c.begins_as_string.ensures ∙ c.if-begins_as_string.false)
-    (sym c.begins_as_int.ensures ∙ c.if-begins_as_int.true) c.requires.1).int
+pub decimal_of-requires : goal.decimal_of-requires
+decimal_of-requires c =
+    let written = rw c.in-Int.is at (value_written c.token_kind.result c.args.text.now c.requires.0 c.token_kind.ensures c.requires.1) in
+    record { int = written.int; fits = written.fits }
 
-pub decimal_of-requires-clause-fits : goal.decimal_of-requires-clause-fits
-decimal_of-requires-clause-fits c =
-    (integer_written c.args.text.now c.requires.0 (sym c.begins_as_string.ensures ∙ c.if-begins_as_string.false)
-    (sym c.begins_as_int.ensures ∙ c.if-begins_as_int.true) c.requires.1).fits
+pub returns-in-Int-clause-ok : goal.returns-in-Int-clause-ok
+returns-in-Int-clause-ok c value h =
+    let written = rw c.in-Int.is at (value_written c.token_kind.result c.args.text.now value c.token_kind.ensures h) in
+    extended c.extend_from_slice.result _ _ _ _ c.extend_from_slice.ensures.items (c.decimal_of.ensures ∙ written.written)
 
-pub returns-then-begins_as_int-clause-ok : goal.returns-then-begins_as_int-clause-ok
-returns-then-begins_as_int-clause-ok c value h =
-    let is =
-    integer_written c.args.text.now value (sym c.begins_as_string.ensures ∙ c.if-begins_as_string.false)
-    (sym c.begins_as_int.ensures ∙ c.if-begins_as_int.true) h in
-    extended c.extend_from_slice.result _ _ _ _ c.extend_from_slice.ensures.items (c.decimal_of.ensures ∙ is.written)
+pub returns-in_default-clause-ok : goal.returns-in_default-clause-ok
+returns-in_default-clause-ok c value h =
+    let kind = c.token_kind.result in
+    let written = value_written kind c.args.text.now value c.token_kind.ensures h in
+    extended c.extend_from_slice-in_default.result _ _ _ _ c.extend_from_slice-in_default.ensures.items (other_written kind c.args.text.now value c.in_default.not-Str c.in_default.not-Int written)
 
-pub returns-clause-ok : goal.returns-clause-ok
-returns-clause-ok c value h =
-    extended c.extend_from_slice-2.result _ _ _ _ c.extend_from_slice-2.ensures.items
-    (word_written c.args.text.now value (sym c.begins_as_string.ensures ∙ c.if-begins_as_string.false)
-    (sym c.begins_as_int.ensures ∙ c.if-begins_as_int.false) h)
+pub returns-in_default-clause-err : goal.returns-in_default-clause-err
+returns-in_default-clause-err c = let r = c.extend_from_slice-in_default.result in on_err r (longer_unless r _ _ _ c.extend_from_slice-in_default.ensures.items)

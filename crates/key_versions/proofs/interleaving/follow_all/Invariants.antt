@@ -1,6 +1,10 @@
-use Rattle.std.proofs.Common.{◌≡◌, ◌++◌, take}
-use Rattle.key_versions.specs.Steps.{behind_all}
+use Rattle.std.proofs.Common.{◌≡◌, ℕ, List, length, take}
+use Rattle.key_versions.specs.Steps.{behind_all, AreFollowers}
+use Rattle.key_versions.specs.declared.types.Follower.{Follower}
 use Rattle.key_versions.proofs.interleaving.follow_all.Given as goal
 
 abbrev pub invariant-loop-version : goal.invariant-loop-version
-invariant-loop-version l = l.followers.items ≡ l.initial.followers.items ++ behind_all l.known l.follower (take l.version-index l.earlier)
+invariant-loop-version l =
+    (length l.marks ≡ length l.initial.marks)
+    × ((before known : List (ℕ × Follower)) → AreFollowers l.mark before known l.initial.followers.items l.initial.marks
+    → AreFollowers l.mark before (behind_all l.follower known (take l.version-index l.earlier)) l.followers.items l.marks)

@@ -1,15 +1,15 @@
-use Rattle.std.proofs.Common.{◌≡◌, ◌∙◌, [], ℕ, List, All, length, refl, sym, ap, subst}
+use Rattle.std.proofs.Common.{◌≡◌, ◌∙◌, [], ℕ, List, All, length, map, sym, ap, subst}
 use Rattle.flat_groups.specs.Groups.{groups_from, IsNumbered}
 use Rattle.hist_types.specs.Versions.{process_pairs}
 use Rattle.hist_types.specs.declared.types.KeyOrder.TheVariants.{Basic, Sequential}
 use Rattle.key_versions.specs.Numbering.{versions_of}
 use Rattle.key_versions.specs.Rows.{Known}
-use Rattle.key_versions.specs.Stepped.{AreStepsOf}
-use Rattle.key_versions.specs.Steps.{last_seen, has_step, stepped_rows, InstallsAreBelow, AreBelow}
+use Rattle.key_versions.specs.Stepped.{step_at, AreStepsOf}
+use Rattle.key_versions.specs.Steps.{last_seen, stepped_rows, InstallsAreBelow, AreBelow}
 use Rattle.key_versions.specs.Tables.{Table, IsTableOf}
 use Rattle.key_versions.specs.Views.{table_by}
 use Rattle.key_versions.proofs.Interleaved.{length-groups}
-use Rattle.key_versions.proofs.Sequenced.{steps_numbered, groups_below, rows_placed, installs_below, sequenced}
+use Rattle.key_versions.proofs.Sequenced.{steps_numbered, groups_below, installs_below, sequenced}
 use Rattle.key_versions.proofs.Told.{row_count}
 use Rattle.key_versions.proofs.sequential.sequential.Goals as goal
 
@@ -17,22 +17,14 @@ pub take_all-requires : goal.take_all-requires
 take_all-requires g c = record {
   table_of = c.in_ok-building.ensures;
   seen = λ process. ([], tt, λ nil. c.new-steps.ensures.last process nil);
-  steps = ([], refl, c.new-steps.ensures.taken);
+  steps = ap (map (step_at c.in_ok-building.building.versions)) c.new-steps.ensures.taken;
 }
 
 pub earlier-requires : goal.earlier-requires
 earlier-requires g c =
     let is = c.in_ok-take_all.ensures in
-    subst (λ n. All (IsNumbered n) c.take_all.new.steps.taken.keys) (sym c.versions.ensures)
-    (steps_numbered c.take_all.new.building.versions c.take_all.new.steps.taken.keys (process_pairs Sequential c.args.txns.now) is.steps)
-
-pub follow_steps-requires-clause-followers : goal.follow_steps-requires-clause-followers
-follow_steps-requires-clause-followers g c =
-    let rows = c.building.inside.rows.rows in
-    let accesses = c.building.inside.rows.accesses in
-    let vs = versions_of c.building.inside.numbering in
-    let is : IsTableOf Basic c.args.txns.now (table_by vs rows accesses) = subst (λ (t : Table). IsTableOf Basic c.args.txns.now t) (sym c.building.view_is) c.in_ok-take_all.ensures.table_of in
-    rows_placed c.args.txns.now vs rows accesses is
+    subst (λ n. All (IsNumbered n) c.take_all.new.steps.taken.items) (sym c.versions.ensures)
+    (steps_numbered c.take_all.new.building.versions c.take_all.new.steps.taken.items (process_pairs Sequential c.args.txns.now) is.steps)
 
 pub follow_steps-requires-clause-installs : goal.follow_steps-requires-clause-installs
 follow_steps-requires-clause-installs g c =
@@ -41,7 +33,7 @@ follow_steps-requires-clause-installs g c =
     let vs = versions_of c.building.inside.numbering in
     let is : IsTableOf Basic c.args.txns.now (table_by vs rows accesses) = subst (λ (t : Table). IsTableOf Basic c.args.txns.now t) (sym c.building.view_is) c.in_ok-take_all.ensures.table_of in
     let count : length c.in_ok-earlier.earlier ≡ length vs =
-    ap length c.in_ok-earlier.ensures.groups ∙ length-groups 0 c.versions.result c.take_all.new.steps.taken.keys ∙ c.versions.ensures ∙ ap (λ (t : Table). length t.versions) (sym c.building.view_is) in
+    ap length c.in_ok-earlier.ensures ∙ length-groups 0 c.versions.result c.take_all.new.steps.taken.items ∙ c.versions.ensures ∙ ap (λ (t : Table). length t.versions) (sym c.building.view_is) in
     subst (λ n. All (InstallsAreBelow n) accesses) (sym count) (installs_below c.args.txns.now vs rows accesses is)
 
 pub follow_steps-requires-clause-earlier : goal.follow_steps-requires-clause-earlier
@@ -49,11 +41,11 @@ follow_steps-requires-clause-earlier g c =
     let rows = c.building.inside.rows.rows in
     let accesses = c.building.inside.rows.accesses in
     let vs = versions_of c.building.inside.numbering in
-    let keys = c.take_all.new.steps.taken.keys in
+    let keys = c.take_all.new.steps.taken.items in
     let is : IsTableOf Basic c.args.txns.now (table_by vs rows accesses) = subst (λ (t : Table). IsTableOf Basic c.args.txns.now t) (sym c.building.view_is) c.in_ok-take_all.ensures.table_of in
     let count : length c.take_all.new.building.versions ≡ length rows =
     ap (λ (t : Table). length t.versions) (sym c.building.view_is) ∙ sym (row_count c.args.txns.now vs rows accesses is) in
-    subst (λ (gs : List (List ℕ)). All (AreBelow (length rows)) gs) (sym c.in_ok-earlier.ensures.groups)
+    subst (λ (gs : List (List ℕ)). All (AreBelow (length rows)) gs) (sym c.in_ok-earlier.ensures)
     (subst (λ n. All (AreBelow n) (groups_from 0 c.versions.result keys)) count
     (groups_below c.take_all.new.building.versions keys (process_pairs Sequential c.args.txns.now) c.in_ok-take_all.ensures.steps 0 c.versions.result))
 
@@ -62,11 +54,11 @@ returns g c =
     let rows = c.building.inside.rows.rows in
     let accesses = c.building.inside.rows.accesses in
     let vs = versions_of c.building.inside.numbering in
-    let keys = c.take_all.new.steps.taken.keys in
+    let keys = c.take_all.new.steps.taken.items in
     let ts = c.args.txns.now in
-    let is : AreStepsOf ts (table_by vs rows accesses) (last_seen c.take_all.new.steps.last) (has_step c.take_all.new.steps.taken) =
-    subst (λ (t : Table). AreStepsOf ts t (last_seen c.take_all.new.steps.last) (has_step c.take_all.new.steps.taken)) (sym c.building.view_is) c.in_ok-take_all.ensures in
+    let is : AreStepsOf ts (table_by vs rows accesses) (last_seen c.take_all.new.steps.last) c.take_all.new.steps.taken.items =
+    subst (λ (t : Table). AreStepsOf ts t (last_seen c.take_all.new.steps.last) c.take_all.new.steps.taken.items) (sym c.building.view_is) c.in_ok-take_all.ensures in
     let count : c.versions.result ≡ length vs = c.versions.ensures ∙ ap (λ (t : Table). length t.versions) (sym c.building.view_is) in
     let made : c.follow_steps.new.self ≡ stepped_rows (groups_from 0 (length vs) keys) accesses 0 rows =
-    c.in_ok-follow_steps.ensures ∙ ap (λ (gs : List (List ℕ)). stepped_rows gs accesses 0 rows) (c.in_ok-earlier.ensures.groups ∙ ap (λ n. groups_from 0 n keys) count) in
-    subst (λ (ks : List Known). IsTableOf Sequential ts (table_by vs ks accesses)) (sym made) (sequenced ts vs rows accesses keys is.table_of c.in_ok-earlier.ensures.once is.steps)
+    c.in_ok-follow_steps.ensures ∙ ap (λ (gs : List (List ℕ)). stepped_rows gs accesses 0 rows) (c.in_ok-earlier.ensures ∙ ap (λ n. groups_from 0 n keys) count) in
+    subst (λ (ks : List Known). IsTableOf Sequential ts (table_by vs ks accesses)) (sym made) (sequenced ts vs rows accesses keys is.table_of is.steps)

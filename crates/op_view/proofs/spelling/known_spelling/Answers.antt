@@ -5,8 +5,8 @@ use Rattle.edn_lex.specs.Kinds.{kind_of}
 use Rattle.reading_laws.specs.Placed.{IsTokenAlone}
 use Rattle.op_view.specs.Spellings.{IsSpelled}
 use Rattle.op_view.specs.declared.spelling.Spelling.TheVariants as spellings
-use Rattle.op_view.proofs.Numbers.{number_kept}
-use Rattle.op_view.proofs.KindsByFront.{kind_told}
+use Rattle.edn_ops.proofs.Integers.{number_kept}
+use Rattle.edn_ops.proofs.KindsByFront.{kind_told}
 use Rattle.op_view.proofs.Spelled.{has_spelling, spelled_digits}
 use Rattle.op_view.proofs.spelling.known_spelling.Goals as goal
 

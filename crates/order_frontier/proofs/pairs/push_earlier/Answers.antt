@@ -22,14 +22,14 @@ returns-else-is_earlier c =
       in_realtime = none (is_earlier u d) d c.args.in_realtime.now.items fails;
     }
 
-pub returns-else-ok-process : goal.returns-else-ok-process
-returns-else-ok-process c =
+pub returns-else-from-process : goal.returns-else-from-process
+returns-else-from-process c =
     let d = c.args.ok.now in
     let u = c.args.txn.now in
     let passes : is_earlier u d ≡ true = sym c.is_earlier.ensures ∙ c.if-is_earlier.true in
     record {
       in_process = none (is_earlier u d && (d.process == u.process)) d c.args.in_process.now.items
-          (ap (λ b. b && (d.process == u.process)) passes ∙ ne_eqb d.process u.process (λ same. c.if-ok-process.false (same ∙ sym c.process.ensures)));
+          (ap (λ b. b && (d.process == u.process)) passes ∙ ne_eqb d.process u.process (λ same. c.if-from-process.false (c.from.ensures ∙ same ∙ sym c.process.ensures)));
       in_realtime = one (is_earlier u d) d c.args.in_realtime.now.items c.push.new.self.items passes (c.in_ok-push.ensures.items ∙ ap (λ p. c.args.in_realtime.now.items ++ p ∷ []) c.predecessor.ensures);
     }
 
@@ -39,8 +39,8 @@ returns-in_ok-push-2 c =
     let u = c.args.txn.now in
     let passes : is_earlier u d ≡ true = sym c.is_earlier.ensures ∙ c.if-is_earlier.true in
     record {
-      in_process = one (is_earlier u d && (d.process == u.process)) d c.args.in_process.now.items c.push-then-ok-process.new.self.items
-          (ap (λ b. b && (d.process == u.process)) passes ∙ eq-eqb d.process u.process (c.if-ok-process.true ∙ c.process.ensures))
-          (c.in_ok-push-2.ensures.items ∙ ap (λ p. c.args.in_process.now.items ++ p ∷ []) c.predecessor-then-ok-process.ensures);
+      in_process = one (is_earlier u d && (d.process == u.process)) d c.args.in_process.now.items c.push-then-from-process.new.self.items
+          (ap (λ b. b && (d.process == u.process)) passes ∙ eq-eqb d.process u.process (sym c.from.ensures ∙ c.if-from-process.true ∙ c.process.ensures))
+          (c.in_ok-push-2.ensures.items ∙ ap (λ p. c.args.in_process.now.items ++ p ∷ []) c.predecessor-then-from-process.ensures);
       in_realtime = one (is_earlier u d) d c.args.in_realtime.now.items c.push.new.self.items passes (c.in_ok-push.ensures.items ∙ ap (λ p. c.args.in_realtime.now.items ++ p ∷ []) c.predecessor.ensures);
     }

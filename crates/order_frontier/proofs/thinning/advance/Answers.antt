@@ -7,8 +7,8 @@ use Rattle.order_frontier.specs.declared.types.Completed.{Completed}
 use Rattle.order_frontier.proofs.Advancing.{advance-kept, below_more, all_from}
 use Rattle.order_frontier.proofs.thinning.advance.Goals as goal
 
-pub returns-then-ok-index-clause-before : goal.returns-then-ok-index-clause-before
-returns-then-ok-index-clause-before c =
+pub returns-then-from-index-clause-before : goal.returns-then-from-index-clause-before
+returns-then-from-index-clause-before c =
     let done = take c.loop-count.count c.args.done.now in
     All-from_recursion (λ (d : Completed). d.completion < c.args.index) done (all_from (λ (d : Completed). d.completion < c.args.index) done c.loop-count.invariant.before)
 
@@ -28,5 +28,5 @@ loop-count-preserved c =
       kept = λ earlier timely kept.
           advance-kept earlier c.args.done.now k d c.loop-count.moving.recent.items c.complete.new.self.recent.items (value_of c.loop-count.moving.last) (value_of c.complete.new.self.last)
           c.loop-count-test.true is timely (c.loop-count.invariant.kept earlier timely kept) c.in_ok-complete.ensures.recent c.in_ok-complete.ensures.last;
-      before = below_more c.args.done.now k d c.args.index c.loop-count-test.true is c.if-ok-index.false c.loop-count.invariant.before;
+      before = below_more c.args.done.now k d c.args.index c.loop-count-test.true is (subst (λ n. n < c.args.index) c.from.ensures c.if-from-index.false) c.loop-count.invariant.before;
     }

@@ -7,8 +7,11 @@ use Rattle.std.specs.Prelude.{map}
 use Rattle.key_versions.specs.Histories.{read_by}
 use Rattle.key_versions.specs.Numbering.{versions_of}
 use Rattle.key_versions.specs.Rows.{Known, Accessed, IsWithin, accessed, rows_after, grown}
+use Rattle.key_versions.specs.Steps.{FollowersAreUpTo}
 use Rattle.key_versions.specs.Tables.{IsTableOf}
 use Rattle.key_versions.specs.Views.{table_by}
+use Rattle.key_versions.proofs.Sequenced.{rows_up_to}
+use Rattle.key_versions.proofs.UpTo.{up_to_grown}
 use Rattle.key_versions.proofs.Told.{accesses_within, grown_enough, told}
 use Rattle.key_versions.proofs.building.Building.take.Goals as goal
 
@@ -31,6 +34,18 @@ add-requires-clause-writes g c =
     subst (λ (xs : List Known). length us ≤ length xs) (sym rows) (grown_enough (length us) c.self.inside.rows.rows) in
     subst (λ (xs : List Access). All (IsWithin (length c.grow.new.self.rows)) xs) (sym c.as_slice-2.ensures)
     (accesses_within us (map version_of (writes_of c.args.txn.now.mops)) c.in_ok-accessed.accessed.writes.items (length c.grow.new.self.rows) enough c.in_ok-accessed.ensures.writes)
+
+pub add-requires-clause-order : goal.add-requires-clause-order
+add-requires-clause-order g c =
+    let (ts, is) = c.requires in
+    let us = versions_of c.take.new.self in
+    let vs = versions_of c.self.inside.numbering in
+    let rows = c.self.inside.rows.rows in
+    let accesses = c.self.inside.rows.accesses in
+    let grew : c.grow.new.self.rows ≡ grown (length us) rows = c.in_ok-grow.ensures.rows ∙ ap (λ n. grown n rows) c.len.ensures in
+    let up_to : All (FollowersAreUpTo (length accesses)) rows = rows_up_to ts vs rows accesses (subst (IsTableOf Basic ts) (sym c.self.view_is) is) in
+    subst (λ (ks : List Known). All (FollowersAreUpTo (length c.grow.new.self.accesses)) ks) (sym grew)
+    (subst (λ (as1 : List Accessed). All (FollowersAreUpTo (length as1)) (grown (length us) rows)) (sym c.in_ok-grow.ensures.accesses) (up_to_grown (length accesses) (length us) rows up_to))
 
 pub returns-clause-table : goal.returns-clause-table
 returns-clause-table g c = λ ts is.

@@ -5,6 +5,9 @@ use Rattle.hist_types.specs.declared.types.KeyOrder.TheVariants.{Basic}
 use Rattle.key_versions.specs.Tables.{IsTableOf}
 use Rattle.key_versions.proofs.building.Building.take_all.Goals as goal
 
+pub take-requires : goal.take-requires
+take-requires g c = (take c.loop-txn.txn-index c.args.txns.now, c.loop-txn.invariant)
+
 pub loop-txn-preserved : goal.loop-txn-preserved
 loop-txn-preserved g c =
     let i = c.loop-txn.txn-index in

@@ -11,6 +11,7 @@ use Rattle.op_view.specs.Mops.{key_of}
 use Rattle.key_versions.specs.Numbering.{Numbers, versions_of}
 use Rattle.key_versions.proofs.Numbered.{numbers, numbered_versions}
 use Rattle.key_versions.proofs.Accessing.{accessed_by, taken_added, taken_unknown, accessed_stay, seen_added, seen_unknown}
+use Rattle.key_versions.proofs.Seen.{keys_added}
 use Rattle.key_versions.proofs.numbering.Numbering.take.Goals.{then-is_ok, else-is_ok, then-is_ok-2, else-is_ok-2}
 use Rattle.key_versions.proofs.numbering.Numbering.take.Goals as goal
 
@@ -38,6 +39,8 @@ loop-mop-preserved-in-Continue-branch-2 g c =
       left,
       rw (c.in_ok-add.ensures.reads, c.in_ok-add.ensures.writes, writes) (taken_added base numbered ok ms vs us ws rs m a c.loop-mop.invariant.1 made.0 made.1 known),
       rw c.in_ok-add.ensures.seen (seen_added c.if-is_ok.keeps_seen ms vs us ss m a (accessed_stay vs us m made.0) c.loop-mop.invariant.2 made.1),
+      λ keeps.
+          rw (c.in_ok-add.ensures.seen, c.in_ok-add.ensures.reads, c.in_ok-add.ensures.writes, keeps) (keys_added c.is_write-is_write.result a ss rs ws (c.loop-mop.invariant.3 keeps)),
     )
 
 pub loop-mop-preserved : goal.loop-mop-preserved
@@ -65,4 +68,5 @@ loop-mop-preserved g c =
       left,
       taken_unknown base numbered ok ms vs us ws rs m c.loop-mop.invariant.1 grown parts.1 parts.0,
       seen_unknown c.if-is_ok.keeps_seen vs us (map version_in ms) (map version_in (ms ++ m ∷ [])) c.loop-mop.accessed.seen.items forgotten c.loop-mop.invariant.2,
+      λ keeps. absurd (true≢false (sym keeps ∙ forgotten)),
     )

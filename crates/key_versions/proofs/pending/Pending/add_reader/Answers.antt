@@ -11,7 +11,7 @@ invariant_of-self-2 c =
     let rs = c.self.inside.readers.items in
     let fs = c.self.inside.followers.items in
     let below : c.args.version < length ws = subst (λ n. c.args.version < n) (ap length (sym c.self.view_is) ∙ length-known 0 ws rs fs) c.requires in
-    (subst (λ xs. All (IsNumbered (length ws)) xs) (sym c.in_ok-push.ensures.items) (all_one_more (length ws) rs (c.args.version, c.args.place) c.self.invariant.0 below), c.self.invariant.1)
+    (subst (λ xs. All (IsNumbered (length ws)) xs) (sym c.in_ok-push.ensures.items) (all_one_more (length ws) rs (c.args.version, c.args.place) c.self.invariant.0 below), c.self.invariant.1, c.self.invariant.2)
 
 pub returns : goal.returns
 returns c =

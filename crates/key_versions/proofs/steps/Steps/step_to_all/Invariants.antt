@@ -1,9 +1,10 @@
-use Rattle.std.proofs.Common.{◌≡◌, ◌||◌, ℕ, take}
-use Rattle.std.specs.List.{list_any}
-use Rattle.key_versions.specs.Steps.{same_numbers, last_seen, steps_to, has_step}
+use Rattle.std.proofs.Common.{◌≡◌, ◌++◌, ℕ, take, drop}
+use Rattle.key_versions.specs.Steps.{last_seen, steps_to, AreApart}
+use Rattle.key_versions.proofs.Seen.{seen_so_far}
 use Rattle.key_versions.proofs.steps.Steps.step_to_all.Given as goal
 
-abbrev pub invariant-loop-access : goal.invariant-loop-access
-invariant-loop-access g l =
-    (l.self.last ≡ l.initial.self.last)
-    × ((step : ℕ × ℕ) → has_step l.self.taken step ≡ (has_step l.initial.self.taken step || list_any (same_numbers step) (steps_to (last_seen l.initial.self.last l.process) (take l.access-index l.met))))
+abbrev pub invariant-loop-to : goal.invariant-loop-to
+invariant-loop-to g l =
+    AreApart (take l.to-index l.met) (drop l.to-index l.met)
+    × (l.self.taken.items ≡ l.initial.self.taken.items ++ steps_to (last_seen l.initial.self.last l.process) (take l.to-index l.met))
+    × ((one nil : ℕ) → last_seen l.self.last one nil ≡ seen_so_far l.process (take l.to-index l.met) l.seen one nil (last_seen l.initial.self.last one nil))

@@ -3,7 +3,7 @@ use Rattle.hist_types.specs.Atoms.{Atom}
 use Rattle.hist_types.specs.AtomTokens.{atom_of_token}
 use Rattle.hist_types.specs.Tokens.{ItemKind}
 use Rattle.edn_lex.specs.Kinds.{kind_of}
-use Rattle.op_view.proofs.Tokens.{one_kind}
+use Rattle.edn_ops.proofs.Tokens.{one_kind}
 use Rattle.op_view.proofs.atom.Atom.read.Goals as goal
 
 no_atom : (o : Option Atom) (atom : Atom) → o ≡ None → o ≡ Some atom → ⊥

@@ -7,19 +7,16 @@ use Rattle.std.proofs.lemmas.Bool.{true≢false, and_parts, cases_Bool, eqb-true
 use Rattle.hist_types.specs.Atoms.{Atom}
 use Rattle.hist_types.specs.Bytes.{quote, colon, hash, dot}
 use Rattle.hist_types.specs.Tokens.{ItemKind, Int, Keyword, Symbol, Str, first_byte, second_byte, is_sign, is_symbol, begins_with_number}
-use Rattle.op_view.specs.AtomTexts.{IsTokenOf}
-use Rattle.op_view.specs.Fronts.{kind_by_front}
-use Rattle.op_view.proofs.Numbers.{digit_range, other_byte}
-use Rattle.op_view.proofs.Tokens.{token_begins}
+use Rattle.edn_ops.specs.SourceTexts.{IsTokenOf, kind_by_front}
+use Rattle.edn_ops.proofs.Integers.{digit_range, other_byte}
+use Rattle.edn_ops.proofs.Tokens.{token_begins}
 use Rattle.reading_laws.proofs.Fronts.{word_is, str_begins, int_begins}
 
 neither : (a b : Bool) → (a || b) ≡ false → (a ≡ false) × (b ≡ false)
-neither true b h = absurd (true≢false h)
-neither false b h = (refl, h)
+neither a b h = grind arith
 
 fails : (a : Bool) → not a ≡ true → a ≡ false
-fails true h = absurd (true≢false (sym h))
-fails false h = refl
+fails a h = grind arith
 
 -- a colon begins no number
 colon_first : (text : List ℕ) → (first_byte text == colon) ≡ true → begins_with_number text ≡ false
@@ -33,12 +30,10 @@ no_colon text h = elim (cases_Bool (first_byte text == colon)) [
 ]
 
 sign_alone : (sign is_dot digit : Bool) → ((sign || is_dot) && digit) ≡ false → (sign && digit) ≡ false
-sign_alone true is_dot digit h = h
-sign_alone false is_dot digit h = refl
+sign_alone sign is_dot digit h = grind arith
 
 no_number : (digit other : Bool) → digit ≡ false → other ≡ false → (digit || other) ≡ false
-no_number true other h k = absurd (true≢false h)
-no_number false other h k = k
+no_number digit other h k = grind arith
 
 -- a symbol begins with neither a colon nor a number
 pub record BeginsAsSymbol (text : List ℕ) : Type 0 where
@@ -53,7 +48,7 @@ symbol_begins text h =
     let sign = sign_alone (is_sign (first_byte text)) (first_byte text == dot) (is_ascii_digit (second_byte text)) (fails _ parts.1) in
     record { colon = digit.1; number = no_number (is_ascii_digit (first_byte text)) _ digit.0 sign }
 
-no_atom : (atom : Atom) → None ≡ Some atom → ⊥
+pub no_atom : (atom : Atom) → None ≡ Some atom → ⊥
 no_atom atom e = cc
 
 pub kind_told : (kind : ItemKind) (text : List ℕ) (atom : Atom) → IsTokenOf kind text atom → kind_by_front text ≡ kind

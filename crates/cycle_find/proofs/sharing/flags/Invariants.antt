@@ -1,7 +1,7 @@
 -- It is told of the vertices so far.
 use Rattle.std.proofs.Common.{◌≡◌, ◌<◌, ℕ, length, get_or, false, nat_lt}
 use Rattle.cycle_find.specs.Sharing.{slot}
-use Rattle.cycle_find.proofs.sharing.sharing.Given as goal
+use Rattle.cycle_find.proofs.sharing.flags.Given as goal
 
 abbrev pub invariant-loop-vertex : goal.invariant-loop-vertex
 invariant-loop-vertex l = record {
