@@ -1,11 +1,11 @@
-(ns jepcheck
+(ns jepcheck.live
   "A wrapper of a Jepsen client that writes each operation to `jepcheck serve` as it happens:
 
     mkfifo in out
     jepcheck serve in out &
 
-    (let [session (jepcheck/session \"in\" \"out\")]
-      {:client (jepcheck/checked (MyClient. ..) session) ..})
+    (let [session (live/session \"in\" \"out\")]
+      {:client (live/checked (MyClient. ..) session) ..})
 
   One session does for all clients: a line and its reply are one step."
   (:require [clojure.java.io :as io]
