@@ -107,6 +107,7 @@ impl<'a, S: BuildHasher> AtomIndex<'a, S> {
     }
 
     /// The number of an atom, if it has one.
+    #[inline(always)]
     pub fn get(&self, atom: &Atom) -> Option<usize>
         ensures { result ≡ number_in atom_eq atom.now self.now.items }
     {

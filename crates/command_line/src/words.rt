@@ -172,6 +172,10 @@ fn line_fault(alloc: Global, error: &clap::Error) -> LineFault
     match error.kind() {
         ErrorKind::OutOfMemory => LineFault::Memory,
         ErrorKind::DisplayHelp => help(alloc),
+        ErrorKind::MissingRequiredArgument => wrong(
+            alloc,
+            "error: serve needs paths, for each session one to read and one to write",
+        ),
         _ => match format!(in alloc; "{error}") {
             Ok(message) => wrong(alloc, &message),
             Err(error) => LineFault::from(error),
@@ -255,6 +259,18 @@ fn keys_found(command: &clap::ArgMatches<'_>) -> Option<KeyOrder>
     keys_in(command.get_str("keys")?)
 }
 
+/// The fault of a line that names an order of keys that there isn't.
+fn no_order(alloc: Global, name: &str) -> LineFault
+    ensures { SaysWhatIsWrong result }
+{
+    match format!(in alloc;
+        "error: invalid value '{name}' for '--keys <ORDER>': neither basic nor sequential"
+    ) {
+        Ok(message) => wrong(alloc, &message),
+        Err(error) => LineFault::from(error),
+    }
+}
+
 /// Which order of keys is asked for, where a command was met with these arguments.
 fn keys_asked(alloc: Global, command: &clap::ArgMatches<'_>) -> Result<KeyOrder, LineFault>
     ensures only { IfOk result (λ keys. HasKeys keys (rows_of (found_of command.now))) }
@@ -264,10 +280,7 @@ fn keys_asked(alloc: Global, command: &clap::ArgMatches<'_>) -> Result<KeyOrder,
 {
     match keys_found(command) {
         Some(keys) => Ok(keys),
-        None => Err(wrong(
-            alloc,
-            "error: the value of '--keys <ORDER>' is neither basic nor sequential",
-        )),
+        None => Err(no_order(alloc, command.get_str("keys").unwrap_or(""))),
     }
 }
 

@@ -1,6 +1,6 @@
 -- What `check` refutes has no explanation.
 use Rattle.std.proofs.Common.{◌≡◌, ℕ, List, [], ◌∷◌, ◌++◌, Bool, true, false, codes, nat_eq, refl, sym, ◌∙◌, ap, subst}
-use Rattle.std.proofs.lemmas.Bool.{false≢true, cases_Bool}
+use Rattle.std.proofs.lemmas.Bool.{false≢true}
 use Rattle.reading_laws.specs.Readings.{HasOneReading}
 use Rattle.hist_types.specs.Explanation.{AreExplained}
 use Rattle.hist_types.specs.Operations.{Operation}
@@ -12,7 +12,7 @@ use Rattle.hist_types.specs.declared.types.Strict.{Strict}
 use Rattle.hist_types.specs.declared.types.Strict.TheVariants.{Refuted, Open}
 use Rattle.report_laws.proofs.ExplainedVerdicts.{verdict_refutes}
 use Rattle.hist_types.specs.declared.types.KeyOrder.{KeyOrder}
-use Rattle.command_run.specs.Answers.{IsVerdict, IsReport}
+use Rattle.command_run.specs.Answers.{IsReport}
 use Rattle.command_run.specs.Refuted.{EndsWith, HasNoExplanation}
 use Rattle.command_run.specs.Statuses.{status_by}
 use Rattle.command_run.specs.declared.answer.Status.{Status}

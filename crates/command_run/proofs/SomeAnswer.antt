@@ -1,6 +1,6 @@
 -- A text has an answer.
 use Rattle.std.proofs.Common.{◌≡◌, ℕ, List, [], length, Bool, true, false, Option, Some, None, inl, inr, refl, ap, sym, ◌∙◌}
-use Rattle.std.specs.Prelude.{◌≢◌, ◌||◌, option_map}
+use Rattle.std.specs.Prelude.{◌≢◌, option_map}
 use Rattle.std.proofs.lemmas.Bool.{false≢true}
 use Rattle.hist_types.specs.Operations.{Operation}
 use Rattle.hist_types.specs.Journal.{first_broken}

@@ -9,4 +9,3 @@ mod inputs;
 pub mod laws;
 mod reads;
 pub mod run;
-mod tables;

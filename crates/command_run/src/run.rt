@@ -1,27 +1,24 @@
 //! The run of a command, from a source's bytes to a sink's.
 
-ghost use Rattle.std.specs.Prelude.{◌≡◌, ◌⊎◌, IfOk, OnOk, IfErr};
+ghost use Rattle.std.specs.Prelude.{◌≡◌, ◌⊎◌, IfOk, IfErr};
 ghost use Rattle.hist_types.specs.Journal.{KeepsRules};
 ghost use Rattle.hist_types.specs.Refusals.{memory_fault};
-ghost use Rattle.block_reader.specs.Blocks.{operations_in};
 ghost use Rattle.hist_types.specs.Pieces.{HasTaken, HasTakenInPart};
 ghost use Rattle.command_run.specs.Answers.{IsAnswer, IsRefused, Reports, keys_of};
-ghost use Rattle.command_run.specs.Judged.{IsFirstBrokenBy};
 ghost use Rattle.command_run.specs.Runs.{HasPrintedMemory, HasRun};
 
 use crate::answer::{Answer, Status, refuse};
-use crate::inputs::events_of;
-use crate::tables::judged_tables_of;
+use crate::inputs::journal_of;
 use crate::{check, edges, reads};
 use block_reader::reading::read_blocks;
 use command_line::types::Command;
 use hist_types::device::{Failed, Sink, Source};
 use hist_types::types::{Fault, KeyOrder, Refusal};
 use hist_types::whole::{ReadFault, read_all, write_all};
-use journal_core::events::Events;
-use op_block::block::Block;
+use journal_core::journal::Core;
 use std::alloc::{AllocError, Global};
 use std::thread::Threads;
+use verdict::tables::tables_of_wide;
 
 /// The order of keys that the command rests on. Reads rest on none.
 fn keys_of(command: Command) -> KeyOrder
@@ -33,22 +30,21 @@ fn keys_of(command: Command) -> KeyOrder
     }
 }
 
-/// What the command prints of the events of the blocks, which are judged at the same time.
-fn report_on<'a, R: Threads + Sync>(
+/// What the command prints of a journal's events.
+fn report_on<R: Threads + Sync>(
     rt: &R,
     alloc: Global,
     command: Command,
-    blocks: &'a [Block],
-    events: &Events<'a>,
+    core: Core<'_>,
 ) -> Result<Answer, Fault>
-    requires { events.now ≡ operations_in blocks.now }
+    requires { KeepsRules core.events }
     ensures ok { IfOk result
-        (λ answer. Reports command events.now answer.status answer.printed.items) }
-    ensures kept { OnOk result (KeepsRules events.now) }
-    ensures err { IfErr result
-        (λ fault. (fault ≡ memory_fault) ⊎ IsFirstBrokenBy blocks.now fault) }
+        (λ answer. Reports command core.entry.events answer.status answer.printed.items) }
+    ensures err { IfErr result (λ fault. fault ≡ memory_fault) }
 {
-    let tables = judged_tables_of(rt, alloc, blocks, events, keys_of(command))?;
+    let prefix = core.prefix()?;
+    let events = prefix.as_events();
+    let tables = tables_of_wide(rt, alloc, events, core.into_written(), keys_of(command))?;
     match command {
         Command::Reads => reads::report(alloc, events, &tables),
         Command::Edges(_) => edges::report(alloc, events, &tables),
@@ -68,8 +64,8 @@ fn judge<R: Threads + Sync>(
     ensures err { IfErr result (λ fault. (fault ≡ memory_fault) ⊎ IsRefused text.items fault) }
 {
     let blocks = read_blocks(rt, alloc, text)?;
-    let events = events_of(alloc, &blocks)?;
-    report_on(rt, alloc, command, &blocks, &events)
+    let core = journal_of(alloc, &blocks)?;
+    report_on(rt, alloc, command, core)
 }
 
 /// The answer of a command to a text.

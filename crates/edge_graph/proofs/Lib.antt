@@ -1,6 +1,7 @@
 pub mod Lists
 pub mod Joined
 pub mod Spans
+pub mod RunSteps
 pub mod RowSteps
 pub mod Placed
 pub mod Pushed

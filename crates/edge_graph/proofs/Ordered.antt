@@ -1,5 +1,5 @@
 -- What an order says of its transactions: predecessors, and where they are.
-use Rattle.std.proofs.Common.{◌≡◌, ◌∙◌, ◌<◌, ◌+◌, ℕ, zero, suc, List, [], ◌∷◌, ◌++◌, length, get_or, map, filter, Bool, true, false, ◌||◌, ◌==◌, nat_eq, if◌then◌else◌, Some, refl, sym, ap, subst, arith, inl, inr, add-one, All}
+use Rattle.std.proofs.Common.{◌≡◌, ◌∙◌, ◌<◌, ◌+◌, ℕ, zero, suc, List, [], ◌∷◌, ◌++◌, length, get_or, map, filter, Bool, true, false, ◌||◌, ◌==◌, nat_eq, if◌then◌else◌, Some, refl, sym, ap, subst, arith, inl, inr, add-one}
 use Rattle.std.specs.Prelude.{slice_get, slice_index}
 use Rattle.std.specs.List.{list_any, range_with_len, IsDistinct}
 use Rattle.std.proofs.lemmas.Bool.{eqb-true, eqb-false, eq-eqb, ne_eqb}
@@ -13,16 +13,14 @@ use Rattle.hist_types.specs.declared.types.Level.{Level}
 use Rattle.hist_types.specs.declared.types.Level.TheVariants.{Plain, Process, Realtime}
 use Rattle.hist_types.proofs.Members.{In, in_from_Contains, Contains_from_in, in_each, in_mapped, in_map}
 use Rattle.history_laws.proofs.OrderEdges.{comes_from}
-use Rattle.flat_groups.specs.Groups.{group, groups_from, IsNumbered}
 use Rattle.order_frontier.specs.Predecessors.{Before, process_edge, realtime_edge, edges_to, edges_of, NoPredecessorTwice, name_of}
 use Rattle.order_frontier.specs.declared.types.Predecessor.{Predecessor}
-use Rattle.order_frontier.proofs.Grouped.{group_at, length-groups}
 use Rattle.dep_edges.specs.Histories.{AreOfHistory}
 use Rattle.dep_edges.specs.Tables.{txn_at}
 use Rattle.dep_edges.proofs.Lists.{all_in}
 use Rattle.dep_edges.proofs.Out.{one_by_invocation}
 use Rattle.edge_graph.specs.Parts.{IsOrderOf}
-use Rattle.edge_graph.specs.Successors.{ArePlaces, place_of, predecessors_at, HavePlaces, HaveOwnPlaces, has_place, has_invocation, is_successor, AreFirstPairs, AreSuccessors}
+use Rattle.edge_graph.specs.Successors.{ArePlaces, place_of, predecessors_at, HavePlaces, HaveOwnPlaces, has_place, has_invocation, is_successor, list_at, AreFirstSuccessors}
 use Rattle.edge_graph.proofs.Lists.{txn_read}
 
 -- ---- tests and lists
@@ -175,31 +173,19 @@ module _ (ts : List Transaction) (order : List Before) (kept : AreOfHistory ts) 
         eq-eqb (place_of places p) first
         (ap (slice_index places) (sym same ∙ ap (λ (x : Transaction). x.invocation) one) ∙ get_or_from_slice_get places v.invocation first 0 found)))
 
-  -- ---- pairs of a transaction and a successor
+  -- ---- successors
 
-  pub next_pairs :
-      (level : Level) (next : ℕ) (pairs more : List (ℕ × ℕ))
-      → AreFirstPairs ts order level next pairs
-      → All (IsNumbered (length ts)) more
-      → ((first : ℕ) → first < length ts → group first more ≡ group first pairs ++ (if is_successor ts order level first next then next ∷ [] else []))
-      → AreFirstPairs ts order level (next + 1) more
-  next_pairs level next pairs more are numbered added =
+  pub next_successors :
+      (level : Level) (next : ℕ) (lists more : List (List ℕ))
+      → AreFirstSuccessors ts order level next lists
+      → length more ≡ length lists
+      → ((first : ℕ) → first < length ts → list_at more first ≡ list_at lists first ++ (if is_successor ts order level first next then next ∷ [] else []))
+      → AreFirstSuccessors ts order level (next + 1) more
+  next_successors level next lists more are same added =
       record {
-        numbered = numbered;
+        count = same ∙ are.count;
         each =
             λ first h.
             added first h ∙ ap (λ xs. xs ++ (if is_successor ts order level first next then next ∷ [] else [])) (are.each first h)
             ∙ sym (filter_more (is_successor ts order level first) next);
-      }
-
-  pub all_pairs : (level : Level) (n : ℕ) (pairs : List (ℕ × ℕ)) → n ≡ length ts → AreFirstPairs ts order level (length ts) pairs → AreSuccessors ts order level (groups_from 0 n pairs)
-  all_pairs level n pairs all are =
-      record {
-        count = length-groups 0 n pairs ∙ all;
-        each =
-            λ place h.
-            let here : 0 + place ≡ place = omega arith in
-            get_or_from_slice_get (groups_from 0 n pairs) place (group place pairs) []
-            (group_at 0 n place pairs (omega (arith, h, all)) ∙ ap (λ k. Some (group k pairs)) here)
-            ∙ are.each place h;
       }

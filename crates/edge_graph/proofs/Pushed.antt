@@ -1,21 +1,19 @@
--- A pair that is added for each predecessor.
+-- A place that is added to the list of each predecessor.
 use Rattle.std.proofs.Common.{◌≡◌, ◌∙◌, ◌<◌, ◌+◌, inl, inr, ℕ, List, [], ◌∷◌, ◌++◌, ◌||◌, ◌==◌, Bool, true, false, length, get_or, take, map, nat_eq, if◌then◌else◌, ap, sym, arith}
 use Rattle.std.proofs.Math.Bool.{or-false}
 use Rattle.std.proofs.lemmas.Bool.Decides.{eqb_tells}
 use Rattle.std.proofs.lemmas.List.{append-nil, length-take-le, length-map, get_or-take, get_or-map}
 use Rattle.std.proofs.lemmas.List.Folds.{list_any_more, list_any_none}
 use Rattle.std.proofs.lemmas.Map.Keys.{apart_from_distinct}
-use Rattle.flat_groups.specs.Groups.{group}
-use Rattle.flat_groups.proofs.Grouped.{group_here, group_elsewhere}
 use Rattle.order_frontier.specs.declared.types.Predecessor.{Predecessor}
-use Rattle.edge_graph.specs.Successors.{place_of, HaveOwnPlaces, has_place}
+use Rattle.edge_graph.specs.Successors.{place_of, HaveOwnPlaces, has_place, list_at}
 
 abbrev if_has : Bool → ℕ → List ℕ
 if_has b place = if b then place ∷ [] else []
 
 module _ (places : List ℕ) (ps : List Predecessor) (i : ℕ) (p : Predecessor) (within : i < length ps) (is : p ≡ get_or ps i p) (apart : HaveOwnPlaces places ps) where
-  more : (first : ℕ) → has_place places (take (i + 1) ps) first ≡ (has_place places (take i ps) first || (place_of places p == first))
-  more first =
+  added : (first : ℕ) → has_place places (take (i + 1) ps) first ≡ (has_place places (take i ps) first || (place_of places p == first))
+  added first =
       list_any_more (λ q. place_of places q == first) ps i p within
       ∙ ap (λ (q : Predecessor). has_place places (take i ps) first || (place_of places q == first)) (sym is)
 
@@ -34,24 +32,26 @@ module _ (places : List ℕ) (ps : List Predecessor) (i : ℕ) (p : Predecessor)
       ∙ differ)
 
   pub next_pushed :
-      (pairs pairs' : List (ℕ × ℕ)) (place : ℕ)
-      → ((first : ℕ) → group first pairs ≡ group first pairs' ++ if_has (has_place places (take i ps) first) place)
+      (place n : ℕ) (before lists more : List (List ℕ))
+      → list_at more (place_of places p) ≡ list_at lists (place_of places p) ++ place ∷ []
+      → ((first : ℕ) → first < n → (place_of places p == first) ≡ false → list_at more first ≡ list_at lists first)
+      → ((first : ℕ) → first < n → list_at lists first ≡ list_at before first ++ if_has (has_place places (take i ps) first) place)
       → (first : ℕ)
-      → group first (pairs ++ (place_of places p, place) ∷ []) ≡ group first pairs' ++ if_has (has_place places (take (i + 1) ps) first) place
-  next_pushed pairs pairs' place so_far first =
+      → first < n
+      → list_at more first ≡ list_at before first ++ if_has (has_place places (take (i + 1) ps) first) place
+  next_pushed place n before lists more here elsewhere so_far first h =
       elim (eqb_tells (place_of places p) first) [
         | inl same ↦
             let one : place_of places p ≡ first = same.1 in
             let none : has_place places (take i ps) first ≡ false = ap (has_place places (take i ps)) (sym one) ∙ new_place in
             let now : has_place places (take (i + 1) ps) first ≡ true =
-            more first ∙ ap (λ b. b || (place_of places p == first)) none ∙ same.0 in
-            ap (λ k. group k (pairs ++ (place_of places p, place) ∷ [])) (sym one) ∙ group_here (place_of places p) place pairs
+            added first ∙ ap (λ b. b || (place_of places p == first)) none ∙ same.0 in
+            ap (list_at more) (sym one) ∙ here
             ∙ ap (λ xs. xs ++ place ∷ [])
-            (ap (λ k. group k pairs) one ∙ so_far first ∙ ap (λ b. group first pairs' ++ if_has b place) none ∙ append-nil (group first pairs'))
-            ∙ ap (λ b. group first pairs' ++ if_has b place) (sym now)
+            (ap (list_at lists) one ∙ so_far first h ∙ ap (λ b. list_at before first ++ if_has b place) none ∙ append-nil (list_at before first))
+            ∙ ap (λ b. list_at before first ++ if_has b place) (sym now)
         | inr other ↦
             let now : has_place places (take (i + 1) ps) first ≡ has_place places (take i ps) first =
-            more first ∙ ap (λ b. has_place places (take i ps) first || b) other.0 ∙ or-false (has_place places (take i ps) first) in
-            group_elsewhere (place_of places p) first place pairs other.0 ∙ so_far first
-            ∙ ap (λ b. group first pairs' ++ if_has b place) (sym now)
+            added first ∙ ap (λ b. has_place places (take i ps) first || b) other.0 ∙ or-false (has_place places (take i ps) first) in
+            elsewhere first h other.0 ∙ so_far first h ∙ ap (λ b. list_at before first ++ if_has b place) (sym now)
       ]

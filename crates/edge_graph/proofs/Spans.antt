@@ -12,7 +12,7 @@ use Rattle.edge_graph.specs.declared.types.Dependencies.TheVariants.{Ww, Wr, Rw,
 
 -- ---- parts
 
-part-append : (items more : List ℕ) (a b : ℕ) → a ≤ b → b ≤ length items → slice_range (items ++ more) a b ≡ slice_range items a b
+pub part-append : (items more : List ℕ) (a b : ℕ) → a ≤ b → b ≤ length items → slice_range (items ++ more) a b ≡ slice_range items a b
 part-append items more a b rising within =
     let whole : drop a (items ++ more) ≡ drop a items ++ more = drop-append-le a items more (omega arith) in
     let fits : b - a ≤ length (drop a items) = omega (arith, length-drop a items) in

@@ -4,5 +4,6 @@ pub mod Vertices
 pub mod Walks
 pub mod FlatRows
 pub mod LaidOut
+pub mod Runs
 pub mod Successors
 pub mod Made

@@ -5,7 +5,6 @@ use Rattle.hist_types.specs.Transactions.{Transaction, is_node}
 use Rattle.hist_types.specs.declared.types.Level.{Level}
 use Rattle.hist_types.specs.declared.types.Level.TheVariants.{Plain, Process, Realtime}
 use Rattle.dep_edges.specs.Tables.{txn_at}
-use Rattle.flat_groups.specs.Groups.{group, IsNumbered}
 use Rattle.order_frontier.specs.Predecessors.{Before, before_at}
 use Rattle.order_frontier.specs.declared.types.Predecessor.{Predecessor}
 
@@ -28,10 +27,6 @@ predecessors_at Plain before = []
 predecessors_at Process before = before.in_process
 predecessors_at Realtime before = before.in_realtime
 
--- each has a place
-abbrev pub AreListed : List ℕ → List Predecessor → Type 0
-AreListed places ps = All (λ (p : Predecessor). p.invocation < length places) ps
-
 -- each has a place below the count
 abbrev pub HavePlaces : List ℕ → (count : ℕ) → List Predecessor → Type 0
 HavePlaces places count ps =
@@ -48,18 +43,20 @@ has_place places ps place = list_any (λ p. place_of places p == place) ps
 abbrev pub has_invocation : List Predecessor → ℕ → Bool
 has_invocation ps invocation = list_any (λ (p : Predecessor). p.invocation == invocation) ps
 
--- pairs are added: to each predecessor's own list, the place that it comes before
-pub record AddsPairs (places : List ℕ) (ps : List Predecessor) (place : ℕ)
-    (before after : List (ℕ × ℕ)) : Type 0 where
-  pub numbered :
-      (count : ℕ)
-      → HavePlaces places count ps
-      → All (IsNumbered count) before
-      → All (IsNumbered count) after
-  pub groups :
+-- ---- lists of places
+
+abbrev pub list_at : List (List ℕ) → ℕ → List ℕ
+list_at lists place = slice_index_or lists place []
+
+-- the place is added to the list of each predecessor, and to no other
+pub record AddsNode (places : List ℕ) (ps : List Predecessor) (place : ℕ)
+    (before after : List (List ℕ)) : Type 0 where
+  pub count : length after ≡ length before
+  pub each :
       (first : ℕ)
-      → group first after
-      ≡ group first before ++ (if has_place places ps first then place ∷ [] else [])
+      → first < length before
+      → list_at after first
+      ≡ list_at before first ++ (if has_place places ps first then place ∷ [] else [])
 
 -- ---- all transactions
 
@@ -68,9 +65,6 @@ abbrev pub is_successor : List Transaction → List Before → Level → ℕ →
 is_successor ts order level place next =
     is_node ts (txn_at ts next)
     && has_invocation (predecessors_at level (before_at order next)) (txn_at ts place).invocation
-
-abbrev pub list_at : List (List ℕ) → ℕ → List ℕ
-list_at lists place = slice_index_or lists place []
 
 -- for each place those of the nodes that its transaction comes before, at both levels that have an
 -- order
@@ -83,25 +77,23 @@ lists_at Plain turned = []
 lists_at Process turned = turned.in_process
 lists_at Realtime turned = turned.in_realtime
 
-pub record AreSuccessors (ts : List Transaction) (order : List Before) (level : Level)
-    (lists : List (List ℕ)) : Type 0 where
+-- for each transaction those of its successors that are among the first places
+pub record AreFirstSuccessors (ts : List Transaction) (order : List Before) (level : Level)
+    (places : ℕ) (lists : List (List ℕ)) : Type 0 where
   pub count : length lists ≡ length ts
   pub each :
       (place : ℕ)
       → place < length ts
-      → list_at lists place
-      ≡ filter (is_successor ts order level place) (range_with_len 0 (length ts))
+      → list_at lists place ≡ filter (is_successor ts order level place) (range_with_len 0 places)
+
+abbrev pub AreSuccessors :
+    List Transaction
+    → List Before
+    → Level
+    → List (List ℕ)
+    → Type 0
+AreSuccessors ts order level = AreFirstSuccessors ts order level (length ts)
 
 pub record AreTurned (ts : List Transaction) (order : List Before) (turned : Turned) : Type 0 where
   pub process : AreSuccessors ts order Process turned.in_process
   pub realtime : AreSuccessors ts order Realtime turned.in_realtime
-
--- the same of one level, before it is grouped: each place with its successors among the first
--- places
-pub record AreFirstPairs (ts : List Transaction) (order : List Before) (level : Level) (places : ℕ)
-    (pairs : List (ℕ × ℕ)) : Type 0 where
-  pub numbered : All (IsNumbered (length ts)) pairs
-  pub each :
-      (place : ℕ)
-      → place < length ts
-      → group place pairs ≡ filter (is_successor ts order level place) (range_with_len 0 places)

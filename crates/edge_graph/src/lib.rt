@@ -9,5 +9,6 @@ pub mod laws;
 mod layout;
 mod orders;
 mod rows;
+mod runs;
 pub mod threads;
 pub mod types;

@@ -1,18 +1,18 @@
 //! What each transaction comes before.
 
-ghost use Rattle.std.specs.Prelude.{◌≡◌, ◌<◌, length, All, OnOk, IfOk};
+ghost use Rattle.std.specs.Prelude.{◌≡◌, ◌<◌, [], length, All, OnOk, IfOk};
 ghost use Rattle.history_laws.specs.Times.{AreInvokedInOrder};
-ghost use Rattle.flat_groups.specs.Groups.{groups_from, IsNumbered};
 ghost use Rattle.dep_edges.specs.Histories.{AreOfHistory};
 ghost use Rattle.hist_types.specs.declared.types.Level.TheVariants.{Process, Realtime};
 ghost use Rattle.order_frontier.specs.Predecessors.{before_at};
 ghost use Rattle.edge_graph.specs.Parts.{IsOrderOf};
-ghost use Rattle.edge_graph.specs.Successors.{ArePlaces, predecessors_at, AreListed, HaveOwnPlaces, AddsPairs, list_at, lists_at, AreSuccessors, AreTurned, AreFirstPairs};
+ghost use Rattle.edge_graph.specs.Runs.{lists_in, IsRunIn};
+ghost use Rattle.edge_graph.specs.Successors.{ArePlaces, predecessors_at, HavePlaces, HaveOwnPlaces, AddsNode, list_at, lists_at, AreSuccessors, AreTurned};
 
 use crate::rows::number;
+use crate::runs::{Run, extended};
 use crate::threads::try_join;
 use dep_edges::deps::Deps;
-use flat_groups::groups::Groups;
 use hist_types::types::Level;
 use order_frontier::types::{Order, Predecessor};
 use std::alloc::{AllocError, Global};
@@ -20,40 +20,43 @@ use std::marker::Model;
 use std::thread::Threads;
 use txn_pairs::types::Txn;
 
-/// For each transaction the places of the nodes that it comes before.
+/// For each transaction the places of the nodes that it comes before. In thinned order these are next to each other among all
+/// nodes, so that transactions share one list.
 #[derive(Drop)]
 pub(crate) struct LaterNodes {
-    /// How many transactions there are.
-    txns: usize,
-    places: Groups<u32>,
+    nodes: Vec<u32>,
+    runs: Vec<Run>,
 }
 
 impl Model for LaterNodes {
-    ghost use Rattle.std.specs.Prelude.{◌≡◌, List, ℕ, length};
+    ghost use Rattle.std.specs.Prelude.{List, ℕ, All};
+    ghost use Rattle.edge_graph.specs.Runs.{lists_in, IsRunIn};
 
     ghost Value = { List (List ℕ) };
 
-    ghost view = { λ later. later.places };
+    ghost view = { λ later. lists_in later.nodes.items later.runs.items };
 
-    ghost invariant = { λ later. length later.places ≡ later.txns };
+    ghost invariant = { λ later. All (IsRunIn later.nodes.items) later.runs.items };
 }
 
 impl LaterNodes {
-    /// Builds the lists from pairs of places, each of a transaction and of a node that it comes before.
-    fn of(alloc: Global, txns: usize, pairs: &[(u32, u32)]) -> Result<Self, AllocError>
-        requires { All (IsNumbered txns) pairs.now }
-        ensures { IfOk result (λ later. later ≡ groups_from 0 txns pairs.now) }
+    /// The lists of no transactions.
+    fn empty(alloc: Global) -> Self
+        ensures { result ≡ [] }
     {
-        let places = Groups::of(alloc, txns, pairs)?;
-        Ok(LaterNodes { txns, places })
+        LaterNodes {
+            nodes: Vec::new(alloc),
+            runs: Vec::new(alloc),
+        }
     }
 
     /// The successors of the transaction at the place; past the last transaction, none.
     pub fn get(&self, place: usize) -> &[u32]
         ensures { result.now ≡ list_at self.now place }
     {
-        if place < self.txns {
-            self.places.get(place)
+        if place < self.runs.len() {
+            let run = self.runs[place];
+            &self.nodes[run.start as usize..run.end as usize]
         } else {
             &[]
         }
@@ -94,51 +97,28 @@ fn predecessors(order: &Order, place: usize, level: Level) -> &[Predecessor]
     }
 }
 
-/// Adds a pair for each predecessor: its place with this one.
-fn push_pairs(
+/// Adds the node at the place to the lists of its predecessors.
+fn push_node(
     predecessors: &[Predecessor],
     places: &[u32],
     place: u32,
-    pairs: &mut Vec<(u32, u32)>,
+    nodes: &mut Vec<u32>,
+    runs: &mut [Run],
 ) -> Result<(), AllocError>
-    requires listed { AreListed places.now predecessors.now }
+    requires placed { HavePlaces places.now (length runs.old) predecessors.now }
     requires apart { HaveOwnPlaces places.now predecessors.now }
-    ensures { OnOk result
-        (AddsPairs places.now predecessors.now place pairs.old.items pairs.new.items) }
+    requires runs { All (IsRunIn nodes.old.items) runs.old }
+    ensures runs { OnOk result (All (IsRunIn nodes.new.items) runs.new) }
+    ensures lists { OnOk result
+        (AddsNode places.now predecessors.now place (lists_in nodes.old.items runs.old)
+        (lists_in nodes.new.items runs.new)) }
 {
+    nodes.push(place)?;
     for predecessor in predecessors {
-        let first = places[predecessor.invocation as usize];
-        pairs.push((first, place))?;
+        let first = places[predecessor.invocation as usize] as usize;
+        runs[first] = extended(runs[first], place, nodes)?;
     }
     Ok(())
-}
-
-/// Each transaction of the order of the level with the nodes that it comes before.
-fn pairs(
-    alloc: Global,
-    deps: &Deps<'_, '_>,
-    order: &Order,
-    places: &[u32],
-    level: Level,
-) -> Result<Vec<(u32, u32)>, AllocError>
-    requires kept { AreOfHistory deps.now.txns }
-    requires order { IsOrderOf deps.now.txns order.now }
-    requires places { ArePlaces deps.now.txns places.now }
-    ensures { IfOk result
-        (λ pairs. AreFirstPairs deps.now.txns order.now level (length deps.now.txns) pairs.items) }
-{
-    let mut pairs = Vec::new(alloc);
-    for place in 0..order.len() {
-        if deps.is_node(place) {
-            push_pairs(
-                predecessors(order, place, level),
-                places,
-                number(place)?,
-                &mut pairs,
-            )?;
-        }
-    }
-    Ok(pairs)
 }
 
 /// The level's order as successors, in place of predecessors.
@@ -154,8 +134,20 @@ fn turned(
     requires places { ArePlaces deps.now.txns places.now }
     ensures { IfOk result (λ later. AreSuccessors deps.now.txns order.now level later) }
 {
-    let pairs = pairs(alloc, deps, order, places, level)?;
-    LaterNodes::of(alloc, order.len(), &pairs)
+    let mut nodes = Vec::new(alloc);
+    let mut runs = vec![in alloc; Run::default(); order.len()]?;
+    for place in 0..order.len() {
+        if deps.is_node(place) {
+            push_node(
+                predecessors(order, place, level),
+                places,
+                number(place)?,
+                &mut nodes,
+                &mut runs,
+            )?;
+        }
+    }
+    Ok(LaterNodes { nodes, runs })
 }
 
 /// The order as successors at the two levels, made by two threads if another can be started.
@@ -207,7 +199,7 @@ impl Orders {
         let places = places_of(alloc, deps)?;
         let in_process = turned(alloc, deps, order, &places, Level::Process)?;
         let in_realtime = turned(alloc, deps, order, &places, Level::Realtime)?;
-        Orders::of(alloc, in_process, in_realtime)
+        Ok(Orders::of(alloc, in_process, in_realtime))
     }
 
     /// As `new`, with two threads if another can be started.
@@ -222,22 +214,17 @@ impl Orders {
     {
         let places = places_of(alloc, deps)?;
         let (in_process, in_realtime) = turned_wide(rt, alloc, deps, order, &places)?;
-        Orders::of(alloc, in_process, in_realtime)
+        Ok(Orders::of(alloc, in_process, in_realtime))
     }
 
-    fn of(
-        alloc: Global,
-        in_process: LaterNodes,
-        in_realtime: LaterNodes,
-    ) -> Result<Self, AllocError>
-        ensures { IfOk result (λ orders. orders
-            ≡ record { in_process = in_process; in_realtime = in_realtime }) }
+    fn of(alloc: Global, in_process: LaterNodes, in_realtime: LaterNodes) -> Self
+        ensures { result ≡ record { in_process = in_process; in_realtime = in_realtime } }
     {
-        Ok(Orders {
-            in_plain: LaterNodes::of(alloc, 0, &[])?,
+        Orders {
+            in_plain: LaterNodes::empty(alloc),
             in_process,
             in_realtime,
-        })
+        }
     }
 
     /// The level's order as successors, in place of predecessors.

@@ -258,9 +258,12 @@ writes_written before (event ∷ events) index kept =
     (λ invokes. same_writes before events index event (completion_in event.process (index + 1) events) kept invokes refl)
     (writes_written (before ++ event ∷ []) events (index + 1) (subst KeepsRules (sym (append_assoc before (event ∷ []) events)) kept))
 
+pub all_written : (events : List Operation) → KeepsRules events → writes_of_all (transactions_of events) ≡ written events
+all_written events kept = writes_written [] events 0 kept
+
 all_writes_apart : (events : List Operation) → KeepsRules events → AreApart (writes_of_all (transactions_of events))
 all_writes_apart events kept =
-    subst AreApart (sym (writes_written [] events 0 kept)) (written_apart [] events kept tt)
+    subst AreApart (sym (all_written events kept)) (written_apart [] events kept tt)
 
 -- ---- transactions
 

@@ -1,6 +1,6 @@
 -- Who wrote a version: the words of the laws about that.
 use Rattle.std.specs.Prelude.{◌≡◌, ◌↔◌, ◌⊎◌, List, flat_map, Contains, IsTrue, IsFalse}
-use Rattle.hist_types.specs.Journal.{Write, writes_of}
+use Rattle.hist_types.specs.Journal.{Write, writes_of, written}
 use Rattle.hist_types.specs.Lists.{NoneTwice}
 use Rattle.hist_types.specs.Operations.{Operation}
 use Rattle.hist_types.specs.Transactions.{Transaction, Version, transactions_of, installs, writes, wrote_intermediate}
@@ -8,6 +8,10 @@ use Rattle.hist_types.specs.Transactions.{Transaction, Version, transactions_of,
 -- the writes of all the transactions
 abbrev pub writes_of_all : List Transaction → List Write
 writes_of_all ts = flat_map (λ (t : Transaction). writes_of t.mops) ts
+
+-- the history's transactions write what its invocations do, in the same order
+abbrev pub WriteWhatWasInvoked : List Operation → Type 0
+WriteWhatWasInvoked events = writes_of_all (transactions_of events) ≡ written events
 
 -- the history's transactions write no version twice
 abbrev pub WriteNoneTwice : List Operation → Type 0

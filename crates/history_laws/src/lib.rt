@@ -14,7 +14,7 @@ ghost use Rattle.history_laws.specs.EdgesInOrder.{Rise, HasOneAtItsPlace, HasAll
 ghost use Rattle.history_laws.specs.Dependencies.{IsVersionPair, LabelsAreDependencies, IsDependency};
 ghost use Rattle.history_laws.specs.ProcessPairs.{IsProcessStep, IsStepBetweenTwo};
 ghost use Rattle.history_laws.specs.BadReads.{IsAbortedRead, IsIntermediateRead, SomeoneWrote, NobodyWrote, IsStrayRead, WriterDecidesG1a, WriterDecidesG1b, HasNoIntermediateWriter};
-ghost use Rattle.history_laws.specs.Writers.{WriteNoneTwice, HaveOneWriterEach, NoneBothInstalledAndIntermediate, InstallsOrWroteIntermediate, InstallsOneOfAKey};
+ghost use Rattle.history_laws.specs.Writers.{WriteWhatWasInvoked, WriteNoneTwice, HaveOneWriterEach, NoneBothInstalledAndIntermediate, InstallsOrWroteIntermediate, InstallsOneOfAKey};
 ghost use Rattle.hist_types.specs.Operations.{Operation};
 ghost use Rattle.hist_types.specs.Phenomena.{height, aborted_writers, aborted_reads, intermediate_reads, is_stray, stray_reads};
 ghost use Rattle.hist_types.specs.EdgeOrder.{in_order};
@@ -166,10 +166,12 @@ pub fn edges_by_versions()
         → HasExactly (dependency_edges keys ts) (IsDependency keys ts) }
 {}
 
-/// Where the rules are kept, no version of a key is written twice, by two transactions or by one. A transaction installs each
+/// Where the rules are kept, the transactions write what their invocations say, in the order of these, and no version of a key is
+/// written twice, by two transactions or by one. A transaction installs each
 /// version that it writes, or else writes the key again later, and the version is an intermediate one; of each key it installs
 /// one version, and never nil.
 pub fn versions_written_once()
+    ensures invoked { (events : List Operation) → KeepsRules events → WriteWhatWasInvoked events }
     ensures once { (events : List Operation) → KeepsRules events → WriteNoneTwice events }
     ensures one_writer { (events : List Operation) → KeepsRules events → HaveOneWriterEach events }
     ensures installed_or_intermediate { (t : Transaction) → InstallsOrWroteIntermediate t }

@@ -3,6 +3,7 @@ mod Spans
 mod Gathered
 mod Finished
 mod Places
+mod NilNumbers
 mod Numbered
 mod Growing
 mod Accessing
@@ -12,6 +13,8 @@ mod Known
 mod Joined
 mod Followed
 mod Told
+mod Given
+mod Journaled
 pub mod Callers
 mod ByPlace
 mod Pairs

@@ -1,19 +1,22 @@
 -- Versions that are numbered by the numbers of their keys and values.
-use Rattle.std.proofs.Common.{◌≡◌, inl, inr, ◌<◌, ◌+◌, ℕ, zero, suc, List, [], ◌∷◌, ◌++◌, length, map, get_or, true, cond, Option, Some, None, option_map, pos, refl, sym, ◌∙◌, ap, subst, arith}
+use Rattle.std.proofs.Common.{◌≡◌, inl, inr, ◌<◌, ◌+◌, ℕ, zero, suc, List, [], ◌∷◌, ◌++◌, length, map, get_or, true, Option, Some, None, option_map, pos, refl, sym, ◌∙◌, ap, subst, arith}
 use Rattle.std.specs.Prelude.{slice_get, ◌==◌, ◌&&◌, nat_eq}
-use Rattle.std.specs.Option.{is_some, option_eq}
+use Rattle.std.specs.Option.{option_eq}
 use Rattle.std.proofs.lemmas.Bool.{cases_lt, and_parts, eqb-true, false≢true}
+use Rattle.std.proofs.Math.Seq.{get_or-append_seam}
 use Rattle.std.proofs.lemmas.List.{get_or_append_left, length_push, get_or_read}
 use Rattle.std.proofs.lemmas.Option.{slice_get-get_or, get_or_from_slice_get, slice_get-map}
 use Rattle.hist_types.specs.Atoms.{Atom, integer, atom_eq, value_eq}
 use Rattle.hist_types.specs.Transactions.{Version, version_eq}
 use Rattle.hist_types.specs.Versions.{nil_of}
-use Rattle.hist_types.proofs.Equality.{atom_eq-same, atom_eq-itself}
+use Rattle.hist_types.proofs.Equality.{atom_eq-same, atom_eq-itself, version_eq-itself}
 use Rattle.atom_index.specs.Numbers.{number_in, with_item, AreNumbered, pair_eq}
-use Rattle.atom_index.proofs.Pushed.{number_last, number_first, numbered_push, inserted_numbered, pair_eq-itself, item_pushed}
-use Rattle.key_versions.specs.Numbering.{Numbers, IsNumbering, IsBelow, IsInRange, AreInRange, key_at, version_with, version_by, versions_in, versions_of, with_versions, IsAccess}
+use Rattle.atom_index.proofs.Pushed.{numbered_push, inserted_numbered, pair_eq-itself, item_pushed}
+use Rattle.key_versions.specs.Numbering.{Numbers, IsNumbering, IsBelow, IsInRange, AreInRange, key_at, version_with, version_by, versions_in, versions_of, with_versions, IsAccess, IsVersionOfKey}
+use Rattle.key_versions.specs.Nils.{AreNilsIn}
 use Rattle.key_versions.specs.declared.pending.Access.{Access}
-use Rattle.key_versions.proofs.Places.{same_item, no_item, number_within, number_at, same_places, map_same, number_in-map, with_item-map, with_item-there, with_item-new, cases_number, slice_get-with_item, slice_get_front, slice_get_last}
+use Rattle.key_versions.proofs.NilNumbers.{nils_kept}
+use Rattle.key_versions.proofs.Places.{same_item, no_item, number_within, number_at, same_places, map_same, number_in-map, with_item-map, with_item-there, with_item-new, cases_number, slice_get-with_item}
 
 abbrev none : Atom
 none = integer (pos 0)
@@ -34,14 +37,8 @@ pair_eq-same p q h =
 abbrev pub access_by : ℕ → ℕ → Access
 access_by nil version = record { nil = nil; version = version }
 
-abbrev pub numbers : List Atom → List Atom → List (ℕ × Option ℕ) → List ℕ → Numbers
+abbrev pub numbers : List Atom → List Atom → List (ℕ × Option ℕ) → List (Option ℕ) → Numbers
 numbers keys values pairs nils = record { keys = keys; values = values; pairs = pairs; nils = nils }
-
--- numbers with a key, whose nil version is numbered with it
-abbrev pub with_key : Numbers → Atom → Numbers
-with_key s key =
-    cond (is_some (number_in atom_eq key s.keys)) s
-    (numbers (s.keys ++ key ∷ []) s.values (with_item pair_eq s.pairs (length s.keys, None)) (s.nils ++ length s.pairs ∷ []))
 
 -- ---- versions by numbers
 
@@ -86,12 +83,17 @@ map_at f [] i y h d = absurd (no_item y h)
 map_at f (x ∷ xs) zero y h d = sym (same_item (f x) y h)
 map_at f (x ∷ xs) (suc i) y h d = map_at f xs i y h d
 
+-- the pair of a version
+pub version_pair :
+    (keys values : List Atom) (pairs : List (ℕ × Option ℕ)) (i : ℕ) (v : Version) → slice_get (versions_in keys values pairs) i ≡ Some v
+    → (p : ℕ × Option ℕ) × (slice_get pairs i ≡ Some p) × (v ≡ version_by keys values p)
+version_pair keys values pairs i v h =
+    let within : i < length pairs = map_within (version_by keys values) pairs i v h in
+    (get_or pairs i (0, None), slice_get-get_or pairs i (0, None) within, map_at (version_by keys values) pairs i v h (0, None))
+
 pub numbered_versions : (s : Numbers) → IsNumbering s.keys s.values s.pairs s.nils → AreNumbered version_eq (versions_of s)
 numbered_versions s is i v h =
-    let within : i < length s.pairs = map_within (version_by s.keys s.values) s.pairs i v h in
-    let p = get_or s.pairs i (0, None) in
-    let at = slice_get-get_or s.pairs i (0, None) within in
-    let made : v ≡ version_by s.keys s.values p = map_at (version_by s.keys s.values) s.pairs i v h (0, None) in
+    let (p, at, made) = version_pair s.keys s.values s.pairs i v h in
     ap (λ (u : Version). number_in version_eq u (versions_of s)) made
     ∙ number_of_pair s.keys s.values s.pairs is.keys_numbered is.values_numbered is.in_range p (is.in_range i p at)
     ∙ is.pairs_numbered i p at
@@ -137,125 +139,45 @@ below_grown values None value below = below
 below_grown values (Some m) value below = omega (arith, length_push values value)
 
 nil_numbered :
-    (keys values : List Atom) (pairs : List (ℕ × Option ℕ)) (nils : List ℕ) (key : Atom) → IsNumbering keys values pairs nils
-    → (k : ℕ) → k < length (keys ++ key ∷ [])
-    → number_in pair_eq (k, None) (pairs ++ (length keys, None) ∷ []) ≡ slice_get (nils ++ length pairs ∷ []) k
-nil_numbered keys values pairs nils key old k below = elim (cases_lt k (length keys)) [
-  | inl before ↦ (
-      let among : k < length nils = omega (arith, old.nil_of_each) in
-      let at = slice_get-get_or nils k 0 among in
-      number_first pair_eq (pair_by k None) pairs (pair_by (length keys) None) (get_or nils k 0) (old.nils_numbered k before ∙ at)
-      ∙ sym (slice_get_front nils (length pairs ∷ []) k (get_or nils k 0) at))
+    (keys values : List Atom) (pairs : List (ℕ × Option ℕ)) (nils : List (Option ℕ)) → IsNumbering keys values pairs nils → AreNilsIn pairs (nils ++ None ∷ [])
+nil_numbered keys values pairs nils old k below = elim (cases_lt k (length nils)) [
+  | inl before ↦ get_or_append_left nils (None ∷ []) None k before ∙ old.nils_numbered k before
   | inr behind ↦ (
-      let here : k ≡ length keys = omega (arith, length_push keys key) in
-      let last : k ≡ length nils = here ∙ sym old.nil_of_each in
-      ap (λ n. number_in pair_eq (pair_by n None) (pairs ++ (length keys, None) ∷ [])) here
-      ∙ number_last pair_eq (pair_by (length keys) None) pairs (pair_by (length keys) None) (fresh keys values pairs old.in_range) (pair_eq-itself (pair_by (length keys) None))
-      ∙ sym (ap (slice_get (nils ++ length pairs ∷ [])) last ∙ slice_get_last nils (length pairs)))
+      let here : k ≡ length nils = omega (arith, length_push nils None) in
+      ap (λ n. get_or (nils ++ None ∷ []) n None) here ∙ get_or-append_seam nils None [] None
+      ∙ sym (ap (λ n. number_in pair_eq (pair_by n None) pairs) (here ∙ old.nil_of_each) ∙ fresh keys values pairs old.in_range))
 ]
 
 wider_key : (keys values : List Atom) (key : Atom) (p : ℕ × Option ℕ) → IsInRange keys values p → IsInRange (keys ++ key ∷ []) values p
 wider_key keys values key p here = let below = here.0 in let wider : p.0 < length (keys ++ key ∷ []) = omega (arith, length_push keys key) in (wider, here.1)
 
 one_key :
-    (keys values : List Atom) (pairs : List (ℕ × Option ℕ)) (nils : List ℕ) (key : Atom) → IsNumbering keys values pairs nils → number_in atom_eq key keys ≡ None
-    → IsNumbering (keys ++ key ∷ []) values (pairs ++ (length keys, None) ∷ []) (nils ++ length pairs ∷ [])
-one_key keys values pairs nils key old new =
-    let none_there = fresh keys values pairs old.in_range in
-    let p = pair_by (length keys) None in
-    record {
-      keys_numbered = numbered_push atom_eq keys key (atom_eq-itself key) old.keys_numbered new;
-      values_numbered = old.values_numbered;
-      pairs_numbered = numbered_push pair_eq pairs p (pair_eq-itself p) old.pairs_numbered none_there;
-      in_range = λ i q h. elim (item_pushed pairs p i q h) [
-        | inl there ↦ (
-            let old_range = (old.in_range i q there).0 in
-            let wider : q.0 < length (keys ++ key ∷ []) = omega (arith, length_push keys key) in
-            (wider, (old.in_range i q there).1))
-        | inr last ↦ (
-            let wider : length keys < length (keys ++ key ∷ []) = omega (arith, length_push keys key) in
-            subst (λ r. IsInRange (keys ++ key ∷ []) values r) (sym last.1) (wider, tt))
-      ];
-      nils_numbered = nil_numbered keys values pairs nils key old;
-      nil_of_each = length_push nils (length pairs) ∙ ap (λ n. n + 1) old.nil_of_each ∙ sym (length_push keys key);
-    }
-
--- a new key gets the next number
-pub new_place :
-    (s : Numbers) (key : Atom) (number : ℕ) (keys : List Atom) → IsNumbering s.keys s.values s.pairs s.nils
-    → keys ≡ with_item atom_eq s.keys key → number_in atom_eq key keys ≡ Some number → number_in atom_eq key s.keys ≡ None
-    → number ≡ length s.keys
-new_place s key number keys old keyed numbered new =
-    same_item number (length s.keys)
-    (sym numbered ∙ ap (number_in atom_eq key) (keyed ∙ with_item-new atom_eq s.keys key new) ∙ number_last atom_eq key s.keys key new (atom_eq-itself key))
+    (keys values : List Atom) (pairs : List (ℕ × Option ℕ)) (nils : List (Option ℕ)) (key : Atom) → IsNumbering keys values pairs nils → number_in atom_eq key keys ≡ None
+    → IsNumbering (keys ++ key ∷ []) values pairs (nils ++ None ∷ [])
+one_key keys values pairs nils key old new = record {
+  keys_numbered = numbered_push atom_eq keys key (atom_eq-itself key) old.keys_numbered new;
+  values_numbered = old.values_numbered;
+  pairs_numbered = old.pairs_numbered;
+  in_range = λ i p h. wider_key keys values key p (old.in_range i p h);
+  nils_numbered = nil_numbered keys values pairs nils old;
+  nil_of_each = length_push nils None ∙ ap (λ n. n + 1) old.nil_of_each ∙ sym (length_push keys key);
+}
 
 -- what a new key leaves
 pub new_key :
-    (s : Numbers) (key : Atom) (number nil : ℕ) (keys : List Atom) (pairs : List (ℕ × Option ℕ)) (nils : List ℕ) → IsNumbering s.keys s.values s.pairs s.nils
-    → keys ≡ with_item atom_eq s.keys key → number_in atom_eq key keys ≡ Some number → number_in atom_eq key s.keys ≡ None
-    → pairs ≡ with_item pair_eq s.pairs (number, None) → number_in pair_eq (number, None) pairs ≡ Some nil → nils ≡ s.nils ++ nil ∷ []
-    → IsNumbering keys s.values pairs nils × (numbers keys s.values pairs nils ≡ with_key s key)
-new_key s key number nil keys pairs nils old keyed numbered new paired nilled pushed =
-    let place : number ≡ length s.keys = new_place s key number keys old keyed numbered new in
-    let none_there = fresh s.keys s.values s.pairs old.in_range in
-    let k : keys ≡ s.keys ++ key ∷ [] = keyed ∙ with_item-new atom_eq s.keys key new in
-    let p : pairs ≡ s.pairs ++ (length s.keys, None) ∷ [] =
-    paired ∙ ap (λ n. with_item pair_eq s.pairs (pair_by n None)) place ∙ with_item-new pair_eq s.pairs (length s.keys, None) none_there in
-    let last : number_in pair_eq (length s.keys, None) (s.pairs ++ (length s.keys, None) ∷ []) ≡ Some (length s.pairs) =
-    number_last pair_eq (pair_by (length s.keys) None) s.pairs (pair_by (length s.keys) None) none_there (pair_eq-itself (pair_by (length s.keys) None)) in
-    let n : nil ≡ length s.pairs = same_item nil (length s.pairs)
-    (sym nilled ∙ ap (number_in pair_eq (number, None)) p ∙ ap (λ m. number_in pair_eq (pair_by m None) (s.pairs ++ (length s.keys, None) ∷ [])) place ∙ last) in
-    let ns : nils ≡ s.nils ++ length s.pairs ∷ [] = pushed ∙ ap (λ m. s.nils ++ m ∷ []) n in
-    let is = one_key s.keys s.values s.pairs s.nils key old new in
-    let after : with_key s key ≡ numbers (s.keys ++ key ∷ []) s.values (with_item pair_eq s.pairs (length s.keys, None)) (s.nils ++ length s.pairs ∷ []) =
-    ap (λ (o : Option ℕ). cond (is_some o) s (numbers (s.keys ++ key ∷ []) s.values (with_item pair_eq s.pairs (length s.keys, None)) (s.nils ++ length s.pairs ∷ []))) new in (
-      rw (k, p, ns) is,
-      ap (λ (xs : List Atom). numbers xs s.values pairs nils) k
-          ∙ ap (λ (xs : List (ℕ × Option ℕ)). numbers (s.keys ++ key ∷ []) s.values xs nils) (p ∙ sym (with_item-new pair_eq s.pairs (length s.keys, None) none_there))
-          ∙ ap (numbers (s.keys ++ key ∷ []) s.values (with_item pair_eq s.pairs (length s.keys, None))) ns ∙ sym after,
+    (keys values : List Atom) (pairs : List (ℕ × Option ℕ)) (nils : List (Option ℕ)) (key : Atom) (more : List Atom) (longer : List (Option ℕ)) → IsNumbering keys values pairs nils
+    → more ≡ with_item atom_eq keys key → number_in atom_eq key keys ≡ None → longer ≡ nils ++ None ∷ []
+    → IsNumbering more values pairs longer × (versions_in more values pairs ≡ versions_in keys values pairs)
+new_key keys values pairs nils key more longer old keyed new pushed =
+    let k : more ≡ keys ++ key ∷ [] = keyed ∙ with_item-new atom_eq keys key new in (
+      rw (k, pushed) (one_key keys values pairs nils key old new),
+      ap (λ (xs : List Atom). versions_in xs values pairs) k ∙ keys_grown keys key values pairs old.in_range,
     )
-
--- a known key leaves all as it was
-pub known_key : (s : Numbers) (key : Atom) (number : ℕ) → number_in atom_eq key s.keys ≡ Some number → s ≡ with_key s key
-known_key s key number there =
-    sym (ap (λ (o : Option ℕ). cond (is_some o) s (numbers (s.keys ++ key ∷ []) s.values (with_item pair_eq s.pairs (length s.keys, None)) (s.nils ++ length s.pairs ∷ []))) there)
 
 -- ---- what a key's number tells
 
--- the nil version of a key has the number that is kept for it
-pub nil_at :
-    (s : Numbers) (key : Atom) (number : ℕ) → IsNumbering s.keys s.values s.pairs s.nils → number_in atom_eq key s.keys ≡ Some number
-    → (nil : ℕ) → slice_get s.nils number ≡ Some nil → slice_get (versions_of s) nil ≡ Some (nil_of key)
-nil_at s key number is numbered nil at =
-    let below : number < length s.keys = number_within atom_eq key s.keys number numbered in
-    let pair = number_at pair_eq pair_eq-same (pair_by number None) s.pairs nil (is.nils_numbered number below ∙ at) in
-    let found : key_at s.keys number ≡ key = get_or_from_slice_get s.keys number key none (number_at atom_eq atom_eq-same key s.keys number numbered) in
-    slice_get-map (version_by s.keys s.values) s.pairs nil ∙ ap (option_map (version_by s.keys s.values)) pair ∙ ap (λ k. Some (version_with k None)) found
-
 pub key_is : (s : Numbers) (key : Atom) (number : ℕ) → number_in atom_eq key s.keys ≡ Some number → key_at s.keys number ≡ key
 key_is s key number numbered = get_or_from_slice_get s.keys number key none (number_at atom_eq atom_eq-same key s.keys number numbered)
-
--- a key adds its nil version
-pub keyed_versions :
-    (s : Numbers) (key : Atom) → IsNumbering s.keys s.values s.pairs s.nils → versions_of (with_key s key) ≡ with_item version_eq (versions_of s) (nil_of key)
-keyed_versions s key is = elim (cases_number atom_eq key s.keys) [
-  | inl there ↦ (
-      let below : there.0 < length s.keys = number_within atom_eq key s.keys there.0 there.1 in
-      let among : there.0 < length s.nils = omega (arith, is.nil_of_each) in
-      let found = nil_at s key there.0 is there.1 (get_or s.nils there.0 0) (slice_get-get_or s.nils there.0 0 among) in
-      ap (λ (o : Option ℕ). versions_of (cond (is_some o) s (numbers (s.keys ++ key ∷ []) s.values (with_item pair_eq s.pairs (length s.keys, None)) (s.nils ++ length s.pairs ∷ [])))) there.1
-      ∙ sym (with_item-there version_eq (versions_of s) (nil_of key) (get_or s.nils there.0 0) (numbered_versions s is (get_or s.nils there.0 0) (nil_of key) found)))
-  | inr new ↦ (
-      let keys = s.keys ++ key ∷ [] in
-      let grown = one_key s.keys s.values s.pairs s.nils key is new in
-      let ranged : AreInRange keys s.values s.pairs = λ i p h. wider_key s.keys s.values key p (is.in_range i p h) in
-      let here : IsInRange keys s.values (pair_by (length s.keys) None) = let below : length s.keys < length keys = omega (arith, length_push s.keys key) in (below, tt) in
-      let last : key_at keys (length s.keys) ≡ key = get_or_from_slice_get keys (length s.keys) key none (slice_get_last s.keys key) in
-      ap (λ (o : Option ℕ). versions_of (cond (is_some o) s (numbers keys s.values (with_item pair_eq s.pairs (length s.keys, None)) (s.nils ++ length s.pairs ∷ [])))) new
-      ∙ one_pair keys s.values s.pairs grown.keys_numbered grown.values_numbered ranged (pair_by (length s.keys) None) here
-      ∙ ap (λ (vs : List Version). with_item version_eq vs (version_by keys s.values (pair_by (length s.keys) None))) (keys_grown s.keys key s.values s.pairs is.in_range)
-      ∙ ap (λ k. with_item version_eq (versions_of s) (version_with k None)) last)
-]
 
 -- ---- one value more
 
@@ -266,7 +188,7 @@ below_inserted values v value below = elim (cases_number atom_eq value values) [
 ]
 
 pub one_value :
-    (keys values : List Atom) (pairs : List (ℕ × Option ℕ)) (nils : List ℕ) (value : Atom) → IsNumbering keys values pairs nils
+    (keys values : List Atom) (pairs : List (ℕ × Option ℕ)) (nils : List (Option ℕ)) (value : Atom) → IsNumbering keys values pairs nils
     → IsNumbering keys (with_item atom_eq values value) pairs nils
 one_value keys values pairs nils value old = record {
   keys_numbered = old.keys_numbered;
@@ -285,12 +207,12 @@ valued_versions keys values pairs value ranged = elim (cases_number atom_eq valu
   | inr new ↦ ap (λ (vs : List Atom). versions_in keys vs pairs) (with_item-new atom_eq values value new) ∙ values_grown keys values value pairs ranged
 ]
 
--- ---- one version more that is not nil
+-- ---- one version more
 
 pub one_version :
-    (keys values : List Atom) (pairs : List (ℕ × Option ℕ)) (nils : List ℕ) (p : ℕ × Option ℕ) → IsNumbering keys values pairs nils → IsInRange keys values p
-    → IsNumbering keys values (with_item pair_eq pairs p) nils
-one_version keys values pairs nils p old here = record {
+    (keys values : List Atom) (pairs : List (ℕ × Option ℕ)) (nils later : List (Option ℕ)) (p : ℕ × Option ℕ) → IsNumbering keys values pairs nils → IsInRange keys values p
+    → AreNilsIn (with_item pair_eq pairs p) later → length later ≡ length nils → IsNumbering keys values (with_item pair_eq pairs p) later
+one_version keys values pairs nils later p old here numbered each = record {
   keys_numbered = old.keys_numbered;
   values_numbered = old.values_numbered;
   pairs_numbered = inserted_numbered pair_eq pairs p (pair_eq-itself p) old.pairs_numbered;
@@ -301,15 +223,28 @@ one_version keys values pairs nils p old here = record {
       | inr last ↦ subst (IsInRange keys values) (sym last.1) here
     ]
   ];
-  nils_numbered = λ k below.
-      let among : k < length nils = omega (arith, old.nil_of_each) in
-      let at = slice_get-get_or nils k 0 among in
-      elim (cases_number pair_eq p pairs) [
-        | inl there ↦ ap (number_in pair_eq (pair_by k None)) (with_item-there pair_eq pairs p there.0 there.1) ∙ old.nils_numbered k below
-        | inr new ↦ ap (number_in pair_eq (pair_by k None)) (with_item-new pair_eq pairs p new) ∙ number_first pair_eq (pair_by k None) pairs p (get_or nils k 0) (old.nils_numbered k below ∙ at) ∙ sym at
-      ];
-  nil_of_each = old.nil_of_each;
+  nils_numbered = numbered;
+  nil_of_each = each ∙ old.nil_of_each;
 }
+
+-- the version of a pair that is inserted
+pub inserted_version :
+    (keys values : List Atom) (pairs : List (ℕ × Option ℕ)) (nils : List (Option ℕ)) (p : ℕ × Option ℕ) (more : List (ℕ × Option ℕ)) (n : ℕ) → IsNumbering keys values pairs nils
+    → IsInRange keys values p → more ≡ with_item pair_eq pairs p → number_in pair_eq p more ≡ Some n
+    → (versions_in keys values more ≡ with_item version_eq (versions_in keys values pairs) (version_by keys values p))
+    × (slice_get (versions_in keys values more) n ≡ Some (version_by keys values p))
+inserted_version keys values pairs nils p more n old here paired at = (
+  ap (versions_in keys values) paired ∙ one_pair keys values pairs old.keys_numbered old.values_numbered old.in_range p here,
+  slice_get-map (version_by keys values) more n ∙ ap (option_map (version_by keys values)) (number_at pair_eq pair_eq-same p more n at),
+)
+
+-- what the nil version of a key leaves
+pub new_nil :
+    (s : Numbers) (key n : ℕ) (pairs : List (ℕ × Option ℕ)) → IsNumbering s.keys s.values s.pairs s.nils → key < length s.keys
+    → pairs ≡ with_item pair_eq s.pairs (key, None) → number_in pair_eq (key, None) pairs ≡ Some n
+    → (versions_in s.keys s.values pairs ≡ with_item version_eq (versions_of s) (version_with (key_at s.keys key) None))
+    × (slice_get (versions_in s.keys s.values pairs) n ≡ Some (version_with (key_at s.keys key) None))
+new_nil s key n pairs old below paired at = inserted_version s.keys s.values s.pairs s.nils (pair_by key None) pairs n old (below, tt) paired at
 
 -- what a value of a key leaves
 pub new_version :
@@ -323,15 +258,16 @@ new_version s key value m n values pairs old below valued numbered paired at =
     let p = pair_by key (Some m) in
     let is1 : IsNumbering s.keys values s.pairs s.nils = subst (λ (vs : List Atom). IsNumbering s.keys vs s.pairs s.nils) (sym valued) (one_value s.keys s.values s.pairs s.nils value old) in
     let here : IsInRange s.keys values p = (below, number_within atom_eq value values m numbered) in
-    let is2 : IsNumbering s.keys values pairs s.nils = subst (λ (ps : List (ℕ × Option ℕ)). IsNumbering s.keys values ps s.nils) (sym paired) (one_version s.keys values s.pairs s.nils p is1 here) in
+    let is2 : IsNumbering s.keys values pairs s.nils = subst (λ (ps : List (ℕ × Option ℕ)). IsNumbering s.keys values ps s.nils) (sym paired)
+    (one_version s.keys values s.pairs s.nils s.nils p is1 here (nils_kept s.pairs s.nils key m is1.nils_numbered) refl) in
     let found : get_or values m none ≡ value = get_or_from_slice_get values m value none (number_at atom_eq atom_eq-same value values m numbered) in
-    let made : version_by s.keys values p ≡ version_with (key_at s.keys key) (Some value) = ap (λ v. version_with (key_at s.keys key) (Some v)) found in (
+    let made : version_by s.keys values p ≡ version_with (key_at s.keys key) (Some value) = ap (λ v. version_with (key_at s.keys key) (Some v)) found in
+    let after = inserted_version s.keys values s.pairs s.nils p pairs n is1 here paired at in (
       is2,
-      ap (versions_in s.keys values) paired
-          ∙ one_pair s.keys values s.pairs is1.keys_numbered is1.values_numbered is1.in_range p here
+      after.0
           ∙ ap (λ (vs : List Version). with_item version_eq vs (version_by s.keys values p)) (ap (λ (vs : List Atom). versions_in s.keys vs s.pairs) valued ∙ valued_versions s.keys s.values s.pairs value old.in_range)
           ∙ ap (with_item version_eq (versions_of s)) made,
-      slice_get-map (version_by s.keys values) pairs n ∙ ap (option_map (version_by s.keys values)) (number_at pair_eq pair_eq-same p pairs n at) ∙ ap Some made,
+      after.1 ∙ ap Some made,
     )
 
 -- ---- looking versions up
@@ -358,37 +294,46 @@ version_read keys values pairs number p key value ranged within is key_is value_
     ∙ ap (λ k. Some (version_with k (option_map (λ m. get_or values m none) p.1))) (sym (get_or_read keys p.0 key here.0 key_is none))
     ∙ ap (λ v. Some (version_with key v)) (value_read values p.1 value here.1 value_is)
 
--- the number that is kept, as it is read
-kept_nil :
-    (s : Numbers) (key : Atom) (number nil : ℕ) → IsNumbering s.keys s.values s.pairs s.nils → number_in atom_eq key s.keys ≡ Some number → nil ≡ get_or s.nils number nil
-    → slice_get s.nils number ≡ Some nil
-kept_nil s key number nil is numbered read =
-    let below : number < length s.keys = number_within atom_eq key s.keys number numbered in
-    let among : number < length s.nils = omega (arith, is.nil_of_each) in
-    slice_get-get_or s.nils number nil among ∙ ap Some (sym read)
-
 -- what a key and a value leave
 pub access_versions :
-    (before : List Version) (s : Numbers) (key : Atom) (value : Option Atom) (number nil version : ℕ) (last : List Version)
-    → IsNumbering s.keys s.values s.pairs s.nils → versions_of s ≡ with_item version_eq before (nil_of key)
-    → number_in atom_eq key s.keys ≡ Some number → nil ≡ get_or s.nils number nil
-    → last ≡ with_item version_eq (versions_of s) (version_with key value) → slice_get last version ≡ Some (version_with key value)
-    → (last ≡ with_versions before (nil_of key ∷ version_with key value ∷ []))
+    (first before last : List Version) (key : Atom) (value : Option Atom) (nil version : ℕ)
+    → before ≡ with_item version_eq first (nil_of key) → slice_get before nil ≡ Some (nil_of key)
+    → last ≡ with_item version_eq before (version_with key value) → slice_get last version ≡ Some (version_with key value)
+    → (last ≡ with_versions first (nil_of key ∷ version_with key value ∷ []))
     × IsAccess last (version_with key value) (access_by nil version)
-access_versions before s key value number nil version last is keyed numbered read grown found =
-    let at = kept_nil s key number nil is numbered read in (
-      grown ∙ ap (λ (vs : List Version). with_item version_eq vs (version_with key value)) keyed,
-      (
-        ap (λ (vs : List Version). slice_get vs nil) grown
-            ∙ slice_get-with_item version_eq (versions_of s) (version_with key value) (nil_of key) nil (nil_at s key number is numbered nil at),
-        found,
-      ),
-    )
+access_versions first before last key value nil version keyed at grown found = (
+  grown ∙ ap (λ (vs : List Version). with_item version_eq vs (version_with key value)) keyed,
+  (ap (λ (vs : List Version). slice_get vs nil) grown ∙ slice_get-with_item version_eq before (version_with key value) (nil_of key) nil at, found),
+)
 
--- nil is inserted with its key
-pub nil_inserted :
-    (s : Numbers) (key : Atom) (number nil : ℕ) → IsNumbering s.keys s.values s.pairs s.nils → number_in atom_eq key s.keys ≡ Some number → nil ≡ get_or s.nils number nil
-    → (versions_of s ≡ with_item version_eq (versions_of s) (nil_of key)) × (slice_get (versions_of s) nil ≡ Some (nil_of key))
-nil_inserted s key number nil is numbered read =
-    let found = nil_at s key number is numbered nil (kept_nil s key number nil is numbered read) in
-    (sym (with_item-there version_eq (versions_of s) (nil_of key) nil (numbered_versions s is nil (nil_of key) found)), found)
+-- what is there is not inserted again
+pub version_there : (vs : List Version) (v : Version) (n : ℕ) → AreNumbered version_eq vs → slice_get vs n ≡ Some v → vs ≡ with_item version_eq vs v
+version_there vs v n numbered at = sym (with_item-there version_eq vs v n (numbered n v at))
+
+-- what a version that is there leaves, where the nil version of its key is inserted
+pub access_there :
+    (first last : List Version) (v : Version) (nil version : ℕ) → AreNumbered version_eq first → slice_get first version ≡ Some v
+    → last ≡ with_item version_eq first (nil_of v.key) → slice_get last nil ≡ Some (nil_of v.key)
+    → (last ≡ with_versions first (nil_of v.key ∷ v ∷ [])) × IsAccess last v (access_by nil version)
+access_there first last v nil version numbered at grown nil_at =
+    let longer = with_item version_eq first (nil_of v.key) in
+    let stays : slice_get longer version ≡ Some v = slice_get-with_item version_eq first (nil_of v.key) v version at in
+    let again = version_there longer v version (inserted_numbered version_eq first (nil_of v.key) (version_eq-itself (nil_of v.key)) numbered) stays in
+    (grown ∙ again, (nil_at, ap (λ (vs : List Version). slice_get vs version) grown ∙ stays))
+
+-- a version is told by its key and its value
+pub version_found :
+    (s : Numbers) (number m : ℕ) (p : ℕ × Option ℕ) (key value known_key known_value : Atom) → IsNumbering s.keys s.values s.pairs s.nils
+    → slice_get s.pairs number ≡ Some p → p.1 ≡ Some m
+    → slice_get s.values m ≡ Some known_value → atom_eq known_value value ≡ true → slice_get s.keys p.0 ≡ Some known_key → atom_eq known_key key ≡ true
+    → IsVersionOfKey s number p.0 (version_with key (Some value))
+version_found s number m p key value known_key known_value is at valued value_at same_value key_at same_key =
+    let found : get_or s.keys p.0 none ≡ key = get_or_from_slice_get s.keys p.0 known_key none key_at ∙ atom_eq-same known_key key same_key in
+    let read : get_or s.values m none ≡ value = get_or_from_slice_get s.values m known_value none value_at ∙ atom_eq-same known_value value same_value in (
+      (is.in_range number p at).0,
+      found,
+      slice_get-map (version_by s.keys s.values) s.pairs number ∙ ap (option_map (version_by s.keys s.values)) at
+          ∙ ap (λ (k : Atom). Some (version_with k (option_map (λ m. get_or s.values m none) p.1))) found
+          ∙ ap (λ (v : Option ℕ). Some (version_with key (option_map (λ m. get_or s.values m none) v))) valued
+          ∙ ap (λ (v : Atom). Some (version_with key (Some v))) read,
+    )

@@ -21,8 +21,9 @@ use Rattle.key_versions.specs.declared.types.Writer.{Writer}
 use Rattle.key_versions.specs.declared.types.Follower.{Follower}
 use Rattle.key_versions.specs.Histories.{same_pair, has_pair, installs_behind, from_place, followers_of}
 use Rattle.key_versions.specs.Rows.{Known, Accessed}
-use Rattle.key_versions.specs.Steps.{same_numbers, is_step, or_one, followed_at, followers_by, stepped_rows, FollowersAreUpTo, InstallsAreBelow, AreBelow}
+use Rattle.key_versions.specs.Steps.{is_step, or_one, followed_at, followers_by, stepped_rows, FollowersAreUpTo, InstallsAreBelow, AreBelow}
 use Rattle.key_versions.specs.Stepped.{step_at, as_step, AreStepsAs}
+use Rattle.key_versions.specs.Given.{IsTableBeside}
 use Rattle.key_versions.specs.Tables.{IsTableOf, versions_at, followers_at}
 use Rattle.key_versions.specs.Views.{table_by}
 use Rattle.key_versions.proofs.ByPlace.{from_some_place, part_at}
@@ -38,6 +39,9 @@ eq_swap i j = elim (cases_Bool (i == j)) [
   | inl is ↦ is ∙ sym (eq-eqb j i (sym (eqb-true i j is)))
   | inr differ ↦ differ ∙ sym (false_from_ne_true (j == i) (λ is. true≢false (sym (eq-eqb i j (sym (eqb-true j i is))) ∙ differ)))
 ]
+
+abbrev same_numbers : ℕ × ℕ → ℕ × ℕ → Bool
+same_numbers p q = (p.0 == q.0) && (p.1 == q.1)
 
 -- whether an earlier version comes before a later one
 any_group : (later n : ℕ) (steps : List (ℕ × ℕ)) → list_any (λ (e : ℕ). e == n) (group later steps) ≡ list_any (same_numbers (later, n)) steps
@@ -392,7 +396,7 @@ sequenced ts vs rows accesses steps is are =
 
 -- ---- what is in range of the table
 
-module _ (ts : List Transaction) (vs : List Version) (rows : List Known) (accesses : List Accessed) (is : IsTableOf Basic ts (table_by vs rows accesses)) where
+module _ (given : List Version) (ts : List Transaction) (vs : List Version) (rows : List Known) (accesses : List Accessed) (is : IsTableBeside given ts (table_by vs rows accesses)) where
   count : length accesses ≡ length ts
   count =
       sym (length-map accesses (λ (a : Accessed). a.installs)) ∙ sym (length-map (map (λ (a : Accessed). a.installs) accesses) (versions_at vs)) ∙ ap length is.installs

@@ -1,9 +1,9 @@
 -- The table of a history with one transaction more.
-use Rattle.std.proofs.Common.{◌≡◌, inl, inr, ◌<◌, ◌≤◌, ◌-◌, ℕ, List, [], ◌∷◌, ◌++◌, length, map, replicate, All, Bool, true, false, cond, Option, Some, None, option_map, refl, sym, ◌∙◌, ap, subst, arith}
-use Rattle.std.specs.Prelude.{slice_get, filter, ◌&&◌, ◌||◌}
+use Rattle.std.proofs.Common.{◌≡◌, ◌⊎◌, inl, inr, ◌<◌, ◌≤◌, ◌-◌, ℕ, List, [], ◌∷◌, ◌++◌, length, map, replicate, All, Bool, true, false, cond, Option, Some, None, option_map, refl, sym, ◌∙◌, ap, subst, arith}
+use Rattle.std.specs.Prelude.{slice_get, filter, ◌&&◌, ◌||◌, ◌==◌}
 use Rattle.std.specs.List.{list_any}
 use Rattle.std.specs.Option.{option_or, is_some}
-use Rattle.std.proofs.lemmas.Bool.{cases_Bool, false≢true, false_from_ne_true, or_cases, or_left, or_right}
+use Rattle.std.proofs.lemmas.Bool.{cases_Bool, true≢false, false≢true, false_from_ne_true, or_cases, or_parts, or_left, or_right, eq-eqb}
 use Rattle.std.proofs.lemmas.List.Folds.{list_any-append}
 use Rattle.std.proofs.lemmas.List.{append_assoc, map-append, map_push, length-map, length_push, length-append, length-replicate}
 use Rattle.std.proofs.lemmas.Option.{slice_get_within, slice_get-map}
@@ -23,7 +23,8 @@ use Rattle.key_versions.specs.declared.types.Follower.{Follower}
 use Rattle.key_versions.specs.Histories.{known_in, named_in, named_by, is_named, read_by, installs_behind, writer_of, readers_of, followers_of}
 use Rattle.key_versions.specs.Numbering.{version_with, with_versions, AreAccesses}
 use Rattle.key_versions.specs.Rows.{Known, Accessed, unknown, lasts, follower, is_behind, has_number, IsWithin, numbers_of, accessed, rows_after, grown}
-use Rattle.key_versions.specs.Tables.{IsTableOf, versions_at, followers_at}
+use Rattle.key_versions.specs.Given.{IsTableBeside}
+use Rattle.key_versions.specs.Tables.{versions_at, followers_at}
 use Rattle.key_versions.specs.Views.{table_by}
 use Rattle.key_versions.proofs.Accessing.{versions_numbered, versions_stay, known_key}
 use Rattle.key_versions.proofs.Changed.{all_cons}
@@ -33,7 +34,7 @@ use Rattle.key_versions.proofs.Joined.{has_number_version, lasts_are, writer_is,
 use Rattle.key_versions.proofs.Known.{HaveNil, access_by, is_of, row_after, row_is, row_parts, grown_row, length-after, length-grown}
 use Rattle.key_versions.proofs.Lists.{maps_agree, agree_at, is_at}
 use Rattle.key_versions.proofs.Places.{same_item, number_at, number_within, cases_number, with_item-there, with_item-new}
-use Rattle.key_versions.proofs.Unnamed.{unnamed_writer, unnamed_readers, unnamed_followers}
+use Rattle.key_versions.proofs.Unnamed.{not_read, unnamed_writer, unnamed_readers, unnamed_followers}
 
 -- ---- versions that are named
 
@@ -173,8 +174,8 @@ pub record IsRowOf (ts : List Transaction) (vs : List Version) (v : Version) (x 
   pub readers : x.readers ≡ readers_of ts v
   pub followers : followers_at vs x.followers ≡ map as_found (followers_of Basic ts v)
 
-pub row_count : (ts : List Transaction) (vs : List Version) (rows : List Known) (accesses : List Accessed) → IsTableOf Basic ts (table_by vs rows accesses) → length rows ≡ length vs
-row_count ts vs rows accesses is = sym (length-map rows (λ (r : Known). r.writer)) ∙ ap length is.writers ∙ length-map vs (writer_of ts)
+pub row_count : (given : List Version) (ts : List Transaction) (vs : List Version) (rows : List Known) (accesses : List Accessed) → IsTableBeside given ts (table_by vs rows accesses) → length rows ≡ length vs
+row_count given ts vs rows accesses is = sym (length-map rows (λ (r : Known). r.writer)) ∙ ap length is.writers ∙ length-map vs (writer_of ts)
 
 -- A version behind those that were there was not among them.
 new_version :
@@ -194,12 +195,12 @@ followers_in o = option_map (λ (r : Known). r.followers) o
 
 -- a row that was there, or one for a version that is new
 old_row :
-    (ts : List Transaction) (vs ws : List Version) (rows : List Known) (accesses : List Accessed) → IsTableOf Basic ts (table_by vs rows accesses)
+    (given : List Version) (ts : List Transaction) (vs ws : List Version) (rows : List Known) (accesses : List Accessed) → IsTableBeside given ts (table_by vs rows accesses)
     → (m n : ℕ) (v : Version) (x : Known) → slice_get (with_versions vs ws) n ≡ Some v → slice_get (grown m rows) n ≡ Some x
     → IsRowOf ts (with_versions vs ws) v x
-old_row ts vs ws rows accesses is m n v x at row = elim (grown_row m rows n x row) [
+old_row given ts vs ws rows accesses is m n v x at row = elim (grown_row m rows n x row) [
   | inl there ↦ (
-      let below : n < length vs = subst (λ k. n < k) (row_count ts vs rows accesses is) (slice_get_within rows n x there) in
+      let below : n < length vs = subst (λ k. n < k) (row_count given ts vs rows accesses is) (slice_get_within rows n x there) in
       let found = is_at vs n below in
       let same : found.0 ≡ v = same_item found.0 v (sym (versions_stay vs ws n found.0 found.1) ∙ at) in
       let here : slice_get vs n ≡ Some v = found.1 ∙ ap Some same in
@@ -212,7 +213,7 @@ old_row ts vs ws rows accesses is m n v x at row = elim (grown_row m rows n x ro
             followers_stay vs (with_versions vs ws) (versions_stay vs ws) x.followers (followers_of Basic ts v) old;
       })
   | inr past ↦ (
-      let unnamed : is_named ts v ≡ false = sym (is.named v) ∙ false_from_ne_true (has_version vs v) (λ has. new_version vs ws (versions_numbered vs is.distinct ws) n v at (subst (λ k. k ≤ n) (row_count ts vs rows accesses is) past.0) has) in
+      let unnamed : is_named ts v ≡ false = (or_parts (has_version given v) (is_named ts v) (sym (is.named v) ∙ false_from_ne_true (has_version vs v) (λ has. new_version vs ws (versions_numbered vs is.distinct ws) n v at (subst (λ k. k ≤ n) (row_count given ts vs rows accesses is) past.0) has))).1 in
       subst (IsRowOf ts (with_versions vs ws) v) (sym past.1) (record {
         writer = sym (unnamed_writer ts v unnamed);
         readers = sym (unnamed_readers ts v unnamed);
@@ -225,8 +226,8 @@ old_row ts vs ws rows accesses is m n v x at row = elim (grown_row m rows n x ro
 abbrev found_at : List Version → Follower → ℕ × Option Version
 found_at vs f = (f.txn, slice_get vs f.version)
 
-access_count : (ts : List Transaction) (vs : List Version) (rows : List Known) (accesses : List Accessed) → IsTableOf Basic ts (table_by vs rows accesses) → length accesses ≡ length ts
-access_count ts vs rows accesses is =
+access_count : (given : List Version) (ts : List Transaction) (vs : List Version) (rows : List Known) (accesses : List Accessed) → IsTableBeside given ts (table_by vs rows accesses) → length accesses ≡ length ts
+access_count given ts vs rows accesses is =
     sym (length-map accesses (λ (a : Accessed). a.reads)) ∙ sym (length-map (map (λ (a : Accessed). a.reads) accesses) (versions_at vs)) ∙ ap length is.reads
     ∙ length-map ts (λ t. map Some (read_by t))
 
@@ -258,25 +259,41 @@ module _
   have_nil [] (a ∷ accesses) are v n nil at there = absurd are
   have_nil (u ∷ us) [] are v n nil at there = absurd are
 
+  none_have_nil : (accesses : List Access) (n nil : ℕ) → has_number n accesses ≡ false → HaveNil nil n accesses
+  none_have_nil [] n nil none = tt
+  none_have_nil (a ∷ accesses) n nil none =
+      let parts = or_parts (a.version == n) (has_number n accesses) none in
+      (λ same. absurd (true≢false (sym (eq-eqb a.version n same) ∙ parts.0)), none_have_nil accesses n nil parts.1)
+
+  -- the nil version of the key has this number, unless nobody is known to read the version
+  abbrev IsNilOrUnread : ℕ → Version → Type 0
+  IsNilOrUnread nil v = (slice_get vs nil ≡ Some (nil_of v.key)) ⊎ (is_known_to_read t v ≡ false)
+
   abbrev added : ℕ → ℕ → ℕ → Bool → List (ℕ × Option Version)
   added place n nil b =
       followers_at vs (map (follower place) (filter (is_of n) (lasts ws))) ++ followers_at vs (map (follower place) (cond b (filter (is_behind (access_by nil n)) (lasts ws)) []))
 
   added_is :
-      (place n nil : ℕ) (key : Atom) (value : Value) → slice_get vs n ≡ Some (version_with key value) → slice_get vs nil ≡ Some (version_with key None)
+      (place n nil : ℕ) (key : Atom) (value : Value) → slice_get vs n ≡ Some (version_with key value) → IsNilOrUnread nil (version_with key value)
       → added place n nil (is_known_to_read t (version_with key value)) ≡ map (install_at place) (installs_behind [] t (version_with key value))
-  added_is place n nil key None at there =
+  added_is place n nil key None at (inl there) =
       behind_nil vs numbered n nil place (last_writes (writes_of t.mops)) (lasts ws) (lasts_are vs numbered (writes_of t.mops) ws wrote) key
       (is_known_to_read t (version_with key None)) (is_known_to_read t (version_with key None)) at there
-  added_is place n nil key (Some x) at there = by (is_known_to_read t (version_with key (Some x)))
+  added_is place n nil key None at (inr unread) =
+      ap (added place n nil) unread
+      ∙ behind_nil vs numbered n n place (last_writes (writes_of t.mops)) (lasts ws) (lasts_are vs numbered (writes_of t.mops) ws wrote) key
+      false (is_known_to_read t (version_with key None)) at at
+  added_is place n nil key (Some x) at there = by (is_known_to_read t (version_with key (Some x))) there
     where
       by :
-          (b : Bool) → added place n nil b ≡ map (install_at place) (filter (λ (u : Version). (false || b) && is_change (pair (version_with key (Some x)) u)) (installed_by t))
-      by true = behind_read vs numbered n nil place (last_writes (writes_of t.mops)) (lasts ws) (lasts_are vs numbered (writes_of t.mops) ws wrote) key x at there
-      by false = behind_unread vs numbered n nil place (last_writes (writes_of t.mops)) (lasts ws) (lasts_are vs numbered (writes_of t.mops) ws wrote) key x at
+          (b : Bool) → (slice_get vs nil ≡ Some (version_with key None)) ⊎ (b ≡ false)
+          → added place n nil b ≡ map (install_at place) (filter (λ (u : Version). (false || b) && is_change (pair (version_with key (Some x)) u)) (installed_by t))
+      by true (inl there) = behind_read vs numbered n nil place (last_writes (writes_of t.mops)) (lasts ws) (lasts_are vs numbered (writes_of t.mops) ws wrote) key x at there
+      by true (inr none) = absurd (true≢false none)
+      by false there = behind_unread vs numbered n nil place (last_writes (writes_of t.mops)) (lasts ws) (lasts_are vs numbered (writes_of t.mops) ws wrote) key x at
 
   pub new_row :
-      (ts : List Transaction) (n nil : ℕ) (v : Version) (x : Known) → slice_get vs n ≡ Some v → slice_get vs nil ≡ Some (nil_of v.key) → IsRowOf ts vs v x
+      (ts : List Transaction) (n nil : ℕ) (v : Version) (x : Known) → slice_get vs n ≡ Some v → IsNilOrUnread nil v → IsRowOf ts vs v x
       → IsRowOf (ts ++ t ∷ []) vs v (row_after (length ts) n nil x rs ws)
   new_row ts n nil v x at there old =
       let place = length ts in
@@ -304,12 +321,10 @@ module _
 
 -- the number of the nil version of a version's key
 nil_number :
-    (ts : List Transaction) (t : Transaction) (vs : List Version) (v : Version) (n : ℕ) → AreNumbered version_eq vs
-    → ((u : Version) → has_version vs u ≡ is_named (ts ++ t ∷ []) u) → slice_get vs n ≡ Some v
-    → (nil : ℕ) × (slice_get vs nil ≡ Some (nil_of v.key))
-nil_number ts t vs v n numbered named at =
-    let v_named : is_named (ts ++ t ∷ []) v ≡ true = sym (named v) ∙ there_is vs v n (numbered n v at) in
-    let has : has_version vs (nil_of v.key) ≡ true = named (nil_of v.key) ∙ nil_named_in v (ts ++ t ∷ []) v_named in
+    (given : List Version) (ts : List Transaction) (vs : List Version) (v : Version) → ((u : Version) → has_version vs u ≡ (has_version given u || is_named ts u))
+    → is_named ts v ≡ true → (nil : ℕ) × (slice_get vs nil ≡ Some (nil_of v.key))
+nil_number given ts vs v named is =
+    let has : has_version vs (nil_of v.key) ≡ true = named (nil_of v.key) ∙ or_right (has_version given (nil_of v.key)) (is_named ts (nil_of v.key)) (nil_named_in v ts is) in
     elim (cases_number version_eq (nil_of v.key) vs) [
       | inl there ↦ (there.0, number_at version_eq version_eq-same (nil_of v.key) vs there.0 there.1)
       | inr none ↦ absurd (false≢true (ap is_some (sym none) ∙ number_there version_eq (nil_of v.key) vs ∙ has))
@@ -336,18 +351,19 @@ grown_enough n rows = omega (arith, length-append rows (replicate (n - length ro
 
 -- The table of one transaction more tells of it.
 pub told :
-    (ts : List Transaction) (t : Transaction) (vs us : List Version) (rows : List Known) (accesses : List Accessed) (rs ws : List Access)
-    → IsTableOf Basic ts (table_by vs rows accesses) → us ≡ with_versions vs (named_by t)
+    (given : List Version) (ts : List Transaction) (t : Transaction) (vs us : List Version) (rows : List Known) (accesses : List Accessed) (rs ws : List Access)
+    → IsTableBeside given ts (table_by vs rows accesses) → us ≡ with_versions vs (named_by t)
     → AreAccesses us (read_by t) rs → AreAccesses us (map version_of (writes_of t.mops)) ws
-    → IsTableOf Basic (ts ++ t ∷ []) (table_by us (rows_after (length accesses) rs ws (grown (length us) rows)) (accesses ++ accessed rs ws ∷ []))
-told ts t vs us rows accesses rs ws is grew read wrote =
+    → IsTableBeside given (ts ++ t ∷ []) (table_by us (rows_after (length accesses) rs ws (grown (length us) rows)) (accesses ++ accessed rs ws ∷ []))
+told given ts t vs us rows accesses rs ws is grew read wrote =
     let numbered : AreNumbered version_eq us = subst (AreNumbered version_eq) (sym grew) (versions_numbered vs is.distinct (named_by t)) in
-    let place : length accesses ≡ length ts = access_count ts vs rows accesses is in
+    let place : length accesses ≡ length ts = access_count given ts vs rows accesses is in
     let stay = λ (n : ℕ) (v : Version) (h : slice_get vs n ≡ Some v). ap (λ (xs : List Version). slice_get xs n) grew ∙ versions_stay vs (named_by t) n v h in
-    let more : length rows ≤ length us = subst (λ k. k ≤ length us) (sym (row_count ts vs rows accesses is)) (subst (λ (xs : List Version). length vs ≤ length xs) (sym grew) (longer vs (named_by t))) in
+    let more : length rows ≤ length us = subst (λ k. k ≤ length us) (sym (row_count given ts vs rows accesses is)) (subst (λ (xs : List Version). length vs ≤ length xs) (sym grew) (longer vs (named_by t))) in
     let count : length (rows_after (length accesses) rs ws (grown (length us) rows)) ≡ length us = length-after (length accesses) rs ws (grown (length us) rows) ∙ length-grown (length us) rows more in
-    let named : (v : Version) → has_version us v ≡ is_named (ts ++ t ∷ []) v =
-    λ v. ap (λ (xs : List Version). has_version xs v) grew ∙ has_versions vs (named_by t) v ∙ ap (λ b. b || has_version (named_by t) v) (is.named v) ∙ sym (named-push ts t v) in
+    let named : (v : Version) → has_version us v ≡ (has_version given v || is_named (ts ++ t ∷ []) v) =
+    λ v. ap (λ (xs : List Version). has_version xs v) grew ∙ has_versions vs (named_by t) v ∙ ap (λ b. b || has_version (named_by t) v) (is.named v)
+    ∙ or_moved (has_version given v) (is_named ts v) (has_version (named_by t) v) ∙ ap (λ b. has_version given v || b) (sym (named-push ts t v)) in
     let rows_now = rows_after (length accesses) rs ws (grown (length us) rows) in
     let each : (n : ℕ) (y : Known) (v : Version) → slice_get rows_now n ≡ Some y → slice_get us n ≡ Some v → IsRowOf (ts ++ t ∷ []) us v y =
     λ n y v row at.
@@ -355,11 +371,18 @@ told ts t vs us rows accesses rs ws is grew read wrote =
     let x = is_at (grown (length us) rows) n below in
     let old : IsRowOf ts us v x.0 =
     subst (λ (xs : List Version). IsRowOf ts xs v x.0) (sym grew)
-    (old_row ts vs (named_by t) rows accesses is (length us) n v x.0 (ap (λ (xs : List Version). slice_get xs n) (sym grew) ∙ at) x.1) in
-    let nil = nil_number ts t us v n numbered named at in
-    let made = row_is (length accesses) n nil.0 (grown (length us) rows) rs ws x.0 (have_nil t us numbered rs ws read wrote (read_by t) rs read v n nil.0 at nil.1) x.1 in
+    (old_row given ts vs (named_by t) rows accesses is (length us) n v x.0 (ap (λ (xs : List Version). slice_get xs n) (sym grew) ∙ at) x.1) in
+    let nil : (nil : ℕ) × HaveNil nil n rs × IsNilOrUnread t us numbered rs ws read wrote nil v = elim (cases_Bool (is_named (ts ++ t ∷ []) v)) [
+      | inl is_named ↦ (
+          let there = nil_number given (ts ++ t ∷ []) us v named is_named in
+          (there.0, have_nil t us numbered rs ws read wrote (read_by t) rs read v n there.0 at there.1, inl there.1))
+      | inr unnamed ↦ (
+          let unread = not_read t v (or_parts (is_named ts v) (has_version (named_by t) v) (sym (named-push ts t v) ∙ unnamed)).1 in
+          (n, none_have_nil t us numbered rs ws read wrote rs n n (has_number_version us numbered v n at (read_by t) rs read ∙ read_is t v ∙ unread), inr unread))
+    ] in
+    let made = row_is (length accesses) n nil.0 (grown (length us) rows) rs ws x.0 nil.1 x.1 in
     let same : row_after (length ts) n nil.0 x.0 rs ws ≡ y = ap (λ p. row_after p n nil.0 x.0 rs ws) (sym place) ∙ same_item _ y (sym made ∙ row) in
-    subst (IsRowOf (ts ++ t ∷ []) us v) same (new_row t us numbered rs ws read wrote ts n nil.0 v x.0 at nil.1 old) in
+    subst (IsRowOf (ts ++ t ∷ []) us v) same (new_row t us numbered rs ws read wrote ts n nil.0 v x.0 at nil.2 old) in
     record {
       distinct = numbered;
       named = named;

@@ -75,7 +75,7 @@ none_last p (w ∷ ws) none =
     by true behind here = behind
     by false behind here = or_none (p (version_of w)) _ here behind
 
-not_read : (t : Transaction) (v : Version) → has_version (named_by t) v ≡ false → is_known_to_read t v ≡ false
+pub not_read : (t : Transaction) (v : Version) → has_version (named_by t) v ≡ false → is_known_to_read t v ≡ false
 not_read t v none = by (is_ok t) t.mops v none
   where
     by : (ok : Bool) (ms : List Mop) (v : Version) → has_version (named_in ok ms) v ≡ false → (ok && has_version (reads_after [] ms) v) ≡ false

@@ -2,9 +2,12 @@ pub mod Histories
 pub mod Tables
 pub mod Rows
 pub mod Spans
+pub mod Nils
 pub mod Numbering
+pub mod Given
 pub mod Views
 pub mod Pending
 pub mod Pairs
+pub mod SeenKeys
 pub mod Steps
 pub mod Stepped

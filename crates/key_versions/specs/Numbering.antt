@@ -3,8 +3,9 @@ use Rattle.std.specs.Prelude.{◌≡◌, ◌<◌, ℕ, pos, List, [], ◌∷◌,
 use Rattle.hist_types.specs.Atoms.{Atom, integer, atom_eq}
 use Rattle.hist_types.specs.Transactions.{Version, version_eq}
 use Rattle.hist_types.specs.Versions.{nil_of}
-use Rattle.atom_index.specs.Numbers.{AreNumbered, number_in, with_item, pair_eq}
+use Rattle.atom_index.specs.Numbers.{AreNumbered, with_item, pair_eq}
 use Rattle.key_versions.specs.declared.pending.Access.{Access}
+use Rattle.key_versions.specs.Nils.{AreNilsIn}
 
 abbrev pub version_with : Atom → Option Atom → Version
 version_with key value = record { key = key; value = value }
@@ -32,23 +33,21 @@ abbrev pub AreInRange : List Atom → List Atom → List (ℕ × Option ℕ) →
 AreInRange keys values pairs =
     (i : ℕ) (p : ℕ × Option ℕ) → slice_get pairs i ≡ Some p → IsInRange keys values p
 
--- numbered keys and values, the versions by the numbers of theirs, and the nil version of each key
+-- numbered keys and values, the versions by the numbers of theirs, and the nil version of each key,
+-- if it has a number
 pub record Numbers : Type 0 where
   pub keys : List Atom
   pub values : List Atom
   pub pairs : List (ℕ × Option ℕ)
-  pub nils : List ℕ
+  pub nils : List (Option ℕ)
 
 pub record IsNumbering (keys values : List Atom) (pairs : List (ℕ × Option ℕ))
-    (nils : List ℕ) : Type 0 where
+    (nils : List (Option ℕ)) : Type 0 where
   pub keys_numbered : AreNumbered atom_eq keys
   pub values_numbered : AreNumbered atom_eq values
   pub pairs_numbered : AreNumbered pair_eq pairs
   pub in_range : AreInRange keys values pairs
-  pub nils_numbered :
-      (k : ℕ)
-      → k < length keys
-      → number_in pair_eq (k, None) pairs ≡ slice_get nils k
+  pub nils_numbered : AreNilsIn pairs nils
   pub nil_of_each : length nils ≡ length keys
 
 abbrev pub versions_of : Numbers → List Version
@@ -62,6 +61,20 @@ with_versions versions vs = fold (with_item version_eq) versions vs
 abbrev pub IsAccess : List Version → Version → Access → Type 0
 IsAccess versions v a =
     (slice_get versions a.nil ≡ Some (nil_of v.key)) × (slice_get versions a.version ≡ Some v)
+
+-- If there is an access of the version, the version and the nil version of its key are numbered
+-- afterwards; else nothing changes.
+abbrev pub IsAccessIfAny : (before after : List Version) → Version → Option Access → Type 0
+IsAccessIfAny before after v None = after ≡ before
+IsAccessIfAny before after v (Some a) =
+    (after ≡ with_versions before (nil_of v.key ∷ v ∷ [])) × IsAccess after v a
+
+-- the version has this number, and its key the other one
+abbrev pub IsVersionOfKey : Numbers → (number key : ℕ) → Version → Type 0
+IsVersionOfKey s number key v =
+    (key < length s.keys)
+    × (key_at s.keys key ≡ v.key)
+    × (slice_get (versions_of s) number ≡ Some v)
 
 abbrev pub AreAccesses : List Version → List Version → List Access → Type 0
 AreAccesses versions [] [] = ⊤

@@ -6,10 +6,9 @@ use Rattle.std.specs.Option.{option_or}
 use Rattle.indexmap.specs.IndexMap.{IndexMap, get}
 use Rattle.key_versions.specs.declared.types.Follower.{Follower}
 use Rattle.key_versions.specs.declared.pending.Access.{Access}
+use Rattle.key_versions.specs.declared.steps.SeenKey.{SeenKey}
 use Rattle.key_versions.specs.Rows.{Accessed, Known, has_nil, lasts}
-
-abbrev pub same_numbers : ℕ × ℕ → ℕ × ℕ → Bool
-same_numbers p q = (p.0 == q.0) && (p.1 == q.1)
+use Rattle.key_versions.specs.SeenKeys.{same_key}
 
 -- ---- what processes saw
 
@@ -20,8 +19,8 @@ last_number nil (a ∷ accesses) =
     option_or (last_number nil accesses) (if a.nil == nil then Some a.version else None)
 
 -- the last version of a key that a process saw
-abbrev pub last_seen : {S : Type 0} → IndexMap (ℕ × ℕ) ℕ S → (process nil : ℕ) → Option ℕ
-last_seen last process nil = get same_numbers last (process, nil)
+abbrev pub last_seen : {S : Type 0} → IndexMap SeenKey ℕ S → (process nil : ℕ) → Option ℕ
+last_seen last process nil = get same_key last (record { process = process; nil = nil })
 
 -- that of any process, once one process saw these
 abbrev pub seen_after : (one : ℕ) → List Access → (process nil : ℕ) → Option ℕ → Option ℕ

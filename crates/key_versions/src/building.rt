@@ -2,10 +2,12 @@
 
 ghost use Rattle.std.specs.Prelude.{◌≡◌, ◌++◌, ◌∷◌, [], List, length, map, OnOk, IfOk, IsTrue};
 ghost use Rattle.hist_types.specs.Journal.{writes_of};
-ghost use Rattle.hist_types.specs.Transactions.{Transaction, is_ok, version_of};
+ghost use Rattle.atom_index.specs.Numbers.{AreNumbered};
+ghost use Rattle.hist_types.specs.Transactions.{Transaction, Version, is_ok, version_of, version_eq};
 ghost use Rattle.hist_types.specs.declared.types.KeyOrder.TheVariants.{Basic, Sequential};
+ghost use Rattle.key_versions.specs.Given.{AreNamed, IsTableBeside};
 ghost use Rattle.key_versions.specs.Histories.{named_by, read_by, seen_in};
-ghost use Rattle.key_versions.specs.Numbering.{with_versions, AreAccesses};
+ghost use Rattle.key_versions.specs.Numbering.{versions_of, with_versions, AreAccesses};
 ghost use Rattle.key_versions.specs.Steps.{AreOfSameKeys};
 ghost use Rattle.key_versions.specs.Tables.{IsTableOf};
 ghost use Rattle.key_versions.specs.Views.{with_order};
@@ -21,7 +23,7 @@ use std::marker::Model;
 use std::thread::Threads;
 use txn_pairs::types::Txn;
 
-/// The table of the transactions so far.
+/// The table of the transactions so far, and of versions that have numbers from the start.
 #[derive(Drop)]
 pub(crate) struct Building<'a, S: BuildHasher> {
     numbering: Numbering<'a, S>,
@@ -39,14 +41,20 @@ impl<'a, S: BuildHasher> Model for Building<'a, S> {
 }
 
 impl<'a, S: BuildHasher + Copy> Building<'a, S> {
-    /// No transaction was taken yet, and there is room for n.
-    pub fn with_capacity(alloc: Global, hasher: S, transactions: usize) -> Result<Self, AllocError>
-        ensures { IfOk result (IsTableOf Basic []) }
+    /// No transaction was taken yet, and there is room for n. Some versions may have numbers already.
+    pub fn with_capacity(
+        alloc: Global,
+        numbering: Numbering<'a, S>,
+        transactions: usize,
+    ) -> Result<Self, AllocError>
+        requires { AreNumbered version_eq (versions_of numbering) }
+        ensures table { IfOk result (λ building. IsTableBeside building.versions [] building) }
+        ensures versions { IfOk result
+            (λ building. building.versions ≡ versions_of numbering.entry) }
     {
-        Ok(Building {
-            numbering: Numbering::with_capacity(alloc, hasher, transactions)?,
-            rows: Rows::with_capacity(alloc, transactions)?,
-        })
+        let mut rows = Rows::with_capacity(alloc, transactions, numbering.len())?;
+        rows.grow(numbering.len())?;
+        Ok(Building { numbering, rows })
     }
 
     /// How many versions there are.
@@ -56,62 +64,80 @@ impl<'a, S: BuildHasher + Copy> Building<'a, S> {
         self.numbering.len()
     }
 
-    /// Takes the next transaction.
-    pub fn take(&mut self, txn: &Txn<'a>, keys: KeyOrder) -> Result<Accessed, AllocError>
-        requires { (ts : List Transaction) × IsTableOf Basic ts self.old }
-        ensures table { (ts : List Transaction) → IsTableOf Basic ts self.old
-            → OnOk result (IsTableOf Basic (ts ++ txn.now ∷ []) self.new) }
+    /// Takes the next transaction, and notes what it reads and writes in place of what was noted.
+    pub fn take(
+        &mut self,
+        txn: &Txn<'a>,
+        keys: KeyOrder,
+        accessed: &mut Accessed,
+    ) -> Result<(), AllocError>
+        requires { (given : List Version) × (ts : List Transaction)
+            × IsTableBeside given ts self.old }
+        ensures table { (given : List Version) (ts : List Transaction)
+            → IsTableBeside given ts self.old
+            → OnOk result (IsTableBeside given (ts ++ txn.now ∷ []) self.new) }
         ensures versions { OnOk result
             (self.new.versions ≡ with_versions self.old.versions (named_by txn.now)) }
-        ensures reads { IfOk result
-            (λ a. AreAccesses self.new.versions (read_by txn.now) a.reads.items) }
-        ensures writes { IfOk result
-            (λ a. AreAccesses self.new.versions
-            (map version_of (writes_of txn.now.mops)) a.writes.items) }
-        ensures seen { IfOk result
-            (λ a. AreAccesses self.new.versions (seen_in keys txn.now) a.seen.items) }
-        ensures keys { keys ≡ Sequential → IsTrue (is_ok txn.now) → IfOk result
-            (λ a. AreOfSameKeys a.seen.items (a.reads.items ++ a.writes.items)) }
+        ensures reads { OnOk result
+            (AreAccesses self.new.versions (read_by txn.now) accessed.new.reads.items) }
+        ensures writes { OnOk result
+            (AreAccesses self.new.versions
+            (map version_of (writes_of txn.now.mops)) accessed.new.writes.items) }
+        ensures seen { OnOk result
+            (AreAccesses self.new.versions (seen_in keys txn.now) accessed.new.seen.items) }
+        ensures keys { keys ≡ Sequential → IsTrue (is_ok txn.now) → OnOk result
+            (AreOfSameKeys accessed.new.seen.items
+            (accessed.new.reads.items ++ accessed.new.writes.items)) }
     {
-        let accessed = self.numbering.take(txn, keys)?;
+        self.numbering.take(txn, keys, accessed)?;
         self.rows.grow(self.numbering.len())?;
         self.rows
             .add(accessed.reads.as_slice(), accessed.writes.as_slice())?;
-        Ok(accessed)
+        Ok(())
     }
 
     /// Takes all transactions of a history, one after the other.
-    fn take_all(&mut self, txns: &[Txn<'a>]) -> Result<(), AllocError>
-        requires { IsTableOf Basic [] self.old }
-        ensures { OnOk result (IsTableOf Basic txns.now self.new) }
+    fn take_all(&mut self, alloc: Global, txns: &[Txn<'a>]) -> Result<(), AllocError>
+        requires { IsTableBeside self.old.versions [] self.old }
+        ensures { OnOk result (IsTableBeside self.old.versions txns.now self.new) }
     {
+        let mut accessed = Accessed::new(alloc);
         for txn in txns {
-            self.take(txn, KeyOrder::Basic)?;
+            self.take(txn, KeyOrder::Basic, &mut accessed)?;
         }
         Ok(())
     }
 
     /// The table of a history whose keys are basic.
-    fn basic(alloc: Global, hasher: S, txns: &[Txn<'a>]) -> Result<Self, AllocError>
+    fn basic(
+        alloc: Global,
+        numbering: Numbering<'a, S>,
+        txns: &[Txn<'a>],
+    ) -> Result<Self, AllocError>
+        requires distinct { AreNumbered version_eq (versions_of numbering) }
+        requires named { AreNamed txns.now (versions_of numbering) }
         ensures { IfOk result (IsTableOf Basic txns.now) }
     {
-        let mut building = Building::with_capacity(alloc, hasher, txns.len())?;
-        building.take_all(txns)?;
+        let mut building = Building::with_capacity(alloc, numbering, txns.len())?;
+        building.take_all(alloc, txns)?;
         Ok(building)
     }
 
-    /// The table of a history.
+    /// The table of a history, which names the versions that have numbers already.
     pub fn of(
         alloc: Global,
+        numbering: Numbering<'a, S>,
         hasher: S,
         txns: &[Txn<'a>],
         keys: KeyOrder,
     ) -> Result<Self, AllocError>
+        requires distinct { AreNumbered version_eq (versions_of numbering) }
+        requires named { AreNamed txns.now (versions_of numbering) }
         ensures { IfOk result (IsTableOf keys txns.now) }
     {
         match keys {
-            KeyOrder::Basic => Building::basic(alloc, hasher, txns),
-            KeyOrder::Sequential => sequential(alloc, hasher, txns),
+            KeyOrder::Basic => Building::basic(alloc, numbering, txns),
+            KeyOrder::Sequential => sequential(alloc, numbering, hasher, txns),
         }
     }
 

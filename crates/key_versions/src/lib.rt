@@ -3,12 +3,15 @@
 
 ghost use Rattle.std.specs.Prelude.{◌≡◌, IfOk, IfErr};
 ghost use Rattle.hist_types.specs.Refusals.{memory_fault};
+ghost use Rattle.history_laws.specs.Writers.{writes_of_all};
+ghost use Rattle.journal_core.specs.Writes.{AreSameWrites};
 ghost use Rattle.key_versions.specs.Tables.{IsTableOf};
 
 mod accesses;
 mod building;
 mod interleaving;
 pub mod laws;
+mod nils;
 mod numbering;
 mod pending;
 mod rows;
@@ -18,10 +21,12 @@ pub mod table;
 pub mod types;
 
 use crate::building::Building;
+use crate::numbering::{Numbering, numbering_of};
 use crate::table::Versions;
 use hist_types::types::{Fault, KeyOrder};
+use journal_core::written::Written;
 use std::alloc::Global;
-use std::hash::BuildHasher;
+use std::hash::{BuildHasher, BuildHasherDefault};
 use std::thread::Threads;
 use txn_pairs::types::Txns;
 
@@ -48,25 +53,30 @@ pub fn versions<'a, S: BuildHasher + Copy>(
     ensures keys { IfOk result (λ versions. versions.keys ≡ keys) }
     ensures err { IfErr result (λ fault. fault ≡ memory_fault) }
 {
-    let building = Building::of(alloc, hasher, txns.as_slice(), keys)?;
+    let numbering = Numbering::with_capacity(alloc, hasher, txns.as_slice().len())?;
+    let building = Building::of(alloc, numbering, hasher, txns.as_slice(), keys)?;
     Ok(building.finish(alloc, keys)?)
 }
 
-/// The table that `versions` makes, put together by two threads, where another can be made. The steps of sequential keys are
-/// followed on one thread.
+/// The table that `versions` makes, from the numbers that the journal gave to what it saw written. Transactions come in the order
+/// of their invocations, and so did their writes, so a write is compared with the journal's next one, and mostly nothing is
+/// looked up. Two threads put the table together, where another can be made.
 ///
 /// The only error is out of memory.
-pub fn versions_wide<'a, R: Threads, S: BuildHasher + Copy>(
+pub fn versions_of_written_wide<'a, R: Threads>(
     rt: &R,
     alloc: Global,
     txns: &Txns<'a>,
-    hasher: S,
+    written: Written<'a>,
     keys: KeyOrder,
 ) -> Result<Versions<'a>, Fault>
+    requires { AreSameWrites written.items (writes_of_all txns.now) }
     ensures ok { IfOk result (IsTableOf keys txns.now) }
     ensures keys { IfOk result (λ versions. versions.keys ≡ keys) }
     ensures err { IfErr result (λ fault. fault ≡ memory_fault) }
 {
-    let building = Building::of(alloc, hasher, txns.as_slice(), keys)?;
+    let numbering = numbering_of(alloc, written)?;
+    let hasher = BuildHasherDefault::new();
+    let building = Building::of(alloc, numbering, hasher, txns.as_slice(), keys)?;
     Ok(building.finish_wide(rt, alloc, keys)?)
 }

@@ -1,7 +1,7 @@
 //! Numbers for versions.
 
-ghost use Rattle.std.specs.Prelude.{◌≡◌, ◌<◌, ◌∷◌, ◌++◌, slice_get, [], Some, length, IfOk, OnOk, IsTrue, map};
-ghost use Rattle.atom_index.specs.Numbers.{number_in, with_item};
+ghost use Rattle.std.specs.Prelude.{◌≡◌, ◌<◌, ◌∷◌, ◌++◌, slice_get, [], Some, length, IfOk, IfSome, OnOk, IsTrue, map, None};
+ghost use Rattle.atom_index.specs.Numbers.{AreNumbered, number_in, with_item};
 ghost use Rattle.hist_types.specs.Atoms.{atom_eq};
 ghost use Rattle.hist_types.specs.Journal.{writes_of};
 ghost use Rattle.hist_types.specs.Transactions.{Version, is_ok, version_of, version_eq};
@@ -9,18 +9,21 @@ ghost use Rattle.hist_types.specs.Versions.{nil_of};
 ghost use Rattle.hist_types.specs.declared.types.KeyOrder.TheVariants.{Sequential};
 ghost use Rattle.key_versions.specs.Histories.{named_by, read_by, seen_in};
 ghost use Rattle.key_versions.specs.Rows.{with_access, with_read};
-ghost use Rattle.key_versions.specs.Numbering.{Numbers, key_at, version_with, versions_in, versions_of, AreInRange, with_versions, IsAccess, AreAccesses};
+ghost use Rattle.key_versions.specs.Numbering.{Numbers, key_at, version_with, versions_in, versions_of, AreInRange, with_versions, IsAccess, IsAccessIfAny, IsVersionOfKey, AreAccesses};
+ghost use Rattle.key_versions.specs.Given.{AreGiven};
 ghost use Rattle.key_versions.specs.Steps.{AreOfSameKeys};
 
+use crate::nils::{add_nils, nil_number};
 use crate::pending::Access;
 use crate::rows::{has_key, number_of};
 use atom_index::atoms::AtomIndex;
 use atom_index::pairs::PairIndex;
 use hist_types::types::KeyOrder;
+use journal_core::written::{Written, WrittenTables};
 use op_view::atom::Atom;
 use smallvec::SmallVec;
 use std::alloc::{AllocError, Global};
-use std::hash::BuildHasher;
+use std::hash::{BuildHasher, BuildHasherDefault, FoldHasher};
 use std::marker::Model;
 use txn_pairs::types::{Status, Txn};
 
@@ -44,7 +47,31 @@ impl Drop for Accessed {
 }
 
 impl Accessed {
+    /// Nothing is read or written.
+    pub fn new(alloc: Global) -> Self
+        ensures reads { result.reads.items ≡ [] }
+        ensures writes { result.writes.items ≡ [] }
+        ensures seen { result.seen.items ≡ [] }
+    {
+        Accessed {
+            reads: SmallVec::new(alloc),
+            writes: SmallVec::new(alloc),
+            seen: SmallVec::new(alloc),
+        }
+    }
+
+    fn clear(&mut self)
+        ensures reads { self.new.reads.items ≡ [] }
+        ensures writes { self.new.writes.items ≡ [] }
+        ensures seen { self.new.seen.items ≡ [] }
+    {
+        self.reads.clear();
+        self.writes.clear();
+        self.seen.clear();
+    }
+
     /// Adds the access of a micro-operation. A read of a key that the transaction wrote before isn't external.
+    #[inline(always)]
     fn add(&mut self, access: Access, is_write: bool, keeps_seen: bool) -> Result<(), AllocError>
         ensures reads { OnOk result
             (self.new.reads.items
@@ -66,16 +93,20 @@ impl Accessed {
     }
 }
 
-/// Numbers versions in the order in which they are first named, each after the nil version of its key.
+/// Numbers versions: first those that were written, if the journal numbered them, with the nil versions of their keys, and then
+/// in the order in which they are first named, each after the nil version of its key.
 #[derive(Drop)]
 pub(crate) struct Numbering<'a, S: BuildHasher> {
-    alloc: Global,
     keys: AtomIndex<'a, S>,
     values: AtomIndex<'a, S>,
     /// The key and the value of each version, by their numbers.
     pairs: PairIndex<S>,
-    /// The nil version of each key.
-    nils: Vec<usize>,
+    /// The nil version of each key, if it has a number.
+    nils: Vec<Option<usize>>,
+    /// How many versions the journal numbered. They have the first numbers.
+    written: usize,
+    /// How many of these were compared with writes of the transactions.
+    compared: usize,
 }
 
 impl<'a, S: BuildHasher> Model for Numbering<'a, S> {
@@ -102,6 +133,32 @@ pub(crate) struct Numbered<'a> {
     pub pairs: Vec<(usize, Option<usize>)>,
 }
 
+/// The versions that the journal numbered when they were written, and the nil versions of their keys.
+pub(crate) fn numbering_of<'a>(
+    alloc: Global,
+    written: Written<'a>,
+) -> Result<Numbering<'a, BuildHasherDefault<FoldHasher>>, AllocError>
+    ensures { IfOk result (λ numbering. AreGiven written.entry.items (versions_of numbering)) }
+{
+    let WrittenTables {
+        keys,
+        values,
+        mut pairs,
+    } = written.into_tables();
+    let count = pairs.len();
+    let mut nils = vec![in alloc; None; keys.len()]?;
+    pairs.reserve(keys.len())?;
+    add_nils(&mut pairs, &mut nils)?;
+    Ok(Numbering {
+        keys,
+        values,
+        pairs,
+        nils,
+        written: count,
+        compared: 0,
+    })
+}
+
 impl<'a, S: BuildHasher> Numbering<'a, S> {
     /// No version yet, and tables as large as is best for n versions.
     pub fn with_capacity(alloc: Global, hasher: S, versions: usize) -> Result<Self, AllocError>
@@ -110,11 +167,12 @@ impl<'a, S: BuildHasher> Numbering<'a, S> {
         ensures { IfOk result (λ numbering. versions_of numbering ≡ []) }
     {
         Ok(Numbering {
-            alloc,
             keys: AtomIndex::with_hasher(alloc, hasher),
             values: AtomIndex::with_hasher(alloc, hasher),
             pairs: PairIndex::with_capacity_and_hasher(alloc, versions, hasher)?,
             nils: Vec::new(alloc),
+            written: 0,
+            compared: 0,
         })
     }
 
@@ -125,23 +183,35 @@ impl<'a, S: BuildHasher> Numbering<'a, S> {
         self.pairs.len()
     }
 
-    /// The number of a key. Where it is new, its nil version gets a number too.
+    /// The number of a key.
     fn key(&mut self, key: Atom<'a>) -> Result<usize, AllocError>
         ensures number { IfOk result
             (λ number. number_in atom_eq key.entry self.new.keys ≡ Some number) }
-        ensures versions { OnOk result
-            (versions_of self.new
-            ≡ with_item version_eq (versions_of self.old) (nil_of key.entry)) }
+        ensures versions { OnOk result (versions_of self.new ≡ versions_of self.old) }
     {
         if let Some(number) = self.keys.get(&key) {
             return Ok(number);
         }
-        self.pairs.reserve(1)?;
         self.nils.try_reserve(1)?;
         let number = self.keys.insert(key)?;
-        let nil = self.pairs.insert_reserved(number, None);
-        self.nils.push_reserved(nil);
+        self.nils.push_reserved(None);
         Ok(number)
+    }
+
+    /// The nil version of the key with this number.
+    fn nil(&mut self, key: usize) -> Result<usize, AllocError>
+        requires { key < length self.old.keys }
+        ensures versions { OnOk result
+            (versions_of self.new
+            ≡ with_item version_eq (versions_of self.old)
+            (version_with (key_at self.old.keys key) None)) }
+        ensures number { IfOk result
+            (λ number. slice_get (versions_of self.new) number
+            ≡ Some (version_with (key_at self.old.keys key) None)) }
+        ensures keys { OnOk result (self.new.keys ≡ self.old.keys) }
+    {
+        let nil = nil_number(&mut self.pairs, &mut self.nils, key)?;
+        Ok(nil)
     }
 
     /// The version with a value and the key of this number.
@@ -160,8 +230,8 @@ impl<'a, S: BuildHasher> Numbering<'a, S> {
         Ok(version)
     }
 
-    /// The version with this key and value, where None is nil.
-    fn access(&mut self, key: Atom<'a>, value: Option<Atom<'a>>) -> Result<Access, AllocError>
+    /// The version with this key and value, where None is nil. Where it has no number, it gets one.
+    fn insert(&mut self, key: Atom<'a>, value: Option<Atom<'a>>) -> Result<Access, AllocError>
         ensures versions { OnOk result
             (versions_of self.new
             ≡ with_versions (versions_of self.old)
@@ -170,7 +240,7 @@ impl<'a, S: BuildHasher> Numbering<'a, S> {
             (IsAccess (versions_of self.new) (version_with key.entry value.entry)) }
     {
         let key = self.key(key)?;
-        let nil = self.nils[key];
+        let nil = self.nil(key)?;
         let version = match value {
             None => nil,
             Some(value) => self.version(key, value)?,
@@ -181,38 +251,111 @@ impl<'a, S: BuildHasher> Numbering<'a, S> {
         })
     }
 
-    /// Numbers the versions that a transaction names. Of a read of one that is not ok, that is the nil version of the key alone.
-    pub fn take(&mut self, txn: &Txn<'a>, keys: KeyOrder) -> Result<Accessed, AllocError>
+    /// The number of the key, if the version with this number has this key and value.
+    fn key_of_version(
+        &self,
+        number: usize,
+        key: &Atom<'a>,
+        value: &Option<Atom<'a>>,
+    ) -> Option<usize>
+        ensures { IfSome result
+            (λ k. IsVersionOfKey self.now number k (version_with key.now value.now)) }
+    {
+        let (known_key, known_value) = *self.pairs.as_slice().get(number)?;
+        let known_value = known_value?;
+        let value = value.as_ref()?;
+        if self.values.atom(known_value) == *value && self.keys.atom(known_key) == *key {
+            Some(known_key)
+        } else {
+            None
+        }
+    }
+
+    /// The version with this key and value, if it is the next of those that the journal numbered.
+    fn next_written(
+        &mut self,
+        key: &Atom<'a>,
+        value: &Option<Atom<'a>>,
+    ) -> Result<Option<Access>, AllocError>
+        ensures { IfOk result (IsAccessIfAny (versions_of self.old) (versions_of self.new)
+            (version_with key.now value.now)) }
+    {
+        let next = self.compared;
+        if next >= self.written {
+            return Ok(None);
+        }
+        self.compared = next + 1;
+        let Some(key) = self.key_of_version(next, key, value) else {
+            return Ok(None);
+        };
+        let nil = self.nil(key)?;
+        Ok(Some(Access {
+            nil: number_of(nil)?,
+            version: number_of(next)?,
+        }))
+    }
+
+    /// The version that a micro-operation names, where None is nil. Writes mostly come in the order in which the journal numbered
+    /// them, so a write is compared with the next of these before it is looked up.
+    fn access(
+        &mut self,
+        key: Atom<'a>,
+        value: Option<Atom<'a>>,
+        is_write: bool,
+    ) -> Result<Access, AllocError>
+        ensures versions { OnOk result
+            (versions_of self.new
+            ≡ with_versions (versions_of self.old)
+            (nil_of key.entry ∷ version_with key.entry value.entry ∷ [])) }
+        ensures access { IfOk result
+            (IsAccess (versions_of self.new) (version_with key.entry value.entry)) }
+    {
+        if !is_write {
+            return self.insert(key, value);
+        }
+        if let Some(access) = self.next_written(&key, &value)? {
+            return Ok(access);
+        }
+        self.insert(key, value)
+    }
+
+    /// Numbers the versions that a transaction names, and notes which it reads and writes in place of what was noted. Of a read of
+    /// one that is not ok, the nil version of the key is numbered alone.
+    pub fn take(
+        &mut self,
+        txn: &Txn<'a>,
+        keys: KeyOrder,
+        accessed: &mut Accessed,
+    ) -> Result<(), AllocError>
+        requires { AreNumbered version_eq (versions_of self.old) }
         ensures versions { OnOk result
             (versions_of self.new ≡ with_versions (versions_of self.old) (named_by txn.now)) }
-        ensures reads { IfOk result
-            (λ a. AreAccesses (versions_of self.new) (read_by txn.now) a.reads.items) }
-        ensures writes { IfOk result
-            (λ a. AreAccesses (versions_of self.new)
-            (map version_of (writes_of txn.now.mops)) a.writes.items) }
-        ensures seen { IfOk result
-            (λ a. AreAccesses (versions_of self.new) (seen_in keys txn.now) a.seen.items) }
-        ensures keys { keys ≡ Sequential → IsTrue (is_ok txn.now) → IfOk result
-            (λ a. AreOfSameKeys a.seen.items (a.reads.items ++ a.writes.items)) }
+        ensures reads { OnOk result
+            (AreAccesses (versions_of self.new) (read_by txn.now) accessed.new.reads.items) }
+        ensures writes { OnOk result
+            (AreAccesses (versions_of self.new)
+            (map version_of (writes_of txn.now.mops)) accessed.new.writes.items) }
+        ensures seen { OnOk result
+            (AreAccesses (versions_of self.new) (seen_in keys txn.now) accessed.new.seen.items) }
+        ensures keys { keys ≡ Sequential → IsTrue (is_ok txn.now) → OnOk result
+            (AreOfSameKeys accessed.new.seen.items
+            (accessed.new.reads.items ++ accessed.new.writes.items)) }
     {
         let is_ok = txn.status() == Status::Ok;
         let keeps_seen = is_ok && keys == KeyOrder::Sequential;
-        let mut accessed = Accessed {
-            reads: SmallVec::new(self.alloc),
-            writes: SmallVec::new(self.alloc),
-            seen: SmallVec::new(self.alloc),
-        };
+        accessed.clear();
         for mop in txn.mops() {
             let is_write = mop.is_write();
             let is_known = is_ok || is_write;
             if is_known {
-                let access = self.access(mop.key(), mop.value())?;
+                let access = self.access(mop.key(), mop.value(), is_write)?;
                 accessed.add(access, is_write, keeps_seen)?;
             } else {
-                self.key(mop.key())?;
+                let key = self.key(mop.key())?;
+                self.nil(key)?;
             }
         }
-        Ok(accessed)
+        Ok(())
     }
 
     pub fn finish(self) -> Numbered<'a>

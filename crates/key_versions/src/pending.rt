@@ -94,14 +94,18 @@ pub(crate) struct Grouped {
 }
 
 impl Pending {
-    /// No version yet, with room for what n transactions mostly do: each writes a version, reads two and installs
-    /// two.
-    pub fn with_capacity(alloc: Global, transactions: usize) -> Result<Self, AllocError>
+    /// No version yet, with room for this many, and for what n transactions mostly do: each writes a version, reads two and
+    /// installs two.
+    pub fn with_capacity(
+        alloc: Global,
+        transactions: usize,
+        versions: usize,
+    ) -> Result<Self, AllocError>
         ensures { IfOk result (λ pending. pending ≡ []) }
     {
         let two_each = transactions.saturating_mul(2);
         Ok(Pending {
-            writers: Vec::with_capacity(alloc, transactions)?,
+            writers: Vec::with_capacity(alloc, transactions.max(versions))?,
             readers: Vec::with_capacity(alloc, two_each)?,
             followers: Vec::with_capacity(alloc, two_each)?,
         })

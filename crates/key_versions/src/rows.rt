@@ -98,14 +98,18 @@ pub(crate) struct Rows {
 }
 
 impl Rows {
-    /// No rows yet, with room for n transactions.
-    pub fn with_capacity(alloc: Global, transactions: usize) -> Result<Self, AllocError>
+    /// No rows yet, with room for this many transactions and versions.
+    pub fn with_capacity(
+        alloc: Global,
+        transactions: usize,
+        versions: usize,
+    ) -> Result<Self, AllocError>
         ensures rows { IfOk result (λ r. r.rows ≡ []) }
         ensures accesses { IfOk result (λ r. r.accesses ≡ []) }
     {
         Ok(Rows {
             alloc,
-            rows: Pending::with_capacity(alloc, transactions)?,
+            rows: Pending::with_capacity(alloc, transactions, versions)?,
             accesses: Accesses::with_capacity(alloc, transactions)?,
         })
     }

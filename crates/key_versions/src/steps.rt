@@ -3,6 +3,7 @@
 ghost use Rattle.std.specs.Prelude.{◌≡◌, ◌++◌, ◌&&◌, ◌==◌, if◌then◌else◌, ℕ, [], None, Some, fold, All, IfOk, OnOk};
 ghost use Rattle.flat_groups.specs.Groups.{IsNumbered, groups_from};
 ghost use Rattle.key_versions.specs.Rows.{lasts};
+ghost use Rattle.key_versions.specs.SeenKeys.{hashed_word, same_word};
 ghost use Rattle.key_versions.specs.Steps.{last_number, last_seen, seen_after, with_first, firsts, step_from, steps_to, AreApart, AreOfSameKeys};
 
 use crate::numbering::Accessed;
@@ -12,7 +13,7 @@ use flat_groups::groups::Groups;
 use indexmap::IndexMap;
 use smallvec::SmallVec;
 use std::alloc::{AllocError, Global};
-use std::hash::BuildHasher;
+use std::hash::{BuildHasher, Hash, Hasher};
 
 /// Adds an access, unless there is one to its key.
 fn meet(met: &mut SmallVec<Access, 4>, access: Access) -> Result<(), AllocError>
@@ -59,11 +60,30 @@ fn last_of(seen: &[Access], nil: u32) -> Option<u32>
     last
 }
 
+/// A key, by its nil version, as a process sees it.
+#[derive(Clone, Copy, Debug, PartialEq, Eq)]
+pub(crate) struct SeenKey {
+    pub process: u64,
+    pub nil: u32,
+}
+
+// One word is hashed, as that is faster than two. No two keys share it where processes are below 2^32.
+impl Hash for SeenKey {
+    ghost hash_input = { hashed_word };
+
+    ghost respects_eq = { same_word };
+
+    fn hash<H: Hasher>(&self, state: &mut H) {
+        let word = self.process.wrapping_mul(1 << 32);
+        state.write_u64(word.wrapping_add(u64::from(self.nil)));
+    }
+}
+
 /// The steps of processes from one version of a key to another, by number.
 pub(crate) struct Steps<S: BuildHasher> {
     alloc: Global,
-    /// The version that a process last read or wrote, by the process and the nil version of the key.
-    pub last: IndexMap<(u64, u32), u32, S>,
+    /// The version that a process last read or wrote.
+    pub last: IndexMap<SeenKey, u32, S>,
     /// The later and the earlier version of each step. Where processes take the same step, it is repeated.
     pub taken: Vec<(u32, u32)>,
 }
@@ -105,7 +125,8 @@ impl<S: BuildHasher> Steps<S> {
             ≡ (if (process == one) && (to.nil == nil)
             then Some last else last_seen self.old.last one nil)) }
     {
-        if let Some(from) = self.last.insert((process, to.nil), last)? {
+        let nil = to.nil;
+        if let Some(from) = self.last.insert(SeenKey { process, nil }, last)? {
             if to.version != from && to.version != to.nil {
                 self.taken.push((to.version, from))?;
             }

@@ -67,6 +67,7 @@ impl<'a> Atom<'a> {
     }
 
     /// The atom of a text that is known to be one. The text is not cut into tokens again.
+    #[inline(always)]
     pub fn of(text: &'a [u8]) -> Atom<'a>
         requires { (atom : AnAtom) × IsAtomText text.now atom }
         ensures { (atom : AnAtom) → IsAtomText text.now atom → result ≡ atom }
@@ -110,6 +111,7 @@ impl PartialEq for Atom<'_> {
 
     ghost laws = { partial_equiv_from_equiv atom_eq_equiv };
 
+    #[inline(always)]
     fn eq(&self, other: &Self) -> bool {
         match (self.spelling, other.spelling) {
             (Spelling::Integer(a), Spelling::Integer(b)) => a == b,

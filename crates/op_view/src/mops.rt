@@ -121,6 +121,7 @@ fn slice_at(text: &[u8], span: ShortSpan) -> &[u8]
 }
 
 /// The atom that the bytes are known to be.
+#[inline(always)]
 fn atom_of(bytes: &[u8]) -> Atom<'_>
     requires { IsAtom bytes.now }
     ensures { result ≡ atom_in bytes.now }
@@ -142,6 +143,7 @@ fn mop_at(text: &[u8], shape: ShortMop) -> Mop<'_>
 }
 
 /// Whether the bytes are the same atom. Equal bytes are, and only others are parsed.
+#[inline(always)]
 fn is_same_atom(a: &[u8], b: &[u8]) -> bool
     requires first { IsAtom a.now }
     requires second { IsAtom b.now }
@@ -151,6 +153,7 @@ fn is_same_atom(a: &[u8], b: &[u8]) -> bool
 }
 
 /// Whether the micro-operations in these places of their texts are the same, whatever a read returned.
+#[inline(always)]
 fn is_same_mop(text: &[u8], shape: ShortMop, other_text: &[u8], other: ShortMop) -> bool
     requires first { IsMopAt text.now shape }
     requires second { IsMopAt other_text.now other }

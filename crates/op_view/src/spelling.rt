@@ -52,6 +52,7 @@ fn string_spelling(text: &[u8]) -> Option<Spelling>
 }
 
 /// How a text that is one token of this kind spells an atom, if it does.
+#[inline(never)]
 pub(crate) fn spelling_of(kind: TokenKind, text: &[u8]) -> Option<Spelling>
     requires { IsTokenAlone (kind_of kind) text.now }
     ensures { IsSpellingOf (kind_of kind) text.now result }
@@ -65,12 +66,12 @@ pub(crate) fn spelling_of(kind: TokenKind, text: &[u8]) -> Option<Spelling>
     }
 }
 
-/// How a text that is known to be an atom spells it.
+/// How a text that is known to be an atom spells it. Most are integers of digits alone, as one pass over them shows.
+#[inline(always)]
 pub(crate) fn known_spelling(text: &[u8]) -> Spelling
     requires { (atom : AnAtom) × IsAtomText text.now atom }
     ensures { IsKnownSpelling text.now result }
 {
-    // Most integers are digits alone, as one pass over them shows.
     match number_of_digits(text) {
         Some(number) => Spelling::Integer(number),
         None => spelling_of(token_kind(text), text).unwrap(),

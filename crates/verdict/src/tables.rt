@@ -1,13 +1,17 @@
 //! What verdicts are made from.
 
 ghost use Rattle.std.specs.Prelude.{◌≡◌, IfOk, IfErr};
+ghost use Rattle.hist_types.specs.Journal.{written, KeepsRules};
 ghost use Rattle.hist_types.specs.Refusals.{memory_fault};
+ghost use Rattle.journal_core.specs.Writes.{AreSameWrites};
 ghost use Rattle.verdict.specs.Lowest.{AreTablesOf};
 
 use hist_types::types::{Fault, KeyOrder};
+use history_laws::versions_written_once;
 use journal_core::events::Events;
+use journal_core::written::Written;
 use key_versions::table::Versions;
-use key_versions::{versions, versions_wide};
+use key_versions::{versions, versions_of_written_wide};
 use std::alloc::Global;
 use std::hash::BuildHasher;
 use std::thread::Threads;
@@ -38,18 +42,22 @@ pub fn tables_of<'a, S: BuildHasher + Copy>(
     Ok(Tables { txns, versions })
 }
 
-/// As `tables_of`, with a few threads if others can be started.
-pub fn tables_of_wide<'a, R: Threads + Sync, S: BuildHasher + Copy>(
+/// As `tables_of`, of events of which it is known what they wrote, with a few threads if others can be started.
+pub fn tables_of_wide<'a, R: Threads + Sync>(
     rt: &R,
     alloc: Global,
     events: &Events<'a>,
-    hasher: S,
+    writes: Written<'a>,
     keys: KeyOrder,
 ) -> Result<Tables<'a>, Fault>
+    requires rules { KeepsRules events.now }
+    requires written { AreSameWrites writes.items (written events.now) }
     ensures ok { IfOk result (AreTablesOf keys events.now) }
     ensures err { IfErr result (λ fault. fault ≡ memory_fault) }
 {
+    // A law, called for its clause: the transactions write what the events do.
+    versions_written_once();
     let txns = pair(alloc, events)?;
-    let versions = versions_wide(rt, alloc, &txns, hasher, keys)?;
+    let versions = versions_of_written_wide(rt, alloc, &txns, writes, keys)?;
     Ok(Tables { txns, versions })
 }

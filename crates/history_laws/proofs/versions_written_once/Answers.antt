@@ -1,6 +1,9 @@
 use Rattle.history_laws.proofs.PrintedEdges.{one_installed}
-use Rattle.history_laws.proofs.WrittenOnce.{written_once, one_writer, installed_or_over, not_installed_over, nil_unwritten}
+use Rattle.history_laws.proofs.WrittenOnce.{all_written, written_once, one_writer, installed_or_over, not_installed_over, nil_unwritten}
 use Rattle.history_laws.proofs.versions_written_once.Goals as goal
+
+pub returns-clause-invoked : goal.returns-clause-invoked
+returns-clause-invoked c = all_written
 
 pub returns-clause-once : goal.returns-clause-once
 returns-clause-once c = written_once

@@ -6,14 +6,15 @@ use Rattle.key_versions.specs.Steps.{last_seen}
 use Rattle.key_versions.proofs.sequential.take_all.Goals as goal
 
 pub take-requires : goal.take-requires
-take-requires g c = (take c.loop-txn.txn-index c.args.txns.now, c.loop-txn.invariant.table_of)
+take-requires g c = (c.args.building.now.versions, take c.loop-txn.txn-index c.args.txns.now, c.loop-txn.invariant.table_of)
 
 pub loop-txn-preserved : goal.loop-txn-preserved
 loop-txn-preserved g c =
     let i = c.loop-txn.txn-index in
     let txns = c.args.txns.now in
     let t = c.txn-item.result in
+    let given = c.args.building.now.versions in
     let more : take (i + 1) txns ≡ take i txns ++ t ∷ [] =
     take_more txns i t c.loop-txn-test.true ∙ ap (λ (u : Transaction). take i txns ++ u ∷ []) (sym c.txn-item.is) in
-    subst (λ (ts : List Transaction). AreStepsOf ts c.take.new.building (last_seen c.take.new.steps.last) c.take.new.steps.taken.items) (sym more)
-    (c.in_ok-take.ensures (take i txns) c.loop-txn.invariant)
+    subst (λ (ts : List Transaction). AreStepsOf given ts c.take.new.building (last_seen c.take.new.steps.last) c.take.new.steps.taken.items) (sym more)
+    (c.in_ok-take.ensures given (take i txns) c.loop-txn.invariant)

@@ -5,4 +5,4 @@ use Rattle.key_versions.specs.Steps.{last_seen}
 use Rattle.key_versions.proofs.sequential.take_all.Given as goal
 
 abbrev pub invariant-loop-txn : goal.invariant-loop-txn
-invariant-loop-txn g l = AreStepsOf (take l.txn-index l.txns) l.building (last_seen l.steps.last) l.steps.taken.items
+invariant-loop-txn g l = AreStepsOf l.fn.building.versions (take l.txn-index l.txns) l.building (last_seen l.steps.last) l.steps.taken.items

@@ -1,15 +1,15 @@
-use Rattle.std.proofs.Common.{◌≡◌, ◌∙◌, ◌++◌, ◌∷◌, [], List, map, true, false, sym, ap, subst}
+use Rattle.std.proofs.Common.{◌≡◌, ◌∙◌, ◌++◌, ◌∷◌, [], List, None, map, true, false, sym, ap, subst}
 use Rattle.std.specs.Prelude.{◌||◌}
 use Rattle.std.proofs.lemmas.Bool.{or_right, true≢false}
 use Rattle.std.proofs.lemmas.List.{append_assoc}
 use Rattle.hist_types.specs.Operations.{Mop}
-use Rattle.hist_types.specs.Transactions.{version_eq}
+use Rattle.hist_types.specs.Transactions.{Version, version_eq}
 use Rattle.hist_types.specs.Versions.{nil_of, version_in}
 use Rattle.atom_index.specs.Numbers.{AreNumbered, with_item}
 use Rattle.edn_ops.specs.Shapes.{is_write}
 use Rattle.op_view.specs.Mops.{key_of}
-use Rattle.key_versions.specs.Numbering.{Numbers, versions_of}
-use Rattle.key_versions.proofs.Numbered.{numbers, numbered_versions}
+use Rattle.key_versions.specs.Numbering.{versions_of, version_with}
+use Rattle.key_versions.proofs.Numbered.{key_is}
 use Rattle.key_versions.proofs.Accessing.{accessed_by, taken_added, taken_unknown, accessed_stay, seen_added, seen_unknown}
 use Rattle.key_versions.proofs.Seen.{keys_added}
 use Rattle.key_versions.proofs.numbering.Numbering.take.Goals.{then-is_ok, else-is_ok, then-is_ok-2, else-is_ok-2}
@@ -17,9 +17,8 @@ use Rattle.key_versions.proofs.numbering.Numbering.take.Goals as goal
 
 pub loop-mop-preserved-in-Continue-branch-2 : goal.loop-mop-preserved-in-Continue-branch-2
 loop-mop-preserved-in-Continue-branch-2 g c =
-    let s = numbers c.self.inside.keys.items c.self.inside.values.items c.self.inside.pairs.items c.self.inside.nils.items in
     let base = versions_of c.args.self.now in
-    let numbered : AreNumbered version_eq base = subst (λ (n : Numbers). AreNumbered version_eq (versions_of n)) c.self.view_is (numbered_versions s c.self.invariant) in
+    let numbered : AreNumbered version_eq base = c.requires in
     let ms = c.loop-mop.yielded in
     let m = c.in-Some.mop in
     let vs = versions_of c.loop-mop.self in
@@ -45,9 +44,8 @@ loop-mop-preserved-in-Continue-branch-2 g c =
 
 pub loop-mop-preserved : goal.loop-mop-preserved
 loop-mop-preserved g c =
-    let s = numbers c.self.inside.keys.items c.self.inside.values.items c.self.inside.pairs.items c.self.inside.nils.items in
     let base = versions_of c.args.self.now in
-    let numbered : AreNumbered version_eq base = subst (λ (n : Numbers). AreNumbered version_eq (versions_of n)) c.self.view_is (numbered_versions s c.self.invariant) in
+    let numbered : AreNumbered version_eq base = c.requires in
     let ms = c.loop-mop.yielded in
     let m = c.in-Some.mop in
     let vs = versions_of c.loop-mop.self in
@@ -63,8 +61,12 @@ loop-mop-preserved g c =
       | then-is_ok w ↦ absurd (true≢false (sym w.if-is_ok.true ∙ parts.0))
       | else-is_ok w ↦ w.keeps_seen-is ∙ w.if-is_ok.false
     ] in
-    let us = versions_of c.key-else-is_known-2.new.self in
-    let grown : us ≡ with_item version_eq vs (nil_of (key_of m)) = c.in_ok-key.ensures.versions ∙ ap (λ k. with_item version_eq vs (nil_of k)) c.key-else-is_known.ensures in (
+    let key = c.key-else-is_known-2.new.self in
+    let us = versions_of c.nil.new.self in
+    let found = key_is key c.key-else-is_known.result c.in_ok-key.key c.in_ok-key.ensures.number ∙ c.key-else-is_known.ensures in
+    let grown : us ≡ with_item version_eq vs (nil_of (key_of m)) =
+    c.in_ok-nil.ensures.versions ∙ ap (λ k. with_item version_eq (versions_of key) (version_with k None)) found
+    ∙ ap (λ (xs : List Version). with_item version_eq xs (nil_of (key_of m))) c.in_ok-key.ensures.versions in (
       left,
       taken_unknown base numbered ok ms vs us ws rs m c.loop-mop.invariant.1 grown parts.1 parts.0,
       seen_unknown c.if-is_ok.keeps_seen vs us (map version_in ms) (map version_in (ms ++ m ∷ [])) c.loop-mop.accessed.seen.items forgotten c.loop-mop.invariant.2,
