@@ -9,7 +9,6 @@ use std::alloc::AllocError;
 use std::hash::BuildHasher;
 
 /// The number of the nil version of a key. Where it has none, it gets one.
-#[inline(always)]
 pub(crate) fn nil_number<S: BuildHasher>(
     pairs: &mut PairIndex<S>,
     nils: &mut Vec<Option<usize>>,

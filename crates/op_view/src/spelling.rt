@@ -52,7 +52,6 @@ fn string_spelling(text: &[u8]) -> Option<Spelling>
 }
 
 /// How a text that is one token of this kind spells an atom, if it does.
-#[inline(never)]
 pub(crate) fn spelling_of(kind: TokenKind, text: &[u8]) -> Option<Spelling>
     requires { IsTokenAlone (kind_of kind) text.now }
     ensures { IsSpellingOf (kind_of kind) text.now result }
@@ -74,6 +73,15 @@ pub(crate) fn known_spelling(text: &[u8]) -> Spelling
 {
     match number_of_digits(text) {
         Some(number) => Spelling::Integer(number),
-        None => spelling_of(token_kind(text), text).unwrap(),
+        None => any_known_spelling(text),
     }
+}
+
+/// The same, however it is spelled.
+#[inline(never)]
+fn any_known_spelling(text: &[u8]) -> Spelling
+    requires { (atom : AnAtom) × IsAtomText text.now atom }
+    ensures { IsKnownSpelling text.now result }
+{
+    spelling_of(token_kind(text), text).unwrap()
 }
