@@ -15,10 +15,7 @@ fn split_first(left: &[u8]) -> Option<(u8, &[u8])>
     ensures { MatchOption result (HasNoByte left.now) (λ x. BeginsWithByte left.now x.0 x.1.now) }
 {
     match left {
-        [b'\\', escape, behind @ ..] => {
-            let byte = escape_value(*escape)?;
-            Some((byte, behind))
-        }
+        [b'\\', escape, behind @ ..] => Some((escape_value(*escape)?, behind)),
         [b'\\'] | [] => None,
         [byte, behind @ ..] => Some((*byte, behind)),
     }

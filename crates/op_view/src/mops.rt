@@ -154,20 +154,16 @@ fn is_same_atom(a: &[u8], b: &[u8]) -> bool
 
 /// Whether the micro-operations in these places of their texts are the same, whatever a read returned.
 #[inline(always)]
-fn is_same_mop(text: &[u8], shape: ShortMop, other_text: &[u8], other: ShortMop) -> bool
-    requires first { IsMopAt text.now shape }
+fn is_same_mop(text: &[u8], mop: ShortMop, other_text: &[u8], other: ShortMop) -> bool
+    requires first { IsMopAt text.now mop }
     requires second { IsMopAt other_text.now other }
-    ensures { result ≡ same_mop (mop_of_text text.now shape) (mop_of_text other_text.now other) }
+    ensures { result ≡ same_mop (mop_of_text text.now mop) (mop_of_text other_text.now other) }
 {
-    let same_key = is_same_atom(slice_at(text, shape.key), slice_at(other_text, other.key));
-    match (shape.is_write, other.is_write) {
+    let same_key = is_same_atom(slice_at(text, mop.key), slice_at(other_text, other.key));
+    match (mop.is_write, other.is_write) {
         (false, false) => same_key,
         (true, true) => {
-            same_key
-                && is_same_atom(
-                    slice_at(text, shape.value),
-                    slice_at(other_text, other.value),
-                )
+            same_key && is_same_atom(slice_at(text, mop.value), slice_at(other_text, other.value))
         }
         _ => false,
     }
