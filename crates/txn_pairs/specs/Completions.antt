@@ -8,6 +8,7 @@ use Rattle.op_view.specs.Mops.{key_of}
 use Rattle.hist_types.specs.Journal.{writes_of}
 use Rattle.hist_types.specs.Transactions.{Transaction, Open}
 
+-- the later transaction is the first one, completed
 pub record Completes (t later : Transaction) : Type 0 where
   pub unended : t.status ≡ Open
   pub process : later.process ≡ t.process

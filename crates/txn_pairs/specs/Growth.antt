@@ -18,13 +18,15 @@ TakesEvent index event before after =
     → after ≡ transactions_of (events ++ event ∷ [])
 
 -- the event begins the transaction at the place
-pub record BeginsOne (index : ℕ) (event : Operation) (place : Option ℕ) (before after : List Transaction) : Type 0 where
+pub record BeginsOne (index : ℕ) (event : Operation) (place : Option ℕ)
+    (before after : List Transaction) : Type 0 where
   pub last : place ≡ Some (length before)
   pub listed : after ≡ before ++ transaction_by index event None ∷ []
 
 -- The event completes the transaction at the place. If the journal takes the event after those
 -- that the transactions are of, the keys and the writes stay.
-pub record CompletesOne (index : ℕ) (event : Operation) (place : ℕ) (before after : List Transaction) : Type 0 where
+pub record CompletesOne (index : ℕ) (event : Operation) (place : ℕ)
+    (before after : List Transaction) : Type 0 where
   pub was : Transaction
   pub there : slice_get before place ≡ Some was
   pub process : was.process ≡ event.process
