@@ -252,3 +252,10 @@ pub completed_at-set :
 completed_at-set [] place j e t there = cc
 completed_at-set (u ∷ us) zero j e t there = ap (λ v. completed v j e ∷ us) (same_Some u t there)
 completed_at-set (u ∷ us) (suc place) j e t there = ap (λ vs. u ∷ vs) (completed_at-set us place j e t there)
+
+-- A completion adds no transaction.
+pub length-completed_at :
+    (place j : ℕ) (e : Operation) (ts : List Transaction) → length (completed_at place j e ts) ≡ length ts
+length-completed_at place j e [] = refl
+length-completed_at zero j e (t ∷ ts) = refl
+length-completed_at (suc place) j e (t ∷ ts) = ap suc (length-completed_at place j e ts)

@@ -1,6 +1,6 @@
 //! Invocations and their completions, found event by event.
 
-ghost use Rattle.std.specs.Prelude.{◌≡◌, ◌<◌, [], true, Some, IfOk, OnOk, OnErr};
+ghost use Rattle.std.specs.Prelude.{◌≡◌, ◌<◌, [], length, true, Some, IfSome, IfOk, OnOk, OnErr};
 ghost use Rattle.hist_types.specs.Journal.{is_invoke};
 ghost use Rattle.hist_types.specs.declared.limits.TheConstants.{MAX_EVENTS};
 ghost use Rattle.txn_pairs.specs.Endings.{outcome_by};
@@ -76,6 +76,7 @@ impl<'a> Pairing<'a> {
         requires { index < MAX_EVENTS }
         ensures ok { OnOk result (TakesEvent index op.entry self.old self.new) }
         ensures place { IfOk result (λ place. IsChange index op.entry place self.old self.new) }
+        ensures within { IfOk result (λ place. IfSome place (λ p. p < length self.new)) }
         ensures err { OnErr result (self.new ≡ self.old) }
     {
         match outcome_of(op.kind()) {
@@ -90,6 +91,7 @@ impl<'a> Pairing<'a> {
         requires invoke { is_invoke op.kind ≡ true }
         ensures ok { OnOk result (TakesEvent index op.entry self.old self.new) }
         ensures place { IfOk result (λ place. BeginsOne index op.entry (Some place) self.old self.new) }
+        ensures within { IfOk result (λ place. place < length self.new) }
         ensures err { OnErr result (self.new ≡ self.old) }
     {
         let txns = &mut self.txns;
@@ -106,6 +108,7 @@ impl<'a> Pairing<'a> {
         requires outcome { outcome_by op.kind ≡ Some outcome }
         ensures takes { TakesEvent index op.entry self.old self.new }
         ensures place { CompletesIfOpen index op.entry result self.old self.new }
+        ensures within { IfSome result (λ place. place < length self.new) }
     {
         let place = self.places.remove(op.process().number())?;
         self.txns.complete(place, index, outcome, op);

@@ -1,9 +1,9 @@
-use Rattle.std.proofs.Common.{◌≡◌, Some, ◌∙◌, ap, sym}
+use Rattle.std.proofs.Common.{◌≡◌, ◌<◌, Some, length, ◌∙◌, ap, subst, sym}
 use Rattle.process_map.specs.Values.{value_of}
 use Rattle.txn_pairs.specs.Places.{open_place, with_completed}
 use Rattle.txn_pairs.proofs.Completions.{completes_one}
 use Rattle.txn_pairs.proofs.Growth.{takes_completion, completed_places, place_found, outcome_completes}
-use Rattle.txn_pairs.proofs.Places.{open_place-within}
+use Rattle.txn_pairs.proofs.Places.{open_place-within, length-completed_at}
 use Rattle.txn_pairs.proofs.pairing.Pairing.complete.Goals as goal
 use Rattle.txn_pairs.proofs.pairing.Pairing.complete.Goals.{In_ok-place}
 
@@ -31,6 +31,11 @@ pub returns-clause-place : goal.returns-clause-place
 returns-clause-place c =
     completes_one c.args.index c.in_ok-place.place c.args.op c.args.self.now _ (outcome_completes _ _ c.requires.outcome)
     (found (goal.at.returns-clause-place c).In_ok-place ∙ ap (open_place c.args.op.process) c.self.view_is) (c.complete.ensures ∙ ap (λ ts. with_completed (Some c.in_ok-place.place) c.args.index c.args.op ts) c.self.view_is)
+
+pub returns-clause-within : goal.returns-clause-within
+returns-clause-within c =
+    subst (λ n. c.in_ok-place.place < n) (sym (ap length c.complete.ensures ∙ length-completed_at c.in_ok-place.place c.args.index c.args.op c.self.inside.txns))
+    (open_place-within c.args.op.process c.self.inside.txns c.in_ok-place.place (sym (found (goal.at.returns-clause-within c).In_ok-place)))
 
 pub returns-in_err-place-clause-takes : goal.returns-in_err-place-clause-takes
 returns-in_err-place-clause-takes c events at is =
