@@ -1,5 +1,5 @@
 -- The transactions of events and one more, by those of the events.
-use Rattle.std.proofs.Common.{◌≡◌, ℕ, suc, ◌+◌, List, [], ◌∷◌, ◌++◌, length, Bool, true, false, not, ◌&&◌, ◌||◌, ◌==◌, cond, Option, Some, None, option_map, refl, sym, ap, ◌∙◌, arith, add-zero, zero-add, set, get_or}
+use Rattle.std.proofs.Common.{◌≡◌, ℕ, suc, ◌+◌, List, [], ◌∷◌, ◌++◌, length, Bool, true, false, not, ◌&&◌, ◌||◌, ◌==◌, cond, Option, Some, None, option_map, refl, sym, ap, ◌∙◌, arith, add-zero, zero-add}
 use Rattle.std.proofs.lemmas.Bool.{eqb-true, eqb-false, eq-eqb, ne_eqb, or_parts}
 use Rattle.hist_types.specs.Journal.{is_invoke}
 use Rattle.hist_types.specs.Operations.{Operation}
@@ -10,21 +10,21 @@ use Rattle.hist_types.specs.declared.types.Outcome.{Outcome}
 use Rattle.txn_pairs.specs.Endings.{outcome_by}
 use Rattle.txn_pairs.specs.Growth.{TakesEvent}
 use Rattle.txn_pairs.specs.Places.{is_open, has_process, open_place, completed, with_completed}
-use Rattle.txn_pairs.proofs.Places.{cond-same, status_by-open, open_place-unseen, with_completed-behind, open_place-more, open_place-completed, open_place-within, completed_at-set}
+use Rattle.txn_pairs.proofs.Places.{cond-same, status_by-open, open_place-unseen, with_completed-behind, open_place-more, open_place-completed}
 
 -- an event and its index
 abbrev indexed : ℕ → Operation → Indexed
 indexed index event = record { index = index; event = event }
 
 -- whether an event is of the process
-abbrev is_seen : ℕ → List Operation → Bool
+abbrev pub is_seen : ℕ → List Operation → Bool
 is_seen process [] = false
 is_seen process (event ∷ events) = (event.process == process) || is_seen process events
 
 -- ---- completions
 
 -- A process without an event has no completion.
-completion-unseen : (p index : ℕ) (es : List Operation) → is_seen p es ≡ false → completion_in p index es ≡ None
+pub completion-unseen : (p index : ℕ) (es : List Operation) → is_seen p es ≡ false → completion_in p index es ≡ None
 completion-unseen p index [] unseen = refl
 completion-unseen p index (e ∷ es) unseen =
     let parts = or_parts (e.process == p) (is_seen p es) unseen in
@@ -132,7 +132,7 @@ completed-first index j x e es at completes false is_same seen is_seen_after =
     ∙ completion-seen x.process (index + 1) es (is_seen x.process es) refl)
 
 -- A transaction is of its invocation's process.
-process_by : (index : ℕ) (x : Operation) (c : Option Indexed) → (transaction_by index x c).process ≡ x.process
+pub process_by : (index : ℕ) (x : Operation) (c : Option Indexed) → (transaction_by index x c).process ≡ x.process
 process_by index x None = refl
 process_by index x (Some c) = refl
 
@@ -192,7 +192,7 @@ closed_by index i p x e rest false true seen has is some none behind = behind so
 closed_by index i p x e rest false false seen has is some none behind = behind some none
 
 -- A transaction is completed where events of its process follow, and no invocation.
-closed-seen :
+pub closed-seen :
     (index i p : ℕ) (x : Operation) (es : List Operation) → is_seen p es ≡ true
     → has_process p (transactions_from i es) ≡ false
     → is_open (transaction_by index x (completion_in p i es)) ≡ false
@@ -359,12 +359,3 @@ pub place_found :
     (ts : List Transaction) (places : ℕ → Option ℕ) (e : Operation) (process : ℕ) (place : Option ℕ)
     → AreOpenPlaces places ts → process ≡ e.process → place ≡ places process → place ≡ open_place e.process ts
 place_found ts places e process place held is found = found ∙ held process ∙ ap (λ r. open_place r ts) is
-
--- The completed transaction is written at the place.
-pub completed_there :
-    (ts : List Transaction) (e : Operation) (index place : ℕ) (t d : Transaction)
-    → Some place ≡ open_place e.process ts → t ≡ completed (get_or ts place d) index e
-    → set ts place t ≡ with_completed (open_place e.process ts) index e ts
-completed_there ts e index place t d found is =
-    completed_at-set ts place index e t d (open_place-within e.process ts place (sym found)) is
-    ∙ ap (λ o. with_completed o index e ts) found

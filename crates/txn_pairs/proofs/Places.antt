@@ -1,10 +1,10 @@
 -- The place of a process's open transaction, as transactions begin and complete.
-use Rattle.std.proofs.Common.{◌≡◌, ℕ, zero, suc, ◌<◌, List, [], ◌∷◌, ◌++◌, length, Bool, true, false, ◌&&◌, ◌||◌, ◌==◌, cond, Option, Some, None, option_map, refl, sym, ap, ◌∙◌, arith, set, get_or}
-use Rattle.std.specs.Option.{unwrap_or}
+use Rattle.std.proofs.Common.{◌≡◌, ◌⊎◌, inl, inr, ℕ, zero, suc, ◌<◌, List, [], ◌∷◌, ◌++◌, length, slice_get, Bool, true, false, ◌&&◌, ◌||◌, ◌==◌, cond, Option, Some, None, option_map, refl, sym, ap, ◌∙◌, set}
 use Rattle.std.proofs.lemmas.Bool.{eqb-true, or_parts}
+use Rattle.std.proofs.lemmas.Option.{same_Some, slice_get_within}
 use Rattle.hist_types.specs.Journal.{is_invoke}
 use Rattle.hist_types.specs.Operations.{Operation}
-use Rattle.hist_types.specs.Transactions.{Transaction, status_by}
+use Rattle.hist_types.specs.Transactions.{Transaction, Status, Open, status_by}
 use Rattle.hist_types.specs.declared.types.OpKind.{OpKind}
 use Rattle.hist_types.specs.declared.types.OpKind.TheVariants as kinds
 use Rattle.txn_pairs.specs.Places.{is_open, is_open_status, has_process, open_place, completed, completed_at, with_completed}
@@ -201,27 +201,61 @@ open_place-completed p q j e (t ∷ ts) completes =
 
 -- ---- places in the list
 
-within_behind :
-    (has first : Bool) (place : Option ℕ) (n k : ℕ) → ((i : ℕ) → place ≡ Some i → i < n)
-    → cond has (option_map suc place) (cond first (Some 0) None) ≡ Some k → k < suc n
-within_behind true first None n k within is = cc
-within_behind true first (Some i) n k within is =
-    let at : suc i ≡ k = ap (λ o. unwrap_or o 0) is in omega (arith, within i refl)
-within_behind false true place n k within is = let at : 0 ≡ k = ap (λ o. unwrap_or o 0) is in omega arith
-within_behind false false place n k within is = cc
+-- where the last transaction of the process `p` is, if that is open: behind the first one, or the first one
+abbrev LaterOrFirst : (p : ℕ) → Transaction → List Transaction → (k : ℕ) → Type 0
+LaterOrFirst p t ts k =
+    ((j : ℕ) × (open_place p ts ≡ Some j) × (k ≡ suc j))
+    ⊎ ((has_process p ts ≡ false) × (t.process ≡ p) × (is_open t ≡ true) × (k ≡ 0))
+
+later_or_first :
+    (p : ℕ) (t : Transaction) (ts : List Transaction) (k : ℕ) (has mine unended : Bool) (place : Option ℕ)
+    → has_process p ts ≡ has → (t.process == p) ≡ mine → is_open t ≡ unended → open_place p ts ≡ place
+    → cond has (option_map suc place) (cond (mine && unended) (Some 0) None) ≡ Some k → LaterOrFirst p t ts k
+later_or_first p t ts k true mine unended None has same status at is = cc
+later_or_first p t ts k true mine unended (Some j) has same status at is = inl (j, at, sym (same_Some (suc j) k is))
+later_or_first p t ts k false true true place has same status at is =
+    inr (has, eqb-true t.process p same, status, sym (same_Some 0 k is))
+later_or_first p t ts k false true false place has same status at is = cc
+later_or_first p t ts k false false unended place has same status at is = cc
+
+pub open_place-front :
+    (p : ℕ) (t : Transaction) (ts : List Transaction) (k : ℕ) → open_place p (t ∷ ts) ≡ Some k
+    → LaterOrFirst p t ts k
+open_place-front p t ts k is =
+    later_or_first p t ts k (has_process p ts) (t.process == p) (is_open t) (open_place p ts) refl refl refl refl is
+
+open_status : (status : Status) → is_open_status status ≡ true → status ≡ Open
+open_status Open is = refl
+open_status status is = cc
 
 -- An open transaction is one of the list.
+pub open_place-there :
+    (p : ℕ) (ts : List Transaction) (k : ℕ) → open_place p ts ≡ Some k
+    → (t : Transaction) × (slice_get ts k ≡ Some t) × (t.process ≡ p) × (t.status ≡ Open)
+open_place-there p [] k is = cc
+open_place-there p (u ∷ us) k is = elim (open_place-front p u us k is) [
+  | inl later ↦
+      let (t, there, own, unended) = open_place-there p us later.0 later.1 in
+      (t, ap (slice_get (u ∷ us)) later.2 ∙ there, own, unended)
+  | inr here ↦ (u, ap (slice_get (u ∷ us)) here.3, here.1, open_status u.status here.2)
+]
+
 pub open_place-within : (p : ℕ) (ts : List Transaction) (k : ℕ) → open_place p ts ≡ Some k → k < length ts
-open_place-within p [] k is = cc
-open_place-within p (t ∷ ts) k is =
-    within_behind (has_process p ts) ((t.process == p) && is_open t) (open_place p ts) (length ts) k
-    (open_place-within p ts) is
+open_place-within p ts k is =
+    let (t, there, own, unended) = open_place-there p ts k is in
+    slice_get_within ts k t there
 
 -- A write of the completed transaction at its place.
 pub completed_at-set :
-    (ts : List Transaction) (place j : ℕ) (e : Operation) (t d : Transaction) → place < length ts
-    → t ≡ completed (get_or ts place d) j e → set ts place t ≡ completed_at place j e ts
-completed_at-set [] place j e t d within is = absurd (omega arith)
-completed_at-set (u ∷ us) zero j e t d within is = ap (λ v. v ∷ us) is
-completed_at-set (u ∷ us) (suc place) j e t d within is =
-    ap (λ vs. u ∷ vs) (completed_at-set us place j e t d (omega arith) is)
+    (ts : List Transaction) (place j : ℕ) (e : Operation) (t : Transaction) → slice_get ts place ≡ Some t
+    → completed_at place j e ts ≡ set ts place (completed t j e)
+completed_at-set [] place j e t there = cc
+completed_at-set (u ∷ us) zero j e t there = ap (λ v. completed v j e ∷ us) (same_Some u t there)
+completed_at-set (u ∷ us) (suc place) j e t there = ap (λ vs. u ∷ vs) (completed_at-set us place j e t there)
+
+-- A completion adds no transaction.
+pub length-completed_at :
+    (place j : ℕ) (e : Operation) (ts : List Transaction) → length (completed_at place j e ts) ≡ length ts
+length-completed_at place j e [] = refl
+length-completed_at zero j e (t ∷ ts) = refl
+length-completed_at (suc place) j e (t ∷ ts) = ap suc (length-completed_at place j e ts)

@@ -1,4 +1,5 @@
 pub mod Statuses
 pub mod Endings
 pub mod Places
+pub mod Completions
 pub mod Growth

@@ -1,10 +1,10 @@
 //! Invocations and their completions, found event by event.
 
-ghost use Rattle.std.specs.Prelude.{◌≡◌, ◌<◌, [], true, Some, OnOk, OnErr};
+ghost use Rattle.std.specs.Prelude.{◌≡◌, ◌<◌, [], length, true, Some, IfSome, IfOk, OnOk, OnErr};
 ghost use Rattle.hist_types.specs.Journal.{is_invoke};
 ghost use Rattle.hist_types.specs.declared.limits.TheConstants.{MAX_EVENTS};
 ghost use Rattle.txn_pairs.specs.Endings.{outcome_by};
-ghost use Rattle.txn_pairs.specs.Growth.{TakesEvent};
+ghost use Rattle.txn_pairs.specs.Growth.{TakesEvent, BeginsOne, CompletesIfOpen, IsChange};
 
 use crate::types::{Txn, Txns};
 use hist_types::types::{OpKind, Outcome};
@@ -16,8 +16,8 @@ use std::marker::Model;
 /// The transactions of the events so far. It takes one event after the other, each by one look-up of its process.
 #[derive(Drop)]
 pub struct Pairing<'a> {
-    list: Vec<Txn<'a>>,
-    /// The place in the list of each process's open transaction.
+    txns: Txns<'a>,
+    /// The place of each process's open transaction.
     places: ProcessMap<usize>,
 }
 
@@ -33,10 +33,10 @@ impl<'a> Model for Pairing<'a> {
 
     ghost coded = { coded_list coded_transaction };
 
-    ghost view = { λ pairing. pairing.list.items };
+    ghost view = { λ pairing. pairing.txns };
 
     ghost invariant = { λ pairing.
-        (p : ℕ) → value_of pairing.places p ≡ open_place p pairing.list.items };
+        (p : ℕ) → value_of pairing.places p ≡ open_place p pairing.txns };
 }
 
 /// How an event of this kind completes a transaction; none where it begins one.
@@ -57,7 +57,7 @@ impl<'a> Pairing<'a> {
         ensures { result ≡ [] }
     {
         Pairing {
-            list: Vec::new(alloc),
+            txns: Txns::new(alloc),
             places: ProcessMap::new(alloc),
         }
     }
@@ -66,53 +66,66 @@ impl<'a> Pairing<'a> {
     pub fn reserve(&mut self, transactions: usize) -> Result<(), AllocError>
         ensures { self.new ≡ self.old }
     {
-        self.list.try_reserve(transactions)
+        self.txns.reserve(transactions)
     }
 
-    /// Takes the event with this index, which comes after all that were taken. Out of memory leaves the state as it was.
-    pub fn take(&mut self, index: u64, op: OpView<'a>) -> Result<(), AllocError>
+    /// Takes the event with this index, which comes after all that were taken, and returns the place of the transaction that it
+    /// begins or completes. A completion of a process with no open transaction changes nothing. Out of memory leaves the state as
+    /// it was.
+    pub fn take(&mut self, index: u64, op: OpView<'a>) -> Result<Option<usize>, AllocError>
         requires { index < MAX_EVENTS }
         ensures ok { OnOk result (TakesEvent index op.entry self.old self.new) }
+        ensures place { IfOk result (λ place. IsChange index op.entry place self.old self.new) }
+        ensures within { IfOk result (λ place. IfSome place (λ p. p < length self.new)) }
         ensures err { OnErr result (self.new ≡ self.old) }
     {
         match outcome_of(op.kind()) {
-            None => self.begin(index, op),
-            Some(outcome) => {
-                self.complete(index, outcome, op);
-                Ok(())
-            }
+            None => Ok(Some(self.begin(index, op)?)),
+            Some(outcome) => Ok(self.complete(index, outcome, op)),
         }
     }
 
-    /// Takes an invocation.
-    fn begin(&mut self, index: u64, op: OpView<'a>) -> Result<(), AllocError>
+    /// Takes an invocation, and returns the place of its transaction.
+    fn begin(&mut self, index: u64, op: OpView<'a>) -> Result<usize, AllocError>
         requires index { index < MAX_EVENTS }
         requires invoke { is_invoke op.kind ≡ true }
         ensures ok { OnOk result (TakesEvent index op.entry self.old self.new) }
+        ensures place { IfOk result (λ place. BeginsOne index op.entry (Some place) self.old self.new) }
+        ensures within { IfOk result (λ place. place < length self.new) }
         ensures err { OnErr result (self.new ≡ self.old) }
     {
-        let place = self.list.len();
-        self.list.try_reserve(1)?;
+        let txns = &mut self.txns;
+        let place = txns.list.len();
+        txns.list.try_reserve(1)?;
         self.places.insert(op.process().number(), place)?;
-        self.list.push_reserved(Txn::open(index, op));
-        Ok(())
+        txns.list.push_reserved(Txn::open(index, op));
+        Ok(place)
     }
 
-    /// Takes a completion, which counts where its process has an open transaction.
-    fn complete(&mut self, index: u64, outcome: Outcome, op: OpView<'a>)
+    /// Takes a completion, and returns the place of the transaction that it completes, if its process has one open.
+    fn complete(&mut self, index: u64, outcome: Outcome, op: OpView<'a>) -> Option<usize>
         requires index { index < MAX_EVENTS }
         requires outcome { outcome_by op.kind ≡ Some outcome }
-        ensures { TakesEvent index op.entry self.old self.new }
+        ensures takes { TakesEvent index op.entry self.old self.new }
+        ensures place { CompletesIfOpen index op.entry result self.old self.new }
+        ensures within { IfSome result (λ place. place < length self.new) }
     {
-        if let Some(place) = self.places.remove(op.process().number()) {
-            self.list[place].complete(index, outcome, op);
-        }
+        let place = self.places.remove(op.process().number())?;
+        self.txns.complete(place, index, outcome, op);
+        Some(place)
     }
 
     /// The transactions of the events so far.
+    pub fn txns(&self) -> &Txns<'a>
+        ensures { result.now ≡ self.now }
+    {
+        &self.txns
+    }
+
+    /// The transactions, when no more events come.
     pub fn transactions(self) -> Txns<'a>
         ensures { result ≡ self.entry }
     {
-        Txns::new(self.list)
+        self.txns
     }
 }

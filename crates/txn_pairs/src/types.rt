@@ -1,15 +1,16 @@
 //! Transactions, whose micro-operations stay in the journal's blocks.
 
-ghost use Rattle.std.specs.Prelude.{◌≡◌, ◌<◌, Some, None};
+ghost use Rattle.std.specs.Prelude.{◌≡◌, ◌<◌, [], length, Some, None};
 ghost use Rattle.hist_types.specs.Transactions.{transaction_by};
 ghost use Rattle.hist_types.specs.declared.limits.TheConstants.{MAX_EVENTS};
 ghost use Rattle.txn_pairs.specs.Endings.{outcome_by};
-ghost use Rattle.txn_pairs.specs.Places.{completed};
+ghost use Rattle.txn_pairs.specs.Places.{completed, completed_at};
 ghost use Rattle.txn_pairs.specs.Statuses.{status_of};
 
 use hist_types::types::Outcome;
 use op_view::mops::Mops;
 use op_view::op::OpView;
+use std::alloc::{AllocError, Global};
 use std::marker::Model;
 
 /// How a transaction ended, as far as the journal says.
@@ -138,7 +139,7 @@ impl<'a> Txn<'a> {
 /// The transactions of a journal, in the order of their invocations.
 #[derive(Drop)]
 pub struct Txns<'a> {
-    list: Vec<Txn<'a>>,
+    pub(crate) list: Vec<Txn<'a>>,
 }
 
 impl<'a> Model for Txns<'a> {
@@ -155,10 +156,29 @@ impl<'a> Model for Txns<'a> {
 }
 
 impl<'a> Txns<'a> {
-    pub(crate) fn new(list: Vec<Txn<'a>>) -> Self
-        ensures { result ≡ list.entry.items }
+    pub(crate) fn new(alloc: Global) -> Self
+        ensures { result ≡ [] }
     {
-        Txns { list }
+        Txns {
+            list: Vec::new(alloc),
+        }
+    }
+
+    /// Makes room for n more. It changes nothing else.
+    pub(crate) fn reserve(&mut self, transactions: usize) -> Result<(), AllocError>
+        ensures { self.new ≡ self.old }
+    {
+        self.list.try_reserve(transactions)
+    }
+
+    /// Completes the transaction at this place, which is open, by an event with this index.
+    pub(crate) fn complete(&mut self, place: usize, index: u64, outcome: Outcome, op: OpView<'a>)
+        requires place { place < length self.old }
+        requires index { index < MAX_EVENTS }
+        requires outcome { outcome_by op.kind ≡ Some outcome }
+        ensures { self.new ≡ completed_at place index op.entry self.old }
+    {
+        self.list[place].complete(index, outcome, op);
     }
 
     pub fn as_slice(&self) -> &[Txn<'a>]
