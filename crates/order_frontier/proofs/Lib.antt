@@ -12,3 +12,5 @@ pub mod Passes
 pub mod AllPairs
 pub mod Ranges
 pub mod Grouped
+pub mod Settled
+pub mod Thinnings

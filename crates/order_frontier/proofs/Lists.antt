@@ -1,5 +1,5 @@
--- Lists that are filtered and searched.
-use Rattle.std.proofs.Common.{◌≡◌, Bool, true, false, cond, List, [], ◌∷◌, filter, sym, subst, ◌∙◌}
+-- Lists that are filtered and searched; errors.
+use Rattle.std.proofs.Common.{◌≡◌, Bool, true, false, cond, List, [], ◌∷◌, filter, Result, Ok, Err, OnOk, OnErr, sym, subst, ◌∙◌}
 use Rattle.std.specs.List.{list_any}
 use Rattle.std.specs.List.Retain.{RetainsInTurn}
 use Rattle.std.proofs.lemmas.Bool.{false≢true, false_from_ne_true}
@@ -24,3 +24,17 @@ none_from p xs none = false_from_ne_true (list_any p xs) (λ h. let found = some
 
 pub none_to : {X : Type 0} (p : X → Bool) (xs : List X) → list_any p xs ≡ false → (x : X) → In x xs → p x ≡ true → ⊥
 none_to p xs none x i passes = false≢true (sym none ∙ any_passes p x xs i passes)
+
+-- what holds holds on an error
+pub on_err : {T E P : Type 0} (r : Result T E) → P → OnErr r P
+on_err (Ok x) holds = tt
+on_err (Err e) holds = holds
+
+-- what follows from two clauses on a result
+pub on_errs : {T E P Q R : Type 0} (r : Result T E) → (P → Q → R) → OnErr r P → OnErr r Q → OnErr r R
+on_errs (Ok x) follows p q = tt
+on_errs (Err e) follows p q = follows p q
+
+pub on_oks : {T E P Q R : Type 0} (r : Result T E) → (P → Q → R) → OnOk r P → OnOk r Q → OnOk r R
+on_oks (Ok x) follows p q = follows p q
+on_oks (Err e) follows p q = tt

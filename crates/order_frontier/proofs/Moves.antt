@@ -10,11 +10,11 @@ use Rattle.order_frontier.specs.declared.types.Completed.{Completed}
 use Rattle.order_frontier.specs.Completions.{AreKept}
 use Rattle.order_frontier.specs.Events.{State, done_by, after, state_of, event_of, IsStateOf}
 use Rattle.order_frontier.specs.Predecessors.{Before, HasThinned, NoPredecessorTwice}
-use Rattle.order_frontier.proofs.Kept.{kept-more, rising_strict}
+use Rattle.order_frontier.proofs.Kept.{kept-more}
 use Rattle.order_frontier.proofs.Apart.{apart_strict, none_twice}
-use Rattle.order_frontier.proofs.Seen.{AreSeen, has_thinned}
+use Rattle.order_frontier.proofs.Seen.{has_thinned}
 use Rattle.order_frontier.proofs.Timed.{timed, in-last}
-use Rattle.order_frontier.proofs.States.{state-good, state-index, state-more, state-sound, state-complete}
+use Rattle.order_frontier.proofs.States.{state-good, state-index, state-more, state-sound, state-begun}
 
 module _ (es : List Operation) (process : ℕ) (mops : List Mop) (opened : ℕ → Option ℕ) (recent : List Predecessor) (last : ℕ → Option Predecessor) (is : IsStateOf es opened recent last) where
   -- an invocation
@@ -28,20 +28,6 @@ module _ (es : List Operation) (process : ℕ) (mops : List Mop) (opened : ℕ �
     kept = subst (λ (s : State). AreKept s.done recent last) (sym (state-more es (event_of kinds.Invoke process mops))) is.kept;
   }
 
-  seen_invoked : AreSeen (transactions_of (es ++ event_of kinds.Invoke process mops ∷ [])) (length es) (state_of es).done
-  seen_invoked =
-      let e = event_of kinds.Invoke process mops in
-      let same : (state_of (es ++ e ∷ [])).done ≡ (state_of es).done = ap (λ (s : State). s.done) (state-more es e) in
-      record {
-        sound = λ d i.
-            let from = state-sound (es ++ e ∷ []) d (subst (In d) (sym same) i) in
-            let span = ((state-good es).spans d i).1 in
-            let at = state-index es in
-            (from.0, from.1, from.2, omega (arith, span, at));
-        complete = λ t d i done below. subst (In d) same (state-complete (es ++ e ∷ []) t d i done);
-        rising = rising_strict (state_of es).done (state-good es).strict;
-      }
-
   pub thinned-invoke : (before : Before)
       → before ≡ record { process = process; invocation = length es; in_process = option_to_list (last process); in_realtime = recent }
       → HasThinned (transactions_of (es ++ event_of kinds.Invoke process mops ∷ [])) before
@@ -49,7 +35,7 @@ module _ (es : List Operation) (process : ℕ) (mops : List Mop) (opened : ℕ �
       let e = event_of kinds.Invoke process mops in
       let u = transaction_by (length es) e None in
       let member : In u (transactions_of (es ++ e ∷ [])) = subst (λ n. In (transaction_by n e None) (transactions_of (es ++ e ∷ []))) (zero-add (length es)) (in-last 0 es e refl) in
-      has_thinned (transactions_of (es ++ e ∷ [])) u (state_of es).done recent last before (timed (es ++ e ∷ [])) member seen_invoked is.kept same
+      has_thinned (transactions_of (es ++ e ∷ [])) u (state_of es).done recent last before (timed (es ++ e ∷ [])) member (state-begun es (e ∷ [])) is.kept same
 
   pub once-invoke : (before : Before)
       → before ≡ record { process = process; invocation = length es; in_process = option_to_list (last process); in_realtime = recent }

@@ -13,6 +13,8 @@ use Rattle.order_frontier.specs.declared.types.Predecessor.{Predecessor}
 use Rattle.order_frontier.specs.declared.types.Completed.{Completed}
 use Rattle.order_frontier.specs.Completions.{all_completed, AreKept, AreRising, AreTimely}
 use Rattle.order_frontier.specs.Predecessors.{Before, edges_to, edges_of, HasThinned, HasEdges, NoPredecessorTwice, name_of, names}
+use Rattle.order_frontier.specs.Thinnings.{Thinned, IsThinningOf}
+use Rattle.process_map.specs.Values.{value_of}
 use Rattle.order_frontier.proofs.Kept.{all_in}
 use Rattle.order_frontier.proofs.Seen.{AreSeen, has_thinned}
 use Rattle.order_frontier.proofs.Timed.{timed}
@@ -160,6 +162,20 @@ module _ (es : List Operation) (done : List Completed) (are : AreAll (transactio
             ∙ sym (ap (map name_of) (take_more ts k u within ∙ ap (λ x. take k ts ++ x ∷ []) is) ∙ map-append name_of (take k ts) (u ∷ []));
       }
 
+-- before the first transaction
+pub part-first : (ts : List Transaction) (done : List Completed) (s : Thinned) → IsThinningOf [] s → IsPart ts done 0 0 s.recent (value_of s.last) s.order
+part-first ts done s is = record {
+  within = omega arith;
+  kept = is.kept;
+  below = λ d i. elim i [ ];
+  thinned = λ b i. elim (none b i) [ ];
+  once = λ b i. elim (none b i) [ ];
+  named = is.names;
+}
+  where
+    none : (b : Before) → In b s.order → ⊥
+    none b i = subst (In (b.process, b.invocation)) is.names (in_mapped (λ (b : Before). (b.process, b.invocation)) b s.order i)
+
 -- the rest of a list, as a slice of it
 pub rest-whole : {X : Type 0} (xs ys : List X) (k : ℕ) → xs ≡ ys → take (length xs - k) (drop k xs) ≡ drop k ys
 rest-whole xs ys k same = take_all (length xs - k) (drop k xs) (omega (arith, length-drop k xs)) ∙ ap (drop k) same
@@ -193,3 +209,6 @@ thinned_all ts order all b i = all_in (HasThinned ts) b order (recursion_from_Al
 
 pub all_once : (order : List Before) → ((b : Before) → In b order → NoPredecessorTwice b) → All NoPredecessorTwice order
 all_once order once = All-from_recursion NoPredecessorTwice order (all_from NoPredecessorTwice order once)
+
+pub once_all : (order : List Before) → All NoPredecessorTwice order → (b : Before) → In b order → NoPredecessorTwice b
+once_all order all b i = all_in NoPredecessorTwice b order (recursion_from_All NoPredecessorTwice order all) i

@@ -1,4 +1,5 @@
--- Ranges of a list of predecessors: the list as it grows, and what a frontier keeps as a range of it.
+-- Ranges of lists of predecessors, as the lists grow.
+use mathlib.Core.List.{IsPrefix}
 use Rattle.std.proofs.Common.{◌≡◌, ◌∙◌, ◌≤◌, ◌+◌, ◌-◌, ℕ, suc, Bool, true, false, not, cond, nat_lt, List, [], ◌∷◌, ◌++◌, length, take, drop, map, filter, All, refl, ap, sym, subst, arith}
 use Rattle.std.specs.Prelude.{slice_range}
 use Rattle.std.specs.List.{AllByRecursion}
@@ -12,7 +13,7 @@ use Rattle.order_frontier.specs.Completions.{predecessor_of, is_passed, frontier
 use Rattle.order_frontier.specs.Predecessors.{Before}
 use Rattle.order_frontier.specs.declared.types.Span.{Span}
 use Rattle.order_frontier.specs.declared.types.Row.{Row}
-use Rattle.order_frontier.specs.Ranges.{before_in, between, IsSpanOf, IsRowIn}
+use Rattle.order_frontier.specs.Ranges.{before_in, between, IsSpanOf, IsRowIn, IsRowOf}
 use Rattle.history_laws.proofs.ThinningPaths.{any_passes, some_passes}
 use Rattle.order_frontier.proofs.Passes.{rising_take}
 
@@ -70,6 +71,14 @@ same_rows own own' own+ others others' others+ rs grown grown' are =
     ap (λ xs. map (before_in xs others') rs) grown ∙ ap (λ ys. map (before_in (own ++ own+) ys) rs) grown'
     ∙ rows-append own own+ others others+ rs (recursion_from_All (IsRowIn own others) rs are)
 
+pub kept_rows : (own own' others others' : List Predecessor) (rs : List Row) → IsPrefix own own' → IsPrefix others others'
+    → All (IsRowIn own others) rs → map (before_in own' others') rs ≡ map (before_in own others) rs
+kept_rows own own' others others' rs grown grown' are = same_rows own own' grown.0 others others' grown'.0 rs (sym grown.1) (sym grown'.1) are
+
+pub rows_kept : (own own' others others' : List Predecessor) (rs : List Row) → IsPrefix own own' → IsPrefix others others'
+    → All (IsRowIn own others) rs → All (IsRowIn own' others') rs
+rows_kept own own' others others' rs grown grown' are = still_rows own own' grown.0 others others' grown'.0 rs (sym grown.1) (sym grown'.1) are
+
 -- one more row
 one_more : (own others : List Predecessor) (rs : List Row) (r : Row) → All (IsRowIn own others) rs → IsRowIn own others r → All (IsRowIn own others) (rs ++ r ∷ [])
 one_more own others rs r are is = All-append (IsRowIn own others) rs (r ∷ []) are (All-from_recursion (IsRowIn own others) (r ∷ []) (is, tt))
@@ -109,104 +118,17 @@ pushed own own' others others' rs rs' r b are grown grown' row added =
           (last_span own own' b.in_process grown, last_span others others' b.in_realtime grown')),
     )
 
--- ---- what a frontier keeps of those in order
-
--- what completed no earlier than one that none has passed is passed by none either
-clear_behind : (done : List Completed) (d v : Completed) → d.completion ≤ v.completion → not (is_passed done d) ≡ true → not (is_passed done v) ≡ true
-clear_behind done d v up clear = behind (is_passed done v) refl
-  where
-    behind : (b : Bool) → is_passed done v ≡ b → not b ≡ true
-    behind false is = refl
-    behind true is =
-        let found = some_passes (λ (w : Completed). nat_lt v.completion w.invocation) done is in
-        let w : Completed = found.0 in
-        let later = ltb-true v.completion w.invocation found.2 in
-        let over : is_passed done d ≡ true =
-        any_passes (λ (w : Completed). nat_lt d.completion w.invocation) w done found.1 (lt-ltb d.completion w.invocation (omega (arith, up, later))) in
-        absurd (false≢true (sym (ap not over) ∙ clear))
-
-all_clear : (done : List Completed) (d : Completed) (xs : List Completed) → AllByRecursion (λ (v : Completed). d.completion ≤ v.completion) xs
-    → not (is_passed done d) ≡ true → filter (λ e. not (is_passed done e)) xs ≡ xs
-all_clear done d [] up clear = refl
-all_clear done d (v ∷ xs) up clear =
-    ap (λ b. cond b (v ∷ filter (λ e. not (is_passed done e)) xs) (filter (λ e. not (is_passed done e)) xs)) (clear_behind done d v up.0 clear)
-    ∙ ap (λ ys. v ∷ ys) (all_clear done d xs up.1 clear)
-
-abbrev IsEndOf : List Completed → List Completed → Type 0
-IsEndOf ys xs = (k : ℕ) × (k ≤ length xs) × (ys ≡ drop k xs)
-
-kept_end : (done xs : List Completed) → AreRising xs → IsEndOf (filter (λ e. not (is_passed done e)) xs) xs
-kept_end done [] rising = (0, omega arith, refl)
-kept_end done (x ∷ xs) rising = first (kept_end done xs rising.1) (not (is_passed done x)) refl
-  where
-    first : IsEndOf (filter (λ e. not (is_passed done e)) xs) xs → (b : Bool) → not (is_passed done x) ≡ b
-        → IsEndOf (cond b (x ∷ filter (λ e. not (is_passed done e)) xs) (filter (λ e. not (is_passed done e)) xs)) (x ∷ xs)
-    first end true is = (0, omega arith, ap (λ ys. x ∷ ys) (all_clear done x xs rising.0 is))
-    first end false is = (suc end.0, (let low = end.1 in omega (arith, low)), end.2)
-
-module _ (done : List Completed) (n : ℕ) (recent : List Predecessor) (rising : AreRising done) (within : n ≤ length done) (is : recent ≡ frontier_of (take n done)) where
-  abbrev end : IsEndOf (filter (λ e. not (is_passed (take n done) e)) (take n done)) (take n done)
-  end = kept_end (take n done) (take n done) (rising_take n done rising)
-
-  abbrev start : ℕ
-  start = end.0
-
-  long : length (take n done) ≡ n
-  long = length-take-le n done within
-
-  recent_is : recent ≡ map predecessor_of (drop start (take n done))
-  recent_is = is ∙ ap (map predecessor_of) end.2
-
-  pub recent_long : length recent ≤ n
-  recent_long =
-      let e : length recent ≡ n - start = ap length recent_is ∙ length-map (drop start (take n done)) predecessor_of ∙ length-drop start (take n done) ∙ ap (λ k. k - start) long in
-      omega (arith, e)
-
-  start_is : n - length recent ≡ start
-  start_is =
-      let low = end.1 in
-      let e : length recent ≡ n - start = ap length recent_is ∙ length-map (drop start (take n done)) predecessor_of ∙ length-drop start (take n done) ∙ ap (λ k. k - start) long in
-      omega (arith, e, low, long)
-
-  pub recent_range : slice_range (map predecessor_of done) (n - length recent) n ≡ recent
-  recent_range =
-      let low = end.1 in
-      let sum : start + (n - start) ≡ n = omega (arith, low, long) in
-      ap (λ k. slice_range (map predecessor_of done) k n) start_is
-      ∙ sym (drop-take start (n - start) (map predecessor_of done))
-      ∙ ap (λ k. drop start (take k (map predecessor_of done))) sum
-      ∙ ap (drop start) (take-map predecessor_of n done)
-      ∙ drop-map predecessor_of start (take n done)
-      ∙ sym recent_is
-
--- ---- one more transaction of the pass
-
-pub next_range :
-    (done : List Completed) (own own' items : List Predecessor) (rs rs' : List Row) (r : Row) (process invocation n : ℕ) (in_process recent : List Predecessor)
-    → AreRising done
-    → n ≤ length done
-    → recent ≡ frontier_of (take n done)
-    → items ≡ map predecessor_of done
-    → own' ≡ own ++ in_process
-    → r ≡ row_of process invocation (length own) (length own + length in_process) (n - length recent) n
-    → rs' ≡ rs ++ r ∷ []
-    → All (IsRowIn own items) rs
-    → (map (before_in own' items) rs' ≡ map (before_in own items) rs ++ before_in own' items r ∷ [])
-    × (before_in own' items r ≡ record { process = process; invocation = invocation; in_process = in_process; in_realtime = recent })
-    × All (IsRowIn own' items) rs'
-next_range done own own' items rs rs' r process invocation n in_process recent rising within is listed grown row added are =
-    let longer : length own + length in_process ≡ length own' = sym (ap length grown ∙ length-append own in_process) in
-    let new = row_of process invocation (length own) (length own') (n - length recent) n in
-    let row' : r ≡ new = row ∙ ap (λ k. row_of process invocation (length own) k (n - length recent) n) longer in
-    let long : length items ≡ length done = ap length listed ∙ length-map done predecessor_of in
-    let fits : IsSpanOf items new.in_realtime = record { rising = omega arith; within = omega (arith, long, within) } in
-    let same = sym (append-nil items) in (
-      ap (map (before_in own' items)) added ∙ map-append (before_in own' items) rs (r ∷ [])
-          ∙ ap (λ bs. bs ++ before_in own' items r ∷ []) (same_rows own own' in_process items items [] rs grown same are),
-      ap (before_in own' items) row'
-          ∙ ap (λ ps. record { process = process; invocation = invocation; in_process = ps; in_realtime = between items new.in_realtime }) (last_between own own' in_process grown)
-          ∙ ap (λ ps. record { process = process; invocation = invocation; in_process = in_process; in_realtime = ps })
-          (ap (λ xs. slice_range xs (n - length recent) n) listed ∙ recent_range done n recent rising within is),
-      subst (All (IsRowIn own' items)) (sym (added ∙ ap (λ x. rs ++ x ∷ []) row'))
-          (one_more own' items rs new (still_rows own own' in_process items items [] rs grown same are) (last_span own own' in_process grown, fits)),
-    )
+-- one more transaction, with ranges of the lists as they have grown
+pub pushed_row :
+    (own own' others others' : List Predecessor) (rs : List Row) (r : Row) (b : Before)
+    → IsPrefix own own'
+    → IsPrefix others others'
+    → All (IsRowIn own others) rs
+    → IsRowOf own' others' r b
+    → (map (before_in own' others') (rs ++ r ∷ []) ≡ map (before_in own others) rs ++ b ∷ []) × All (IsRowIn own' others') (rs ++ r ∷ [])
+pushed_row own own' others others' rs r b grown grown' are is = (
+  map-append (before_in own' others') rs (r ∷ [])
+      ∙ ap (λ bs. bs ++ before_in own' others' r ∷ []) (kept_rows own own' others others' rs grown grown' are)
+      ∙ ap (λ x. map (before_in own others) rs ++ x ∷ []) is.1,
+  one_more own' others' rs r (rows_kept own own' others others' rs grown grown' are) is.0,
+)

@@ -369,9 +369,7 @@ kept_before u done = record {
   in_realtime = frontier_of done;
 }
 
-thinned_at : (ts : List Transaction) (u : Transaction) (done : List Completed) → AreTimed ts → In u ts → AreSeen ts u.invocation done
-    → (level : Level) (e : Edge)
-    → Contains (edges_to level (kept_before u done)) e ↔ (Contains (all_thinned_edges level ts) e × (e.to ≡ u.invocation))
+pub thinned_at : (ts : List Transaction) (u : Transaction) (done : List Completed) → AreTimed ts → In u ts → AreSeen ts u.invocation done → HasThinned ts (kept_before u done)
 thinned_at ts u done timed member seen Plain e =
     contained (e.to ≡ u.invocation) e [] (all_thinned_edges Plain ts) (plain_thinned ts u done timed member seen e)
 thinned_at ts u done timed member seen Process e =

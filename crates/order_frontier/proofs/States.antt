@@ -1,5 +1,5 @@
 -- The state after events has exactly the ok transactions of these events, in the order of their completions.
-use Rattle.std.proofs.Common.{◌≡◌, ◌⊎◌, inl, inr, ℕ, ◌+◌, ◌<◌, ◌≤◌, Bool, true, false, ◌==◌, if◌then◌else◌, Option, Some, None, List, [], ◌∷◌, ◌++◌, length, fold, refl, ap, sym, subst, ◌∙◌, arith}
+use Rattle.std.proofs.Common.{◌≡◌, ◌⊎◌, inl, inr, ℕ, ◌+◌, ◌<◌, ◌≤◌, Bool, true, false, ◌==◌, if◌then◌else◌, Option, Some, None, List, [], ◌∷◌, ◌++◌, length, fold, refl, ap, sym, subst, ◌∙◌, arith, append_assoc, append-nil}
 use Rattle.std.specs.List.{AllByRecursion}
 use Rattle.std.proofs.lemmas.Bool.{false≢true, eqb-true, eq-eqb}
 use Rattle.std.proofs.lemmas.List.Sums.{fold-append}
@@ -18,7 +18,7 @@ use Rattle.order_frontier.proofs.Timed.{IsOkBy, ok-by, ok-from, in-first, in-beh
 
 -- ---- one event
 
-abbrev after_by : Bool → State → Operation → State
+abbrev pub after_by : Bool → State → Operation → State
 after_by invokes s e =
     if invokes
     then record { index = s.index + 1; opened = λ p. if e.process == p then Some s.index else s.opened p; done = s.done }
@@ -44,13 +44,13 @@ record Begins (index : ℕ) (es : List Operation) (d : Completed) : Type 0 where
 abbrev Comes : State → List Operation → Completed → Type 0
 Comes s es d = In d s.done ⊎ (Ends s es d ⊎ Begins s.index es d)
 
-record IsDoneBy (kind : OpKind) (number index : ℕ) (invocation : Option ℕ) (d : Completed) : Type 0 where
-  ok : kind ≡ kinds.Ok
-  opened : invocation ≡ Some d.invocation
-  at : index ≡ d.completion
-  process : number ≡ d.process
+pub record IsDoneBy (kind : OpKind) (number index : ℕ) (invocation : Option ℕ) (d : Completed) : Type 0 where
+  pub ok : kind ≡ kinds.Ok
+  pub opened : invocation ≡ Some d.invocation
+  pub at : index ≡ d.completion
+  pub process : number ≡ d.process
 
-done_by_parts : (kind : OpKind) (number index : ℕ) (invocation : Option ℕ) (d : Completed) → In d (done_by kind number index invocation) → IsDoneBy kind number index invocation d
+pub done_by_parts : (kind : OpKind) (number index : ℕ) (invocation : Option ℕ) (d : Completed) → In d (done_by kind number index invocation) → IsDoneBy kind number index invocation d
 done_by_parts kinds.Ok number index (Some j) d (inl e) = record {
   ok = refl;
   opened = ap (λ (d : Completed). Some d.invocation) e;
@@ -298,6 +298,50 @@ state-sound es d i = elim (sound start es d i) [
 
 pub state-complete : (es : List Operation) (t : Transaction) (d : Completed) → In t (transactions_of es) → completed_of t ≡ Some d → In d (state_of es).done
 state-complete es t d i is = complete start es d (inr (inr (record { t = t; member = i; done = is })))
+
+-- ---- more events
+
+-- what more events add completed later
+record Adds (s : State) (done : List Completed) : Type 0 where
+  more : List Completed
+  is : done ≡ s.done ++ more
+  late : (v : Completed) → In v more → s.index ≤ v.completion
+
+adds_step : (s : State) (e : Operation) (invokes : Bool) (done : List Completed) → Adds (after_by invokes s e) done → Adds s done
+adds_step s e true done adds = record { more = adds.more; is = adds.is; late = λ v i. (let up = adds.late v i in omega (arith, up)) }
+adds_step s e false done adds =
+    let here = done_by e.kind e.process s.index (s.opened e.process) in
+    record {
+      more = here ++ adds.more;
+      is = adds.is ∙ append_assoc s.done here adds.more;
+      late = λ v i. elim (in_append v here adds.more i) [
+        | inl now ↦ (let at = (done_by_parts e.kind e.process s.index (s.opened e.process) v now).at in omega (arith, at))
+        | inr later ↦ (let up = adds.late v later in omega (arith, up))
+      ];
+    }
+
+adds_all : (s : State) (rest : List Operation) → Adds s (fold after s rest).done
+adds_all s [] = record { more = []; is = sym (append-nil s.done); late = λ v i. elim i [ ] }
+adds_all s (e ∷ rest) = adds_step s e (is_invoke e.kind) (fold after (after s e) rest).done (adds_all (after s e) rest)
+
+-- the ok transactions of a beginning are those of all events that completed by its end
+pub state-begun : (es rest : List Operation) → AreSeen (transactions_of (es ++ rest)) (length es) (state_of es).done
+state-begun es rest =
+    let s = state_of es in
+    let at = state-index es in
+    let all = adds_all s rest in
+    let whole : (state_of (es ++ rest)).done ≡ s.done ++ all.more = ap (λ (s : State). s.done) (fold-append after start es rest) ∙ all.is in
+    record {
+      sound = λ d i.
+          let from = state-sound (es ++ rest) d (subst (In d) (sym whole) (in_front d s.done all.more i)) in
+          let span = ((state-good es).spans d i).1 in
+          (from.0, from.1, from.2, omega (arith, span, at));
+      complete = λ t d i done below. elim (in_append d s.done all.more (subst (In d) whole (state-complete (es ++ rest) t d i done))) [
+        | inl before ↦ before
+        | inr later ↦ (let up = all.late d later in absurd (omega (arith, up, at, below)))
+      ];
+      rising = rising_strict s.done (state-good es).strict;
+    }
 
 -- the ok transactions of the events are those that completed so far
 pub state-seen : (es : List Operation) (index : ℕ) → length es ≤ index → AreSeen (transactions_of es) index (state_of es).done

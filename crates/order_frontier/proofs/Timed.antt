@@ -90,6 +90,13 @@ invoked-late t index (e ∷ es) i = elim (in-first t index e es i) [
   | inr later ↦ (let up = invoked-late t (index + 1) es later in omega (arith, up))
 ]
 
+pub invoked-before : (t : Transaction) (index : ℕ) (es : List Operation) → In t (transactions_from index es) → t.invocation < index + length es
+invoked-before t index [] i = elim i [ ]
+invoked-before t index (e ∷ es) i = elim (in-first t index e es i) [
+  | inl first ↦ (let same = first_at t index e (completion_in e.process (index + 1) es) first.1 in omega (arith, same))
+  | inr later ↦ (let up = invoked-before t (index + 1) es later in omega (arith, up))
+]
+
 late_by : (process index : ℕ) (e : Operation) (es : List Operation) (x : Indexed) (own invokes : Bool)
     → (if own then (if invokes then None else Some (record { index = index; event = e })) else completion_in process (index + 1) es) ≡ Some x
     → (completion_in process (index + 1) es ≡ Some x → index + 1 ≤ x.index)

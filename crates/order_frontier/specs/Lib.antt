@@ -5,3 +5,4 @@ pub mod Events
 pub mod Summaries
 pub mod Pairs
 pub mod Latest
+pub mod Thinnings

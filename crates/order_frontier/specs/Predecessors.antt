@@ -1,5 +1,5 @@
 -- What comes before each transaction, and the order edges that this gives.
-use Rattle.std.specs.Prelude.{◌≡◌, nat_eq, ℕ, unwrap_or, slice_get, List, [], map, flat_map, Contains, ◌↔◌}
+use Rattle.std.specs.Prelude.{◌≡◌, nat_eq, ℕ, unwrap_or, slice_get, List, [], map, flat_map, All, Contains, ◌↔◌}
 use Rattle.std.specs.List.{IsDistinct}
 use Rattle.std.specs.List.Sorted.{IsStrictlyIncreasing}
 use Rattle.hist_types.specs.Operations.{Operation}
@@ -75,6 +75,11 @@ name_of t = (t.process, t.invocation)
 
 abbrev pub names : List Before → List (ℕ × ℕ)
 names order = map (λ (u : Before). (u.process, u.invocation)) order
+
+-- the thinned order of the transactions, with each predecessor once
+abbrev pub IsThinnedOrder : List Transaction → List Before → Type 0
+IsThinnedOrder ts order =
+    HasThinnedEdges ts order × All NoPredecessorTwice order × (names order ≡ map name_of ts)
 
 -- the transactions are those of some events
 abbrev pub AreOfEvents : List Transaction → Type 0

@@ -1,10 +1,9 @@
 -- Predecessors, as ranges of lists.
-use Rattle.std.specs.Prelude.{◌≡◌, ◌≤◌, List, length, slice_range, map, All}
+use Rattle.std.specs.Prelude.{◌≡◌, ◌≤◌, List, length, slice_range}
 use Rattle.order_frontier.specs.declared.types.Predecessor.{Predecessor}
 use Rattle.order_frontier.specs.declared.types.Span.{Span}
 use Rattle.order_frontier.specs.declared.types.Row.{Row}
-use Rattle.hist_types.specs.Transactions.{Transaction}
-use Rattle.order_frontier.specs.Predecessors.{Before, HasThinned, NoPredecessorTwice, name_of, names}
+use Rattle.order_frontier.specs.Predecessors.{Before}
 
 -- those of a range
 abbrev pub between : List Predecessor → Span → List Predecessor
@@ -24,13 +23,13 @@ pub record IsSpanOf (items : List Predecessor) (s : Span) : Type 0 where
   pub rising : s.start ≤ s.end
   pub within : s.end ≤ length items
 
+-- in range, and these
+abbrev pub IsRangeOf : List Predecessor → Span → List Predecessor → Type 0
+IsRangeOf items s ps = IsSpanOf items s × (between items s ≡ ps)
+
 abbrev pub IsRowIn : List Predecessor → List Predecessor → Row → Type 0
 IsRowIn own others r = IsSpanOf own r.in_process × IsSpanOf others r.in_realtime
 
--- rows in range, which say the thinned order of the transactions
-pub record AreThinnedRows (ts : List Transaction) (own others : List Predecessor)
-    (rows : List Row) : Type 0 where
-  pub ranges : All (IsRowIn own others) rows
-  pub thinned : All (HasThinned ts) (map (before_in own others) rows)
-  pub once : All NoPredecessorTwice (map (before_in own others) rows)
-  pub names : names (map (before_in own others) rows) ≡ map name_of ts
+-- the row has ranges of the lists, and says what comes before this transaction
+abbrev pub IsRowOf : List Predecessor → List Predecessor → Row → Before → Type 0
+IsRowOf own others r u = IsRowIn own others r × (before_in own others r ≡ u)

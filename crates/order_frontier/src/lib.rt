@@ -10,7 +10,7 @@ pub mod frontier;
 pub mod laws;
 mod moving;
 mod pairs;
-mod thinning;
+pub mod thinning;
 pub mod types;
 
 use crate::types::Order;

@@ -3,7 +3,7 @@
 ghost use Rattle.std.specs.Prelude.{◌≡◌, ℕ, [], ◌∷◌, ◌++◌, Some, None, OnOk, OnErr, IfOk, not, ◌==◌, nat_lt, nat_eq, filter, if◌then◌else◌};
 ghost use Rattle.process_map.specs.Values.{value_of};
 ghost use Rattle.order_frontier.specs.Completions.{predecessor_of, frontier_after};
-ghost use Rattle.order_frontier.specs.Latest.{last_of, before_next};
+ghost use Rattle.order_frontier.specs.Latest.{before_next};
 
 use crate::types::{Completed, Predecessor, Predecessors};
 use process_map::map::ProcessMap;
@@ -55,7 +55,8 @@ impl Moving {
         process: u64,
         invocation: u64,
     ) -> Result<Predecessors, AllocError>
-        ensures { IfOk result (λ u. u ≡ before_next self.now process invocation) }
+        ensures { IfOk result (λ u. u
+            ≡ before_next self.now.recent.items self.now.last process invocation) }
     {
         let mut in_process = SmallVec::new(alloc);
         if let Some(last) = self.last(process) {

@@ -1,108 +1,147 @@
-//! The pass that thins the order.
+//! The thinned order, transaction by transaction.
 
-ghost use Rattle.std.specs.Prelude.{◌≡◌, ◌<◌, ◌≤◌, ℕ, List, [], map, take, ◌++◌, ◌-◌, length, nat_eq, All, IfOk, OnOk, slice_index_or};
+ghost use Rattle.std.specs.Prelude.{◌≡◌, ◌<◌, ◌≤◌, ℕ, List, [], map, take, ◌++◌, length, All, IfOk, OnOk, OnErr, not, ◌==◌, if◌then◌else◌, Some, slice_index_or};
 ghost use Rattle.process_map.specs.Values.{value_of};
-ghost use Rattle.std.specs.Option.{option_to_list};
-ghost use Rattle.order_frontier.specs.Completions.{AreKept, AreRising, AreTimely, predecessor_of};
-ghost use Rattle.order_frontier.specs.Predecessors.{AreOfEvents, HasThinned, NoPredecessorTwice, name_of, names};
-ghost use Rattle.order_frontier.specs.Latest.{last_of, row_next};
-ghost use Rattle.order_frontier.specs.Ranges.{AreThinnedRows};
+ghost use Rattle.hist_types.specs.Operations.{Operation};
+ghost use Rattle.hist_types.specs.Transactions.{transactions_of};
+ghost use Rattle.order_frontier.specs.Completions.{AreKept, AreTimely, frontier_after, predecessor_of};
+ghost use Rattle.order_frontier.specs.Predecessors.{AreOfEvents, IsThinnedOrder, HasThinned, NoPredecessorTwice, name_of, names};
+ghost use Rattle.order_frontier.specs.Thinnings.{IsThinningOf, with_begun, IsBegunBy, IsCompletedBy, Follows, IsOfSame};
 
-use crate::completions::completions;
+use crate::completions::{completed, completions};
 use crate::moving::Moving;
-use crate::types::{Completed, Order, Predecessor, Row, Span, short};
+use crate::types::{Completed, Order};
 use std::alloc::{AllocError, Global};
+use std::marker::Model;
 use txn_pairs::types::Txn;
 
-/// Takes the first of the ok transactions, those that completed before the index, and returns how many these are.
-fn advance(moving: &mut Moving, done: &[Completed], index: u64) -> Result<usize, AllocError>
-    ensures kept { IfOk result
-        (λ count. (earlier : List _) → AreTimely (earlier ++ done.now)
-        → AreKept earlier moving.old.recent.items (value_of moving.old.last)
-        → AreKept (earlier ++ take count done.now)
-        moving.new.recent.items (value_of moving.new.last)) }
-    ensures count { IfOk result (λ count. count ≤ length done.now) }
-    ensures before { IfOk result (λ count. All (λ d. d.completion < index) (take count done.now)) }
-    ensures next { IfOk result
-        (λ count. (d : _) → count < length done.now
-        → index ≤ (slice_index_or done.now count d).completion) }
-{
-    for (count, ok) in done.iter().enumerate() {
-        if u64::from(ok.completion) >= index {
-            return Ok(count);
+/// The thinned order of the transactions so far, kept while more events come. What comes before a transaction is settled when
+/// it is invoked, so the order only grows.
+#[derive(Drop)]
+pub struct Thinning {
+    moving: Moving,
+    order: Order,
+}
+
+impl Model for Thinning {
+    ghost use Rattle.order_frontier.specs.Thinnings.{Thinned};
+
+    ghost Value = { Thinned };
+
+    ghost view = { λ t. record {
+      recent = t.moving.recent.items;
+      last = t.moving.last;
+      order = t.order;
+    } };
+}
+
+impl Thinning {
+    /// The order before the first event.
+    pub fn new(alloc: Global) -> Self
+        ensures { IsThinningOf [] result }
+    {
+        Thinning {
+            moving: Moving::new(alloc),
+            order: Order::new(alloc),
         }
-        moving.complete(*ok)?;
     }
-    Ok(done.len())
-}
 
-/// The predecessors that ok transactions are, in the same order.
-fn predecessors(alloc: Global, done: &[Completed]) -> Result<Vec<Predecessor>, AllocError>
-    ensures { IfOk result (λ list. list.items ≡ map predecessor_of done.now) }
-{
-    done.iter().map(|ok| ok.predecessor()).collect(alloc)
-}
-
-/// What comes before a transaction that is invoked now. The last one of its process goes into the list of those; what the
-/// frontier keeps of the ok transactions that it took are the last ones.
-fn row_of(
-    moving: &Moving,
-    txn: &Txn<'_>,
-    taken: usize,
-    in_process: &mut Vec<Predecessor>,
-) -> Result<Row, AllocError>
-    requires { length moving.now.recent.items ≤ taken }
-    ensures row { IfOk result
-        (λ row. row ≡ row_next moving.now txn.now (length in_process.old.items) taken) }
-    ensures last { OnOk result
-        (in_process.new.items ≡ in_process.old.items ++ last_of moving.now txn.now.process) }
-{
-    let first = in_process.len();
-    if let Some(last) = moving.last(txn.process()) {
-        in_process.push(last)?;
+    /// The order before the first event, with room for n transactions, of which so many are ok.
+    fn with_capacity(alloc: Global, transactions: usize, ok: usize) -> Result<Self, AllocError>
+        ensures { IfOk result (IsThinningOf []) }
+    {
+        Ok(Thinning {
+            moving: Moving::new(alloc),
+            order: Order::with_capacity(alloc, transactions, ok)?,
+        })
     }
-    let start = taken - moving.frontier().len();
-    Ok(Row {
-        process: short(txn.process())?,
-        invocation: short(txn.invocation())?,
-        in_process: Span::new(first, in_process.len())?,
-        in_realtime: Span::new(start, taken)?,
-    })
+
+    /// The next event invoked this transaction. Out of memory leaves the order as it was.
+    pub fn begin(&mut self, txn: &Txn<'_>) -> Result<(), AllocError>
+        ensures begun { OnOk result (self.new ≡ with_begun self.old txn.now) }
+        ensures next { OnOk result (Follows IsBegunBy txn.now self.old self.new) }
+        ensures err { OnErr result (self.new ≡ self.old) }
+    {
+        self.order
+            .push(txn.process(), txn.invocation(), &self.moving)
+    }
+
+    /// The next event completed this transaction as an ok. Out of memory leaves the order as it was. An event that completes
+    /// no transaction as an ok changes nothing (`other_completions_change_nothing` of `laws`).
+    pub fn complete(&mut self, txn: &Txn<'_>) -> Result<(), AllocError>
+        ensures next { OnOk result (Follows IsCompletedBy txn.now self.old self.new) }
+        ensures err { OnErr result (IsOfSame self.old self.new) }
+    {
+        match completed(txn)? {
+            Some(done) => self.pass(done),
+            None => Ok(()),
+        }
+    }
+
+    /// Takes an ok transaction.
+    fn pass(&mut self, done: Completed) -> Result<(), AllocError>
+        ensures recent { OnOk result (self.new.recent ≡ frontier_after self.old.recent done) }
+        ensures last { OnOk result
+            ((p : ℕ) → value_of self.new.last p
+            ≡ (if done.process == p then Some (predecessor_of done)
+            else value_of self.old.last p)) }
+        ensures order { self.new.order ≡ self.old.order }
+        ensures err { OnErr result (IsOfSame self.old self.new) }
+    {
+        self.moving.complete(done)
+    }
+
+    /// Takes the first of the ok transactions, those that completed before the index, and returns how many these are.
+    fn advance(&mut self, done: &[Completed], index: u64) -> Result<usize, AllocError>
+        ensures kept { IfOk result
+            (λ count. (earlier : List _) → AreTimely (earlier ++ done.now)
+            → AreKept earlier self.old.recent (value_of self.old.last)
+            → AreKept (earlier ++ take count done.now)
+            self.new.recent (value_of self.new.last)) }
+        ensures count { IfOk result (λ count. count ≤ length done.now) }
+        ensures before { IfOk result
+            (λ count. All (λ d. d.completion < index) (take count done.now)) }
+        ensures next { IfOk result
+            (λ count. (d : _) → count < length done.now
+            → index ≤ (slice_index_or done.now count d).completion) }
+        ensures order { self.new.order ≡ self.old.order }
+    {
+        for (count, ok) in done.iter().enumerate() {
+            if u64::from(ok.completion) >= index {
+                return Ok(count);
+            }
+            self.pass(*ok)?;
+        }
+        Ok(done.len())
+    }
+
+    /// Each transaction so far, with what comes before it.
+    pub fn order(&self) -> &Order
+        ensures { (events : List Operation) → IsThinningOf events self.now
+            → IsThinnedOrder (transactions_of events) result.now }
+    {
+        &self.order
+    }
+
+    fn into_order(self) -> Order
+        ensures { result ≡ self.order }
+    {
+        let Thinning { moving: _, order } = self;
+        order
+    }
 }
 
-/// Adds the thinned predecessors of each transaction to lists that are empty, and returns the list that ranges in real time
-/// are of.
-fn push_rows(
-    alloc: Global,
-    txns: &[Txn<'_>],
-    rows: &mut Vec<Row>,
-    in_process: &mut Vec<Predecessor>,
-) -> Result<Vec<Predecessor>, AllocError>
-    requires events { AreOfEvents txns.now }
-    requires rows { rows.old.items ≡ [] }
-    requires in_process { in_process.old.items ≡ [] }
-    ensures { IfOk result (λ in_realtime. AreThinnedRows txns.now
-        in_process.new.items in_realtime.items rows.new.items) }
+/// The thinned order of all transactions of a history.
+pub(crate) fn thinned(alloc: Global, txns: &[Txn<'_>]) -> Result<Order, AllocError>
+    requires { AreOfEvents txns.now }
+    ensures { IfOk result (IsThinnedOrder txns.now) }
 {
     let done = completions(alloc, txns)?;
-    let mut moving = Moving::new(alloc);
+    let mut thinning = Thinning::with_capacity(alloc, txns.len(), done.len())?;
     let mut taken = 0;
     for txn in txns {
-        taken += advance(&mut moving, &done[taken..], txn.invocation())?;
-        rows.push(row_of(&moving, txn, taken, in_process)?)?;
+        taken += thinning.advance(&done[taken..], txn.invocation())?;
+        thinning.begin(txn)?;
     }
-    predecessors(alloc, &done)
-}
-
-/// The thinned predecessors of each transaction.
-pub fn thinned(alloc: Global, txns: &[Txn<'_>]) -> Result<Order, AllocError>
-    requires { AreOfEvents txns.now }
-    ensures thinned { IfOk result (λ order. All (HasThinned txns.now) order) }
-    ensures once { IfOk result (λ order. All NoPredecessorTwice order) }
-    ensures names { IfOk result (λ order. names order ≡ map name_of txns.now) }
-{
-    let mut rows = Vec::with_capacity(alloc, txns.len())?;
-    let mut in_process = Vec::with_capacity(alloc, txns.len())?;
-    let in_realtime = push_rows(alloc, txns, &mut rows, &mut in_process)?;
-    Ok(Order::of_ranges(rows, in_process, in_realtime))
+    Ok(thinning.into_order())
 }

@@ -1,9 +1,12 @@
 //! What comes before each transaction.
 
-ghost use Rattle.std.specs.Prelude.{◌≡◌, ◌==◌, ◌<◌, length, map, All, IfOk};
+ghost use mathlib.Core.List.{IsPrefix, IsSuffix};
+ghost use Rattle.std.specs.Prelude.{◌≡◌, ◌==◌, ◌<◌, ◌≤◌, [], ◌∷◌, ◌++◌, length, take, map, All, OnOk, OnErr, IfOk};
+ghost use Rattle.order_frontier.specs.Latest.{before_next};
 ghost use Rattle.order_frontier.specs.Predecessors.{before_at};
-ghost use Rattle.order_frontier.specs.Ranges.{before_in, between, IsSpanOf, IsRowIn};
+ghost use Rattle.order_frontier.specs.Ranges.{before_in, between, IsSpanOf, IsRangeOf, IsRowIn, IsRowOf};
 
+use crate::moving::Moving;
 use smallvec::SmallVec;
 use std::alloc::{AllocError, Global};
 use std::marker::Model;
@@ -170,8 +173,56 @@ pub(crate) struct Row {
     pub in_realtime: Span,
 }
 
-/// The predecessors of each transaction, in the order of the transactions. Transactions share one list of predecessors in
-/// real time, since those of a thinned order are next to each other by their completions.
+/// How many of these, from the first on, the list ends with. As a frontier moves, they are what it had before.
+fn shared(list: &[Predecessor], next: &[Predecessor]) -> usize
+    ensures fits { result ≤ length next.now }
+    ensures ends { IsSuffix (take result next.now) list.now }
+{
+    let Some(last) = list.last() else {
+        return 0;
+    };
+    let earlier = next.partition_point(|p| p.completion <= last.completion);
+    if list.ends_with(&next[..earlier]) {
+        earlier
+    } else {
+        0
+    }
+}
+
+/// Adds those of the predecessors that the list doesn't end with already, and returns the range of all of them.
+fn push_range(next: &[Predecessor], list: &mut Vec<Predecessor>) -> Result<Span, AllocError>
+    ensures kept { IsPrefix list.old.items list.new.items }
+    ensures range { IfOk result (λ span. IsRangeOf list.new.items span next.now) }
+{
+    let shared = shared(list, next);
+    let start = list.len() - shared;
+    list.extend_from_slice(&next[shared..])?;
+    Span::new(start, list.len())
+}
+
+/// The row of a transaction that is invoked now. Its predecessors go into the lists.
+fn row_of(
+    moving: &Moving,
+    process: u64,
+    invocation: u64,
+    in_process: &mut Vec<Predecessor>,
+    in_realtime: &mut Vec<Predecessor>,
+) -> Result<Row, AllocError>
+    ensures in_process { IsPrefix in_process.old.items in_process.new.items }
+    ensures in_realtime { IsPrefix in_realtime.old.items in_realtime.new.items }
+    ensures row { IfOk result (λ row. IsRowOf in_process.new.items in_realtime.new.items row
+        (before_next moving.now.recent.items moving.now.last process invocation)) }
+{
+    Ok(Row {
+        process: short(process)?,
+        invocation: short(invocation)?,
+        in_process: push_range(moving.last(process).as_slice(), in_process)?,
+        in_realtime: push_range(moving.frontier(), in_realtime)?,
+    })
+}
+
+/// The predecessors of each transaction, in the order of the transactions. Transactions share the lists of predecessors, since
+/// those of a thinned order are next to each other by their completions.
 pub struct Order {
     rows: Vec<Row>,
     in_process: Vec<Predecessor>,
@@ -218,6 +269,52 @@ impl Order {
             in_process,
             in_realtime,
         }
+    }
+
+    /// The order of no transactions.
+    pub(crate) fn new(alloc: Global) -> Self
+        ensures { result ≡ [] }
+    {
+        Order::of_ranges(Vec::new(alloc), Vec::new(alloc), Vec::new(alloc))
+    }
+
+    /// The order of no transactions, with room for n of them, of which so many are ok.
+    pub(crate) fn with_capacity(
+        alloc: Global,
+        transactions: usize,
+        ok: usize,
+    ) -> Result<Self, AllocError>
+        ensures { IfOk result (λ order. order ≡ []) }
+    {
+        Ok(Order::of_ranges(
+            Vec::with_capacity(alloc, transactions)?,
+            Vec::with_capacity(alloc, transactions)?,
+            Vec::with_capacity(alloc, ok)?,
+        ))
+    }
+
+    /// Adds a transaction that is invoked now, with what comes before it. Out of memory leaves the order as it was.
+    pub(crate) fn push(
+        &mut self,
+        process: u64,
+        invocation: u64,
+        moving: &Moving,
+    ) -> Result<(), AllocError>
+        ensures ok { OnOk result
+            (self.new
+            ≡ self.old
+            ++ before_next moving.now.recent.items moving.now.last process invocation ∷ []) }
+        ensures err { OnErr result (self.new ≡ self.old) }
+    {
+        let row = row_of(
+            moving,
+            process,
+            invocation,
+            &mut self.in_process,
+            &mut self.in_realtime,
+        )?;
+        self.rows.push(row)?;
+        Ok(())
     }
 
     /// How many transactions there are.

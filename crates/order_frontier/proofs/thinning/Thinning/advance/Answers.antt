@@ -1,11 +1,11 @@
-use Rattle.std.proofs.Common.{◌≡◌, ◌<◌, subst, take, length, arith, get_or}
+use Rattle.std.proofs.Common.{◌≡◌, ◌∙◌, ◌<◌, subst, take, length, arith, get_or}
 use Rattle.process_map.specs.Values.{value_of}
 use Rattle.std.proofs.lemmas.List.{get_or_default}
 use Rattle.std.proofs.lemmas.List.Elements.{All-from_recursion}
 use Rattle.hist_types.proofs.Members.{In}
 use Rattle.order_frontier.specs.declared.types.Completed.{Completed}
 use Rattle.order_frontier.proofs.Advancing.{advance-kept, below_more, all_from}
-use Rattle.order_frontier.proofs.thinning.advance.Goals as goal
+use Rattle.order_frontier.proofs.thinning.Thinning.advance.Goals as goal
 
 pub returns-then-from-index-clause-before : goal.returns-then-from-index-clause-before
 returns-then-from-index-clause-before c =
@@ -26,7 +26,8 @@ loop-count-preserved c =
     let is : get_or c.args.done.now k d ≡ d = get_or_default c.args.done.now k d (record { completion = 0; invocation = 0; process = 0 }) c.loop-count-test.true in
     record {
       kept = λ earlier timely kept.
-          advance-kept earlier c.args.done.now k d c.loop-count.moving.recent.items c.complete.new.self.recent.items (value_of c.loop-count.moving.last) (value_of c.complete.new.self.last)
-          c.loop-count-test.true is timely (c.loop-count.invariant.kept earlier timely kept) c.in_ok-complete.ensures.recent c.in_ok-complete.ensures.last;
+          advance-kept earlier c.args.done.now k d c.loop-count.self.recent c.pass.new.self.recent (value_of c.loop-count.self.last) (value_of c.pass.new.self.last)
+          c.loop-count-test.true is timely (c.loop-count.invariant.kept earlier timely kept) c.in_ok-pass.ensures.recent c.in_ok-pass.ensures.last;
       before = below_more c.args.done.now k d c.args.index c.loop-count-test.true is (subst (λ n. n < c.args.index) c.from.ensures c.if-from-index.false) c.loop-count.invariant.before;
+      order = c.pass.ensures.order ∙ c.loop-count.invariant.order;
     }
