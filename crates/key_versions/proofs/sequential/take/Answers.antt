@@ -9,8 +9,8 @@ use Rattle.key_versions.proofs.Accessing.{versions_stay}
 use Rattle.key_versions.proofs.Stepping.{steps_of_more}
 use Rattle.key_versions.proofs.sequential.take.Goals as goal
 
-pub take-2-requires : goal.take-2-requires
-take-2-requires g c =
+pub take-requires-2 : goal.take-requires-2
+take-requires-2 g c =
     (c.take.new.self.versions, rw (c.as_slice.ensures, c.as_slice-2.ensures, c.as_slice-3.ensures) c.in_ok-take.ensures.seen)
 
 pub returns-clause-steps : goal.returns-clause-steps
