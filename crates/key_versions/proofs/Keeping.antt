@@ -1,15 +1,15 @@
 -- What is kept of transactions, with one more and with one that was completed.
-use Rattle.std.proofs.Common.{◌≡◌, inl, inr, ◌+◌, ◌<◌, ℕ, zero, suc, List, [], ◌∷◌, ◌++◌, length, map, set, take, Bool, true, false, cond, Option, Some, option_map, refl, sym, ◌∙◌, ap, subst, arith}
+use Rattle.std.proofs.Common.{◌≡◌, inl, inr, ◌+◌, ◌<◌, ℕ, zero, suc, List, [], ◌∷◌, ◌++◌, length, map, set, take, Bool, true, false, cond, Some, option_map, refl, sym, ◌∙◌, ap, subst}
 use Rattle.std.specs.Prelude.{slice_get, ◌||◌}
 use Rattle.std.specs.List.{list_any}
 use Rattle.std.specs.Option.{is_some}
 use Rattle.std.proofs.lemmas.List.{take_more}
 use Rattle.std.proofs.lemmas.Option.{slice_get_within, slice_get-map, get_or_from_slice_get}
-use Rattle.std.proofs.lemmas.Bool.{cases_Bool, or_cases, or_left, or_right, true≢false, false≢true}
+use Rattle.std.proofs.lemmas.Bool.{cases_Bool, or_left, or_right, true≢false, false≢true}
 use Rattle.hist_types.specs.Atoms.{Atom}
 use Rattle.hist_types.specs.Operations.{Mop, read, write}
 use Rattle.hist_types.specs.Journal.{writes_of}
-use Rattle.hist_types.specs.Transactions.{Transaction, Status, Version, version_eq, version_of, has_version, is_ok, is_ok_status, external_reads}
+use Rattle.hist_types.specs.Transactions.{Transaction, Version, version_eq, version_of, has_version, is_ok, is_ok_status, external_reads}
 use Rattle.hist_types.specs.Versions.{nil_of, version_in}
 use Rattle.hist_types.specs.declared.types.KeyOrder.{KeyOrder}
 use Rattle.hist_types.specs.declared.types.KeyOrder.TheVariants.{Basic, Sequential}
@@ -18,7 +18,7 @@ use Rattle.atom_index.specs.Numbers.{AreNumbered, with_item}
 use Rattle.atom_index.proofs.Pushed.{has_number as number_there}
 use Rattle.op_view.specs.Mops.{key_of}
 use Rattle.key_versions.specs.declared.pending.Access.{Access}
-use Rattle.key_versions.specs.Histories.{known_in, named_in, named_by, is_named, read_by, seen_in}
+use Rattle.key_versions.specs.Histories.{named_in, named_by, is_named, read_by, seen_in}
 use Rattle.key_versions.specs.Kept.{TxnAccesses, KeptVersions, HaveAccesses, AreKept, Completes}
 use Rattle.key_versions.specs.Numbering.{with_versions, AreAccesses}
 use Rattle.key_versions.specs.TxnAccesses.{AddsNamed, AreAccessesOf, AreSeenBy}
@@ -26,7 +26,7 @@ use Rattle.key_versions.proofs.Accessing.{accesses_stay, versions_numbered, vers
 use Rattle.key_versions.proofs.Growing.{named-push}
 use Rattle.key_versions.proofs.Lists.{is_at}
 use Rattle.key_versions.proofs.Places.{same_item, no_item, cases_number, with_item-there}
-use Rattle.key_versions.proofs.Told.{has_versions, or_moved}
+use Rattle.key_versions.proofs.Told.{has_versions}
 
 -- ---- what is named
 

@@ -3,7 +3,7 @@
 -- A transaction is noted when it is invoked and again when it completes. Its completion names what
 -- its invocation named, and, where it is ok, what it reads besides. So versions keep their numbers,
 -- and none is ever without a transaction that names it.
-use Rattle.std.specs.Prelude.{◌≡◌, ℕ, List, [], ◌∷◌, map, ⊤}
+use Rattle.std.specs.Prelude.{◌≡◌, List, [], ◌∷◌, map, ⊤}
 use Rattle.atom_index.specs.Numbers.{AreNumbered}
 use Rattle.hist_types.specs.Journal.{writes_of}
 use Rattle.hist_types.specs.Transactions.{Transaction, Open, Version, version_eq, has_version}

@@ -53,7 +53,12 @@ impl Accessed {
 
     /// Adds the access of a micro-operation. A read of a key that the transaction wrote before isn't external.
     #[inline(always)]
-    pub fn add(&mut self, access: Access, is_write: bool, keeps_seen: bool) -> Result<(), AllocError>
+    pub fn add(
+        &mut self,
+        access: Access,
+        is_write: bool,
+        keeps_seen: bool,
+    ) -> Result<(), AllocError>
         ensures reads { OnOk result
             (self.new.reads.items
             ≡ with_read is_write access self.old.writes.items self.old.reads.items) }

@@ -1,4 +1,4 @@
-use Rattle.std.proofs.Common.{◌≡◌, ◌∙◌, ◌++◌, List, sym, ap}
+use Rattle.std.proofs.Common.{◌∙◌, ◌++◌, List, ap}
 use Rattle.key_versions.specs.declared.pending.Access.{Access}
 use Rattle.key_versions.proofs.Spans.{appended_accesses}
 use Rattle.key_versions.proofs.kept_accesses.append.Goals as goal

@@ -1,4 +1,4 @@
-use Rattle.std.proofs.Common.{◌≡◌, ◌∙◌, ℕ, List, Some, sym, ap}
+use Rattle.std.proofs.Common.{◌≡◌, ◌∙◌, ℕ, List, Some, ap}
 use Rattle.std.specs.Prelude.{slice_get}
 use Rattle.hist_types.specs.Transactions.{Version}
 use Rattle.hist_types.specs.declared.types.KeyOrder.TheVariants.{Sequential}

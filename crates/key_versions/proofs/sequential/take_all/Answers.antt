@@ -1,9 +1,6 @@
-use Rattle.std.proofs.Common.{◌≡◌, ◌∙◌, ◌++◌, ◌+◌, ◌∷◌, [], List, take, sym, ap, subst}
+use Rattle.std.proofs.Common.{◌≡◌, ◌∙◌, ◌++◌, ◌+◌, ◌∷◌, [], take, sym, ap}
 use Rattle.std.proofs.lemmas.List.{take_more}
 use Rattle.hist_types.specs.Transactions.{Transaction}
-use Rattle.key_versions.specs.Given.{IsTableBeside}
-use Rattle.key_versions.specs.Stepped.{AreStepsOf}
-use Rattle.key_versions.specs.Steps.{last_seen}
 use Rattle.key_versions.proofs.sequential.take_all.Goals as goal
 
 pub take-requires : goal.take-requires

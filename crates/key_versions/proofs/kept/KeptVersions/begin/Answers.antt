@@ -1,4 +1,4 @@
-use Rattle.std.proofs.Common.{◌++◌, ◌∷◌, [], sym, subst}
+use Rattle.std.proofs.Common.{sym, subst}
 use Rattle.key_versions.specs.Kept.{AreKept}
 use Rattle.key_versions.specs.Numbering.{versions_of}
 use Rattle.key_versions.proofs.Keeping.{kept_by, kept_more}

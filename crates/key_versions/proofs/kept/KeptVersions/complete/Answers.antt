@@ -1,4 +1,4 @@
-use Rattle.std.proofs.Common.{rules, ◌≡◌, ◌∙◌, ◌<◌, length, set, sym, subst}
+use Rattle.std.proofs.Common.{rules, ◌≡◌, ◌∙◌, ◌<◌, set, sym, subst}
 use Rattle.hist_types.specs.Transactions.{is_ok}
 use Rattle.key_versions.specs.Kept.{AreKept}
 use Rattle.key_versions.specs.Numbering.{versions_of}

@@ -1,8 +1,7 @@
-use Rattle.std.proofs.Common.{◌≡◌, ◌∙◌, ◌++◌, ◌∷◌, [], List, length, map, All, subst, sym, ap}
-use Rattle.key_versions.specs.declared.kept_accesses.KeptSpan.{KeptSpan}
+use Rattle.std.proofs.Common.{◌∙◌, ◌++◌, ◌∷◌, [], List, length, map, ap}
 use Rattle.key_versions.specs.Kept.{TxnAccesses, accesses_of}
-use Rattle.key_versions.specs.Spans.{IsKeptSpan, kept_at}
-use Rattle.key_versions.proofs.Spans.{kept_wider, kept_pushed, pushed_is}
+use Rattle.key_versions.specs.Spans.{kept_at}
+use Rattle.key_versions.proofs.Spans.{kept_wider, pushed_is}
 use Rattle.key_versions.proofs.kept_accesses.KeptAccesses.push.Goals as goal
 
 pub invariant_of-self : goal.invariant_of-self

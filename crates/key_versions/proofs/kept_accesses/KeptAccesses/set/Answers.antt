@@ -1,6 +1,6 @@
-use Rattle.std.proofs.Common.{◌≡◌, ◌∙◌, List, length, set, ap}
+use Rattle.std.proofs.Common.{◌∙◌, List, set, ap}
 use Rattle.key_versions.specs.Kept.{TxnAccesses, accesses_of}
-use Rattle.key_versions.proofs.Spans.{kept_wider, kept_set, set_is}
+use Rattle.key_versions.proofs.Spans.{set_is}
 use Rattle.key_versions.proofs.kept_accesses.KeptAccesses.set.Goals as goal
 
 pub returns : goal.returns

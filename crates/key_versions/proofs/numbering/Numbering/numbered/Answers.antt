@@ -1,4 +1,4 @@
-use Rattle.std.proofs.Common.{◌≡◌, ◌∙◌, ◌++◌, [], ap}
+use Rattle.std.proofs.Common.{◌≡◌, ◌∙◌, ◌++◌, ap}
 use Rattle.key_versions.specs.Numbering.{AreInRange}
 use Rattle.key_versions.proofs.numbering.Numbering.numbered.Goals as goal
 

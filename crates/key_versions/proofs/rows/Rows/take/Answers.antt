@@ -1,11 +1,9 @@
 use Rattle.std.proofs.Common.{◌≡◌, ◌≤◌, ◌∙◌, ◌++◌, ◌∷◌, [], List, All, length, map, sym, ap, subst}
 use Rattle.hist_types.specs.Journal.{writes_of}
 use Rattle.hist_types.specs.Transactions.{version_of}
-use Rattle.key_versions.specs.Given.{IsTableBeside}
 use Rattle.key_versions.specs.Histories.{read_by}
 use Rattle.key_versions.specs.Rows.{Known, Accessed, accessed, rows_after, grown}
 use Rattle.key_versions.specs.Steps.{FollowersAreUpTo}
-use Rattle.key_versions.specs.Views.{table_by}
 use Rattle.key_versions.proofs.Sequenced.{rows_up_to}
 use Rattle.key_versions.proofs.UpTo.{up_to_grown}
 use Rattle.key_versions.proofs.Told.{accesses_within, grown_enough, told}

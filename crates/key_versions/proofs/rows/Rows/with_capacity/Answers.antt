@@ -1,4 +1,4 @@
-use Rattle.std.proofs.Common.{◌≡◌, ◌∙◌, [], List, length, sym, ap, subst}
+use Rattle.std.proofs.Common.{◌≡◌, ◌∙◌, [], length, ap}
 use Rattle.key_versions.specs.Rows.{grown}
 use Rattle.key_versions.proofs.Given.{begun}
 use Rattle.key_versions.proofs.rows.Rows.with_capacity.Goals as goal

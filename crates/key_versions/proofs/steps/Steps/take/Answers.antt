@@ -1,4 +1,4 @@
-use Rattle.std.proofs.Common.{rules, ◌≡◌, ◌∙◌, ◌++◌, [], ℕ, List, Option, map, true, cond, refl, sym, ap, subst}
+use Rattle.std.proofs.Common.{rules, ◌≡◌, ◌∙◌, ◌++◌, [], ℕ, Option, map, true, cond, refl, sym, ap, subst}
 use Rattle.hist_types.specs.Transactions.{is_ok, external_reads}
 use Rattle.hist_types.specs.Versions.{version_in}
 use Rattle.key_versions.specs.Numbering.{AreAccesses}
