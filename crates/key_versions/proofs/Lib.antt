@@ -24,3 +24,4 @@ mod Interleaved
 mod Marked
 mod UpTo
 mod Sequenced
+mod Keeping

@@ -7,7 +7,7 @@ use Rattle.std.proofs.lemmas.List.Elements.{All-set}
 use Rattle.std.proofs.lemmas.List.Folds.{list_any-append}
 use Rattle.std.proofs.lemmas.List.Sums.{fold-append}
 use Rattle.key_versions.specs.declared.types.Follower.{Follower}
-use Rattle.key_versions.specs.Steps.{has_earlier, behind_once, behind_all, behind_steps, AreMarked, AreFollowers, AreBelow}
+use Rattle.key_versions.specs.Steps.{has_earlier, behind_once, behind_all, behind_steps, AreMarked, AreFollowers}
 
 or_none : (b : Bool) → (b || false) ≡ b
 or_none true = refl

@@ -1,13 +1,17 @@
 -- Numbers of transactions side by side in one list.
-use Rattle.std.proofs.Common.{◌≡◌, ◌≤◌, ◌<◌, ◌-◌, ℕ, zero, suc, List, [], ◌∷◌, ◌++◌, length, map, get_or, take, drop, All, Option, Some, option_map, refl, sym, ◌∙◌, ap, subst, arith}
+use Rattle.std.proofs.Common.{◌≡◌, ◌≤◌, ◌<◌, ◌-◌, ℕ, zero, suc, List, [], ◌∷◌, ◌++◌, length, map, set, get_or, take, drop, All, Option, Some, option_map, refl, sym, ◌∙◌, ap, subst, arith}
 use Rattle.std.specs.Prelude.{slice_get}
 use Rattle.std.proofs.Math.Seq.{drop-append_seam, take-append_seam}
-use Rattle.std.proofs.lemmas.List.{append_assoc, map-append, length-append, length-drop, length-map, take-append-le, drop-append-le}
+use Rattle.std.proofs.lemmas.List.{append_assoc, map-append, map-set, length-append, length-drop, length-map, take-append-le, drop-append-le}
+use Rattle.std.proofs.lemmas.List.Elements.{All-set}
 use Rattle.std.proofs.lemmas.Option.{slice_get-get_or, slice_get-map}
 use Rattle.key_versions.specs.declared.accesses.Span.{Span}
+use Rattle.key_versions.specs.declared.kept_accesses.KeptSpan.{KeptSpan}
+use Rattle.key_versions.specs.declared.pending.Access.{Access}
+use Rattle.key_versions.specs.Kept.{TxnAccesses}
 use Rattle.key_versions.specs.Rows.{Accessed}
 use Rattle.flat_groups.specs.Groups.{between}
-use Rattle.key_versions.specs.Spans.{IsSpan, accessed_at}
+use Rattle.key_versions.specs.Spans.{IsSpan, accessed_at, IsKeptSpan, kept_at, AreAppended}
 use Rattle.key_versions.proofs.Changed.{all_behind}
 
 abbrev accessed_by : List ℕ → List ℕ → Accessed
@@ -18,7 +22,7 @@ span_by reads installs end = record { reads = reads; installs = installs; end = 
 
 -- ---- more numbers
 
-between_kept : (from to : ℕ) (xs ys : List ℕ) → from ≤ to → to ≤ length xs → between from to (xs ++ ys) ≡ between from to xs
+between_kept : {A : Type 0} (from to : ℕ) (xs ys : List A) → from ≤ to → to ≤ length xs → between from to (xs ++ ys) ≡ between from to xs
 between_kept from to xs ys rises within =
     let below : from ≤ length xs = omega arith in
     let enough : to - from ≤ length (drop from xs) = omega (arith, length-drop from xs) in
@@ -59,24 +63,24 @@ all_pushed P (y ∷ xs) x all is (suc k) d below =
     all_pushed P xs x (all_behind P y xs all) is k d behind
 
 -- the numbers that were appended
-appended : (xs ys zs : List ℕ) → between (length xs) (length (xs ++ ys)) ((xs ++ ys) ++ zs) ≡ ys
-appended xs ys zs =
+appended : {A : Type 0} (xs ys zs : List A) → between (length xs) (length (xs ++ ys)) ((xs ++ ys) ++ zs) ≡ ys
+appended {A} xs ys zs =
     let count : length (xs ++ ys) - length xs ≡ length ys = omega (arith, length-append xs ys) in
     ap (λ n. take n (drop (length xs) ((xs ++ ys) ++ zs))) count
-    ∙ ap (λ (ns : List ℕ). take (length ys) (drop (length xs) ns)) (append_assoc xs ys zs)
+    ∙ ap (λ (ns : List A). take (length ys) (drop (length xs) ns)) (append_assoc xs ys zs)
     ∙ ap (take (length ys)) (drop-append_seam xs (ys ++ zs))
     ∙ take-append_seam ys zs
 
-last_appended : (xs ys : List ℕ) → between (length xs) (length (xs ++ ys)) (xs ++ ys) ≡ ys
-last_appended xs ys =
+last_appended : {A : Type 0} (xs ys : List A) → between (length xs) (length (xs ++ ys)) (xs ++ ys) ≡ ys
+last_appended {A} xs ys =
     let count : length (xs ++ ys) - length xs ≡ length ys = omega (arith, length-append xs ys) in
     ap (λ n. take n (drop (length xs) (xs ++ ys))) count
     ∙ ap (take (length ys)) (drop-append_seam xs ys)
     ∙ all_taken ys
   where
-    all_taken : (ys : List ℕ) → take (length ys) ys ≡ ys
+    all_taken : (ys : List A) → take (length ys) ys ≡ ys
     all_taken [] = refl
-    all_taken (y ∷ ys) = ap (λ (ns : List ℕ). y ∷ ns) (all_taken ys)
+    all_taken (y ∷ ys) = ap (λ (ns : List A). y ∷ ns) (all_taken ys)
 
 -- the span of a transaction whose reads and installs were appended
 abbrev appended_span : (numbers reads installs : List ℕ) → Span
@@ -129,15 +133,103 @@ pushed numbers read now reads installs ss after start middle end all first secon
 -- ---- one transaction of those
 
 pub told_at :
-    (f : Accessed → List ℕ) (numbers seen : List ℕ) (ss : List Span) (accesses : List Accessed) (place : ℕ) (s : Span)
-    → map (accessed_at numbers) ss ≡ accesses → place < length accesses → s ≡ get_or ss place s → seen ≡ numbers
-    → slice_get (map f accesses) place ≡ Some (f (accessed_at seen s))
-told_at f numbers seen ss accesses place s is below at same =
-    let count : length accesses ≡ length ss = ap length (sym is) ∙ length-map ss (accessed_at numbers) in
+    {N S A : Type 0} (at_span : List N → S → A) (f : A → List N) (numbers seen : List N) (ss : List S) (accesses : List A) (place : ℕ) (s : S)
+    → map (at_span numbers) ss ≡ accesses → place < length accesses → s ≡ get_or ss place s → seen ≡ numbers
+    → slice_get (map f accesses) place ≡ Some (f (at_span seen s))
+told_at {N} {S} {A} at_span f numbers seen ss accesses place s is below at same =
+    let count : length accesses ≡ length ss = ap length (sym is) ∙ length-map ss (at_span numbers) in
     let within : place < length ss = subst (λ n. place < n) count below in
     slice_get-map f accesses place
-    ∙ ap (λ (as1 : List Accessed). option_map f (slice_get as1 place)) (sym is)
-    ∙ ap (λ (o : Option Accessed). option_map f o) (slice_get-map (accessed_at numbers) ss place)
-    ∙ ap (λ (o : Option Span). option_map f (option_map (accessed_at numbers) o)) (slice_get-get_or ss place s within)
-    ∙ ap (λ (t : Span). Some (f (accessed_at numbers t))) (sym at)
-    ∙ ap (λ (ns : List ℕ). Some (f (accessed_at ns s))) (sym same)
+    ∙ ap (λ (as1 : List A). option_map f (slice_get as1 place)) (sym is)
+    ∙ ap (λ (o : Option A). option_map f o) (slice_get-map (at_span numbers) ss place)
+    ∙ ap (λ (o : Option S). option_map f (option_map (at_span numbers) o)) (slice_get-get_or ss place s within)
+    ∙ ap (λ (t : S). Some (f (at_span numbers t))) (sym at)
+    ∙ ap (λ (ns : List N). Some (f (at_span ns s))) (sym same)
+
+-- ---- accesses that are kept
+
+abbrev kept_by : (rs ws ss : List Access) → TxnAccesses
+kept_by rs ws ss = record { reads = rs; writes = ws; seen = ss }
+
+abbrev kept_span : ℕ → ℕ → ℕ → ℕ → KeptSpan
+kept_span reads writes seen end = record { reads = reads; writes = writes; seen = seen; end = end }
+
+one_kept_at : (xs ys : List Access) (s : KeptSpan) → IsKeptSpan (length xs) s → kept_at (xs ++ ys) s ≡ kept_at xs s
+one_kept_at xs ys s is =
+    let a = is.0 in
+    let b = is.1 in
+    let c = is.2 in
+    let d = is.3 in
+    let second : s.seen ≤ length xs = omega arith in
+    let first : s.writes ≤ length xs = omega arith in
+    ap (λ (rs : List Access). kept_by rs (between s.writes s.seen (xs ++ ys)) (between s.seen s.end (xs ++ ys))) (between_kept s.reads s.writes xs ys a first)
+    ∙ ap (λ (ws : List Access). kept_by (between s.reads s.writes xs) ws (between s.seen s.end (xs ++ ys))) (between_kept s.writes s.seen xs ys b second)
+    ∙ ap (kept_by (between s.reads s.writes xs) (between s.writes s.seen xs)) (between_kept s.seen s.end xs ys c d)
+
+all_kept_at : (xs ys : List Access) (ss : List KeptSpan) → All (IsKeptSpan (length xs)) ss → map (kept_at (xs ++ ys)) ss ≡ map (kept_at xs) ss
+all_kept_at xs ys [] all = refl
+all_kept_at xs ys (s ∷ ss) all =
+    ap (λ (a : TxnAccesses). a ∷ map (kept_at (xs ++ ys)) ss) (one_kept_at xs ys s (all 0 s (omega arith)))
+    ∙ ap (λ (as1 : List TxnAccesses). kept_at xs s ∷ as1) (all_kept_at xs ys ss (all_behind (IsKeptSpan (length xs)) s ss all))
+
+pub kept_wider : (n m : ℕ) (ss : List KeptSpan) → n ≤ m → All (IsKeptSpan n) ss → All (IsKeptSpan m) ss
+kept_wider n m ss more all k d below =
+    let is = all k d below in
+    let last : (get_or ss k d).end ≤ n = is.3 in
+    let wider : (get_or ss k d).end ≤ m = omega arith in
+    (is.0, is.1, is.2, wider)
+
+-- what was appended, and its span
+pub appended_accesses :
+    (xs first second now : List Access) (rs ws ss : List Access) (reads writes seen end : ℕ) → first ≡ xs ++ rs → second ≡ first ++ ws → now ≡ second ++ ss
+    → reads ≡ length xs → writes ≡ length first → seen ≡ length second → end ≡ length now
+    → AreAppended xs now rs ws ss (kept_span reads writes seen end)
+appended_accesses xs first second now rs ws ss reads writes seen end is_first is_second is_now at_reads at_writes at_seen at_end =
+    let one = length-append xs rs in
+    let two = length-append first ws in
+    let three = length-append second ss in
+    let count_first : length first ≡ length (xs ++ rs) = ap length is_first in
+    let count_second : length second ≡ length (first ++ ws) = ap length is_second in
+    let count_now : length now ≡ length (second ++ ss) = ap length is_now in
+    let a : reads ≤ writes = omega arith in
+    let b : writes ≤ seen = omega arith in
+    let c : seen ≤ end = omega arith in
+    let d : end ≤ length now = omega arith in
+    let whole : now ≡ xs ++ (rs ++ (ws ++ ss)) =
+    is_now ∙ ap (λ (ys : List Access). ys ++ ss) (is_second ∙ ap (λ (ys : List Access). ys ++ ws) is_first)
+    ∙ append_assoc (xs ++ rs) ws ss ∙ append_assoc xs rs (ws ++ ss) in
+    let their_reads : between reads writes now ≡ rs =
+    rw (at_reads, at_writes, is_first, whole) (ap (between (length xs) (length (xs ++ rs))) (sym (append_assoc xs rs (ws ++ ss))) ∙ appended xs rs (ws ++ ss)) in
+    let their_writes : between writes seen now ≡ ws = rw (at_writes, at_seen, is_now, is_second) (appended first ws ss) in
+    let their_seen : between seen end now ≡ ss = rw (at_seen, at_end, is_now) (last_appended second ss) in
+    record {
+      all = whole;
+      span = (a, b, c, d);
+      at = ap (λ (x : List Access). kept_by x (between writes seen now) (between seen end now)) their_reads
+          ∙ ap (λ (x : List Access). kept_by rs x (between seen end now)) their_writes ∙ ap (kept_by rs ws) their_seen;
+    }
+
+module _ (xs now : List Access) (rs ws ss : List Access) (s : KeptSpan) (is : AreAppended xs now rs ws ss s) (spans : List KeptSpan) (all : All (IsKeptSpan (length xs)) spans) where
+  longer : length xs ≤ length now
+  longer = let count : length now ≡ length (xs ++ (rs ++ (ws ++ ss))) = ap length is.all in omega (arith, length-append xs (rs ++ (ws ++ ss)))
+
+  before : map (kept_at now) spans ≡ map (kept_at xs) spans
+  before = ap (λ (ys : List Access). map (kept_at ys) spans) is.all ∙ all_kept_at xs (rs ++ (ws ++ ss)) spans all
+
+  -- one transaction more
+  pub kept_pushed : All (IsKeptSpan (length now)) (spans ++ s ∷ [])
+  kept_pushed = all_pushed (IsKeptSpan (length now)) spans s (kept_wider (length xs) (length now) spans longer all) is.span
+
+  pub pushed_is : map (kept_at now) (spans ++ s ∷ []) ≡ map (kept_at xs) spans ++ kept_by rs ws ss ∷ []
+  pushed_is =
+      map-append (kept_at now) spans (s ∷ []) ∙ ap (λ (as1 : List TxnAccesses). as1 ++ kept_at now s ∷ []) before
+      ∙ ap (λ (a : TxnAccesses). map (kept_at xs) spans ++ a ∷ []) is.at
+
+  -- others for the one at the place
+  pub kept_set : (place : ℕ) → All (IsKeptSpan (length now)) (set spans place s)
+  kept_set place = All-set (IsKeptSpan (length now)) spans place s is.span (kept_wider (length xs) (length now) spans longer all)
+
+  pub set_is : (place : ℕ) → map (kept_at now) (set spans place s) ≡ set (map (kept_at xs) spans) place (kept_by rs ws ss)
+  set_is place =
+      map-set (kept_at now) spans place s ∙ ap (λ (as1 : List TxnAccesses). set as1 place (kept_at now s)) before
+      ∙ ap (set (map (kept_at xs) spans) place) is.at

@@ -38,7 +38,7 @@ use Rattle.key_versions.proofs.Unnamed.{not_read, unnamed_writer, unnamed_reader
 
 -- ---- versions that are named
 
-or_moved : (a b c : Bool) → ((a || b) || c) ≡ (a || (b || c))
+pub or_moved : (a b c : Bool) → ((a || b) || c) ≡ (a || (b || c))
 or_moved true b c = refl
 or_moved false b c = refl
 
@@ -65,7 +65,7 @@ has_inserted vs w v = elim (cases_number version_eq w vs) [
     absorbed true c h = h refl ∙ sym (ap (λ d. d || true) (h refl))
     absorbed false c h = sym (or_false c)
 
-has_versions : (vs ws : List Version) (v : Version) → has_version (with_versions vs ws) v ≡ (has_version vs v || has_version ws v)
+pub has_versions : (vs ws : List Version) (v : Version) → has_version (with_versions vs ws) v ≡ (has_version vs v || has_version ws v)
 has_versions vs [] v = sym (or_false (has_version vs v))
 has_versions vs (w ∷ ws) v =
     has_versions (with_item version_eq vs w) ws v ∙ ap (λ b. b || has_version ws v) (has_inserted vs w v) ∙ or_moved (has_version vs v) (version_eq v w) (has_version ws v)

@@ -11,3 +11,5 @@ pub mod Pairs
 pub mod SeenKeys
 pub mod Steps
 pub mod Stepped
+pub mod TxnAccesses
+pub mod Kept

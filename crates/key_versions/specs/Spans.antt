@@ -1,7 +1,11 @@
--- What transactions read and install, side by side in one list of numbers.
-use Rattle.std.specs.Prelude.{◌≤◌, ℕ, List}
+-- What transactions read and install, side by side in one list of numbers, and what is kept of them,
+-- side by side in one list of accesses.
+use Rattle.std.specs.Prelude.{◌≡◌, ◌≤◌, ◌++◌, ℕ, List, length}
 use Rattle.flat_groups.specs.Groups.{between}
 use Rattle.key_versions.specs.declared.accesses.Span.{Span}
+use Rattle.key_versions.specs.declared.kept_accesses.KeptSpan.{KeptSpan}
+use Rattle.key_versions.specs.declared.pending.Access.{Access}
+use Rattle.key_versions.specs.Kept.{TxnAccesses}
 use Rattle.key_versions.specs.Rows.{Accessed}
 
 -- a span among n numbers
@@ -15,3 +19,23 @@ accessed_at numbers s =
       reads = between s.reads s.installs numbers;
       installs = between s.installs s.end numbers;
     }
+
+-- a span among n accesses
+abbrev pub IsKeptSpan : ℕ → KeptSpan → Type 0
+IsKeptSpan n s = (s.reads ≤ s.writes) × (s.writes ≤ s.seen) × (s.seen ≤ s.end) × (s.end ≤ n)
+
+-- what the transaction with this span reads, writes and sees
+abbrev pub kept_at : List Access → KeptSpan → TxnAccesses
+kept_at accesses s =
+    record {
+      reads = between s.reads s.writes accesses;
+      writes = between s.writes s.seen accesses;
+      seen = between s.seen s.end accesses;
+    }
+
+-- these were appended, and the span is theirs
+pub record AreAppended (before after : List Access) (rs ws ss : List Access)
+    (s : KeptSpan) : Type 0 where
+  pub all : after ≡ before ++ (rs ++ (ws ++ ss))
+  pub span : IsKeptSpan (length after) s
+  pub at : kept_at after s ≡ record { reads = rs; writes = ws; seen = ss }

@@ -1,13 +1,11 @@
--- The steps of a history's processes so far, and the table of its transactions.
+-- The steps of a history's processes so far, by the numbers of versions.
 use Rattle.std.specs.Prelude.{◌≡◌, ℕ, List, Option, Some, slice_get, map}
 use Rattle.hist_types.specs.Transactions.{Transaction, Version}
 use Rattle.hist_types.specs.Versions.{VersionPair, seen_by, process_pairs}
 use Rattle.hist_types.specs.declared.types.KeyOrder.TheVariants.{Sequential}
 use Rattle.key_versions.specs.declared.pending.Access.{Access}
-use Rattle.key_versions.specs.Given.{IsTableBeside}
 use Rattle.key_versions.specs.Numbering.{AreAccesses}
 use Rattle.key_versions.specs.Steps.{last_number}
-use Rattle.key_versions.specs.Tables.{Table}
 
 -- a step with its versions, if they have these numbers, and a pair in the same form
 abbrev pub step_at : List Version → ℕ × ℕ → Option Version × Option Version
@@ -28,8 +26,7 @@ abbrev pub AreStepsAs : List Version → List VersionPair → List (ℕ × ℕ) 
 AreStepsAs versions pairs steps = map (step_at versions) steps ≡ map as_step pairs
 
 -- what each process saw last of each key, and the steps that were taken
-pub record AreStepsOf (given : List Version) (ts : List Transaction) (table : Table)
+pub record AreStepsOf (versions : List Version) (ts : List Transaction)
     (last : ℕ → ℕ → Option ℕ) (taken : List (ℕ × ℕ)) : Type 0 where
-  pub table_of : IsTableBeside given ts table
-  pub seen : (process : ℕ) → HasLastSeen table.versions (seen_by process ts) (last process)
-  pub steps : AreStepsAs table.versions (process_pairs Sequential ts) taken
+  pub seen : (process : ℕ) → HasLastSeen versions (seen_by process ts) (last process)
+  pub steps : AreStepsAs versions (process_pairs Sequential ts) taken

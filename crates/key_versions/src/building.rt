@@ -1,18 +1,18 @@
 //! A table that takes one transaction after another.
 
-ghost use Rattle.std.specs.Prelude.{◌≡◌, ◌++◌, ◌∷◌, [], List, length, map, OnOk, IfOk, IsTrue};
-ghost use Rattle.hist_types.specs.Journal.{writes_of};
+ghost use Rattle.std.specs.Prelude.{◌≡◌, ◌++◌, ◌∷◌, [], List, length, OnOk, IfOk};
 ghost use Rattle.atom_index.specs.Numbers.{AreNumbered};
-ghost use Rattle.hist_types.specs.Transactions.{Transaction, Version, is_ok, version_of, version_eq};
-ghost use Rattle.hist_types.specs.declared.types.KeyOrder.TheVariants.{Basic, Sequential};
+ghost use Rattle.hist_types.specs.Transactions.{Transaction, Version, version_eq};
+ghost use Rattle.hist_types.specs.declared.types.KeyOrder.TheVariants.{Basic};
 ghost use Rattle.key_versions.specs.Given.{AreNamed, IsTableBeside};
-ghost use Rattle.key_versions.specs.Histories.{named_by, read_by, seen_in};
-ghost use Rattle.key_versions.specs.Numbering.{versions_of, with_versions, AreAccesses};
-ghost use Rattle.key_versions.specs.Steps.{AreOfSameKeys};
+ghost use Rattle.key_versions.specs.Histories.{named_by};
+ghost use Rattle.key_versions.specs.Numbering.{versions_of, with_versions};
 ghost use Rattle.key_versions.specs.Tables.{IsTableOf};
+ghost use Rattle.key_versions.specs.TxnAccesses.{AreAccessesOf, AreSeenBy};
 ghost use Rattle.key_versions.specs.Views.{with_order};
 
-use crate::numbering::{Accessed, Numbering};
+use crate::accessed::Accessed;
+use crate::numbering::Numbering;
 use crate::rows::Rows;
 use crate::sequential::sequential;
 use crate::table::Versions;
@@ -52,8 +52,7 @@ impl<'a, S: BuildHasher + Copy> Building<'a, S> {
         ensures versions { IfOk result
             (λ building. building.versions ≡ versions_of numbering.entry) }
     {
-        let mut rows = Rows::with_capacity(alloc, transactions, numbering.len())?;
-        rows.grow(numbering.len())?;
+        let rows = Rows::with_capacity(alloc, transactions, numbering.len())?;
         Ok(Building { numbering, rows })
     }
 
@@ -78,21 +77,17 @@ impl<'a, S: BuildHasher + Copy> Building<'a, S> {
             → OnOk result (IsTableBeside given (ts ++ txn.now ∷ []) self.new) }
         ensures versions { OnOk result
             (self.new.versions ≡ with_versions self.old.versions (named_by txn.now)) }
-        ensures reads { OnOk result
-            (AreAccesses self.new.versions (read_by txn.now) accessed.new.reads.items) }
-        ensures writes { OnOk result
-            (AreAccesses self.new.versions
-            (map version_of (writes_of txn.now.mops)) accessed.new.writes.items) }
-        ensures seen { OnOk result
-            (AreAccesses self.new.versions (seen_in keys txn.now) accessed.new.seen.items) }
-        ensures keys { keys ≡ Sequential → IsTrue (is_ok txn.now) → OnOk result
-            (AreOfSameKeys accessed.new.seen.items
-            (accessed.new.reads.items ++ accessed.new.writes.items)) }
+        ensures accesses { OnOk result (AreAccessesOf self.new.versions txn.now
+            accessed.new.reads.items accessed.new.writes.items) }
+        ensures seen { OnOk result (AreSeenBy keys self.new.versions txn.now
+            accessed.new.reads.items accessed.new.writes.items accessed.new.seen.items) }
     {
         self.numbering.take(txn, keys, accessed)?;
-        self.rows.grow(self.numbering.len())?;
-        self.rows
-            .add(accessed.reads.as_slice(), accessed.writes.as_slice())?;
+        self.rows.take(
+            self.numbering.len(),
+            accessed.reads.as_slice(),
+            accessed.writes.as_slice(),
+        )?;
         Ok(())
     }
 

@@ -7,9 +7,12 @@ ghost use Rattle.history_laws.specs.Writers.{writes_of_all};
 ghost use Rattle.journal_core.specs.Writes.{AreSameWrites};
 ghost use Rattle.key_versions.specs.Tables.{IsTableOf};
 
+mod accessed;
 mod accesses;
 mod building;
 mod interleaving;
+pub mod kept;
+mod kept_accesses;
 pub mod laws;
 mod nils;
 mod numbering;

@@ -1,97 +1,28 @@
 //! Numbers for versions.
 
-ghost use Rattle.std.specs.Prelude.{◌≡◌, ◌<◌, ◌∷◌, ◌++◌, slice_get, [], Some, length, IfOk, IfSome, OnOk, IsTrue, map, None};
+ghost use Rattle.std.specs.Prelude.{◌≡◌, ◌<◌, ◌∷◌, slice_get, [], Some, length, IfOk, IfSome, OnOk, None};
 ghost use Rattle.atom_index.specs.Numbers.{AreNumbered, number_in, with_item};
 ghost use Rattle.hist_types.specs.Atoms.{atom_eq};
-ghost use Rattle.hist_types.specs.Journal.{writes_of};
-ghost use Rattle.hist_types.specs.Transactions.{Version, is_ok, version_of, version_eq};
+ghost use Rattle.hist_types.specs.Transactions.{Version, version_eq};
 ghost use Rattle.hist_types.specs.Versions.{nil_of};
-ghost use Rattle.hist_types.specs.declared.types.KeyOrder.TheVariants.{Sequential};
-ghost use Rattle.key_versions.specs.Histories.{named_by, read_by, seen_in};
-ghost use Rattle.key_versions.specs.Rows.{with_access, with_read};
-ghost use Rattle.key_versions.specs.Numbering.{Numbers, key_at, version_with, versions_in, versions_of, AreInRange, with_versions, IsAccess, IsAccessIfAny, IsVersionOfKey, AreAccesses};
+ghost use Rattle.key_versions.specs.Histories.{named_by};
+ghost use Rattle.key_versions.specs.Numbering.{Numbers, key_at, version_with, versions_in, versions_of, AreInRange, with_versions, IsAccess, IsAccessIfAny, IsVersionOfKey};
 ghost use Rattle.key_versions.specs.Given.{AreGiven};
-ghost use Rattle.key_versions.specs.Steps.{AreOfSameKeys};
+ghost use Rattle.key_versions.specs.TxnAccesses.{AreAccessesOf, AreSeenBy};
 
+use crate::accessed::Accessed;
 use crate::nils::{add_nils, nil_number};
 use crate::pending::Access;
-use crate::rows::{has_key, number_of};
+use crate::rows::number_of;
 use atom_index::atoms::AtomIndex;
 use atom_index::pairs::PairIndex;
 use hist_types::types::KeyOrder;
 use journal_core::written::{Written, WrittenTables};
 use op_view::atom::Atom;
-use smallvec::SmallVec;
 use std::alloc::{AllocError, Global};
 use std::hash::{BuildHasher, BuildHasherDefault, FoldHasher};
 use std::marker::Model;
 use txn_pairs::types::{Status, Txn};
-
-/// What a transaction reads externally, if it is ok, and what it writes.
-pub(crate) struct Accessed {
-    pub reads: SmallVec<Access, 4>,
-    pub writes: SmallVec<Access, 4>,
-    /// Where keys are sequential, what each micro-operation of an ok transaction reads or writes.
-    pub seen: SmallVec<Access, 4>,
-}
-
-// Written out, as what is derived is repeated wherever one is dropped.
-impl Drop for Accessed {
-    fn drop(self) {
-        let Accessed {
-            reads: _,
-            writes: _,
-            seen: _,
-        } = self;
-    }
-}
-
-impl Accessed {
-    /// Nothing is read or written.
-    pub fn new(alloc: Global) -> Self
-        ensures reads { result.reads.items ≡ [] }
-        ensures writes { result.writes.items ≡ [] }
-        ensures seen { result.seen.items ≡ [] }
-    {
-        Accessed {
-            reads: SmallVec::new(alloc),
-            writes: SmallVec::new(alloc),
-            seen: SmallVec::new(alloc),
-        }
-    }
-
-    fn clear(&mut self)
-        ensures reads { self.new.reads.items ≡ [] }
-        ensures writes { self.new.writes.items ≡ [] }
-        ensures seen { self.new.seen.items ≡ [] }
-    {
-        self.reads.clear();
-        self.writes.clear();
-        self.seen.clear();
-    }
-
-    /// Adds the access of a micro-operation. A read of a key that the transaction wrote before isn't external.
-    #[inline(always)]
-    fn add(&mut self, access: Access, is_write: bool, keeps_seen: bool) -> Result<(), AllocError>
-        ensures reads { OnOk result
-            (self.new.reads.items
-            ≡ with_read is_write access self.old.writes.items self.old.reads.items) }
-        ensures writes { OnOk result
-            (self.new.writes.items ≡ with_access is_write access self.old.writes.items) }
-        ensures seen { OnOk result
-            (self.new.seen.items ≡ with_access keeps_seen access self.old.seen.items) }
-    {
-        if keeps_seen {
-            self.seen.push(access)?;
-        }
-        if is_write {
-            self.writes.push(access)?;
-        } else if !has_key(self.writes.as_slice(), access.nil) {
-            self.reads.push(access)?;
-        }
-        Ok(())
-    }
-}
 
 /// Numbers versions: first those that were written, if the journal numbered them, with the nil versions of their keys, and then
 /// in the order in which they are first named, each after the nil version of its key.
@@ -159,7 +90,37 @@ pub(crate) fn numbering_of<'a>(
     })
 }
 
+/// A copy of the atoms that have a number.
+fn atoms_of<'a, S: BuildHasher>(
+    alloc: Global,
+    index: &AtomIndex<'a, S>,
+) -> Result<Vec<Atom<'a>>, AllocError>
+    ensures { IfOk result (λ atoms. atoms.items ≡ index.now.items) }
+{
+    let mut atoms = Vec::with_capacity(alloc, index.len())?;
+    for number in 0..index.len() {
+        atoms.push(index.atom(number))?;
+    }
+    Ok(atoms)
+}
+
 impl<'a, S: BuildHasher> Numbering<'a, S> {
+    /// No version yet.
+    pub fn new(alloc: Global, hasher: S) -> Self
+    where
+        S: Copy,
+        ensures { versions_of result ≡ [] }
+    {
+        Numbering {
+            keys: AtomIndex::with_hasher(alloc, hasher),
+            values: AtomIndex::with_hasher(alloc, hasher),
+            pairs: PairIndex::with_hasher(alloc, hasher),
+            nils: Vec::new(alloc),
+            written: 0,
+            compared: 0,
+        }
+    }
+
     /// No version yet, and tables as large as is best for n versions.
     pub fn with_capacity(alloc: Global, hasher: S, versions: usize) -> Result<Self, AllocError>
     where
@@ -330,16 +291,10 @@ impl<'a, S: BuildHasher> Numbering<'a, S> {
         requires { AreNumbered version_eq (versions_of self.old) }
         ensures versions { OnOk result
             (versions_of self.new ≡ with_versions (versions_of self.old) (named_by txn.now)) }
-        ensures reads { OnOk result
-            (AreAccesses (versions_of self.new) (read_by txn.now) accessed.new.reads.items) }
-        ensures writes { OnOk result
-            (AreAccesses (versions_of self.new)
-            (map version_of (writes_of txn.now.mops)) accessed.new.writes.items) }
-        ensures seen { OnOk result
-            (AreAccesses (versions_of self.new) (seen_in keys txn.now) accessed.new.seen.items) }
-        ensures keys { keys ≡ Sequential → IsTrue (is_ok txn.now) → OnOk result
-            (AreOfSameKeys accessed.new.seen.items
-            (accessed.new.reads.items ++ accessed.new.writes.items)) }
+        ensures accesses { OnOk result (AreAccessesOf (versions_of self.new) txn.now
+            accessed.new.reads.items accessed.new.writes.items) }
+        ensures seen { OnOk result (AreSeenBy keys (versions_of self.new) txn.now
+            accessed.new.reads.items accessed.new.writes.items accessed.new.seen.items) }
     {
         let is_ok = txn.status() == Status::Ok;
         let keeps_seen = is_ok && keys == KeyOrder::Sequential;
@@ -358,6 +313,25 @@ impl<'a, S: BuildHasher> Numbering<'a, S> {
         Ok(())
     }
 
+    /// A copy of the numbered versions.
+    pub fn numbered(&self, alloc: Global) -> Result<Numbered<'a>, AllocError>
+        ensures versions { IfOk result (λ n. versions_in n.keys.items n.values.items n.pairs.items
+            ≡ versions_of self.now) }
+        ensures in_range { IfOk result
+            (λ n. AreInRange n.keys.items n.values.items n.pairs.items) }
+    {
+        let keys = atoms_of(alloc, &self.keys)?;
+        let values = atoms_of(alloc, &self.values)?;
+        let mut pairs = Vec::with_capacity(alloc, self.pairs.len())?;
+        pairs.extend_from_slice(self.pairs.as_slice())?;
+        Ok(Numbered {
+            keys,
+            values,
+            pairs,
+        })
+    }
+
+    /// The numbered versions. The tables by which they are looked up are freed.
     pub fn finish(self) -> Numbered<'a>
     where
         S: Drop,

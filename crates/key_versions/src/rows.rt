@@ -1,8 +1,13 @@
 //! Transactions are added to what is known of each version, over numbers alone.
 
-ghost use Rattle.std.specs.Prelude.{◌≡◌, ◌≤◌, ◌<◌, ◌++◌, ◌∷◌, [], length, IfOk, OnOk, All};
+ghost use Rattle.std.specs.Prelude.{◌≡◌, ◌≤◌, ◌<◌, ◌++◌, ◌∷◌, [], List, length, IfOk, OnOk, All};
+ghost use Rattle.atom_index.specs.Numbers.{AreNumbered};
+ghost use Rattle.hist_types.specs.Transactions.{Transaction, Version, version_eq};
+ghost use Rattle.key_versions.specs.Given.{IsTableBeside};
 ghost use Rattle.key_versions.specs.Rows.{has_nil, lasts, written_rows, installed_rows, has_number, read_rows, accessed, rows_after, grown, IsWithin};
 ghost use Rattle.key_versions.specs.Steps.{FollowersAreUpTo};
+ghost use Rattle.key_versions.specs.TxnAccesses.{AddsNamed, AreAccessesOf};
+ghost use Rattle.key_versions.specs.Views.{table_by};
 
 use crate::accesses::Accesses;
 use crate::pending::{Access, Pending};
@@ -98,24 +103,26 @@ pub(crate) struct Rows {
 }
 
 impl Rows {
-    /// No rows yet, with room for this many transactions and versions.
+    /// A row for each of n versions, of which nothing is known, with room for this many transactions.
     pub fn with_capacity(
         alloc: Global,
         transactions: usize,
         versions: usize,
     ) -> Result<Self, AllocError>
-        ensures rows { IfOk result (λ r. r.rows ≡ []) }
-        ensures accesses { IfOk result (λ r. r.accesses ≡ []) }
+        ensures { (given : List Version) → AreNumbered version_eq given → versions ≡ length given
+            → IfOk result (λ r. IsTableBeside given [] (table_by given r.rows r.accesses)) }
     {
-        Ok(Rows {
+        let mut rows = Rows {
             alloc,
             rows: Pending::with_capacity(alloc, transactions, versions)?,
             accesses: Accesses::with_capacity(alloc, transactions)?,
-        })
+        };
+        rows.grow(versions)?;
+        Ok(rows)
     }
 
     /// Adds rows until there are as many.
-    pub fn grow(&mut self, versions: usize) -> Result<(), AllocError>
+    fn grow(&mut self, versions: usize) -> Result<(), AllocError>
         ensures rows { OnOk result (self.new.rows ≡ grown versions self.old.rows) }
         ensures accesses { OnOk result (self.new.accesses ≡ self.old.accesses) }
     {
@@ -126,7 +133,7 @@ impl Rows {
     }
 
     /// Adds the next transaction.
-    pub fn add(&mut self, reads: &[Access], writes: &[Access]) -> Result<(), AllocError>
+    fn add(&mut self, reads: &[Access], writes: &[Access]) -> Result<(), AllocError>
         requires reads { All (IsWithin (length self.old.rows)) reads.now }
         requires writes { All (IsWithin (length self.old.rows)) writes.now }
         requires order { All (FollowersAreUpTo (length self.old.accesses)) self.old.rows }
@@ -141,5 +148,28 @@ impl Rows {
         add_installs(&mut self.rows, place, installs.as_slice())?;
         add_reads(&mut self.rows, place, reads, installs.as_slice())?;
         self.accesses.push(reads, installs.as_slice())
+    }
+
+    /// Takes the next transaction, by what it reads, if it is ok, and what it writes. There are n versions now, those that it
+    /// names among them.
+    pub fn take(
+        &mut self,
+        versions: usize,
+        reads: &[Access],
+        writes: &[Access],
+    ) -> Result<(), AllocError>
+        requires { (given : List Version) × (before : List Version) × (after : List Version)
+            × (ts : List Transaction) × (t : Transaction)
+            × IsTableBeside given ts (table_by before self.old.rows self.old.accesses)
+            × AddsNamed before after versions t × AreAccessesOf after t reads.now writes.now }
+        ensures { (given before after : List Version) (ts : List Transaction) (t : Transaction)
+            → IsTableBeside given ts (table_by before self.old.rows self.old.accesses)
+            → AddsNamed before after versions t → AreAccessesOf after t reads.now writes.now
+            → OnOk result (IsTableBeside given (ts ++ t ∷ [])
+            (table_by after self.new.rows self.new.accesses)) }
+    {
+        self.grow(versions)?;
+        self.add(reads, writes)?;
+        Ok(())
     }
 }

@@ -1,12 +1,16 @@
 //! The steps that processes take from one version of a key to another.
 
-ghost use Rattle.std.specs.Prelude.{◌≡◌, ◌++◌, ◌&&◌, ◌==◌, if◌then◌else◌, ℕ, [], None, Some, fold, All, IfOk, OnOk};
+ghost use Rattle.std.specs.Prelude.{◌≡◌, ◌++◌, ◌∷◌, ◌&&◌, ◌==◌, if◌then◌else◌, ℕ, List, [], None, Some, fold, All, IfOk, OnOk};
+ghost use Rattle.atom_index.specs.Numbers.{AreNumbered};
 ghost use Rattle.flat_groups.specs.Groups.{IsNumbered, groups_from};
+ghost use Rattle.hist_types.specs.Transactions.{Transaction, Version, version_eq};
+ghost use Rattle.hist_types.specs.declared.types.KeyOrder.TheVariants.{Sequential};
 ghost use Rattle.key_versions.specs.Rows.{lasts};
 ghost use Rattle.key_versions.specs.SeenKeys.{hashed_word, same_word};
 ghost use Rattle.key_versions.specs.Steps.{last_number, last_seen, seen_after, with_first, firsts, step_from, steps_to, AreApart, AreOfSameKeys};
+ghost use Rattle.key_versions.specs.Stepped.{AreStepsOf};
+ghost use Rattle.key_versions.specs.TxnAccesses.{AreAccessesOf, AreSeenBy};
 
-use crate::numbering::Accessed;
 use crate::pending::Access;
 use crate::rows::has_key;
 use flat_groups::groups::Groups;
@@ -14,6 +18,7 @@ use indexmap::IndexMap;
 use smallvec::SmallVec;
 use std::alloc::{AllocError, Global};
 use std::hash::{BuildHasher, Hash, Hasher};
+use txn_pairs::types::{Status, Txn};
 
 /// Adds an access, unless there is one to its key.
 fn meet(met: &mut SmallVec<Access, 4>, access: Access) -> Result<(), AllocError>
@@ -159,22 +164,50 @@ impl<S: BuildHasher> Steps<S> {
 
     /// Takes the next ok transaction of a process: its steps lead to what the transaction first reads of each key, or installs
     /// where it doesn't read the key.
-    pub fn take(&mut self, process: u64, accessed: &Accessed) -> Result<(), AllocError>
-        requires { AreOfSameKeys accessed.now.seen.items
-            (accessed.now.reads.items ++ accessed.now.writes.items) }
+    fn take_ok(
+        &mut self,
+        process: u64,
+        reads: &[Access],
+        writes: &[Access],
+        seen: &[Access],
+    ) -> Result<(), AllocError>
+        requires { AreOfSameKeys seen.now (reads.now ++ writes.now) }
         ensures taken { OnOk result
             (self.new.taken.items
-            ≡ self.old.taken.items ++ steps_to (last_seen self.old.last process)
-            (firsts accessed.now.reads.items accessed.now.writes.items)) }
+            ≡ self.old.taken.items
+            ++ steps_to (last_seen self.old.last process) (firsts reads.now writes.now)) }
         ensures last { OnOk result
             ((one nil : ℕ) → last_seen self.new.last one nil
-            ≡ seen_after process accessed.now.seen.items one nil
-            (last_seen self.old.last one nil)) }
+            ≡ seen_after process seen.now one nil (last_seen self.old.last one nil)) }
     {
         let mut met = SmallVec::new(self.alloc);
-        meet_reads(&mut met, accessed.reads.as_slice())?;
-        meet_installs(&mut met, accessed.writes.as_slice())?;
-        self.step_to_all(process, met.as_slice(), accessed.seen.as_slice())
+        meet_reads(&mut met, reads)?;
+        meet_installs(&mut met, writes)?;
+        self.step_to_all(process, met.as_slice(), seen)
+    }
+
+    /// Takes the next transaction, by what it reads and writes. Only an ok one shows what its process saw.
+    pub fn take(
+        &mut self,
+        txn: &Txn<'_>,
+        reads: &[Access],
+        writes: &[Access],
+        seen: &[Access],
+    ) -> Result<(), AllocError>
+        requires { (versions : List Version)
+            × AreSeenBy Sequential versions txn.now reads.now writes.now seen.now }
+        ensures { (versions : List Version) (ts : List Transaction)
+            → AreNumbered version_eq versions
+            → AreStepsOf versions ts (last_seen self.old.last) self.old.taken.items
+            → AreAccessesOf versions txn.now reads.now writes.now
+            → AreSeenBy Sequential versions txn.now reads.now writes.now seen.now
+            → OnOk result (AreStepsOf versions (ts ++ txn.now ∷ [])
+            (last_seen self.new.last) self.new.taken.items) }
+    {
+        if txn.status() == Status::Ok {
+            self.take_ok(txn.process(), reads, writes, seen)?;
+        }
+        Ok(())
     }
 
     /// What processes saw is freed.

@@ -1,26 +1,39 @@
-use Rattle.std.proofs.Common.{◌≡◌, ◌∙◌, [], List, fold, sym, ap, subst}
-use Rattle.key_versions.specs.declared.pending.Access.{Access}
-use Rattle.key_versions.specs.Rows.{has_nil, lasts}
-use Rattle.key_versions.specs.Steps.{with_first, firsts, AreApart}
-use Rattle.key_versions.proofs.Seen.{firsts_apart, firsts_keys}
+use Rattle.std.proofs.Common.{rules, ◌≡◌, ◌∙◌, ◌++◌, [], ℕ, Option, map, true, cond, refl, sym, ap, subst}
+use Rattle.hist_types.specs.Transactions.{is_ok, external_reads}
+use Rattle.hist_types.specs.Versions.{version_in}
+use Rattle.key_versions.specs.Numbering.{AreAccesses}
+use Rattle.key_versions.specs.Steps.{last_seen, seen_after, firsts, steps_to}
+use Rattle.key_versions.proofs.Stepping.{stepped_ok, stepped_not}
 use Rattle.key_versions.proofs.steps.Steps.take.Goals as goal
 
-pub step_to_all-requires-clause-apart : goal.step_to_all-requires-clause-apart
-step_to_all-requires-clause-apart g c =
-    let reads = c.args.accessed.now.reads.items in
-    let writes = c.args.accessed.now.writes.items in
-    let met : c.as_slice-3.result.now ≡ firsts reads writes = c.as_slice-3.ensures ∙ c.in_ok-meet_installs.ensures
-    ∙ ap (λ (xs : List Access). fold with_first c.meet_reads.new.met.items (lasts xs)) c.as_slice-2.ensures
-    ∙ ap (λ (xs : List Access). fold with_first xs (lasts writes))
-    (c.in_ok-meet_reads.ensures ∙ ap (λ (xs : List Access). fold with_first xs c.as_slice.result.now) c.new-met.ensures.items ∙ ap (fold with_first []) c.as_slice.ensures) in
-    subst (AreApart []) (sym met) (firsts_apart reads writes)
+pub take_ok-requires : goal.take_ok-requires
+take_ok-requires g c =
+    let (versions, has) = c.requires in
+    let ok : c.eq.result ≡ is_ok c.args.txn.now = search rules in
+    has.of_keys refl (sym ok ∙ c.if-eq.true)
 
-pub step_to_all-requires-clause-keys : goal.step_to_all-requires-clause-keys
-step_to_all-requires-clause-keys g c = λ nil.
-    let reads = c.args.accessed.now.reads.items in
-    let writes = c.args.accessed.now.writes.items in
-    let met : c.as_slice-3.result.now ≡ firsts reads writes = c.as_slice-3.ensures ∙ c.in_ok-meet_installs.ensures
-    ∙ ap (λ (xs : List Access). fold with_first c.meet_reads.new.met.items (lasts xs)) c.as_slice-2.ensures
-    ∙ ap (λ (xs : List Access). fold with_first xs (lasts writes))
-    (c.in_ok-meet_reads.ensures ∙ ap (λ (xs : List Access). fold with_first xs c.as_slice.result.now) c.new-met.ensures.items ∙ ap (fold with_first []) c.as_slice.ensures) in
-    ap (has_nil nil) c.as_slice-4.ensures ∙ c.requires nil ∙ firsts_keys reads writes nil ∙ ap (has_nil nil) (sym met)
+pub returns-in_ok-take_ok : goal.returns-in_ok-take_ok
+returns-in_ok-take_ok g c = λ versions ts numbered old has sees.
+    let t = c.args.txn.now in
+    let last : ℕ → ℕ → Option ℕ = last_seen c.args.self.now.last in
+    let before = c.args.self.now.taken.items in
+    let reads = c.args.reads.now in
+    let writes = c.args.writes.now in
+    let seen = c.args.seen.now in
+    let ok : c.eq.result ≡ is_ok t = search rules in
+    let is : is_ok t ≡ true = sym ok ∙ c.if-eq.true in
+    let read : AreAccesses versions (external_reads t) reads = subst (λ b. AreAccesses versions (cond b (external_reads t) []) reads) is has.reads in
+    let saw : AreAccesses versions (map version_in t.mops) seen = subst (λ b. AreAccesses versions (cond b (map version_in t.mops) []) seen) is sees.seen in
+    let done =
+    stepped_ok ts t versions numbered reads writes seen last (last_seen c.take_ok.new.self.last)
+    before c.take_ok.new.self.taken.items is read has.writes saw old.seen old.steps
+    (λ one nil. c.in_ok-take_ok.ensures.last one nil ∙ ap (λ p. seen_after p seen one nil (last one nil)) c.process.ensures)
+    (c.in_ok-take_ok.ensures.taken ∙ ap (λ p. before ++ steps_to (last p) (firsts reads writes)) c.process.ensures) in
+    record { seen = done.0; steps = done.1 }
+
+pub returns-else-eq : goal.returns-else-eq
+returns-else-eq g c = λ versions ts numbered old has sees.
+    let t = c.args.txn.now in
+    let ok : c.eq.result ≡ is_ok t = search rules in
+    let done = stepped_not ts t versions (last_seen c.args.self.now.last) c.args.self.now.taken.items (sym ok ∙ c.if-eq.false) old.seen old.steps in
+    record { seen = done.0; steps = done.1 }

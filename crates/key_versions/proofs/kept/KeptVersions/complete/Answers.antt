@@ -1,0 +1,36 @@
+use Rattle.std.proofs.Common.{rules, ◌≡◌, ◌∙◌, ◌<◌, set, sym, subst}
+use Rattle.hist_types.specs.Transactions.{is_ok}
+use Rattle.key_versions.specs.Kept.{AreKept}
+use Rattle.key_versions.specs.Numbering.{versions_of}
+use Rattle.key_versions.proofs.Keeping.{kept_by, have_count, kept_completed, kept_not_ok}
+use Rattle.key_versions.proofs.kept.KeptVersions.complete.Goals as goal
+
+pub set-requires : goal.set-requires
+set-requires g c =
+    let (ts, is, below) = c.requires in
+    let keys = c.self.inside.keys in
+    let vs = versions_of c.self.inside.numbering in
+    let accesses = c.self.inside.accesses in
+    let old : AreKept ts (kept_by keys vs accesses) = subst (AreKept ts) (sym c.self.view_is) is in
+    subst (λ n. c.args.place < n) (sym (have_count keys vs ts accesses old.accesses)) below
+
+pub returns-in_ok-set-clause-kept : goal.returns-in_ok-set-clause-kept
+returns-in_ok-set-clause-kept g c = λ ts t is at done.
+    let keys = c.self.inside.keys in
+    let vs = versions_of c.self.inside.numbering in
+    let us = versions_of c.take.new.self in
+    let accesses = c.self.inside.accesses in
+    let a = c.take.new.accessed in
+    let old : AreKept ts (kept_by keys vs accesses) = subst (AreKept ts) (sym c.self.view_is) is in
+    rw c.in_ok-set.ensures
+    (kept_completed keys vs us c.args.txn.now c.in_ok-take.ensures.versions ts c.args.place t accesses a.reads.items a.writes.items a.seen.items old at done c.in_ok-take.ensures.accesses c.in_ok-take.ensures.seen)
+
+pub returns-else-eq-clause-kept : goal.returns-else-eq-clause-kept
+returns-else-eq-clause-kept g c = λ ts t is at done.
+    let keys = c.self.inside.keys in
+    let vs = versions_of c.self.inside.numbering in
+    let accesses = c.self.inside.accesses in
+    let ok : c.eq.result ≡ is_ok c.args.txn.now = search rules in
+    let old : AreKept ts (kept_by keys vs accesses) = subst (AreKept ts) (sym c.self.view_is) is in
+    subst (AreKept (set ts c.args.place c.args.txn.now)) c.self.view_is
+    (kept_not_ok keys vs t c.args.txn.now done (sym ok ∙ c.if-eq.false) ts c.args.place accesses old at)

@@ -1,0 +1,54 @@
+-- What the transactions of a run read and write, kept by number while the run goes on.
+--
+-- A transaction is noted when it is invoked and again when it completes. Its completion names what
+-- its invocation named, and, where it is ok, what it reads besides. So versions keep their numbers,
+-- and none is ever without a transaction that names it.
+use Rattle.std.specs.Prelude.{◌≡◌, List, [], ◌∷◌, map, ⊤}
+use Rattle.atom_index.specs.Numbers.{AreNumbered}
+use Rattle.hist_types.specs.Journal.{writes_of}
+use Rattle.hist_types.specs.Transactions.{Transaction, Open, Version, version_eq, has_version}
+use Rattle.hist_types.specs.declared.types.KeyOrder.{KeyOrder}
+use Rattle.op_view.specs.Mops.{key_of}
+use Rattle.key_versions.specs.declared.accessed.Accessed.{Accessed}
+use Rattle.key_versions.specs.declared.pending.Access.{Access}
+use Rattle.key_versions.specs.Histories.{is_named}
+use Rattle.key_versions.specs.TxnAccesses.{AreAccessesOf, AreSeenBy}
+
+-- what a transaction reads, writes and sees, by number
+pub record TxnAccesses : Type 0 where
+  pub reads : List Access
+  pub writes : List Access
+  pub seen : List Access
+
+abbrev pub accesses_of : Accessed → TxnAccesses
+accesses_of a = record { reads = a.reads.items; writes = a.writes.items; seen = a.seen.items }
+
+pub record KeptVersions : Type 0 where
+  -- how the versions of each key are ordered
+  pub keys : KeyOrder
+  -- by number of version
+  pub versions : List Version
+  -- by place of transaction
+  pub accesses : List TxnAccesses
+
+-- each transaction has these accesses
+abbrev pub HaveAccesses : KeyOrder → List Version → List Transaction → List TxnAccesses → Type 0
+HaveAccesses keys versions [] [] = ⊤
+HaveAccesses keys versions (t ∷ ts) (a ∷ accesses) =
+    AreAccessesOf versions t a.reads a.writes
+    × AreSeenBy keys versions t a.reads a.writes a.seen
+    × HaveAccesses keys versions ts accesses
+HaveAccesses keys versions ts accesses = ⊥
+
+-- The versions are those that the transactions name, no two of them equal, and of each transaction
+-- its accesses are kept.
+pub record AreKept (ts : List Transaction) (kept : KeptVersions) : Type 0 where
+  pub distinct : AreNumbered version_eq kept.versions
+  pub named : (v : Version) → has_version kept.versions v ≡ is_named ts v
+  pub accesses : HaveAccesses kept.keys kept.versions ts kept.accesses
+
+-- An open transaction was completed. Its completion is of the same keys, and has the same writes.
+pub record Completes (t t' : Transaction) : Type 0 where
+  pub was_open : t.status ≡ Open
+  pub keys : map key_of t'.mops ≡ map key_of t.mops
+  pub writes : writes_of t'.mops ≡ writes_of t.mops

@@ -1,0 +1,80 @@
+//! What one transaction reads and writes.
+
+ghost use Rattle.std.specs.Prelude.{◌≡◌, [], OnOk};
+ghost use Rattle.key_versions.specs.Rows.{with_access, with_read};
+
+use crate::pending::Access;
+use crate::rows::has_key;
+use smallvec::SmallVec;
+use std::alloc::{AllocError, Global};
+
+/// What a transaction reads externally, if it is ok, and what it writes.
+pub(crate) struct Accessed {
+    pub reads: SmallVec<Access, 4>,
+    pub writes: SmallVec<Access, 4>,
+    /// Where keys are sequential, what each micro-operation of an ok transaction reads or writes.
+    pub seen: SmallVec<Access, 4>,
+}
+
+// Written out, as what is derived is repeated wherever one is dropped.
+impl Drop for Accessed {
+    fn drop(self) {
+        let Accessed {
+            reads: _,
+            writes: _,
+            seen: _,
+        } = self;
+    }
+}
+
+impl Accessed {
+    /// Nothing is read or written.
+    pub fn new(alloc: Global) -> Self
+        ensures reads { result.reads.items ≡ [] }
+        ensures writes { result.writes.items ≡ [] }
+        ensures seen { result.seen.items ≡ [] }
+    {
+        Accessed {
+            reads: SmallVec::new(alloc),
+            writes: SmallVec::new(alloc),
+            seen: SmallVec::new(alloc),
+        }
+    }
+
+    pub fn clear(&mut self)
+        ensures reads { self.new.reads.items ≡ [] }
+        ensures writes { self.new.writes.items ≡ [] }
+        ensures seen { self.new.seen.items ≡ [] }
+    {
+        self.reads.clear();
+        self.writes.clear();
+        self.seen.clear();
+    }
+
+    /// Adds the access of a micro-operation. A read of a key that the transaction wrote before isn't external.
+    #[inline(always)]
+    pub fn add(
+        &mut self,
+        access: Access,
+        is_write: bool,
+        keeps_seen: bool,
+    ) -> Result<(), AllocError>
+        ensures reads { OnOk result
+            (self.new.reads.items
+            ≡ with_read is_write access self.old.writes.items self.old.reads.items) }
+        ensures writes { OnOk result
+            (self.new.writes.items ≡ with_access is_write access self.old.writes.items) }
+        ensures seen { OnOk result
+            (self.new.seen.items ≡ with_access keeps_seen access self.old.seen.items) }
+    {
+        if keeps_seen {
+            self.seen.push(access)?;
+        }
+        if is_write {
+            self.writes.push(access)?;
+        } else if !has_key(self.writes.as_slice(), access.nil) {
+            self.reads.push(access)?;
+        }
+        Ok(())
+    }
+}

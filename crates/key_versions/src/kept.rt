@@ -1,0 +1,186 @@
+//! What transactions read and write, kept by number while their run goes on.
+
+ghost use Rattle.std.specs.Prelude.{◌≡◌, ◌<◌, ◌++◌, ◌∷◌, [], List, length, set, slice_get, Some, IfOk, IfErr, OnOk};
+ghost use Rattle.atom_index.specs.Numbers.{AreNumbered};
+ghost use Rattle.hist_types.specs.Refusals.{memory_fault};
+ghost use Rattle.hist_types.specs.Transactions.{Transaction};
+ghost use Rattle.hist_types.specs.declared.types.KeyOrder.TheVariants.{Basic, Sequential};
+ghost use Rattle.key_versions.specs.Given.{IsTableBeside};
+ghost use Rattle.key_versions.specs.Kept.{AreKept, Completes};
+ghost use Rattle.key_versions.specs.Numbering.{versions_of};
+ghost use Rattle.key_versions.specs.Stepped.{AreStepsOf};
+ghost use Rattle.key_versions.specs.Steps.{last_seen};
+ghost use Rattle.key_versions.specs.Tables.{IsTableOf};
+ghost use Rattle.key_versions.specs.Views.{table_by};
+
+use crate::accessed::Accessed;
+use crate::kept_accesses::KeptAccesses;
+use crate::numbering::Numbering;
+use crate::rows::Rows;
+use crate::sequential::follow_steps;
+use crate::steps::Steps;
+use crate::table::Versions;
+use hist_types::types::{Fault, KeyOrder};
+use std::alloc::{AllocError, Global};
+use std::hash::BuildHasher;
+use std::marker::Model;
+use txn_pairs::types::{Status, Txn, Txns};
+
+/// What the transactions of a run read and write, by the numbers of versions. It is told of each transaction when that is invoked
+/// and when it completes, and a table of versions is made from it at any time: in linear time, without looking at a key or a value.
+///
+/// Versions are numbered as `versions` does. Where out of memory stops a call, what is kept may be of no history.
+pub struct KeptVersions<'a, S: BuildHasher> {
+    keys: KeyOrder,
+    hasher: S,
+    numbering: Numbering<'a, S>,
+    accesses: KeptAccesses,
+    /// Those of one transaction at a time.
+    accessed: Accessed,
+}
+
+// Written out, as what is derived is repeated wherever one is dropped.
+impl<S: BuildHasher + Drop> Drop for KeptVersions<'_, S> {
+    fn drop(self) {
+        let KeptVersions {
+            keys: _,
+            hasher: _,
+            numbering: _,
+            accesses: _,
+            accessed: _,
+        } = self;
+    }
+}
+
+impl<'a, S: BuildHasher> Model for KeptVersions<'a, S> {
+    ghost use Rattle.key_versions.specs.Kept.{KeptVersions as Kept};
+    ghost use Rattle.key_versions.specs.Numbering.{versions_of};
+
+    ghost Value = { Kept };
+
+    ghost view = { λ k. record {
+      keys = k.keys;
+      versions = versions_of k.numbering;
+      accesses = k.accesses;
+    } };
+}
+
+impl<'a, S: BuildHasher + Copy> KeptVersions<'a, S> {
+    /// There is no transaction yet.
+    pub fn new(alloc: Global, hasher: S, keys: KeyOrder) -> Self
+        ensures kept { AreKept [] result }
+        ensures keys { result.keys ≡ keys }
+    {
+        KeptVersions {
+            keys,
+            hasher,
+            numbering: Numbering::new(alloc, hasher),
+            accesses: KeptAccesses::new(alloc),
+            accessed: Accessed::new(alloc),
+        }
+    }
+
+    /// Adds a transaction, which was invoked after all others.
+    pub fn begin(&mut self, txn: &Txn<'a>) -> Result<(), AllocError>
+        requires { (ts : List Transaction) × AreKept ts self.old }
+        ensures kept { (ts : List Transaction)
+            → AreKept ts self.old → OnOk result (AreKept (ts ++ txn.now ∷ []) self.new) }
+        ensures keys { self.new.keys ≡ self.old.keys }
+    {
+        self.numbering.take(txn, self.keys, &mut self.accessed)?;
+        self.accesses.push(&self.accessed)?;
+        Ok(())
+    }
+
+    /// The transaction at the place was completed. A fail or an info says nothing of what was read.
+    pub fn complete(&mut self, place: usize, txn: &Txn<'a>) -> Result<(), AllocError>
+        requires { (ts : List Transaction) × AreKept ts self.old × (place < length ts) }
+        ensures kept { (ts : List Transaction) (t : Transaction)
+            → AreKept ts self.old → slice_get ts place ≡ Some t → Completes t txn.now
+            → OnOk result (AreKept (set ts place txn.now) self.new) }
+        ensures keys { self.new.keys ≡ self.old.keys }
+    {
+        if txn.status() == Status::Ok {
+            self.numbering.take(txn, self.keys, &mut self.accessed)?;
+            self.accesses.set(place, &self.accessed)?;
+        }
+        Ok(())
+    }
+
+    /// What is known of each version where keys are basic.
+    fn rows(&self, alloc: Global) -> Result<Rows, AllocError>
+        requires { (ts : List Transaction) × AreKept ts self.now }
+        ensures { (ts : List Transaction) → AreKept ts self.now → IfOk result
+            (λ r. IsTableBeside self.now.versions ts
+            (table_by self.now.versions r.rows r.accesses)) }
+    {
+        let versions = self.numbering.len();
+        let mut rows = Rows::with_capacity(alloc, self.accesses.len(), versions)?;
+        for place in 0..self.accesses.len() {
+            rows.take(
+                versions,
+                self.accesses.reads(place),
+                self.accesses.writes(place),
+            )?;
+        }
+        Ok(rows)
+    }
+
+    /// The steps of the transactions' processes.
+    fn steps(&self, alloc: Global, txns: &[Txn<'a>]) -> Result<Steps<S>, AllocError>
+        requires kept { AreKept txns.now self.now }
+        requires keys { self.now.keys ≡ Sequential }
+        ensures { IfOk result (λ steps.
+            AreStepsOf self.now.versions txns.now (last_seen steps.last) steps.taken.items) }
+    {
+        let mut steps = Steps::new(alloc, self.hasher);
+        for (place, txn) in txns.iter().enumerate() {
+            steps.take(
+                txn,
+                self.accesses.reads(place),
+                self.accesses.writes(place),
+                self.accesses.seen(place),
+            )?;
+        }
+        Ok(steps)
+    }
+
+    /// What is known of each version.
+    fn known(&self, alloc: Global, txns: &[Txn<'a>]) -> Result<Rows, AllocError>
+        requires { AreKept txns.now self.now }
+        ensures { IfOk result (λ r. IsTableOf self.now.keys txns.now
+            (table_by self.now.versions r.rows r.accesses)) }
+    {
+        let mut rows = self.rows(alloc)?;
+        match self.keys {
+            KeyOrder::Basic => Ok(rows),
+            KeyOrder::Sequential => {
+                let steps = self.steps(alloc, txns)?;
+                follow_steps(alloc, &mut rows, steps, self.numbering.len())?;
+                Ok(rows)
+            }
+        }
+    }
+
+    /// Puts the table of the transactions together.
+    fn table(&self, alloc: Global, txns: &[Txn<'a>]) -> Result<Versions<'a>, AllocError>
+        requires { AreKept txns.now self.now }
+        ensures ok { IfOk result (IsTableOf self.now.keys txns.now) }
+        ensures keys { IfOk result (λ versions. versions.keys ≡ self.now.keys) }
+    {
+        let rows = self.known(alloc, txns)?;
+        let numbered = self.numbering.numbered(alloc)?;
+        let known = rows.rows.finish(alloc)?;
+        Ok(Versions::new(self.keys, numbered, known, rows.accesses))
+    }
+
+    /// The table of the transactions, which `versions` makes as well. The only error is out of memory.
+    pub fn finish(&self, alloc: Global, txns: &Txns<'a>) -> Result<Versions<'a>, Fault>
+        requires { AreKept txns.now self.now }
+        ensures ok { IfOk result (IsTableOf self.now.keys txns.now) }
+        ensures keys { IfOk result (λ versions. versions.keys ≡ self.now.keys) }
+        ensures err { IfErr result (λ fault. fault ≡ memory_fault) }
+    {
+        Ok(self.table(alloc, txns.as_slice())?)
+    }
+}

@@ -1,0 +1,123 @@
+//! What is kept of each transaction: what it reads and writes, by the numbers of versions.
+
+ghost use Rattle.std.specs.Prelude.{◌≡◌, ◌<◌, ◌≤◌, ◌++◌, ◌∷◌, [], length, map, set, slice_get, Some, IfOk, OnOk};
+ghost use Rattle.key_versions.specs.Kept.{accesses_of};
+ghost use Rattle.key_versions.specs.Spans.{AreAppended};
+
+use crate::accessed::Accessed;
+use crate::pending::Access;
+use crate::rows::number_of;
+use std::alloc::{AllocError, Global};
+use std::marker::Model;
+
+/// Where the accesses of a transaction are: its reads, after them its writes, and then what it sees.
+#[derive(Clone, Copy, Debug, Default, PartialEq, Eq)]
+pub(crate) struct KeptSpan {
+    reads: u32,
+    writes: u32,
+    seen: u32,
+    end: u32,
+}
+
+/// The accesses of each transaction, by place.
+#[derive(Drop)]
+pub(crate) struct KeptAccesses {
+    /// Those of all transactions. Where a transaction gets others, it leaves those that it had unused.
+    accesses: Vec<Access>,
+    /// By place.
+    spans: Vec<KeptSpan>,
+}
+
+impl Model for KeptAccesses {
+    ghost use Rattle.std.specs.Prelude.{List, map, length, All};
+    ghost use Rattle.key_versions.specs.Kept.{TxnAccesses};
+    ghost use Rattle.key_versions.specs.Spans.{IsKeptSpan, kept_at};
+
+    ghost Value = { List TxnAccesses };
+
+    ghost view = { λ a. map (kept_at a.accesses.items) a.spans.items };
+
+    ghost invariant = { λ a. All (IsKeptSpan (length a.accesses.items)) a.spans.items };
+}
+
+/// Appends the accesses of a transaction.
+fn append(accesses: &mut Vec<Access>, accessed: &Accessed) -> Result<KeptSpan, AllocError>
+    ensures ok { IfOk result (AreAppended accesses.old.items accesses.new.items
+        accessed.now.reads.items accessed.now.writes.items accessed.now.seen.items) }
+    ensures kept { length accesses.old.items ≤ length accesses.new.items }
+{
+    let reads = number_of(accesses.len())?;
+    accesses.extend_from_slice(accessed.reads.as_slice())?;
+    let writes = number_of(accesses.len())?;
+    accesses.extend_from_slice(accessed.writes.as_slice())?;
+    let seen = number_of(accesses.len())?;
+    accesses.extend_from_slice(accessed.seen.as_slice())?;
+    let end = number_of(accesses.len())?;
+    Ok(KeptSpan {
+        reads,
+        writes,
+        seen,
+        end,
+    })
+}
+
+impl KeptAccesses {
+    /// No transaction yet.
+    pub fn new(alloc: Global) -> Self
+        ensures { result ≡ [] }
+    {
+        KeptAccesses {
+            accesses: Vec::new(alloc),
+            spans: Vec::new(alloc),
+        }
+    }
+
+    /// How many transactions there are.
+    pub fn len(&self) -> usize
+        ensures { result ≡ length self.now }
+    {
+        self.spans.len()
+    }
+
+    /// Adds the next transaction.
+    pub fn push(&mut self, accessed: &Accessed) -> Result<(), AllocError>
+        ensures { OnOk result (self.new ≡ self.old ++ accesses_of accessed.now ∷ []) }
+    {
+        let span = append(&mut self.accesses, accessed)?;
+        self.spans.push(span)?;
+        Ok(())
+    }
+
+    /// The transaction at the place gets these in place of those that it had.
+    pub fn set(&mut self, place: usize, accessed: &Accessed) -> Result<(), AllocError>
+        requires { place < length self.old }
+        ensures { OnOk result (self.new ≡ set self.old place (accesses_of accessed.now)) }
+    {
+        self.spans[place] = append(&mut self.accesses, accessed)?;
+        Ok(())
+    }
+
+    pub fn reads(&self, place: usize) -> &[Access]
+        requires { place < length self.now }
+        ensures { slice_get (map (λ a. a.reads) self.now) place ≡ Some result.now }
+    {
+        let span = self.spans[place];
+        &self.accesses[span.reads as usize..span.writes as usize]
+    }
+
+    pub fn writes(&self, place: usize) -> &[Access]
+        requires { place < length self.now }
+        ensures { slice_get (map (λ a. a.writes) self.now) place ≡ Some result.now }
+    {
+        let span = self.spans[place];
+        &self.accesses[span.writes as usize..span.seen as usize]
+    }
+
+    pub fn seen(&self, place: usize) -> &[Access]
+        requires { place < length self.now }
+        ensures { slice_get (map (λ a. a.seen) self.now) place ≡ Some result.now }
+    {
+        let span = self.spans[place];
+        &self.accesses[span.seen as usize..span.end as usize]
+    }
+}
