@@ -19,7 +19,8 @@ use Rattle.atom_index.proofs.Pushed.{has_number as number_there}
 use Rattle.op_view.specs.Mops.{key_of}
 use Rattle.key_versions.specs.declared.pending.Access.{Access}
 use Rattle.key_versions.specs.Histories.{named_in, named_by, is_named, read_by, seen_in}
-use Rattle.key_versions.specs.Kept.{TxnAccesses, KeptVersions, HaveAccesses, AreKept, Completes}
+use Rattle.txn_pairs.specs.Completions.{Completes}
+use Rattle.key_versions.specs.Kept.{TxnAccesses, KeptVersions, HaveAccesses, AreKept}
 use Rattle.key_versions.specs.Numbering.{with_versions, AreAccesses}
 use Rattle.key_versions.specs.TxnAccesses.{AddsNamed, AreAccessesOf, AreSeenBy}
 use Rattle.key_versions.proofs.Accessing.{accesses_stay, versions_numbered, versions_stay}
@@ -75,7 +76,7 @@ named_more (write key value ∷ ms) v h =
     (or_grown w (has_version (named_in false ms) v) (has_version (named_in true ms) v) (named_more ms v)) h
 
 open_not_ok : (t t' : Transaction) → Completes t t' → is_ok t ≡ false
-open_not_ok t t' done = ap is_ok_status done.was_open
+open_not_ok t t' done = ap is_ok_status done.unended
 
 -- where the completion isn't an ok, it names the same
 named_same : (t t' : Transaction) → Completes t t' → (v : Version) → has_version (named_in false t.mops) v ≡ has_version (named_in false t'.mops) v

@@ -3,12 +3,10 @@
 -- A transaction is noted when it is invoked and again when it completes. Its completion names what
 -- its invocation named, and, where it is ok, what it reads besides. So versions keep their numbers,
 -- and none is ever without a transaction that names it.
-use Rattle.std.specs.Prelude.{◌≡◌, List, [], ◌∷◌, map, ⊤}
+use Rattle.std.specs.Prelude.{◌≡◌, List, [], ◌∷◌, ⊤}
 use Rattle.atom_index.specs.Numbers.{AreNumbered}
-use Rattle.hist_types.specs.Journal.{writes_of}
-use Rattle.hist_types.specs.Transactions.{Transaction, Open, Version, version_eq, has_version}
+use Rattle.hist_types.specs.Transactions.{Transaction, Version, version_eq, has_version}
 use Rattle.hist_types.specs.declared.types.KeyOrder.{KeyOrder}
-use Rattle.op_view.specs.Mops.{key_of}
 use Rattle.key_versions.specs.declared.accessed.Accessed.{Accessed}
 use Rattle.key_versions.specs.declared.pending.Access.{Access}
 use Rattle.key_versions.specs.Histories.{is_named}
@@ -46,9 +44,3 @@ pub record AreKept (ts : List Transaction) (kept : KeptVersions) : Type 0 where
   pub distinct : AreNumbered version_eq kept.versions
   pub named : (v : Version) → has_version kept.versions v ≡ is_named ts v
   pub accesses : HaveAccesses kept.keys kept.versions ts kept.accesses
-
--- An open transaction was completed. Its completion is of the same keys, and has the same writes.
-pub record Completes (t t' : Transaction) : Type 0 where
-  pub was_open : t.status ≡ Open
-  pub keys : map key_of t'.mops ≡ map key_of t.mops
-  pub writes : writes_of t'.mops ≡ writes_of t.mops

@@ -6,12 +6,13 @@ ghost use Rattle.hist_types.specs.Refusals.{memory_fault};
 ghost use Rattle.hist_types.specs.Transactions.{Transaction};
 ghost use Rattle.hist_types.specs.declared.types.KeyOrder.TheVariants.{Basic, Sequential};
 ghost use Rattle.key_versions.specs.Given.{IsTableBeside};
-ghost use Rattle.key_versions.specs.Kept.{AreKept, Completes};
+ghost use Rattle.key_versions.specs.Kept.{AreKept};
 ghost use Rattle.key_versions.specs.Numbering.{versions_of};
 ghost use Rattle.key_versions.specs.Stepped.{AreStepsOf};
 ghost use Rattle.key_versions.specs.Steps.{last_seen};
 ghost use Rattle.key_versions.specs.Tables.{IsTableOf};
 ghost use Rattle.key_versions.specs.Views.{table_by};
+ghost use Rattle.txn_pairs.specs.Completions.{Completes};
 
 use crate::accessed::Accessed;
 use crate::kept_accesses::KeptAccesses;
