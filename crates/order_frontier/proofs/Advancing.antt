@@ -1,13 +1,13 @@
 -- One more of the ok transactions in order.
-use Rattle.std.proofs.Common.{◌≡◌, inl, inr, ℕ, ◌+◌, ◌<◌, ◌≤◌, ◌==◌, if◌then◌else◌, Option, Some, None, List, [], ◌∷◌, ◌++◌, filter, length, take, drop, get_or, option_to_list, refl, ap, sym, subst, ◌∙◌, arith, append_assoc, append-nil, take-append-drop}
+use Rattle.std.proofs.Common.{◌≡◌, inl, inr, ℕ, ◌+◌, ◌<◌, ◌≤◌, ◌==◌, if◌then◌else◌, Option, Some, None, List, [], ◌∷◌, ◌++◌, length, take, drop, get_or, option_to_list, refl, ap, sym, subst, ◌∙◌, arith, append_assoc, append-nil, take-append-drop}
 use Rattle.std.specs.List.{AllByRecursion}
 use Rattle.std.proofs.lemmas.List.{take_more, drop_more}
 use Rattle.hist_types.proofs.Members.{In, in_front, in_back, in_append, Contains_from_in, in_each, in_some}
 use Rattle.hist_types.specs.Transactions.{Transaction}
 use Rattle.order_frontier.specs.declared.types.Predecessor.{Predecessor}
 use Rattle.order_frontier.specs.declared.types.Completed.{Completed}
-use Rattle.order_frontier.specs.Completions.{completed_of, all_completed, predecessor_of, AreKept, AreRising, AreTimely}
-use Rattle.order_frontier.proofs.Kept.{stays_at, kept-more, all_in}
+use Rattle.order_frontier.specs.Completions.{completed_of, all_completed, predecessor_of, frontier_after, AreKept, AreRising, AreTimely}
+use Rattle.order_frontier.proofs.Kept.{kept-more, all_in}
 
 -- ---- the ok transactions
 
@@ -38,13 +38,21 @@ rising_before [] d ys v rising i = elim i [ ]
 rising_before (x ∷ xs) d ys v rising (inl e) = subst (λ (v : Completed). v.completion ≤ d.completion) e (all_in (λ (w : Completed). x.completion ≤ w.completion) d (xs ++ d ∷ ys) rising.0 (in_back d xs (d ∷ ys) (inl refl)))
 rising_before (x ∷ xs) d ys v rising (inr i) = rising_before xs d ys v rising.1 i
 
+all_front : {X : Type 0} (P : X → Type 0) (xs ys : List X) → AllByRecursion P (xs ++ ys) → AllByRecursion P xs
+all_front P [] ys all = tt
+all_front P (x ∷ xs) ys all = (all.0, all_front P xs ys all.1)
+
+rising_front : (xs ys : List Completed) → AreRising (xs ++ ys) → AreRising xs
+rising_front [] ys rising = tt
+rising_front (x ∷ xs) ys rising = (all_front (λ (v : Completed). x.completion ≤ v.completion) xs ys rising.0, rising_front xs ys rising.1)
+
 pub parted : {X : Type 0} (xs : List X) (k : ℕ) (x : X) → k < length xs → get_or xs k x ≡ x → xs ≡ take k xs ++ x ∷ drop (k + 1) xs
 parted xs k x below is = sym (take-append-drop k xs) ∙ ap (λ ys. take k xs ++ ys) (drop_more xs k x below ∙ ap (λ y. y ∷ drop (k + 1) xs) is)
 
 pub advance-kept : (earlier done : List Completed) (k : ℕ) (d : Completed) (recent recent' : List Predecessor) (last last' : ℕ → Option Predecessor)
     → k < length done → get_or done k d ≡ d → AreTimely (earlier ++ done)
     → AreKept (earlier ++ take k done) recent last
-    → recent' ≡ filter (stays_at d) recent ++ predecessor_of d ∷ []
+    → recent' ≡ frontier_after recent d
     → ((process : ℕ) → last' process ≡ (if d.process == process then Some (predecessor_of d) else last process))
     → AreKept (earlier ++ take (k + 1) done) recent' last'
 advance-kept earlier done k d recent recent' last last' below is timely kept recents lasts =
@@ -60,7 +68,7 @@ advance-kept earlier done k d recent recent' last last' below is timely kept rec
     (kept-more (earlier ++ take k done) d recent recent' last last'
     (λ v i. (let span = spans v (in_front v (earlier ++ take k done) (d ∷ drop (k + 1) done) i) in
     let up = rising_before (earlier ++ take k done) d (drop (k + 1) done) v all.0 i in omega (arith, span, up)))
-    (omega (arith, own)) kept recents lasts)
+    (omega (arith, own)) (rising_front (earlier ++ take k done) (d ∷ drop (k + 1) done) all.0) kept recents lasts)
 
 -- what holds of the first ones and of one more
 pub below_more : (done : List Completed) (k : ℕ) (d : Completed) (index : ℕ) → k < length done → get_or done k d ≡ d → d.completion < index

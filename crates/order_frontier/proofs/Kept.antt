@@ -1,14 +1,14 @@
 -- What is kept of ok transactions, with one more of them.
-use Rattle.std.proofs.Common.{◌≡◌, ◌⊎◌, inl, inr, ℕ, ◌<◌, ◌≤◌, nat_lt, Bool, true, false, not, ◌||◌, ◌==◌, cond, if◌then◌else◌, Option, Some, None, List, [], ◌∷◌, ◌++◌, map, filter, refl, ap, sym, subst, ◌∙◌, arith}
+use Rattle.std.proofs.Common.{◌≡◌, ◌⊎◌, inl, inr, ℕ, suc, ◌<◌, ◌≤◌, nat_lt, Bool, true, false, not, ◌||◌, ◌==◌, cond, if◌then◌else◌, Option, Some, None, List, [], ◌∷◌, ◌++◌, drop, map, filter, refl, ap, sym, subst, ◌∙◌, arith}
 use Rattle.std.specs.List.{AllByRecursion}
 use Rattle.std.specs.Bool.{⊤}
 use Rattle.std.specs.Option.{option_or}
-use Rattle.std.proofs.lemmas.Bool.{ltb-true, le-ltb, eqb-true, eqb-false, or_from}
+use Rattle.std.proofs.lemmas.Bool.{ltb-true, ltb-false, le-ltb, eqb-true, eqb-false, or_from}
 use Rattle.std.proofs.lemmas.List.Folds.{list_any-append}
 use Rattle.hist_types.proofs.Members.{In}
 use Rattle.order_frontier.specs.declared.types.Predecessor.{Predecessor}
 use Rattle.order_frontier.specs.declared.types.Completed.{Completed}
-use Rattle.order_frontier.specs.Completions.{predecessor_of, is_passed, frontier_of, last_of, AreKept, AreRising}
+use Rattle.order_frontier.specs.Completions.{predecessor_of, is_passed, frontier_of, count_passed, frontier_after, last_of, AreKept, AreRising}
 use Rattle.order_frontier.proofs.Lists.{none_from}
 
 -- ---- the frontier
@@ -65,6 +65,50 @@ frontier-more done d earlier own =
     kept_append (done ++ d ∷ []) done (d ∷ [])
     ∙ ap (λ ps. ps ++ kept_by (done ++ d ∷ []) (d ∷ [])) (kept_more done d done)
     ∙ ap (λ b. filter (stays_at d) (frontier_of done) ++ map predecessor_of (cond (not b) (d ∷ []) [])) (last_stays done d earlier own)
+
+-- ---- those that one more passes are the first ones
+
+all_cond : (P : Completed → Type 0) (x : Completed) (passes : Bool) (xs : List Completed) → P x → AllByRecursion P xs → AllByRecursion P (cond passes (x ∷ xs) xs)
+all_cond P x true xs one all = (one, all)
+all_cond P x false xs one all = all
+
+all_filter : (P : Completed → Type 0) (test : Completed → Bool) (xs : List Completed) → AllByRecursion P xs → AllByRecursion P (filter test xs)
+all_filter P test [] all = tt
+all_filter P test (x ∷ xs) all = all_cond P x (test x) (filter test xs) all.0 (all_filter P test xs all.1)
+
+rising_cond : (d : Completed) (passes : Bool) (done : List Completed) → AllByRecursion (λ (v : Completed). d.completion ≤ v.completion) done → AreRising done → AreRising (cond passes (d ∷ done) done)
+rising_cond d true done up rising = (up, rising)
+rising_cond d false done up rising = rising
+
+rising_filter : (test : Completed → Bool) (done : List Completed) → AreRising done → AreRising (filter test done)
+rising_filter test [] rising = tt
+rising_filter test (d ∷ done) rising =
+    rising_cond d (test d) (filter test done) (all_filter (λ (v : Completed). d.completion ≤ v.completion) test done rising.0) (rising_filter test done rising.1)
+
+-- from the first one that stays on, all stay
+stays_cond : (d x : Completed) (later : Bool) (kept ps : List Predecessor) → nat_lt x.completion d.invocation ≡ later → d.invocation ≤ x.completion → kept ≡ ps
+    → cond (not later) (predecessor_of x ∷ kept) kept ≡ predecessor_of x ∷ ps
+stays_cond d x true kept ps is up same = (let below = ltb-true x.completion d.invocation is in absurd (omega (arith, below, up)))
+stays_cond d x false kept ps is up same = ap (λ qs. predecessor_of x ∷ qs) same
+
+stay_all : (d : Completed) (xs : List Completed) → AllByRecursion (λ (v : Completed). d.invocation ≤ v.completion) xs → filter (stays_at d) (map predecessor_of xs) ≡ map predecessor_of xs
+stay_all d [] up = refl
+stay_all d (x ∷ xs) up = stays_cond d x (nat_lt x.completion d.invocation) (filter (stays_at d) (map predecessor_of xs)) (map predecessor_of xs) refl up.0 (stay_all d xs up.1)
+
+up_from : (d x : Completed) (xs : List Completed) → d.invocation ≤ x.completion → AllByRecursion (λ (v : Completed). x.completion ≤ v.completion) xs → AllByRecursion (λ (v : Completed). d.invocation ≤ v.completion) xs
+up_from d x [] up all = tt
+up_from d x (v ∷ xs) up all = (let next = all.0 in omega (arith, up, next), up_from d x xs up all.1)
+
+drop_cond : (p : Predecessor) (later : Bool) (n : ℕ) (ps kept : List Predecessor) → drop n ps ≡ kept → (later ≡ false → kept ≡ ps)
+    → drop (if later then suc n else 0) (p ∷ ps) ≡ cond (not later) (p ∷ kept) kept
+drop_cond p true n ps kept same all = same
+drop_cond p false n ps kept same all = ap (λ qs. p ∷ qs) (sym (all refl))
+
+drop_passed : (d : Completed) (xs : List Completed) → AreRising xs → drop (count_passed d.invocation (map predecessor_of xs)) (map predecessor_of xs) ≡ filter (stays_at d) (map predecessor_of xs)
+drop_passed d [] rising = refl
+drop_passed d (x ∷ xs) rising =
+    drop_cond (predecessor_of x) (nat_lt x.completion d.invocation) (count_passed d.invocation (map predecessor_of xs)) (map predecessor_of xs) (filter (stays_at d) (map predecessor_of xs)) (drop_passed d xs rising.1)
+    (λ first. stay_all d xs (up_from d x xs (ltb-false x.completion d.invocation first) rising.0))
 
 -- ---- the last one of a process
 
@@ -144,12 +188,16 @@ kept-none last none = record { frontier = refl; lasts = none }
 
 pub kept-more : (done : List Completed) (d : Completed) (recent recent' : List Predecessor) (last last' : ℕ → Option Predecessor)
     → ((v : Completed) → In v done → v.invocation ≤ d.completion) → d.invocation ≤ d.completion
+    → AreRising done
     → AreKept done recent last
-    → recent' ≡ filter (stays_at d) recent ++ predecessor_of d ∷ []
+    → recent' ≡ frontier_after recent d
     → ((process : ℕ) → last' process ≡ (if d.process == process then Some (predecessor_of d) else last process))
     → AreKept (done ++ d ∷ []) recent' last'
-kept-more done d recent recent' last last' earlier own kept is lasts = record {
-  frontier = is ∙ ap (λ ps. filter (stays_at d) ps ++ predecessor_of d ∷ []) kept.frontier ∙ sym (frontier-more done d earlier own);
+kept-more done d recent recent' last last' earlier own rising kept is lasts = record {
+  frontier =
+      is ∙ ap (λ ps. frontier_after ps d) kept.frontier
+      ∙ ap (λ ps. ps ++ predecessor_of d ∷ []) (drop_passed d (filter (λ e. not (is_passed done e)) done) (rising_filter (λ e. not (is_passed done e)) done rising))
+      ∙ sym (frontier-more done d earlier own);
   lasts = λ process.
       lasts process ∙ ap (λ o. if d.process == process then Some (predecessor_of d) else o) (kept.lasts process)
       ∙ sym (last-more process done d);

@@ -1,5 +1,5 @@
 -- One more event of a frontier.
-use Rattle.std.proofs.Common.{◌≡◌, ℕ, ◌<◌, Bool, true, false, not, nat_lt, ◌==◌, if◌then◌else◌, Option, Some, None, List, [], ◌∷◌, ◌++◌, filter, length, option_to_list, refl, ap, sym, subst, ◌∙◌, arith, zero-add, append-nil}
+use Rattle.std.proofs.Common.{◌≡◌, ℕ, ◌<◌, Bool, true, false, ◌==◌, if◌then◌else◌, Option, Some, None, List, [], ◌∷◌, ◌++◌, length, option_to_list, refl, ap, sym, subst, ◌∙◌, arith, zero-add, append-nil}
 use Rattle.std.proofs.lemmas.Bool.{eqb-true}
 use Rattle.hist_types.proofs.Members.{In}
 use Rattle.hist_types.specs.Operations.{Mop, Operation}
@@ -7,10 +7,10 @@ use Rattle.hist_types.specs.Transactions.{transaction_by, transactions_of}
 use Rattle.hist_types.specs.declared.types.OpKind.TheVariants as kinds
 use Rattle.order_frontier.specs.declared.types.Predecessor.{Predecessor}
 use Rattle.order_frontier.specs.declared.types.Completed.{Completed}
-use Rattle.order_frontier.specs.Completions.{AreKept}
+use Rattle.order_frontier.specs.Completions.{frontier_after, AreKept}
 use Rattle.order_frontier.specs.Events.{State, done_by, after, state_of, event_of, IsStateOf}
 use Rattle.order_frontier.specs.Predecessors.{Before, HasThinned, NoPredecessorTwice}
-use Rattle.order_frontier.proofs.Kept.{kept-more}
+use Rattle.order_frontier.proofs.Kept.{kept-more, rising_strict}
 use Rattle.order_frontier.proofs.Apart.{apart_strict, none_twice}
 use Rattle.order_frontier.proofs.Seen.{has_thinned}
 use Rattle.order_frontier.proofs.Timed.{timed, in-last}
@@ -47,7 +47,7 @@ module _ (es : List Operation) (process : ℕ) (mops : List Mop) (opened : ℕ �
   -- a completion
   pub state-ok : (invocation : ℕ) (recent' : List Predecessor) (last' : ℕ → Option Predecessor) (opened' : ℕ → Option ℕ)
       → opened process ≡ Some invocation
-      → recent' ≡ filter (λ p. not (nat_lt p.completion invocation)) recent ++ record { invocation = invocation; completion = length es } ∷ []
+      → recent' ≡ frontier_after recent (record { completion = length es; invocation = invocation; process = process })
       → ((p : ℕ) → last' p ≡ (if process == p then Some (record { invocation = invocation; completion = length es }) else last p))
       → ((p : ℕ) → opened' p ≡ (if process == p then None else opened p))
       → IsStateOf (es ++ event_of kinds.Ok process mops ∷ []) opened' recent' last'
@@ -59,7 +59,7 @@ module _ (es : List Operation) (process : ℕ) (mops : List Mop) (opened : ℕ �
       let at = state-index es in
       let own : invocation < s.index = good.opened process invocation (sym (is.invocations process) ∙ found) in
       let more : AreKept (s.done ++ d ∷ []) recent' last' =
-      kept-more s.done d recent recent' last last' (λ v i. (let span = good.spans v i in omega (arith, span.0, span.1, at))) (omega (arith, own, at)) is.kept recents lasts in
+      kept-more s.done d recent recent' last last' (λ v i. (let span = good.spans v i in omega (arith, span.0, span.1, at))) (omega (arith, own, at)) (rising_strict s.done good.strict) is.kept recents lasts in
       let done : s.done ++ d ∷ [] ≡ s.done ++ done_by kinds.Ok process s.index (s.opened process) =
       ap (λ n. s.done ++ record { completion = n; invocation = invocation; process = process } ∷ []) (sym at)
       ∙ ap (λ o. s.done ++ done_by kinds.Ok process s.index o) (sym found ∙ is.invocations process) in

@@ -12,7 +12,7 @@ use Rattle.hist_types.specs.declared.types.Level.TheVariants.{Plain, Process, Re
 use Rattle.order_frontier.specs.declared.types.Predecessor.{Predecessor}
 use Rattle.order_frontier.specs.declared.types.Completed.{Completed}
 use Rattle.order_frontier.specs.Completions.{completed_of, predecessor_of, is_passed, frontier_of, last_of, AreKept, AreRising}
-use Rattle.order_frontier.specs.Predecessors.{Before, process_edge, realtime_edge, edges_to, HasThinned}
+use Rattle.order_frontier.specs.Predecessors.{Before, process_edge, realtime_edge, HasThinned}
 use Rattle.order_frontier.proofs.Lists.{none_from, none_to}
 use Rattle.order_frontier.proofs.Kept.{IsLast, last-is}
 

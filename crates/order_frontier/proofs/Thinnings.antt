@@ -1,9 +1,8 @@
 -- One more event of a kept thinned order.
-use Rattle.std.proofs.Common.{◌≡◌, ◌⊎◌, inl, inr, ℕ, ◌+◌, ◌<◌, ◌≤◌, ◌==◌, Bool, true, false, if◌then◌else◌, Option, Some, None, List, [], ◌∷◌, ◌++◌, map, length, option_to_list, All, Contains, refl, ap, sym, subst, ◌∙◌, arith, append-nil}
-use Rattle.std.proofs.lemmas.Bool.{false≢true}
+use Rattle.std.proofs.Common.{◌≡◌, ◌⊎◌, inl, inr, ℕ, ◌<◌, ◌==◌, Bool, true, false, if◌then◌else◌, Option, Some, None, List, [], ◌∷◌, ◌++◌, map, length, All, refl, ap, sym, subst, ◌∙◌, arith, append-nil}
 use Rattle.std.proofs.lemmas.List.{map-append}
 use Rattle.process_map.specs.Values.{value_of}
-use Rattle.hist_types.proofs.Members.{In, in_append, in_back, in_from_Contains, in_map, in_mapped}
+use Rattle.hist_types.proofs.Members.{In, in_append, in_back, in_from_Contains, in_mapped}
 use Rattle.hist_types.specs.Operations.{Operation}
 use Rattle.hist_types.specs.Journal.{is_invoke}
 use Rattle.hist_types.specs.Transactions.{Transaction, transactions_of}
@@ -16,7 +15,7 @@ use Rattle.order_frontier.specs.Latest.{before_next}
 use Rattle.order_frontier.specs.Predecessors.{Before, HasThinned, IsThinnedOrder, NoPredecessorTwice, name_of, names}
 use Rattle.order_frontier.specs.Thinnings.{Thinned, IsThinningOf, with_begun, IsBegunBy, IsCompletedBy, IsOfSame}
 use Rattle.order_frontier.proofs.Apart.{apart_strict, none_twice}
-use Rattle.order_frontier.proofs.Kept.{kept-more}
+use Rattle.order_frontier.proofs.Kept.{kept-more, rising_strict}
 use Rattle.order_frontier.proofs.Passes.{has_edges, thinned_all, all_thinned, once_all, all_once}
 use Rattle.order_frontier.proofs.Seen.{AreSeen, done-parts, has_thinned}
 use Rattle.order_frontier.proofs.Settled.{begun_name, begun_at, named_in, names-more, thinned_stays}
@@ -163,7 +162,7 @@ thinning_completed es e s next t d ok recents lasts same is completed =
     still_thinning es e s next is new.kind same
     (subst (λ done. AreKept done next.recent (value_of next.last)) (sym new.done)
     (kept-more done d s.recent next.recent (value_of s.last) (value_of next.last)
-    (λ v i. (let span = (state-good es).spans v i in omega (arith, span.0, span.1, index, at))) (omega (arith, own)) is.kept recents lasts))
+    (λ v i. (let span = (state-good es).spans v i in omega (arith, span.0, span.1, index, at))) (omega (arith, own)) (rising_strict done (state-good es).strict) is.kept recents lasts))
 
 -- ---- an event that completes nothing as an ok
 

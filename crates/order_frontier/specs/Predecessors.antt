@@ -1,5 +1,5 @@
 -- What comes before each transaction, and the order edges that this gives.
-use Rattle.std.specs.Prelude.{◌≡◌, nat_eq, ℕ, unwrap_or, slice_get, List, [], map, flat_map, All, Contains, ◌↔◌}
+use Rattle.std.specs.Prelude.{◌≡◌, nat_eq, ℕ, unwrap_or, slice_get, List, [], map, flat_map, fold, All, Contains, ◌↔◌}
 use Rattle.std.specs.List.{IsDistinct}
 use Rattle.std.specs.List.Sorted.{IsStrictlyIncreasing}
 use Rattle.hist_types.specs.Operations.{Operation}
@@ -54,6 +54,10 @@ HasOrderEdges ts order = HasEdges order (λ level. all_order_edges level ts)
 
 abbrev pub HasThinnedEdges : List Transaction → List Before → Type 0
 HasThinnedEdges ts order = HasEdges order (λ level. all_thinned_edges level ts)
+
+-- what comes before the last transaction in real time
+abbrev pub last_realtime : List Before → List Predecessor
+last_realtime order = fold (λ ps (u : Before). u.in_realtime) [] order
 
 -- exactly the thinned edges to the one transaction
 abbrev pub HasThinned : List Transaction → Before → Type 0

@@ -1,9 +1,10 @@
 -- Predecessors, as ranges of lists.
-use Rattle.std.specs.Prelude.{◌≡◌, ◌≤◌, List, length, slice_range}
+use mathlib.Core.List.{IsSuffix}
+use Rattle.std.specs.Prelude.{◌≡◌, ◌≤◌, List, length, slice_range, map, All}
 use Rattle.order_frontier.specs.declared.types.Predecessor.{Predecessor}
 use Rattle.order_frontier.specs.declared.types.Span.{Span}
 use Rattle.order_frontier.specs.declared.types.Row.{Row}
-use Rattle.order_frontier.specs.Predecessors.{Before}
+use Rattle.order_frontier.specs.Predecessors.{Before, last_realtime}
 
 -- those of a range
 abbrev pub between : List Predecessor → Span → List Predecessor
@@ -33,3 +34,8 @@ IsRowIn own others r = IsSpanOf own r.in_process × IsSpanOf others r.in_realtim
 -- the row has ranges of the lists, and says what comes before this transaction
 abbrev pub IsRowOf : List Predecessor → List Predecessor → Row → Before → Type 0
 IsRowOf own others r u = IsRowIn own others r × (before_in own others r ≡ u)
+
+-- rows of the lists, of which the one for real time ends with what the last row has
+pub record AreRowsOf (own others : List Predecessor) (rows : List Row) : Type 0 where
+  pub ranges : All (IsRowIn own others) rows
+  pub end : IsSuffix (last_realtime (map (before_in own others) rows)) others

@@ -1,8 +1,8 @@
 //! What is kept of the ok transactions so far.
 
-ghost use Rattle.std.specs.Prelude.{◌≡◌, ℕ, [], ◌∷◌, ◌++◌, Some, None, OnOk, OnErr, IfOk, not, ◌==◌, nat_lt, nat_eq, filter, if◌then◌else◌};
+ghost use Rattle.std.specs.Prelude.{◌≡◌, ◌≤◌, ℕ, length, [], ◌∷◌, ◌++◌, Some, None, OnOk, OnErr, IfOk, not, ◌==◌, nat_lt, nat_eq, filter, if◌then◌else◌};
 ghost use Rattle.process_map.specs.Values.{value_of};
-ghost use Rattle.order_frontier.specs.Completions.{predecessor_of, frontier_after};
+ghost use Rattle.order_frontier.specs.Completions.{predecessor_of, count_passed, frontier_after};
 ghost use Rattle.order_frontier.specs.Latest.{before_next};
 
 use crate::types::{Completed, Predecessor, Predecessors};
@@ -21,6 +21,19 @@ impl Drop for Moving {
     fn drop(self) {
         let Moving { recent: _, last: _ } = self;
     }
+}
+
+/// How many of these, from the first on, completed before the invocation.
+fn passed(frontier: &[Predecessor], invocation: u32) -> usize
+    ensures count { result ≡ count_passed invocation frontier.now }
+    ensures fits { result ≤ length frontier.now }
+{
+    for (count, earlier) in frontier.iter().enumerate() {
+        if earlier.completion >= invocation {
+            return count;
+        }
+    }
+    frontier.len()
 }
 
 impl Moving {
@@ -66,8 +79,10 @@ impl Moving {
         Ok(Predecessors::new(process, invocation, in_process, in_realtime))
     }
 
-    /// Takes an ok transaction, which removes those that completed before its invocation.
-    pub fn complete(&mut self, done: Completed) -> Result<(), AllocError>
+    /// Takes an ok transaction, and returns how many it passes: those that completed before its invocation.
+    pub fn complete(&mut self, done: Completed) -> Result<usize, AllocError>
+        ensures passed { IfOk result
+            (λ count. count ≡ count_passed done.invocation self.old.recent.items) }
         ensures recent { OnOk result
             (self.new.recent.items ≡ frontier_after self.old.recent.items done) }
         ensures last { OnOk result
@@ -81,9 +96,9 @@ impl Moving {
         self.recent.reserve(1)?;
         let process = u64::from(done.process);
         self.last.insert(process, done.predecessor())?;
-        self.recent
-            .retain(|earlier| earlier.completion >= done.invocation);
+        let passed = passed(self.recent.as_slice(), done.invocation);
+        self.recent.drain(..passed);
         self.recent.push_reserved(done.predecessor());
-        Ok(())
+        Ok(passed)
     }
 }

@@ -21,9 +21,15 @@ use txn_pairs::types::Txn;
 pub struct Thinning {
     moving: Moving,
     order: Order,
+    /// How many of the frontier, from the first on, come before the last transaction too. Later ones completed after its
+    /// invocation.
+    shared: usize,
 }
 
 impl Model for Thinning {
+    ghost use mathlib.Core.List.{IsSuffix};
+    ghost use Rattle.std.specs.Prelude.{◌≤◌, length, take};
+    ghost use Rattle.order_frontier.specs.Predecessors.{last_realtime};
     ghost use Rattle.order_frontier.specs.Thinnings.{Thinned};
 
     ghost Value = { Thinned };
@@ -33,6 +39,10 @@ impl Model for Thinning {
       last = t.moving.last;
       order = t.order;
     } };
+
+    ghost invariant = { λ t.
+        (t.shared ≤ length t.moving.recent.items)
+        × IsSuffix (take t.shared t.moving.recent.items) (last_realtime t.order) };
 }
 
 impl Thinning {
@@ -43,6 +53,7 @@ impl Thinning {
         Thinning {
             moving: Moving::new(alloc),
             order: Order::new(alloc),
+            shared: 0,
         }
     }
 
@@ -53,6 +64,7 @@ impl Thinning {
         Ok(Thinning {
             moving: Moving::new(alloc),
             order: Order::with_capacity(alloc, transactions, ok)?,
+            shared: 0,
         })
     }
 
@@ -63,7 +75,9 @@ impl Thinning {
         ensures err { OnErr result (self.new ≡ self.old) }
     {
         self.order
-            .push(txn.process(), txn.invocation(), &self.moving)
+            .push(txn.process(), txn.invocation(), &self.moving, self.shared)?;
+        self.shared = self.moving.frontier().len();
+        Ok(())
     }
 
     /// The next event completed this transaction as an ok. Out of memory leaves the order as it was. An event that completes
@@ -88,7 +102,9 @@ impl Thinning {
         ensures order { self.new.order ≡ self.old.order }
         ensures err { OnErr result (IsOfSame self.old self.new) }
     {
-        self.moving.complete(done)
+        let passed = self.moving.complete(done)?;
+        self.shared = self.shared.saturating_sub(passed);
+        Ok(())
     }
 
     /// Takes the first of the ok transactions, those that completed before the index, and returns how many these are.
@@ -126,7 +142,11 @@ impl Thinning {
     fn into_order(self) -> Order
         ensures { result ≡ self.order }
     {
-        let Thinning { moving: _, order } = self;
+        let Thinning {
+            moving: _,
+            order,
+            shared: _,
+        } = self;
         order
     }
 }

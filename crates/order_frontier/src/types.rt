@@ -3,8 +3,8 @@
 ghost use mathlib.Core.List.{IsPrefix, IsSuffix};
 ghost use Rattle.std.specs.Prelude.{◌≡◌, ◌==◌, ◌<◌, ◌≤◌, [], ◌∷◌, ◌++◌, length, take, map, All, OnOk, OnErr, IfOk};
 ghost use Rattle.order_frontier.specs.Latest.{before_next};
-ghost use Rattle.order_frontier.specs.Predecessors.{before_at};
-ghost use Rattle.order_frontier.specs.Ranges.{before_in, between, IsSpanOf, IsRangeOf, IsRowIn, IsRowOf};
+ghost use Rattle.order_frontier.specs.Predecessors.{before_at, last_realtime};
+ghost use Rattle.order_frontier.specs.Ranges.{before_in, between, IsSpanOf, IsRangeOf, IsRowIn, IsRowOf, AreRowsOf};
 
 use crate::moving::Moving;
 use smallvec::SmallVec;
@@ -173,51 +173,50 @@ pub(crate) struct Row {
     pub in_realtime: Span,
 }
 
-/// How many of these, from the first on, the list ends with. As a frontier moves, they are what it had before.
-fn shared(list: &[Predecessor], next: &[Predecessor]) -> usize
-    ensures fits { result ≤ length next.now }
-    ensures ends { IsSuffix (take result next.now) list.now }
-{
-    let Some(last) = list.last() else {
-        return 0;
-    };
-    let earlier = next.partition_point(|p| p.completion <= last.completion);
-    if list.ends_with(&next[..earlier]) {
-        earlier
-    } else {
-        0
-    }
-}
-
-/// Adds those of the predecessors that the list doesn't end with already, and returns the range of all of them.
-fn push_range(next: &[Predecessor], list: &mut Vec<Predecessor>) -> Result<Span, AllocError>
+/// Adds the predecessors to the list, except those that it ends with already, the first n of them. Returns the range of all of
+/// them.
+fn push_range(
+    next: &[Predecessor],
+    shared: usize,
+    list: &mut Vec<Predecessor>,
+) -> Result<Span, AllocError>
+    requires fits { shared ≤ length next.now }
+    requires shared { IsSuffix (take shared next.now) list.old.items }
     ensures kept { IsPrefix list.old.items list.new.items }
     ensures range { IfOk result (λ span. IsRangeOf list.new.items span next.now) }
+    ensures end { OnOk result (IsSuffix next.now list.new.items) }
+    ensures err { OnErr result (list.new.items ≡ list.old.items) }
 {
-    let shared = shared(list, next);
     let start = list.len() - shared;
+    let span = Span::new(start, start + next.len())?;
     list.extend_from_slice(&next[shared..])?;
-    Span::new(start, list.len())
+    Ok(span)
 }
 
-/// The row of a transaction that is invoked now. Its predecessors go into the lists.
+/// The row of a transaction that is invoked now. Its predecessors go into the lists, except those that the list for real time
+/// ends with already, the first n of the frontier.
 fn row_of(
-    moving: &Moving,
     process: u64,
     invocation: u64,
+    moving: &Moving,
+    shared: usize,
     in_process: &mut Vec<Predecessor>,
     in_realtime: &mut Vec<Predecessor>,
 ) -> Result<Row, AllocError>
+    requires fits { shared ≤ length moving.now.recent.items }
+    requires shared { IsSuffix (take shared moving.now.recent.items) in_realtime.old.items }
     ensures in_process { IsPrefix in_process.old.items in_process.new.items }
     ensures in_realtime { IsPrefix in_realtime.old.items in_realtime.new.items }
     ensures row { IfOk result (λ row. IsRowOf in_process.new.items in_realtime.new.items row
         (before_next moving.now.recent.items moving.now.last process invocation)) }
+    ensures end { OnOk result (IsSuffix moving.now.recent.items in_realtime.new.items) }
+    ensures err { OnErr result (in_realtime.new.items ≡ in_realtime.old.items) }
 {
     Ok(Row {
         process: short(process)?,
         invocation: short(invocation)?,
-        in_process: push_range(moving.last(process).as_slice(), in_process)?,
-        in_realtime: push_range(moving.frontier(), in_realtime)?,
+        in_process: push_range(moving.last(process).as_slice(), 0, in_process)?,
+        in_realtime: push_range(moving.frontier(), shared, in_realtime)?,
     })
 }
 
@@ -241,17 +240,17 @@ impl Drop for Order {
 }
 
 impl Model for Order {
-    ghost use Rattle.std.specs.Prelude.{List, map, All};
+    ghost use Rattle.std.specs.Prelude.{List, map};
     ghost use Rattle.order_frontier.specs.Predecessors.{Before};
-    ghost use Rattle.order_frontier.specs.Ranges.{before_in, IsRowIn};
+    ghost use Rattle.order_frontier.specs.Ranges.{before_in, AreRowsOf};
 
     ghost Value = { List Before };
 
     ghost view = { λ order. map
         (before_in order.in_process.items order.in_realtime.items) order.rows.items };
 
-    ghost invariant = { λ order. All
-        (IsRowIn order.in_process.items order.in_realtime.items) order.rows.items };
+    ghost invariant = { λ order. AreRowsOf
+        order.in_process.items order.in_realtime.items order.rows.items };
 }
 
 impl Order {
@@ -261,7 +260,7 @@ impl Order {
         in_process: Vec<Predecessor>,
         in_realtime: Vec<Predecessor>,
     ) -> Self
-        requires { All (IsRowIn in_process.items in_realtime.items) rows.items }
+        requires { AreRowsOf in_process.items in_realtime.items rows.items }
         ensures { result ≡ map (before_in in_process.items in_realtime.items) rows.items }
     {
         Order {
@@ -293,27 +292,33 @@ impl Order {
         ))
     }
 
-    /// Adds a transaction that is invoked now, with what comes before it. Out of memory leaves the order as it was.
+    /// Adds a transaction that is invoked now, with what comes before it. The first n of the frontier come before the last
+    /// transaction too, as the last of its predecessors. Out of memory leaves the order as it was.
     pub(crate) fn push(
         &mut self,
         process: u64,
         invocation: u64,
         moving: &Moving,
+        shared: usize,
     ) -> Result<(), AllocError>
+        requires fits { shared ≤ length moving.now.recent.items }
+        requires shared { IsSuffix (take shared moving.now.recent.items) (last_realtime self.old) }
         ensures ok { OnOk result
             (self.new
             ≡ self.old
             ++ before_next moving.now.recent.items moving.now.last process invocation ∷ []) }
         ensures err { OnErr result (self.new ≡ self.old) }
     {
+        self.rows.try_reserve(1)?;
         let row = row_of(
-            moving,
             process,
             invocation,
+            moving,
+            shared,
             &mut self.in_process,
             &mut self.in_realtime,
         )?;
-        self.rows.push(row)?;
+        self.rows.push_reserved(row);
         Ok(())
     }
 

@@ -18,7 +18,7 @@ loop-txn-preserved c =
     let own' = c.row_of.new.in_process.items in
     let others = c.loop-txn.in_realtime.items in
     let others' = c.row_of.new.in_realtime.items in
-    let more = pushed own own' others others' c.loop-txn.rows.items c.push.new.self.items c.in_ok-row_of.field-0 (all_before done t) c.loop-txn.invariant.ranges
+    let more = pushed own own' others others' c.loop-txn.rows.items c.push.new.self.items c.in_ok-row_of.field-0 (all_before done t) c.loop-txn.invariant.are.ranges
     (subst (λ ds. own' ≡ own ++ (all_before ds t).in_process) c.deref.ensures.value c.in_ok-row_of.ensures.in_process)
     (subst (λ ds. others' ≡ others ++ (all_before ds t).in_realtime) c.deref.ensures.value c.in_ok-row_of.ensures.in_realtime)
     c.in_ok-row_of.ensures.row c.in_ok-push.ensures.items in
@@ -26,7 +26,7 @@ loop-txn-preserved c =
       order =
           more.0 ∙ ap (λ bs. bs ++ all_before done t ∷ []) c.loop-txn.invariant.order
           ∙ sym (ap (map (all_before done)) (take_more ts k t c.loop-txn-test.true ∙ ap (λ x. take k ts ++ x ∷ []) (sym c.txn-item.is)) ∙ map-append (all_before done) (take k ts) (t ∷ []));
-      ranges = more.1;
+      are = more.1;
     }
 
 whole : (c : goal.After-drop-done-2) → c.of_ranges.result ≡ map (all_before c.in_ok-done.done.items) c.args.txns.now

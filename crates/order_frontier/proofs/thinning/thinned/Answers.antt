@@ -5,7 +5,7 @@ use Rattle.hist_types.specs.Transactions.{Transaction, transactions_of}
 use Rattle.order_frontier.specs.Completions.{AreTimely}
 use Rattle.order_frontier.specs.Latest.{before_next}
 use Rattle.order_frontier.specs.Predecessors.{IsThinnedOrder, name_of}
-use Rattle.order_frontier.specs.Thinnings.{Thinned, with_begun}
+use Rattle.order_frontier.specs.Thinnings.{Thinned}
 use Rattle.order_frontier.proofs.Passes.{AreAll, Advances, IsPart, timely, part-first, part-next, rest-whole, has_edges, all_once}
 use Rattle.order_frontier.proofs.Apart.{apart_from}
 use Rattle.order_frontier.proofs.thinning.thinned.Goals as goal

@@ -1,9 +1,10 @@
-use Rattle.std.proofs.Common.{◌≡◌, [], ◌∷◌, ◌++◌, ◌+◌, ◌==◌, ◌∙◌, ap, sym, subst, filter, not, nat_lt, length-append, Some, None, nat_eq, if◌then◌else◌, arith}
+use Rattle.std.proofs.Common.{◌≡◌, [], ◌∷◌, ◌++◌, ◌+◌, ◌==◌, ◌∙◌, ap, sym, subst, length-append, Some, None, nat_eq, if◌then◌else◌, arith}
 use Rattle.std.specs.HashMap.{get}
 use Rattle.process_map.specs.Values.{value_of}
 use Rattle.std.specs.Option.{option_copied}
 use Rattle.hist_types.specs.declared.types.OpKind.TheVariants as kinds
 use Rattle.order_frontier.specs.declared.frontier.Frontier.TheInside.{Inside}
+use Rattle.order_frontier.specs.Completions.{frontier_after}
 use Rattle.order_frontier.specs.Events.{event_of}
 use Rattle.order_frontier.specs.Summaries.{IsSummaryOf}
 use Rattle.order_frontier.proofs.Moves.{state-ok, state-idle}
@@ -30,7 +31,8 @@ returns-clause-next c =
                 state-ok events p mops (get nat_eq f.opened) f.moving.recent.items (value_of f.moving.last) is'.state
                 w.in-Some.invocation w.complete.new.self.recent.items (value_of w.complete.new.self.last) (get nat_eq w.remove.new.self)
                 (opened ∙ sym w.in-Some.ensures)
-                (w.in_ok-complete.ensures.recent ∙ ap (λ n. filter (λ p. not (nat_lt p.completion w.in-Some.invocation)) f.moving.recent.items ++ record { invocation = w.in-Some.invocation; completion = n } ∷ []) count)
+                (w.in_ok-complete.ensures.recent ∙ ap (λ k. frontier_after f.moving.recent.items (record { completion = f.events; invocation = w.in-Some.invocation; process = k })) c.number-number.ensures.number
+                ∙ ap (λ n. frontier_after f.moving.recent.items (record { completion = n; invocation = w.in-Some.invocation; process = p })) count)
                 (λ q. w.in_ok-complete.ensures.last q
                 ∙ ap (λ k. if k == q then Some (record { invocation = w.in-Some.invocation; completion = f.events }) else value_of f.moving.last q) c.number-number.ensures.number
                 ∙ ap (λ n. if p == q then Some (record { invocation = w.in-Some.invocation; completion = n }) else value_of f.moving.last q) count)
