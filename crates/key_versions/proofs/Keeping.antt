@@ -20,9 +20,9 @@ use Rattle.op_view.specs.Mops.{key_of}
 use Rattle.key_versions.specs.declared.pending.Access.{Access}
 use Rattle.key_versions.specs.Histories.{named_in, named_by, is_named, read_by, seen_in}
 use Rattle.txn_pairs.specs.Completions.{Completes}
-use Rattle.key_versions.specs.Kept.{TxnAccesses, KeptVersions, HaveAccesses, AreKept}
+use Rattle.key_versions.specs.Kept.{KeptVersions, HaveAccesses, AreKept}
 use Rattle.key_versions.specs.Numbering.{with_versions, AreAccesses}
-use Rattle.key_versions.specs.TxnAccesses.{AddsNamed, AreAccessesOf, AreSeenBy}
+use Rattle.key_versions.specs.TxnAccesses.{TxnAccesses, accesses_by, AddsNamed, AreAccessesOf, AreSeenBy}
 use Rattle.key_versions.proofs.Accessing.{accesses_stay, versions_numbered, versions_stay}
 use Rattle.key_versions.proofs.Growing.{named-push}
 use Rattle.key_versions.proofs.Lists.{is_at}
@@ -208,9 +208,6 @@ have_stay keys vs us stay (t ∷ ts) [] are = absurd are
 
 abbrev pub kept_by : KeyOrder → List Version → List TxnAccesses → KeptVersions
 kept_by keys versions accesses = record { keys = keys; versions = versions; accesses = accesses }
-
-abbrev pub accesses_by : (rs ws ss : List Access) → TxnAccesses
-accesses_by rs ws ss = record { reads = rs; writes = ws; seen = ss }
 
 module _ (keys : KeyOrder) (vs us : List Version) (t : Transaction) (grown : us ≡ with_versions vs (named_by t)) where
   stays : Stay vs us

@@ -8,10 +8,10 @@ use Rattle.std.proofs.lemmas.Option.{slice_get-get_or, slice_get-map}
 use Rattle.key_versions.specs.declared.accesses.Span.{Span}
 use Rattle.key_versions.specs.declared.kept_accesses.KeptSpan.{KeptSpan}
 use Rattle.key_versions.specs.declared.pending.Access.{Access}
-use Rattle.key_versions.specs.Kept.{TxnAccesses}
 use Rattle.key_versions.specs.Rows.{Accessed}
 use Rattle.flat_groups.specs.Groups.{between}
 use Rattle.key_versions.specs.Spans.{IsSpan, accessed_at, IsKeptSpan, kept_at, AreAppended}
+use Rattle.key_versions.specs.TxnAccesses.{TxnAccesses, accesses_by}
 use Rattle.key_versions.proofs.Changed.{all_behind}
 
 abbrev accessed_by : List ℕ → List ℕ → Accessed
@@ -148,9 +148,6 @@ told_at {N} {S} {A} at_span f numbers seen ss accesses place s is below at same 
 
 -- ---- accesses that are kept
 
-abbrev kept_by : (rs ws ss : List Access) → TxnAccesses
-kept_by rs ws ss = record { reads = rs; writes = ws; seen = ss }
-
 abbrev kept_span : ℕ → ℕ → ℕ → ℕ → KeptSpan
 kept_span reads writes seen end = record { reads = reads; writes = writes; seen = seen; end = end }
 
@@ -162,9 +159,9 @@ one_kept_at xs ys s is =
     let d = is.3 in
     let second : s.seen ≤ length xs = omega arith in
     let first : s.writes ≤ length xs = omega arith in
-    ap (λ (rs : List Access). kept_by rs (between s.writes s.seen (xs ++ ys)) (between s.seen s.end (xs ++ ys))) (between_kept s.reads s.writes xs ys a first)
-    ∙ ap (λ (ws : List Access). kept_by (between s.reads s.writes xs) ws (between s.seen s.end (xs ++ ys))) (between_kept s.writes s.seen xs ys b second)
-    ∙ ap (kept_by (between s.reads s.writes xs) (between s.writes s.seen xs)) (between_kept s.seen s.end xs ys c d)
+    ap (λ (rs : List Access). accesses_by rs (between s.writes s.seen (xs ++ ys)) (between s.seen s.end (xs ++ ys))) (between_kept s.reads s.writes xs ys a first)
+    ∙ ap (λ (ws : List Access). accesses_by (between s.reads s.writes xs) ws (between s.seen s.end (xs ++ ys))) (between_kept s.writes s.seen xs ys b second)
+    ∙ ap (accesses_by (between s.reads s.writes xs) (between s.writes s.seen xs)) (between_kept s.seen s.end xs ys c d)
 
 all_kept_at : (xs ys : List Access) (ss : List KeptSpan) → All (IsKeptSpan (length xs)) ss → map (kept_at (xs ++ ys)) ss ≡ map (kept_at xs) ss
 all_kept_at xs ys [] all = refl
@@ -205,8 +202,8 @@ appended_accesses xs first second now rs ws ss reads writes seen end is_first is
     record {
       all = whole;
       span = (a, b, c, d);
-      at = ap (λ (x : List Access). kept_by x (between writes seen now) (between seen end now)) their_reads
-          ∙ ap (λ (x : List Access). kept_by rs x (between seen end now)) their_writes ∙ ap (kept_by rs ws) their_seen;
+      at = ap (λ (x : List Access). accesses_by x (between writes seen now) (between seen end now)) their_reads
+          ∙ ap (λ (x : List Access). accesses_by rs x (between seen end now)) their_writes ∙ ap (accesses_by rs ws) their_seen;
     }
 
 module _ (xs now : List Access) (rs ws ss : List Access) (s : KeptSpan) (is : AreAppended xs now rs ws ss s) (spans : List KeptSpan) (all : All (IsKeptSpan (length xs)) spans) where
@@ -220,7 +217,7 @@ module _ (xs now : List Access) (rs ws ss : List Access) (s : KeptSpan) (is : Ar
   pub kept_pushed : All (IsKeptSpan (length now)) (spans ++ s ∷ [])
   kept_pushed = all_pushed (IsKeptSpan (length now)) spans s (kept_wider (length xs) (length now) spans longer all) is.span
 
-  pub pushed_is : map (kept_at now) (spans ++ s ∷ []) ≡ map (kept_at xs) spans ++ kept_by rs ws ss ∷ []
+  pub pushed_is : map (kept_at now) (spans ++ s ∷ []) ≡ map (kept_at xs) spans ++ accesses_by rs ws ss ∷ []
   pushed_is =
       map-append (kept_at now) spans (s ∷ []) ∙ ap (λ (as1 : List TxnAccesses). as1 ++ kept_at now s ∷ []) before
       ∙ ap (λ (a : TxnAccesses). map (kept_at xs) spans ++ a ∷ []) is.at
@@ -229,7 +226,7 @@ module _ (xs now : List Access) (rs ws ss : List Access) (s : KeptSpan) (is : Ar
   pub kept_set : (place : ℕ) → All (IsKeptSpan (length now)) (set spans place s)
   kept_set place = All-set (IsKeptSpan (length now)) spans place s is.span (kept_wider (length xs) (length now) spans longer all)
 
-  pub set_is : (place : ℕ) → map (kept_at now) (set spans place s) ≡ set (map (kept_at xs) spans) place (kept_by rs ws ss)
+  pub set_is : (place : ℕ) → map (kept_at now) (set spans place s) ≡ set (map (kept_at xs) spans) place (accesses_by rs ws ss)
   set_is place =
       map-set (kept_at now) spans place s ∙ ap (λ (as1 : List TxnAccesses). set as1 place (kept_at now s)) before
       ∙ ap (set (map (kept_at xs) spans) place) is.at

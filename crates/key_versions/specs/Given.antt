@@ -1,15 +1,15 @@
 -- Versions that have numbers before any transaction is taken: those that the journal numbered when
 -- they were written, and the nil versions of their keys. The transactions name all of them, but
 -- while some are not taken yet, the table has versions that no taken one names.
-use Rattle.std.specs.Prelude.{◌≡◌, List, Bool, ◌||◌, Some, map, IsTrue}
+use Rattle.std.specs.Prelude.{List, Bool, ◌||◌, IsTrue}
 use Rattle.std.specs.List.{list_any}
 use Rattle.atom_index.specs.Numbers.{AreNumbered}
 use Rattle.hist_types.specs.Journal.{Write}
-use Rattle.hist_types.specs.Transactions.{Transaction, Version, version_eq, version_of, has_version, installed_by}
+use Rattle.hist_types.specs.Transactions.{Transaction, Version, version_eq, version_of, has_version}
 use Rattle.hist_types.specs.Versions.{nil_of}
 use Rattle.hist_types.specs.declared.types.KeyOrder.TheVariants.{Basic}
-use Rattle.key_versions.specs.Histories.{read_by, is_named, writer_of, readers_of, followers_of}
-use Rattle.key_versions.specs.Tables.{Table, versions_at, followers_at}
+use Rattle.key_versions.specs.Histories.{is_named}
+use Rattle.key_versions.specs.Tables.{Table, IsTableWith}
 
 -- whether the write names the version: it is what is written, or the nil version of the key
 abbrev pub names : Version → Write → Bool
@@ -25,14 +25,6 @@ abbrev pub AreNamed : List Transaction → List Version → Type 0
 AreNamed ts versions = (v : Version) → IsTrue (has_version versions v) → IsTrue (is_named ts v)
 
 -- a table of keys that are basic, which has these versions besides those that the transactions name
-pub record IsTableBeside (given : List Version) (ts : List Transaction) (table : Table) : Type 0 where
-  pub distinct : AreNumbered version_eq table.versions
-  pub named : (v : Version) → has_version table.versions v ≡ (has_version given v || is_named ts v)
-  pub writers : table.writers ≡ map (writer_of ts) table.versions
-  pub readers : table.readers ≡ map (readers_of ts) table.versions
-  pub followers :
-      map (followers_at table.versions) table.followers
-      ≡ map (λ v. map (λ p. (p.0, Some p.1)) (followers_of Basic ts v)) table.versions
-  pub reads : map (versions_at table.versions) table.reads ≡ map (λ t. map Some (read_by t)) ts
-  pub installs :
-      map (versions_at table.versions) table.installs ≡ map (λ t. map Some (installed_by t)) ts
+abbrev pub IsTableBeside : (given : List Version) → List Transaction → Table → Type 0
+IsTableBeside given ts table =
+    IsTableWith (λ v. has_version given v || is_named ts v) Basic ts table

@@ -1,25 +1,14 @@
 -- What the transactions of a run read and write, kept by number while the run goes on.
 --
--- A transaction is noted when it is invoked and again when it completes. Its completion names what
--- its invocation named, and, where it is ok, what it reads besides. So versions keep their numbers,
--- and none is ever without a transaction that names it.
+-- A transaction is added when it is invoked, and updated when it completes. A completion names all
+-- that its invocation named, and, if it is ok, what it reads too. So the versions that a history
+-- names only grow, and each keeps its number.
 use Rattle.std.specs.Prelude.{◌≡◌, List, [], ◌∷◌, ⊤}
 use Rattle.atom_index.specs.Numbers.{AreNumbered}
 use Rattle.hist_types.specs.Transactions.{Transaction, Version, version_eq, has_version}
 use Rattle.hist_types.specs.declared.types.KeyOrder.{KeyOrder}
-use Rattle.key_versions.specs.declared.accessed.Accessed.{Accessed}
-use Rattle.key_versions.specs.declared.pending.Access.{Access}
 use Rattle.key_versions.specs.Histories.{is_named}
-use Rattle.key_versions.specs.TxnAccesses.{AreAccessesOf, AreSeenBy}
-
--- what a transaction reads, writes and sees, by number
-pub record TxnAccesses : Type 0 where
-  pub reads : List Access
-  pub writes : List Access
-  pub seen : List Access
-
-abbrev pub accesses_of : Accessed → TxnAccesses
-accesses_of a = record { reads = a.reads.items; writes = a.writes.items; seen = a.seen.items }
+use Rattle.key_versions.specs.TxnAccesses.{TxnAccesses, AreAccessesOf, AreSeenBy}
 
 pub record KeptVersions : Type 0 where
   -- how the versions of each key are ordered

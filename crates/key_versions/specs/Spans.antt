@@ -5,8 +5,8 @@ use Rattle.flat_groups.specs.Groups.{between}
 use Rattle.key_versions.specs.declared.accesses.Span.{Span}
 use Rattle.key_versions.specs.declared.kept_accesses.KeptSpan.{KeptSpan}
 use Rattle.key_versions.specs.declared.pending.Access.{Access}
-use Rattle.key_versions.specs.Kept.{TxnAccesses}
 use Rattle.key_versions.specs.Rows.{Accessed}
+use Rattle.key_versions.specs.TxnAccesses.{TxnAccesses, accesses_by}
 
 -- a span among n numbers
 abbrev pub IsSpan : ℕ → Span → Type 0
@@ -27,15 +27,14 @@ IsKeptSpan n s = (s.reads ≤ s.writes) × (s.writes ≤ s.seen) × (s.seen ≤ 
 -- what the transaction with this span reads, writes and sees
 abbrev pub kept_at : List Access → KeptSpan → TxnAccesses
 kept_at accesses s =
-    record {
-      reads = between s.reads s.writes accesses;
-      writes = between s.writes s.seen accesses;
-      seen = between s.seen s.end accesses;
-    }
+    accesses_by
+    (between s.reads s.writes accesses)
+    (between s.writes s.seen accesses)
+    (between s.seen s.end accesses)
 
 -- these were appended, and the span is theirs
 pub record AreAppended (before after : List Access) (rs ws ss : List Access)
     (s : KeptSpan) : Type 0 where
   pub all : after ≡ before ++ (rs ++ (ws ++ ss))
   pub span : IsKeptSpan (length after) s
-  pub at : kept_at after s ≡ record { reads = rs; writes = ws; seen = ss }
+  pub at : kept_at after s ≡ accesses_by rs ws ss

@@ -1,5 +1,5 @@
 -- A table of the versions that a history names. A version is named by its place among the versions.
-use Rattle.std.specs.Prelude.{◌≡◌, ℕ, List, Option, Some, slice_get, map}
+use Rattle.std.specs.Prelude.{◌≡◌, ℕ, List, Bool, Option, Some, slice_get, map}
 use Rattle.atom_index.specs.Numbers.{AreNumbered}
 use Rattle.hist_types.specs.Transactions.{Transaction, Version, version_eq, has_version, installed_by}
 use Rattle.hist_types.specs.declared.types.KeyOrder.{KeyOrder}
@@ -27,12 +27,13 @@ abbrev pub followers_at : List Version → List Follower → List (ℕ × Option
 followers_at versions followers =
     map (λ (f : Follower). (f.txn, slice_get versions f.version)) followers
 
--- The versions are those that the history names, no two of them equal. Of each one the table tells
+-- The versions are those of which this is true, no two of them equal. Of each one the table tells
 -- the writer, the readers and the followers, and of each transaction what it reads externally, if
 -- it is ok, and what it installs.
-pub record IsTableOf (keys : KeyOrder) (ts : List Transaction) (table : Table) : Type 0 where
+pub record IsTableWith (is_there : Version → Bool) (keys : KeyOrder) (ts : List Transaction)
+    (table : Table) : Type 0 where
   pub distinct : AreNumbered version_eq table.versions
-  pub named : (v : Version) → has_version table.versions v ≡ is_named ts v
+  pub named : (v : Version) → has_version table.versions v ≡ is_there v
   pub writers : table.writers ≡ map (writer_of ts) table.versions
   pub readers : table.readers ≡ map (readers_of ts) table.versions
   pub followers :
@@ -41,3 +42,7 @@ pub record IsTableOf (keys : KeyOrder) (ts : List Transaction) (table : Table) :
   pub reads : map (versions_at table.versions) table.reads ≡ map (λ t. map Some (read_by t)) ts
   pub installs :
       map (versions_at table.versions) table.installs ≡ map (λ t. map Some (installed_by t)) ts
+
+-- the table of a history, which has the versions that the history names
+abbrev pub IsTableOf : KeyOrder → List Transaction → Table → Type 0
+IsTableOf keys ts table = IsTableWith (is_named ts) keys ts table

@@ -4,10 +4,23 @@ use Rattle.hist_types.specs.Journal.{writes_of}
 use Rattle.hist_types.specs.Transactions.{Transaction, Version, is_ok, version_of}
 use Rattle.hist_types.specs.declared.types.KeyOrder.{KeyOrder}
 use Rattle.hist_types.specs.declared.types.KeyOrder.TheVariants.{Sequential}
+use Rattle.key_versions.specs.declared.accessed.Accessed.{Accessed}
 use Rattle.key_versions.specs.declared.pending.Access.{Access}
 use Rattle.key_versions.specs.Histories.{named_by, read_by, seen_in}
 use Rattle.key_versions.specs.Numbering.{with_versions, AreAccesses}
 use Rattle.key_versions.specs.Steps.{AreOfSameKeys}
+
+-- what a transaction reads, writes and sees
+pub record TxnAccesses : Type 0 where
+  pub reads : List Access
+  pub writes : List Access
+  pub seen : List Access
+
+abbrev pub accesses_by : (rs ws ss : List Access) → TxnAccesses
+accesses_by rs ws ss = record { reads = rs; writes = ws; seen = ss }
+
+abbrev pub accesses_of : Accessed → TxnAccesses
+accesses_of a = accesses_by a.reads.items a.writes.items a.seen.items
 
 -- what a transaction reads externally, if it is ok, and what it writes
 pub record AreAccessesOf (versions : List Version) (t : Transaction)

@@ -27,16 +27,16 @@ use std::hash::BuildHasher;
 use std::marker::Model;
 use txn_pairs::types::{Status, Txn, Txns};
 
-/// What the transactions of a run read and write, by the numbers of versions. It is told of each transaction when that is invoked
-/// and when it completes, and a table of versions is made from it at any time: in linear time, without looking at a key or a value.
+/// What the transactions of a run read and write, by the numbers of versions. A transaction is added when it is invoked, and
+/// updated when it completes. At any time a table of versions can be made: in linear time, and without looking at a key or a value.
 ///
-/// Versions are numbered as `versions` does. Where out of memory stops a call, what is kept may be of no history.
+/// It borrows the journal's blocks. No answer depends on the hasher. It can't be used after a call that ran out of memory.
 pub struct KeptVersions<'a, S: BuildHasher> {
     keys: KeyOrder,
     hasher: S,
     numbering: Numbering<'a, S>,
     accesses: KeptAccesses,
-    /// Those of one transaction at a time.
+    /// A buffer for those of one transaction.
     accessed: Accessed,
 }
 
@@ -67,7 +67,7 @@ impl<'a, S: BuildHasher> Model for KeptVersions<'a, S> {
 }
 
 impl<'a, S: BuildHasher + Copy> KeptVersions<'a, S> {
-    /// There is no transaction yet.
+    /// No transaction yet.
     pub fn new(alloc: Global, hasher: S, keys: KeyOrder) -> Self
         ensures kept { AreKept [] result }
         ensures keys { result.keys ≡ keys }
@@ -93,7 +93,7 @@ impl<'a, S: BuildHasher + Copy> KeptVersions<'a, S> {
         Ok(())
     }
 
-    /// The transaction at the place was completed. A fail or an info says nothing of what was read.
+    /// Updates the transaction at this place, which is now completed. A fail or an info says nothing of what was read.
     pub fn complete(&mut self, place: usize, txn: &Txn<'a>) -> Result<(), AllocError>
         requires { (ts : List Transaction) × AreKept ts self.old × (place < length ts) }
         ensures kept { (ts : List Transaction) (t : Transaction)
@@ -108,7 +108,7 @@ impl<'a, S: BuildHasher + Copy> KeptVersions<'a, S> {
         Ok(())
     }
 
-    /// What is known of each version where keys are basic.
+    /// What is known of each version, apart from the steps of processes.
     fn rows(&self, alloc: Global) -> Result<Rows, AllocError>
         requires { (ts : List Transaction) × AreKept ts self.now }
         ensures { (ts : List Transaction) → AreKept ts self.now → IfOk result
@@ -175,7 +175,7 @@ impl<'a, S: BuildHasher + Copy> KeptVersions<'a, S> {
         Ok(Versions::new(self.keys, numbered, known, rows.accesses))
     }
 
-    /// The table of the transactions, which `versions` makes as well. The only error is out of memory.
+    /// The table of the transactions, as `versions` makes it. The only error is out of memory.
     pub fn finish(&self, alloc: Global, txns: &Txns<'a>) -> Result<Versions<'a>, Fault>
         requires { AreKept txns.now self.now }
         ensures ok { IfOk result (IsTableOf self.now.keys txns.now) }

@@ -1,7 +1,7 @@
 //! What is kept of each transaction: what it reads and writes, by the numbers of versions.
 
 ghost use Rattle.std.specs.Prelude.{◌≡◌, ◌<◌, ◌≤◌, ◌++◌, ◌∷◌, [], length, map, set, slice_get, Some, IfOk, OnOk};
-ghost use Rattle.key_versions.specs.Kept.{accesses_of};
+ghost use Rattle.key_versions.specs.TxnAccesses.{accesses_of};
 ghost use Rattle.key_versions.specs.Spans.{AreAppended};
 
 use crate::accessed::Accessed;
@@ -22,7 +22,7 @@ pub(crate) struct KeptSpan {
 /// The accesses of each transaction, by place.
 #[derive(Drop)]
 pub(crate) struct KeptAccesses {
-    /// Those of all transactions. Where a transaction gets others, it leaves those that it had unused.
+    /// Those of all transactions. When a transaction gets others, those that it had stay, unused.
     accesses: Vec<Access>,
     /// By place.
     spans: Vec<KeptSpan>,
@@ -30,7 +30,7 @@ pub(crate) struct KeptAccesses {
 
 impl Model for KeptAccesses {
     ghost use Rattle.std.specs.Prelude.{List, map, length, All};
-    ghost use Rattle.key_versions.specs.Kept.{TxnAccesses};
+    ghost use Rattle.key_versions.specs.TxnAccesses.{TxnAccesses};
     ghost use Rattle.key_versions.specs.Spans.{IsKeptSpan, kept_at};
 
     ghost Value = { List TxnAccesses };
@@ -88,7 +88,7 @@ impl KeptAccesses {
         Ok(())
     }
 
-    /// The transaction at the place gets these in place of those that it had.
+    /// Replaces those of the transaction at this place.
     pub fn set(&mut self, place: usize, accessed: &Accessed) -> Result<(), AllocError>
         requires { place < length self.old }
         ensures { OnOk result (self.new ≡ set self.old place (accesses_of accessed.now)) }

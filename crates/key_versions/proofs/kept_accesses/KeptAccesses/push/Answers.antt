@@ -1,5 +1,5 @@
 use Rattle.std.proofs.Common.{◌∙◌, ◌++◌, ◌∷◌, [], List, length, map, ap}
-use Rattle.key_versions.specs.Kept.{TxnAccesses, accesses_of}
+use Rattle.key_versions.specs.TxnAccesses.{TxnAccesses, accesses_of}
 use Rattle.key_versions.specs.Spans.{kept_at}
 use Rattle.key_versions.proofs.Spans.{kept_wider, pushed_is}
 use Rattle.key_versions.proofs.kept_accesses.KeptAccesses.push.Goals as goal

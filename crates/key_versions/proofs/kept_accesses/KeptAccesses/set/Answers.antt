@@ -1,5 +1,5 @@
 use Rattle.std.proofs.Common.{◌∙◌, List, set, ap}
-use Rattle.key_versions.specs.Kept.{TxnAccesses, accesses_of}
+use Rattle.key_versions.specs.TxnAccesses.{TxnAccesses, accesses_of}
 use Rattle.key_versions.proofs.Spans.{set_is}
 use Rattle.key_versions.proofs.kept_accesses.KeptAccesses.set.Goals as goal
 

@@ -1,4 +1,4 @@
-use Rattle.key_versions.specs.Kept.{TxnAccesses}
+use Rattle.key_versions.specs.TxnAccesses.{TxnAccesses}
 use Rattle.key_versions.specs.Spans.{kept_at}
 use Rattle.key_versions.proofs.Spans.{told_at}
 use Rattle.key_versions.proofs.kept_accesses.KeptAccesses.writes.Goals as goal
