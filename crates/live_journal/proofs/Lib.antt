@@ -13,3 +13,4 @@ pub mod SeenMore
 pub mod Found
 pub mod Calls
 pub mod Owners
+pub mod Keeping

@@ -3,9 +3,12 @@
 
 mod cells;
 pub mod journal;
+mod kept;
 pub mod laws;
 pub mod seat;
 mod seen;
 pub mod snapshot;
 #[cfg(test)]
 mod tests;
+#[cfg(test)]
+mod verdict_tests;

@@ -9,6 +9,7 @@ use hist_types::types::{At, Fault, KeyOrder, OpKind, Process, Refusal};
 use op_block::block::Block;
 use op_block::stamp::Stamp;
 use std::alloc::{AllocError, Global};
+use std::hash::{BuildHasherDefault, FoldHasher};
 use std::test::Fail;
 
 /// Cells of which another seat fills the first just before a call does.
@@ -67,7 +68,8 @@ fn begin_raced_by(alloc: Global, zero: Process, number: Process) -> Result<u64, 
         row: &row,
         other,
     };
-    let mut seen = Seen::new(alloc, 0, KeyOrder::Basic, row.known(alloc)?);
+    let hasher = BuildHasherDefault::<FoldHasher>::new();
+    let mut seen = Seen::new(alloc, 0, hasher, KeyOrder::Basic, row.known(alloc)?);
     let block = block_of_call(alloc, OpKind::Invoke, zero, &[], seen.next_stamp())?;
     write_through(&cells, &mut seen, &block)
 }
