@@ -1,0 +1,5 @@
+use Rattle.serial_points.proofs.Points.{nothing_found}
+use Rattle.serial_points.proofs.points_rule_out_cycles.Goals as goal
+
+pub returns : goal.returns
+returns c = nothing_found

@@ -1,0 +1,4 @@
+pub mod Points
+pub mod ByVersion
+pub mod ByPlace
+pub mod NextPoints
