@@ -1,5 +1,5 @@
 -- Worked histories with points, and with none.
-use Rattle.std.proofs.Common.{◌≡◌, inl, inr, ℕ, ◌+◌, ◌<◌, ◌≤◌, List, [], ◌∷◌, ◌∙◌, None, Some, Contains, IsTrue, refl, sym, ap, subst, arith}
+use Rattle.std.proofs.Common.{◌≡◌, inl, inr, ℕ, ◌+◌, ◌<◌, ◌≤◌, List, [], ◌∷◌, ◌++◌, ◌∙◌, None, Some, Contains, IsTrue, refl, sym, ap, subst, arith}
 use Rattle.std.proofs.lemmas.Option.{same_Some}
 use Rattle.hist_types.specs.Operations.{Operation}
 use Rattle.hist_types.specs.Journal.{first_broken}
@@ -10,7 +10,7 @@ use Rattle.hist_types.proofs.Members.{in_from_Contains, Contains_from_in}
 use Rattle.hist_types.proofs.Rows.History.{x, sets, gets, finds_nil, invoke, ok, committed, unfinished, wr_edge, rw_nil_edge}
 use Rattle.hist_types.proofs.Rows.Realtime.{missed_write}
 use Rattle.serial_points.specs.Points.{point_at, ArePoints}
-use Rattle.serial_points.specs.NextPoints.{HasMoved}
+use Rattle.serial_points.specs.NextPoints.{HasMoved, AreNextPoints}
 
 -- ---- a write that is read before it is confirmed
 
@@ -101,8 +101,50 @@ missed_write-no_points point are =
 abbrev before_the_read : List Operation
 before_the_read = invoke 0 (sets x 1 ∷ []) ∷ invoke 1 (finds_nil x ∷ []) ∷ []
 
+abbrev after_the_read : List Operation
+after_the_read = before_the_read ++ ok 1 (gets x 1 ∷ []) ∷ []
+
+abbrev open_writer : Transaction
+open_writer = unfinished 0 0 (sets x 1 ∷ [])
+
+after_the_read-legal :
+    (first_broken [] after_the_read ≡ None)
+    × (nodes (transactions_of before_the_read) ≡ [])
+    × (nodes (transactions_of after_the_read) ≡ open_writer ∷ reader ∷ [])
+    × (dependency_edges Basic (transactions_of after_the_read) ≡ wr_edge 0 1 x 1 ∷ [])
+after_the_read-legal = (refl, refl, refl, refl)
+
 -- Whoever wrote what is read is looked at too, since it wasn't a node.
-writer_moved :
-    (point : ℕ → ℕ)
-    → HasMoved (transactions_of before_the_read) (unfinished 1 1 (finds_nil x ∷ [])) point point (unfinished 0 0 (sets x 1 ∷ []))
+writer_moved : (point : ℕ → ℕ) → HasMoved (transactions_of before_the_read) reader point point open_writer
 writer_moved point = inr (inl refl)
+
+-- Before the read no point is needed, and after it these are some.
+after_the_read-next : AreNextPoints (transactions_of before_the_read) (transactions_of after_the_read) reader (λ n. 0) (λ n. point_at 1 + n)
+after_the_read-next = record {
+  falls = λ u c other. elim (in_from_Contains u [] c) [ ];
+  begun = λ u c moved. begun u c;
+  ended = λ completion ok at. let n : 2 ≡ completion = same_Some 2 completion at in omega (arith, n);
+  into = λ u c moved e i to. forward e i;
+  out = λ e i from. forward e i;
+}
+  where
+    begun : (t : Transaction) → Contains (open_writer ∷ reader ∷ []) t → point_at t.invocation ≤ point_at 1 + t.invocation
+    begun t c = elim (in_from_Contains t (open_writer ∷ reader ∷ []) c) [
+      | inl is ↦ subst (λ (u : Transaction). point_at u.invocation ≤ point_at 1 + u.invocation) is (omega arith)
+      | inr (inl is) ↦ subst (λ (u : Transaction). point_at u.invocation ≤ point_at 1 + u.invocation) is (omega arith)
+      | inr (inr none) ↦ elim none [ ]
+    ]
+
+    forward : (e : Edge) → Contains (wr_edge 0 1 x 1 ∷ []) e → point_at 1 + e.from < point_at 1 + e.to
+    forward e c = elim (in_from_Contains e (wr_edge 0 1 x 1 ∷ []) c) [
+      | inl is ↦ subst (λ (d : Edge). point_at 1 + d.from < point_at 1 + d.to) is (omega arith)
+      | inr none ↦ elim none [ ]
+    ]
+
+-- With both at one point they aren't, as the new edge stays level.
+after_the_read-not_level :
+    ¬ AreNextPoints (transactions_of before_the_read) (transactions_of after_the_read) reader (λ n. 0) (λ n. point_at 1)
+after_the_read-not_level next =
+    let e : Edge = wr_edge 0 1 x 1 in
+    let rises : point_at 1 < point_at 1 = next.into reader (Contains_from_in reader (open_writer ∷ reader ∷ []) (inr (inl refl))) (inl refl) e (Contains_from_in e (e ∷ []) (inl refl)) refl in
+    omega (arith, rises)
