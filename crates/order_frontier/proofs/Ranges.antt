@@ -4,7 +4,7 @@ use Rattle.std.proofs.Common.{◌≡◌, ◌∙◌, ◌≤◌, ◌+◌, ◌-◌,
 use Rattle.std.specs.Prelude.{slice_range}
 use Rattle.std.specs.List.{AllByRecursion}
 use Rattle.std.proofs.lemmas.Bool.{ltb-true, ltb-false}
-use Rattle.std.proofs.lemmas.List.{append-nil, append_assoc, length-append, length-take-le, take-append-drop, take-append-le, drop-append-le, length-drop, map-append, drop-take}
+use Rattle.std.proofs.lemmas.List.{append-nil, append_assoc, length-append, take-append-drop, take-append-le, drop-append-le, length-drop, map-append, drop-take}
 use Rattle.std.proofs.lemmas.List.Sums.{fold-append}
 use Rattle.std.proofs.lemmas.List.Elements.{recursion_from_All, All-from_recursion, All-append}
 use Rattle.std.proofs.Math.Seq.{drop-append_seam, take-length}
@@ -14,7 +14,7 @@ use Rattle.order_frontier.specs.Completions.{predecessor_of, count_passed, front
 use Rattle.order_frontier.specs.Predecessors.{Before, last_realtime}
 use Rattle.order_frontier.specs.declared.types.Span.{Span}
 use Rattle.order_frontier.specs.declared.types.Row.{Row}
-use Rattle.order_frontier.specs.Ranges.{before_in, between, IsSpanOf, IsRangeOf, IsRowIn, IsRowOf, AreRowsOf}
+use Rattle.order_frontier.specs.Ranges.{before_in, between, IsSpanOf, IsRowIn, IsRowOf, AreRowsOf}
 
 -- ---- a list that grows
 
@@ -151,12 +151,6 @@ pushed own own' others others' rs rs' r b are grown grown' row added =
 
 -- ---- a list that ends with the first ones of those that are added
 
-pub shared_fits : (list next : List Predecessor) (shared : ℕ) → shared ≤ length next → IsSuffix (take shared next) list → shared ≤ length list
-shared_fits list next shared fits ends =
-    let long = sym (ap length ends.1) ∙ length-append ends.0 (take shared next) in
-    let part = length-take-le shared next fits in
-    omega (arith, long, part)
-
 pub suffix_of : (end middle whole : List Predecessor) → IsSuffix end middle → IsSuffix middle whole → IsSuffix end whole
 suffix_of end middle whole inner outer = (outer.0 ++ inner.0, append_assoc outer.0 inner.0 end ∙ ap (λ xs. outer.0 ++ xs) inner.1 ∙ outer.1)
 
@@ -186,25 +180,4 @@ shared_after recent recent' list d shared count counted after was =
     let long = ap length next ∙ length-append (drop count recent) (predecessor_of d ∷ []) in (
       omega (arith, fits, rest, long),
       subst (λ xs. IsSuffix (take (shared - count) xs) list) (sym next) (shared_by recent list (predecessor_of d) shared count (nat_lt shared count) refl fits was.1),
-    )
-
-pub shared_range : (list list' next : List Predecessor) (shared : ℕ) → shared ≤ length next → IsSuffix (take shared next) list → list' ≡ list ++ drop shared next
-    → IsRangeOf list' (record { start = length list - shared; end = length list - shared + length next }) next × IsSuffix next list'
-shared_range list list' next shared fits ends grown =
-    let front = ends.0 in
-    let whole : list' ≡ front ++ next =
-    grown ∙ ap (λ xs. xs ++ drop shared next) (sym ends.1) ∙ append_assoc front (take shared next) (drop shared next)
-    ∙ ap (λ xs. front ++ xs) (take-append-drop shared next) in
-    let long = sym (ap length ends.1) ∙ length-append front (take shared next) in
-    let part = length-take-le shared next fits in
-    let start : length list - shared ≡ length front = omega (arith, long, part) in
-    let all = ap length whole ∙ length-append front next in (
-      (
-        record { rising = omega arith; within = omega (arith, start, all) },
-        ap (λ k. slice_range list' k (k + length next)) start
-            ∙ ap (λ xs. slice_range xs (length front) (length front + length next)) whole
-            ∙ ap (λ n. slice_range (front ++ next) (length front) n) (sym (length-append front next))
-            ∙ last_range front next,
-      ),
-      (front, sym whole),
     )

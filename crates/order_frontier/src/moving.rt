@@ -1,6 +1,6 @@
 //! What is kept of the ok transactions so far.
 
-ghost use Rattle.std.specs.Prelude.{◌≡◌, ◌≤◌, ℕ, length, [], ◌∷◌, ◌++◌, Some, None, OnOk, OnErr, IfOk, not, ◌==◌, nat_lt, nat_eq, filter, if◌then◌else◌};
+ghost use Rattle.std.specs.Prelude.{◌≡◌, ◌≤◌, ℕ, length, [], ◌∷◌, ◌++◌, Some, None, OnOk, OnErr, IfOk, not, ◌==◌, nat_lt, nat_eq, drop, if◌then◌else◌};
 ghost use Rattle.process_map.specs.Values.{value_of};
 ghost use Rattle.order_frontier.specs.Completions.{predecessor_of, count_passed, frontier_after};
 ghost use Rattle.order_frontier.specs.Latest.{before_next};
@@ -34,6 +34,19 @@ fn passed(frontier: &[Predecessor], invocation: u32) -> usize
         }
     }
     frontier.len()
+}
+
+/// Removes those that completed before the invocation, the first ones, and returns how many they were.
+fn pass(frontier: &mut SmallVec<Predecessor, 8>, invocation: u32) -> usize
+    ensures count { result ≡ count_passed invocation frontier.old.items }
+    ensures rest { frontier.new.items ≡ drop result frontier.old.items }
+    ensures capacity { frontier.new.capacity ≡ frontier.old.capacity }
+{
+    let passed = passed(frontier.as_slice(), invocation);
+    for _ in 0..passed {
+        frontier.remove(0);
+    }
+    passed
 }
 
 impl Moving {
@@ -96,8 +109,7 @@ impl Moving {
         self.recent.reserve(1)?;
         let process = u64::from(done.process);
         self.last.insert(process, done.predecessor())?;
-        let passed = passed(self.recent.as_slice(), done.invocation);
-        self.recent.drain(..passed);
+        let passed = pass(&mut self.recent, done.invocation);
         self.recent.push_reserved(done.predecessor());
         Ok(passed)
     }
