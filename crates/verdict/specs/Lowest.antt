@@ -1,9 +1,9 @@
 -- The lowest level of a phenomenon, searched for in the graph of a history over its thinned order.
-use Rattle.std.specs.Prelude.{◌≡◌, ◌↔◌, ◌<◌, ℕ, List, ◌++◌, map, All, Contains, Option, Some, None}
+use Rattle.std.specs.Prelude.{◌≡◌, ◌↔◌, ◌<◌, ℕ, List, ◌++◌, length, map, All, Contains, Option, Some, None}
 use Rattle.hist_types.specs.Edges.{Edge, dependency_edges}
 use Rattle.hist_types.specs.ThinnedOrder.{thinned_edges}
 use Rattle.hist_types.specs.Phenomena.{height, IsThere}
-use Rattle.hist_types.specs.Reports.{Findings, finding}
+use Rattle.hist_types.specs.Reports.{Findings, finding, Report, IsVerdictOf}
 use Rattle.hist_types.specs.Operations.{Operation}
 use Rattle.hist_types.specs.Transactions.{Transaction, transactions_of}
 use Rattle.hist_types.specs.Witness.{Finding, IsFinding}
@@ -26,6 +26,12 @@ pub record AreTablesOf (keys : KeyOrder) (events : List Operation) (tables : Tab
   pub txns : tables.txns ≡ transactions_of events
   pub versions : IsTableOf keys tables.txns tables.versions
   pub keys_are : tables.versions.keys ≡ keys
+
+-- the verdict of whichever events are this many and make these transactions
+abbrev pub IsVerdictFor : KeyOrder → (count : ℕ) → List Transaction → Report → Type 0
+IsVerdictFor keys count ts report =
+    (events : List Operation) → count ≡ length events → ts ≡ transactions_of events
+    → IsVerdictOf keys events report
 
 -- the graph of some events' transactions, with their dependency edges and at each level the thinned
 -- order edges

@@ -4,15 +4,17 @@
 #![tactic(auto)]
 
 ghost use Rattle.std.specs.Prelude.{◌≡◌, IfOk, IfErr, OnOk, OnErr};
+ghost use Rattle.dep_edges.specs.Histories.{AreOfHistory};
 ghost use Rattle.hist_types.specs.Journal.{KeepsRules};
 ghost use Rattle.hist_types.specs.Refusals.{memory_fault};
-ghost use Rattle.verdict.specs.Lowest.{AreTablesOf};
+ghost use Rattle.key_versions.specs.Tables.{IsTableOf};
+ghost use Rattle.verdict.specs.Lowest.{AreTablesOf, IsVerdictFor};
 ghost use Rattle.hist_types.specs.Pieces.{HasTaken, HasTakenInPart};
 ghost use Rattle.hist_types.specs.Reports.{AreFindings, IsVerdictOf};
 ghost use Rattle.hist_types.specs.Texts.{verdict_text};
-ghost use Rattle.hist_types.specs.Transactions.{transactions_of};
 ghost use Rattle.report_laws.specs.Explained.{RefutesExplanations};
 
+pub mod analysis;
 mod findings;
 pub mod laws;
 pub mod tables;
@@ -28,29 +30,28 @@ use hist_types::types::{Fault, KeyOrder};
 use hist_types::whole::write_all;
 use journal_core::events::Events;
 use journal_core::prefix::Prefix;
+use key_versions::table::Versions;
 use report_text::report::{Findings, VerdictReport};
 use std::alloc::Global;
 use std::hash::BuildHasher;
 use std::thread::Threads;
 use txn_pairs::types::Txns;
 
-/// The verdict that reports these findings and what `deps` knows of bad reads.
+/// The verdict of this many events, which reports these findings and what `deps` knows of bad reads.
 fn reported<'a>(
     alloc: Global,
-    events: &Events<'a>,
+    events: u64,
     txns: &Txns<'a>,
     deps: &Deps<'_, 'a>,
     findings: Findings<'a>,
 ) -> Result<Verdict<'a>, Fault>
-    requires rules { KeepsRules events.now }
-    requires txns { txns.now ≡ transactions_of events.now }
     requires deps { deps.now.txns ≡ txns.now }
     requires findings { AreFindings deps.now.table.keys txns.now findings }
-    ensures ok { IfOk result (IsVerdictOf deps.now.table.keys events.now) }
+    ensures ok { IfOk result (IsVerdictFor deps.now.table.keys events txns.now) }
     ensures err { IfErr result (λ fault. fault ≡ memory_fault) }
 {
     let report = VerdictReport {
-        prefix: events.len(),
+        prefix: events,
         txns: txns.as_slice().len() as u64,
         findings,
         g1a: deps.g1a(),
@@ -58,6 +59,25 @@ fn reported<'a>(
         stray: deps.stray(),
     };
     Ok(Verdict::new(alloc, report)?)
+}
+
+/// The verdict of this many events, from their transactions and the versions that these name.
+///
+/// Only memory can run out.
+fn verdict_by<'a>(
+    alloc: Global,
+    events: u64,
+    txns: &Txns<'a>,
+    versions: &Versions<'a>,
+) -> Result<Verdict<'a>, Fault>
+    requires history { AreOfHistory txns.now }
+    requires versions { IsTableOf versions.now.keys txns.now versions.now }
+    ensures ok { IfOk result (IsVerdictFor versions.now.keys events txns.now) }
+    ensures err { IfErr result (λ fault. fault ≡ memory_fault) }
+{
+    let deps = edges(alloc, txns, versions)?;
+    let findings = findings_of(alloc, txns, &deps)?;
+    reported(alloc, events, txns, &deps, findings)
 }
 
 /// The verdict of events that keep the rules, from what was made of them. It borrows the journal's blocks.
@@ -75,10 +95,7 @@ pub fn verdict_from<'a>(
     ensures strict { IfOk result (RefutesExplanations events.now) }
     ensures err { IfErr result (λ fault. fault ≡ memory_fault) }
 {
-    let txns = &tables.txns;
-    let deps = edges(alloc, txns, &tables.versions)?;
-    let findings = findings_of(alloc, txns, &deps)?;
-    reported(alloc, events, txns, &deps, findings)
+    verdict_by(alloc, events.len(), &tables.txns, &tables.versions)
 }
 
 /// As `verdict_from`, with a few threads if others can be started.
@@ -98,7 +115,7 @@ pub fn verdict_from_wide<'a, R: Threads + Sync>(
     let txns = &tables.txns;
     let deps = edges(alloc, txns, &tables.versions)?;
     let findings = findings_of_wide(rt, alloc, txns, &deps)?;
-    reported(alloc, events, txns, &deps, findings)
+    reported(alloc, events.len(), txns, &deps, findings)
 }
 
 /// The verdict of the events. It borrows the journal's blocks, and not the prefix. It doesn't depend on the hasher.
