@@ -21,7 +21,8 @@ use Rattle.edge_graph.specs.Parts.{Parts, IsOrderOf, IsMadeOf, edges_in}
 use Rattle.edge_graph.proofs.EdgesIn.{of_thinned}
 use Rattle.edge_graph.proofs.Orderings.{thinned_order}
 use Rattle.hist_types.specs.Reports.{Findings, AreFindings}
-use Rattle.verdict.specs.Lowest.{IsThinned, IsThinnedOrder, IsReducedTo, IsFoundBelow, AreFoundBelow}
+use Rattle.order_frontier.specs.Predecessors.{IsThinnedOrder}
+use Rattle.verdict.specs.Lowest.{IsThinned, IsReducedTo, IsFoundBelow, AreFoundBelow}
 use Rattle.hist_types.specs.declared.types.KeyOrder.{KeyOrder}
 
 -- ---- one search

@@ -1,5 +1,5 @@
 -- The lowest level of a phenomenon, searched for in the graph of a history over its thinned order.
-use Rattle.std.specs.Prelude.{◌≡◌, ◌↔◌, ◌<◌, ℕ, List, ◌++◌, length, map, All, Contains, Option, Some, None}
+use Rattle.std.specs.Prelude.{◌≡◌, ◌↔◌, ◌<◌, ℕ, List, ◌++◌, length, Contains, Option, Some, None}
 use Rattle.hist_types.specs.Edges.{Edge, dependency_edges}
 use Rattle.hist_types.specs.ThinnedOrder.{thinned_edges}
 use Rattle.hist_types.specs.Phenomena.{height, IsThere}
@@ -11,15 +11,10 @@ use Rattle.hist_types.specs.declared.types.Level.{Level}
 use Rattle.hist_types.specs.declared.types.Phenomenon.{Phenomenon}
 use Rattle.hist_types.specs.declared.types.KeyOrder.{KeyOrder}
 use Rattle.key_versions.specs.Tables.{IsTableOf}
-use Rattle.order_frontier.specs.Predecessors.{Before, AreOfEvents, HasThinnedEdges, NoPredecessorTwice, name_of, names}
+use Rattle.order_frontier.specs.Predecessors.{AreOfEvents}
 use Rattle.edge_graph.specs.Parts.{Parts, edges_in}
 use Rattle.cycle_show.specs.Reductions.{IsWitnessOf}
 use Rattle.verdict.specs.declared.tables.Tables.{Tables}
-
--- the thinned order of the transactions, with each predecessor once
-abbrev pub IsThinnedOrder : List Transaction → List Before → Type 0
-IsThinnedOrder ts order =
-    HasThinnedEdges ts order × All NoPredecessorTwice order × (names order ≡ map name_of ts)
 
 -- what a verdict of the events is made from
 pub record AreTablesOf (keys : KeyOrder) (events : List Operation) (tables : Tables) : Type 0 where

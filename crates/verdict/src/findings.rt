@@ -7,7 +7,8 @@ ghost use Rattle.hist_types.specs.Phenomena.{height};
 ghost use Rattle.hist_types.specs.Refusals.{memory_fault};
 ghost use Rattle.hist_types.specs.Reports.{AreFindings};
 ghost use Rattle.hist_types.specs.Witness.{IsFinding};
-ghost use Rattle.verdict.specs.Lowest.{IsThinnedOrder, IsThinned, IsReducedTo, IsFoundBelow, AreFoundBelow};
+ghost use Rattle.order_frontier.specs.Predecessors.{IsThinnedOrder};
+ghost use Rattle.verdict.specs.Lowest.{IsThinned, IsReducedTo, IsFoundBelow, AreFoundBelow};
 
 use clean_order::settles;
 use cycle_find::ranked_graph::RankedGraph;
