@@ -15,13 +15,12 @@ use Rattle.history_laws.proofs.OrderEdges.{thinned_edges-order}
 use Rattle.history_laws.proofs.ThinningCycles.{has_above}
 use Rattle.history_laws.proofs.ThinningWalks.{has_thinned}
 use Rattle.dep_edges.specs.Histories.{AreOfHistory}
-use Rattle.order_frontier.specs.Predecessors.{Before, AreOfEvents}
+use Rattle.order_frontier.specs.Predecessors.{Before, AreOfEvents, IsThinnedOrder}
 use Rattle.cycle_find.specs.Tasks.{Site, site_of}
 use Rattle.edge_graph.specs.Parts.{Parts, IsOrderOf, IsMadeOf, edges_in}
 use Rattle.edge_graph.proofs.EdgesIn.{of_thinned}
 use Rattle.edge_graph.proofs.Orderings.{thinned_order}
 use Rattle.hist_types.specs.Reports.{Findings, AreFindings}
-use Rattle.order_frontier.specs.Predecessors.{IsThinnedOrder}
 use Rattle.verdict.specs.Lowest.{IsThinned, IsReducedTo, IsFoundBelow, AreFoundBelow}
 use Rattle.hist_types.specs.declared.types.KeyOrder.{KeyOrder}
 
