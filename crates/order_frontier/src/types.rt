@@ -2,6 +2,7 @@
 
 ghost use mathlib.Core.List.{IsPrefix, IsSuffix};
 ghost use Rattle.std.specs.Prelude.{◌≡◌, ◌==◌, ◌<◌, ◌≤◌, [], ◌∷◌, ◌++◌, length, take, map, All, OnOk, OnErr, IfOk};
+ghost use Rattle.std.specs.Option.{option_to_list};
 ghost use Rattle.order_frontier.specs.Latest.{before_next};
 ghost use Rattle.order_frontier.specs.Predecessors.{before_at, last_realtime};
 ghost use Rattle.order_frontier.specs.Ranges.{before_in, between, IsSpanOf, IsRangeOf, IsRowIn, IsRowOf, AreRowsOf};
@@ -173,6 +174,18 @@ pub(crate) struct Row {
     pub in_realtime: Span,
 }
 
+/// Adds a predecessor to the list, if there is one, and returns the range that it is in alone.
+fn push_last(last: Option<Predecessor>, list: &mut Vec<Predecessor>) -> Result<Span, AllocError>
+    ensures kept { IsPrefix list.old.items list.new.items }
+    ensures range { IfOk result (λ span. IsRangeOf list.new.items span (option_to_list last)) }
+{
+    let start = list.len();
+    if let Some(last) = last {
+        list.push(last)?;
+    }
+    Span::new(start, list.len())
+}
+
 /// Adds the predecessors to the list, except those that it ends with already, the first n of them. Returns the range of all of
 /// them.
 fn push_range(
@@ -215,7 +228,7 @@ fn row_of(
     Ok(Row {
         process: short(process)?,
         invocation: short(invocation)?,
-        in_process: push_range(moving.last(process).as_slice(), 0, in_process)?,
+        in_process: push_last(moving.last(process), in_process)?,
         in_realtime: push_range(moving.frontier(), shared, in_realtime)?,
     })
 }
