@@ -5,3 +5,4 @@ pub mod Ranked
 pub mod Ways
 pub mod Tasks
 pub mod Prepared
+pub mod OneDependency

@@ -3,6 +3,7 @@
 
 mod finder;
 mod kinds;
+mod one_dependency;
 pub mod ranked_graph;
 pub mod ranked_level;
 mod ranking;

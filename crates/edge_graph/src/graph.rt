@@ -1,11 +1,13 @@
 //! The graph of a history's transactions.
 
-ghost use Rattle.std.specs.Prelude.{◌≡◌, ◌++◌, ◌==◌, length, All, IfOk, IfErr, OnOk, OnErr};
+ghost use Rattle.std.specs.Prelude.{◌≡◌, ◌++◌, ◌==◌, ◌<◌, length, slice_get, All, Some, IfOk, IfErr, OnOk, OnErr};
 ghost use Rattle.std.specs.Thread.{IsSync};
 ghost use Rattle.dep_edges.specs.Histories.{AreOfHistory};
 ghost use Rattle.dep_edges.specs.OutEdges.{Begins};
-ghost use Rattle.dep_edges.specs.Tables.{IsPlace};
+ghost use Rattle.dep_edges.specs.Tables.{IsPlace, txn_at};
 ghost use Rattle.hist_types.specs.Refusals.{memory_fault};
+ghost use Rattle.hist_types.specs.Transactions.{Version};
+ghost use Rattle.key_versions.specs.Histories.{readers_of};
 ghost use Rattle.edge_graph.specs.Kinds.{kinds_of};
 ghost use Rattle.edge_graph.specs.LaidOut.{AreRows};
 ghost use Rattle.edge_graph.specs.Made.{order_edges_over, order_edges_to, AddsDependencies, IsMade};
@@ -220,6 +222,31 @@ impl<'g, 'v, 'a> Graph<'g, 'v, 'a> {
         ensures { result ≡ (length self.now.txns == 0) }
     {
         self.len() == 0
+    }
+
+    /// The transaction at a place.
+    pub fn txn(&self, place: usize) -> &'v Txn<'a>
+        requires { IsPlace self.now.txns place }
+        ensures { result.now ≡ txn_at self.now.txns place }
+    {
+        self.history.txn(place)
+    }
+
+    /// How many versions there are.
+    pub fn versions(&self) -> usize
+        ensures { result ≡ length self.now.versions }
+    {
+        self.history.versions()
+    }
+
+    /// The places of the transactions that read the version with this number.
+    pub fn readers(&self, number: usize) -> &'v [u32]
+        requires { number < length self.now.versions }
+        ensures value { (v : Version) → slice_get self.now.versions number ≡ Some v
+            → result.now ≡ readers_of self.now.txns v }
+        ensures within { All (IsPlace self.now.txns) result.now }
+    {
+        self.history.readers(number)
     }
 
     /// Appends the edges of the kinds that leave the transaction. Out of memory leaves what was there.
