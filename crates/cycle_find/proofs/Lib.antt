@@ -3,5 +3,7 @@ pub mod WaysBack
 pub mod Closing
 pub mod Returning
 pub mod Passing
-pub mod ByOrder
-pub mod NoneByOne
+pub mod Noted
+pub mod ClosedByOrder
+pub mod OrderBack
+pub mod Scanning

@@ -1,14 +1,12 @@
 -- Closed walks with one dependency edge: a needed edge, and order edges from its second end back to
 -- its first.
-use Rattle.std.specs.Prelude.{◌≡◌, ◌↔◌, ◌⊎◌, ℕ, ◌+◌, ◌<◌, ◌≤◌, List, ◌++◌, length, not, if◌then◌else◌, IsTrue, Contains, count_by, Option, Some, None, option_map, Vec}
+use Rattle.std.specs.Prelude.{◌≡◌, ◌↔◌, ◌⊎◌, ℕ, ◌+◌, ◌<◌, List, ◌++◌, length, not, IsTrue, Contains, count_by, Option, Some, None, option_map, Vec}
 use Rattle.std.specs.Global.{Global}
 use Rattle.graph_search.specs.Graphs.{IsWalkIfAny}
 use Rattle.hist_types.specs.Edges.{Edge, dependency_edges}
 use Rattle.hist_types.specs.Phenomena.{Shows, is_order}
 use Rattle.hist_types.specs.ThinnedOrder.{is_ordered, thinned_edges}
-use Rattle.hist_types.specs.Transactions.{Transaction, is_ok}
 use Rattle.hist_types.specs.declared.types.Level.{Level}
-use Rattle.hist_types.specs.declared.types.Level.TheVariants.{Plain, Process, Realtime}
 use Rattle.hist_types.specs.declared.types.Phenomenon.{Phenomenon}
 use Rattle.dep_edges.specs.Histories.{AreOfHistory}
 use Rattle.dep_edges.specs.Tables.{IsPlace, txn_at}
@@ -18,9 +16,9 @@ use Rattle.edge_graph.specs.Vertices.{IsArc, AreArcs, RwByVersions}
 use Rattle.edge_graph.specs.Walks.{HasEdgeBetween, IsDirectArc, IsWayByVersion}
 use Rattle.edge_graph.specs.declared.types.Dependencies.TheVariants as dependencies
 use Rattle.edge_graph.specs.declared.types.Kinds.{Kinds}
-use Rattle.process_map.specs.Values.{value_of}
+use Rattle.cycle_find.specs.Completions.{IsKnown}
 use Rattle.cycle_find.specs.Tasks.{Task, needed_kinds}
-use Rattle.cycle_find.specs.declared.one_dependency.Earliest.{Earliest}
+use Rattle.cycle_find.specs.declared.completions.Earliest.{Earliest}
 use Rattle.cycle_find.specs.declared.one_dependency.Ends.{Ends}
 
 -- how many edges are no order edges
@@ -116,29 +114,9 @@ NoneClosingFromBy task from number =
 abbrev pub NoneClosingBy : Task → (number : ℕ) → Type 0
 NoneClosingBy task number = (from : ℕ) → NoneClosingFromBy task from number
 
--- ---- completions of followers
-
--- transactions that the order joins have the same lane
-abbrev pub lane_of : Level → Transaction → ℕ
-lane_of Plain t = 0
-lane_of Process t = t.process
-lane_of Realtime t = 0
-
-abbrev pub ok_completion_of : Transaction → Option ℕ
-ok_completion_of t = if is_ok t then t.completion else None
-
--- the completion of a follower of the version in the lane is known, or an earlier one
-abbrev pub IsKnownBy : List (ℕ × Earliest) → (number lane completion : ℕ) → Type 0
-IsKnownBy earliest number lane completion =
-    (first : Earliest)
-    × (value_of earliest lane ≡ Some first)
-    × (first.version ≡ number)
-    × (first.completion ≤ completion)
-
--- that of each follower
+-- the completion of each follower of the version is known, or an earlier one of its lane
 abbrev pub AreKnown : Task → (number : ℕ) → List (ℕ × Earliest) → Type 0
 AreKnown task number earliest =
-    (to completion : ℕ)
+    (to : ℕ)
     → IsArc task.graph (needed_kinds task) (version_vertex task.graph number) to
-    → ok_completion_of (txn_at task.graph.txns to) ≡ Some completion
-    → IsKnownBy earliest number (lane_of task.level (txn_at task.graph.txns to)) completion
+    → IsKnown task.level number (txn_at task.graph.txns to) earliest

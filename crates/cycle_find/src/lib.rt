@@ -1,6 +1,7 @@
 //! Searches for the closed walks of phenomena.
 #![tactic(auto)]
 
+mod completions;
 mod finder;
 mod kinds;
 mod one_dependency;

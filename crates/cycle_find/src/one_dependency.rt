@@ -3,16 +3,16 @@
 //! Such a walk goes back from the second end of that edge to its first along order edges alone. So there is one exactly where the
 //! level's order puts the second end of a needed edge before its first.
 
-ghost use Rattle.std.specs.Prelude.{◌≡◌, ◌+◌, ◌<◌, ℕ, length, Some, IfOk, OnOk, IsTrue};
-ghost use Rattle.hist_types.specs.Edges as edges;
-ghost use Rattle.hist_types.specs.ThinnedOrder.{is_ordered};
+ghost use Rattle.std.specs.Prelude.{◌≡◌, ◌+◌, ◌<◌, ℕ, length, None, IfOk, OnOk};
+ghost use Rattle.std.specs.Bool.{OnTrue, OnFalse};
 ghost use Rattle.dep_edges.specs.Tables.{IsPlace};
 ghost use Rattle.edge_graph.specs.Vertices.{IsArc};
 ghost use Rattle.edge_graph.specs.declared.types.Dependencies.TheVariants.{Rw};
 ghost use Rattle.cycle_find.specs.Dependencies as walks;
-ghost use Rattle.cycle_find.specs.OneDependency.{IsFoundByOne, IsPathIfAny, AreClosing, AreClosingOr, IsEither, NoneClosing, NoneClosingFrom, NoneClosingBy, NoneClosingFromBy, version_vertex, lane_of, ok_completion_of, IsKnownBy, AreKnown};
+ghost use Rattle.cycle_find.specs.OneDependency.{IsFoundByOne, IsPathIfAny, IsBefore, AreClosing, AreClosingOr, IsEither, NoneClosing, NoneClosingFrom, NoneClosingBy, NoneClosingFromBy, version_vertex, AreKnown};
 ghost use Rattle.cycle_find.specs.Tasks.{task_of, needed_kinds};
 
+use crate::completions::{Earliest, is_before, is_known_by, lane, note};
 use crate::kinds::needed;
 use crate::types::Walk;
 use edge_graph::arcs::GraphArcs;
@@ -24,7 +24,6 @@ use hist_types::types::{Level, Phenomenon};
 use process_map::map::ProcessMap;
 use std::alloc::{AllocError, Global};
 use std::marker::Model;
-use txn_pairs::types::{Status, Txn};
 
 /// All vertices of a graph.
 #[derive(Clone, Copy)]
@@ -49,82 +48,6 @@ pub(crate) struct Ends {
     pub to: usize,
 }
 
-/// When the first of the transactions that follow a version completed.
-#[derive(Clone, Copy)]
-pub(crate) struct Earliest {
-    pub version: usize,
-    pub completion: u64,
-}
-
-/// The index of the completion of an ok transaction.
-fn ok_completion(txn: &Txn<'_>) -> Option<u64>
-    ensures { result ≡ ok_completion_of txn.now }
-{
-    match txn.status() {
-        Status::Ok => txn.completion(),
-        Status::Fail | Status::Info | Status::Open => None,
-    }
-}
-
-/// Whether the first transaction is ok and completed before the second was invoked.
-fn is_ok_before(first: &Txn<'_>, second: &Txn<'_>) -> bool
-    ensures { result ≡ edges.is_ok_before first.now second.now }
-{
-    match ok_completion(first) {
-        Some(completion) => completion < second.invocation(),
-        None => false,
-    }
-}
-
-/// Whether the order of the level puts the first transaction before the second.
-fn is_before(level: Level, first: &Txn<'_>, second: &Txn<'_>) -> bool
-    ensures { result ≡ is_ordered level first.now second.now }
-{
-    match level {
-        Level::Plain => false,
-        Level::Process => is_ok_before(first, second) && first.process() == second.process(),
-        Level::Realtime => is_ok_before(first, second),
-    }
-}
-
-/// The lane of a transaction. The order of the level joins none of different lanes.
-fn lane(level: Level, txn: &Txn<'_>) -> u64
-    ensures { result ≡ lane_of level txn.now }
-{
-    match level {
-        Level::Process => txn.process(),
-        Level::Plain | Level::Realtime => 0,
-    }
-}
-
-/// Notes when one of the version's followers completed, if it is ok and the first of its lane.
-fn note(
-    level: Level,
-    version: usize,
-    follower: &Txn<'_>,
-    earliest: &mut ProcessMap<Earliest>,
-) -> Result<(), AllocError>
-    ensures kept { OnOk result ((lane completion : ℕ) → IsKnownBy earliest.old version lane completion
-        → IsKnownBy earliest.new version lane completion) }
-    ensures noted { OnOk result ((completion : ℕ) → ok_completion_of follower.now ≡ Some completion
-        → IsKnownBy earliest.new version (lane_of level follower.now) completion) }
-{
-    let Some(completion) = ok_completion(follower) else {
-        return Ok(());
-    };
-    let lane = lane(level, follower);
-    match earliest.get(lane) {
-        Some(first) if first.version == version && first.completion <= completion => Ok(()),
-        _ => earliest.insert(
-            lane,
-            Earliest {
-                version,
-                completion,
-            },
-        ),
-    }
-}
-
 /// Of two edges, if there are any, the one whose first end was invoked before that of the other.
 fn first_of(one: Option<Ends>, other: Option<Ends>) -> Option<Ends>
     ensures { IsEither one other result }
@@ -133,22 +56,6 @@ fn first_of(one: Option<Ends>, other: Option<Ends>) -> Option<Ends>
         (Some(ends), Some(others)) if others.from < ends.from => other,
         (Some(_), _) => one,
         (None, _) => other,
-    }
-}
-
-/// Whether the reader was invoked after one of the version's followers of its lane had completed.
-fn is_late(
-    level: Level,
-    version: usize,
-    reader: &Txn<'_>,
-    earliest: &ProcessMap<Earliest>,
-) -> bool
-    ensures { (completion : ℕ) → IsKnownBy earliest.now version (lane_of level reader.now) completion
-        → completion < reader.now.invocation → IsTrue result }
-{
-    match earliest.get(lane(level, reader)) {
-        Some(first) => first.version == version && first.completion < reader.invocation(),
-        None => false,
     }
 }
 
@@ -196,22 +103,39 @@ impl<'r, 'g, 'v, 'a> OneDependency<'r, 'g, 'v, 'a> {
     pub fn find(&self) -> Result<Option<Walk<'a>>, AllocError>
         ensures { IfOk result (IsFoundByOne self.now) }
     {
-        if self.level == Level::Plain {
-            // No edge leads from a transaction to itself.
-            return Ok(None);
-        }
-        let found = if needed(self.phenomenon) == Dependencies::Rw {
-            self.by_version()?
-        } else {
-            self.direct()
-        };
-        match found {
+        match self.ends()? {
             Some(ends) => self.close(ends),
             None => Ok(None),
         }
     }
 
-    /// The first needed ww or wr edge whose second end comes before its first.
+    /// The first needed edge whose second end comes before its first.
+    fn ends(&self) -> Result<Option<Ends>, AllocError>
+        ensures { IfOk result (AreClosingOr self.now (IsFoundByOne self.now None)) }
+    {
+        if self.level == Level::Plain {
+            // At plain nothing comes before anything.
+            Ok(None)
+        } else if needed(self.phenomenon) == Dependencies::Rw {
+            self.by_version()
+        } else {
+            Ok(self.direct())
+        }
+    }
+
+    /// Whether a vertex is a transaction that the order puts before the one at the place.
+    fn comes_before(&self, first: usize, second: usize) -> bool
+        requires { IsPlace self.now.graph.txns second }
+        ensures yes { OnTrue result
+            (IsPlace self.now.graph.txns first × IsBefore self.now first second) }
+        ensures no { OnFalse result
+            (IsPlace self.now.graph.txns first → ¬ IsBefore self.now first second) }
+    {
+        // Who completed before another one was invoked has the lower place.
+        first < second && is_before(self.level, self.graph.txn(first), self.graph.txn(second))
+    }
+
+    /// The first such edge with an arc of its own: a ww or wr edge.
     fn direct(&self) -> Option<Ends>
         ensures { AreClosingOr self.now (NoneClosing self.now) result }
     {
@@ -229,19 +153,17 @@ impl<'r, 'g, 'v, 'a> OneDependency<'r, 'g, 'v, 'a> {
         requires { IsPlace self.now.graph.txns from }
         ensures { AreClosingOr self.now (NoneClosingFrom self.now from) result }
     {
-        let first = self.graph.txn(from);
         let successors = self.needed.successors(from);
         for index in 0..successors.len() {
             let to = successors.at(index);
-            // Who completed before another one was invoked has the lower place.
-            if to < from && is_before(self.level, self.graph.txn(to), first) {
+            if self.comes_before(to, from) {
                 return Some(Ends { from, to });
             }
         }
         None
     }
 
-    /// The first rw edge whose second end comes before its first.
+    /// The first such edge by way of a version: an rw edge.
     fn by_version(&self) -> Result<Option<Ends>, AllocError>
         requires { walks.needed self.now.phenomenon ≡ Rw }
         ensures { IfOk result (AreClosingOr self.now
@@ -281,9 +203,15 @@ impl<'r, 'g, 'v, 'a> OneDependency<'r, 'g, 'v, 'a> {
         requires known { AreKnown self.now version earliest.now }
         ensures { AreClosingOr self.now (NoneClosingBy self.now version) result }
     {
-        for reader in self.graph.readers(version) {
-            let from = *reader as usize;
-            if is_late(self.level, version, self.graph.txn(from), earliest) {
+        for place in self.graph.readers(version) {
+            let from = *place as usize;
+            let reader = self.graph.txn(from);
+            if is_known_by(
+                earliest,
+                version,
+                lane(self.level, reader),
+                reader.invocation(),
+            ) {
                 let found = self.follower_before(version, from);
                 if found.is_some() {
                     return found;
@@ -301,12 +229,11 @@ impl<'r, 'g, 'v, 'a> OneDependency<'r, 'g, 'v, 'a> {
             from (version_vertex self.now.graph version) }
         ensures { AreClosingOr self.now (NoneClosingFromBy self.now from version) result }
     {
-        let reader = self.graph.txn(from);
         let followers = self.needed.successors(self.graph.len() + version);
         let mut last = None;
         for index in 0..followers.len() {
             let to = followers.at(index);
-            if is_before(self.level, self.graph.txn(to), reader) {
+            if self.comes_before(to, from) {
                 last = Some(Ends { from, to });
             }
         }
