@@ -1,9 +1,9 @@
 -- A needed edge whose second end comes before its first closes a walk with one dependency edge, and only such an edge does.
-use Rattle.std.proofs.Common.{◌≡◌, ◌∙◌, ◌<◌, ◌≤◌, ◌+◌, inl, inr, ℕ, List, [], ◌∷◌, length, get_or, true, false, not, Option, Some, None, ◌⊎◌, Contains, refl, sym, ap, subst, arith}
+use Rattle.std.proofs.Common.{◌≡◌, ◌∙◌, ◌<◌, ◌≤◌, ◌+◌, ◌-◌, inl, inr, ℕ, List, [], ◌∷◌, length, get_or, true, false, not, Option, Some, None, ◌⊎◌, Contains, refl, sym, ap, subst, arith}
 use Rattle.std.specs.List.{AllByRecursion}
+use Rattle.std.specs.Prelude.{slice_index}
 use Rattle.std.proofs.lemmas.Bool.{false≢true, and_parts, eqb-true, cases_lt}
 use Rattle.std.proofs.lemmas.List.Elements.{All-weaker, recursion_from_All, All-from_recursion}
-use Rattle.std.proofs.lemmas.Option.{slice_get_within}
 use Rattle.hist_types.specs.Edges.{Label, ww, wr, rw, process, realtime, Edge, dependency_labels}
 use Rattle.hist_types.specs.Phenomena.{is_order}
 use Rattle.hist_types.specs.ThinnedOrder.{is_ordered}
@@ -23,8 +23,8 @@ use Rattle.dep_edges.specs.Tables.{IsPlace, txn_at}
 use Rattle.dep_edges.proofs.Out.{one_by_invocation}
 use Rattle.edge_graph.specs.Kinds.{includes, kinds_of}
 use Rattle.edge_graph.specs.Parts.{Parts, edges_in}
-use Rattle.edge_graph.specs.Vertices.{Vertex, txn, version, IsVertex, RwByVersions}
-use Rattle.edge_graph.specs.Walks.{IsEdgeBetween, HasEdgeBetween, IsDirectArc, IsWayByVersion, HasDirectArc, HasWayByVersion, AreEdgesBetween, HasWalkBetween}
+use Rattle.edge_graph.specs.Vertices.{RwByVersions}
+use Rattle.edge_graph.specs.Walks.{IsEdgeBetween, HasEdgeBetween, IsDirectArc, IsWayByVersion, HasDirectArc, HasWayByVersion, AreEdgesBetween, AreEdgesAlong, HasWalkBetween}
 use Rattle.edge_graph.specs.declared.types.Dependencies.{Dependencies}
 use Rattle.edge_graph.specs.declared.types.Dependencies.TheVariants.{Rw}
 use Rattle.edge_graph.specs.declared.types.Dependencies.TheVariants as dependencies
@@ -33,7 +33,7 @@ use Rattle.edge_graph.proofs.EdgesIn.{levels, plain}
 use Rattle.edge_graph.proofs.EdgeArcs.{arc_of_ww, arc_of_wr, way_of_rw, walk_over}
 use Rattle.edge_graph.proofs.Txns.{txn_in, earlier}
 use Rattle.cycle_find.specs.Dependencies.{needed, way_back}
-use Rattle.cycle_find.specs.OneDependency.{ShowsByOne, NeedsMoreThanOne, IsThinnedAt, order_kinds, IsBefore, NoneClosing, NoneClosingBy, version_vertex}
+use Rattle.cycle_find.specs.OneDependency.{ShowsByOne, NeedsMoreThanOne, IsThinnedAt, order_kinds, IsBefore, NoneClosing, NoneClosingBy}
 use Rattle.cycle_find.specs.Tasks.{Task, needed_kinds, back_kinds}
 use Rattle.cycle_find.proofs.Closing.{needed_kind, shows}
 use Rattle.cycle_find.proofs.ClosedByOrder.{is_dependency, invoked_before, IsClosedByOrder, closed_by_order, order_path}
@@ -87,6 +87,18 @@ shows_by_one task from to e es is are =
     let none = count_none is_dependency es (order_counts level es of_order) in
     record { shows = shows task from to e es is back; one = omega (arith, one, none) }
 
+pub shows_by_one_along :
+    (task : Task) (from to : ℕ) (path : List ℕ) (e : Edge) (es : List Edge)
+    → slice_index path 0 ≡ to
+    → slice_index path (length path - 1) ≡ from
+    → IsEdgeBetween task.graph (needed_kinds task) from to e
+    → AreEdgesAlong task.graph (order_kinds task) path es
+    → ShowsByOne task.phenomenon (edges_in task.graph task.level) (e ∷ es)
+shows_by_one_along task from to path e es begins ends is are =
+    shows_by_one task from to e es is
+    (subst (λ n. AreEdgesBetween task.graph (order_kinds task) n from es) begins
+    (subst (λ n. AreEdgesBetween task.graph (order_kinds task) (slice_index path 0) n es) ends are))
+
 -- ---- places
 
 module _ (ts : List Transaction) (kept : AreOfHistory ts) where
@@ -118,11 +130,6 @@ has_arcs g G1c level by_versions e among is = inl (λ same. cc, arc_of_wr g leve
 has_arcs g GSingle level by_versions e among is = inr (refl, way_of_rw g by_versions level e among is)
 has_arcs g G2Item level by_versions e among is = inr (refl, way_of_rw g by_versions level e among is)
 
--- a vertex that is no transaction is a version with a number
-number_of : (g : Parts) (v : ℕ) (y : Vertex) → (IsPlace g.txns v → ⊥) → IsVertex g v y → (number : ℕ) × (v ≡ version_vertex g number) × (number < length g.versions)
-number_of g v (txn t) none at = absurd (none (slice_get_within g.txns v t at))
-number_of g v (version w) none (number, is, at) = (number, is, slice_get_within g.versions number w at)
-
 module _ (task : Task) (kept : AreOfHistory task.graph.txns) (by_versions : RwByVersions task.graph) where
   abbrev g : Parts
   g = task.graph
@@ -147,12 +154,9 @@ module _ (task : Task) (kept : AreOfHistory task.graph.txns) (by_versions : RwBy
   no_direct : (e : Edge) (t u : Transaction) → NoneClosing task → IsClosed e t u → HasDirectArc g (needed task.phenomenon) e → ⊥
   no_direct e t u none is (from, to, ends, direct) = none from direct.first to direct (comes_before e t u from to is ends.first ends.last ends.begins ends.ends)
 
-  no_way : (e : Edge) (t u : Transaction) → needed task.phenomenon ≡ Rw → ((number : ℕ) → number < length g.versions → NoneClosingBy task number) → IsClosed e t u → HasWayByVersion g Rw e → ⊥
-  no_way e t u rw none is (from, vertex, to, ends, way) =
-      let (x, y, at, at', leads) = way.reads in
-      let (number, same, h) = number_of g vertex y way.between at' in
-      let of_kind : IsWayByVersion g (needed_kinds task) from vertex to = subst (λ d. IsWayByVersion g (kinds_of d Plain) from vertex to) (sym rw) way in
-      none number h from to (subst (λ v. IsWayByVersion g (needed_kinds task) from v to) same of_kind) (comes_before e t u from to is ends.first ends.last ends.begins ends.ends)
+  no_way : (e : Edge) (t u : Transaction) → needed task.phenomenon ≡ Rw → ((version : ℕ) → NoneClosingBy task version) → IsClosed e t u → HasWayByVersion g Rw e → ⊥
+  no_way e t u by_rw none is (from, version, to, ends, way) =
+      none version from to (subst (λ d. IsWayByVersion g (kinds_of d Plain) from version to) (sym by_rw) way) (comes_before e t u from to is ends.first ends.last ends.begins ends.ends)
 
   needs_more : ((e : Edge) (t u : Transaction) → IsClosed e t u → ⊥) → IsThinnedAt g task.level → NeedsMoreThanOne task.phenomenon es
   needs_more none thinned walk is = elim (cases_lt 1 _) [
@@ -169,14 +173,14 @@ module _ (task : Task) (kept : AreOfHistory task.graph.txns) (by_versions : RwBy
   none_directly other none = needs_more (λ e t u is.
       elim (has_arcs g task.phenomenon task.level by_versions e is.among is.needs) [
         | inl (direct, arc) ↦ no_direct e t u none is arc
-        | inr (rw, way) ↦ other rw
+        | inr (same, way) ↦ other same
       ])
 
-  pub none_by_versions : needed task.phenomenon ≡ Rw → ((number : ℕ) → number < length g.versions → NoneClosingBy task number) → IsThinnedAt g task.level → NeedsMoreThanOne task.phenomenon es
-  none_by_versions rw none = needs_more (λ e t u is.
+  pub none_by_versions : needed task.phenomenon ≡ Rw → ((version : ℕ) → NoneClosingBy task version) → IsThinnedAt g task.level → NeedsMoreThanOne task.phenomenon es
+  none_by_versions by_rw none = needs_more (λ e t u is.
       elim (has_arcs g task.phenomenon task.level by_versions e is.among is.needs) [
-        | inl (other, arc) ↦ other rw
-        | inr (same, way) ↦ no_way e t u rw none is way
+        | inl (other, arc) ↦ other by_rw
+        | inr (same, way) ↦ no_way e t u by_rw none is way
       ])
 
   -- ---- a path back

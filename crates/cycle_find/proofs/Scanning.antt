@@ -1,33 +1,28 @@
 -- Arc by arc, reader by reader and version by version: what is left once no edge was found whose second end comes before its first.
-use Rattle.std.proofs.Common.{◌≡◌, ◌∙◌, ◌<◌, ◌≤◌, ◌+◌, inl, inr, ℕ, List, [], length, get_or, true, false, is_some, pos, Option, Some, None, Contains, refl, sym, ap, subst, arith}
-use Rattle.std.specs.Prelude.{slice_get, if◌then◌else◌}
+use Rattle.std.proofs.Common.{◌≡◌, ◌↔◌, ◌∙◌, ◌<◌, ◌≤◌, ◌+◌, inl, inr, ℕ, List, [], length, get_or, true, false, is_some, Option, Some, None, Contains, refl, sym, ap, subst, arith}
+use Rattle.std.specs.Prelude.{if◌then◌else◌}
 use Rattle.std.proofs.lemmas.Bool.{false≢true, and_parts, eqb-true}
 use Rattle.std.proofs.lemmas.List.{get_or_default}
-use Rattle.std.proofs.lemmas.Option.{same_Some, slice_get-get_or}
+use Rattle.std.proofs.lemmas.Option.{same_Some}
 use Rattle.graph_search.specs.Graphs.{HasArcInto, IsWalk, IsWalkIfAny}
-use Rattle.hist_types.specs.Atoms.{integer}
-use Rattle.hist_types.specs.Versions.{nil_of}
 use Rattle.hist_types.specs.ThinnedOrder.{is_ordered}
 use Rattle.hist_types.specs.Edges.{is_ok_before, same_process}
-use Rattle.hist_types.specs.Transactions.{Transaction, Version, is_ok, is_known_to_read}
+use Rattle.hist_types.specs.Transactions.{Transaction, is_ok}
 use Rattle.hist_types.specs.declared.types.Level.{Level}
 use Rattle.hist_types.specs.declared.types.Level.TheVariants.{Plain, Process, Realtime}
-use Rattle.hist_types.proofs.Members.{In, in_from_Contains, Contains_from_in}
 use Rattle.history_laws.proofs.ThinningPaths.{EndedBefore, ended_before, ordered_in_time}
 use Rattle.dep_edges.specs.Histories.{AreOfHistory}
 use Rattle.dep_edges.specs.Tables.{IsPlace, txn_at}
-use Rattle.key_versions.specs.Histories.{readers_of}
 use Rattle.process_map.specs.Values.{value_of}
 use Rattle.edge_graph.specs.Kinds.{kinds_of}
 use Rattle.edge_graph.specs.Parts.{Parts}
-use Rattle.edge_graph.specs.Vertices.{Vertex, txn, version, IsVertex, IsArc, AreArcs, LeadsTo, graph_by, RwByVersions}
+use Rattle.edge_graph.specs.Vertices.{IsArc, AreArcs, graph_by, RwByVersions}
 use Rattle.edge_graph.specs.Walks.{IsDirectArc, IsWayByVersion}
 use Rattle.edge_graph.specs.declared.types.Dependencies.TheVariants.{Rw}
 use Rattle.edge_graph.specs.declared.types.Kinds.{Kinds}
-use Rattle.edge_graph.proofs.EdgeArcs.{read_at, edge_of_way}
-use Rattle.edge_graph.proofs.Txns.{txn_there, at_reader, reader_at}
+use Rattle.edge_graph.proofs.EdgeArcs.{edge_of_way}
 use Rattle.cycle_find.specs.Completions.{lane_of, ok_completion_of, IsKnownBy, IsKnown}
-use Rattle.cycle_find.specs.OneDependency.{AreClosing, AreClosingOr, IsEither, IsBefore, NoneClosingFrom, NoneClosingBy, NoneClosingFromBy, version_vertex, AreKnown}
+use Rattle.cycle_find.specs.OneDependency.{AreClosing, AreClosingOr, IsEither, IsBefore, NoneClosingFrom, NoneClosingBy, NoneClosingFromBy, AreKnown}
 use Rattle.cycle_find.specs.declared.completions.Earliest.{Earliest}
 use Rattle.cycle_find.specs.declared.one_dependency.Ends.{Ends}
 use Rattle.cycle_find.specs.Dependencies.{needed}
@@ -67,10 +62,10 @@ pub none_from_arcs :
 none_from_arcs task lists from arcs all to is = each_arc task.graph (needed_kinds task) lists from (NoneBefore task from) arcs all to is.arc is.last
 
 pub none_from_followers :
-    (task : Task) (lists : List (List ℕ)) (from number : ℕ) → AreArcs task.graph (needed_kinds task) lists
-    → ((k : ℕ) → k < length (get_or lists (version_vertex task.graph number) []) → NoneBefore task from (get_or (get_or lists (version_vertex task.graph number) []) k 0)) → NoneClosingFromBy task from number
-none_from_followers task lists from number arcs all to is =
-    each_arc task.graph (needed_kinds task) lists (version_vertex task.graph number) (NoneBefore task from) arcs all to is.follows is.last
+    (task : Task) (lists : List (List ℕ)) (from version : ℕ) → AreArcs task.graph (needed_kinds task) lists
+    → ((k : ℕ) → k < length (get_or lists version []) → NoneBefore task from (get_or (get_or lists version []) k 0)) → NoneClosingFromBy task from version
+none_from_followers task lists from version arcs all to is =
+    each_arc task.graph (needed_kinds task) lists version (NoneBefore task from) arcs all to is.follows is.last
 
 -- ---- followers of a version
 
@@ -84,9 +79,9 @@ ok_completion : (t : Transaction) (c : ℕ) → is_ok t ≡ true → t.completio
 ok_completion t c ok ended = ap (λ b. if b then t.completion else None) ok ∙ ended
 
 -- where a follower comes before the reader, that is known
-pub known_before : (task : Task) (number from to : ℕ) (earliest : List (ℕ × Earliest)) → AreKnown task number earliest → IsArc task.graph (needed_kinds task) (version_vertex task.graph number) to → IsBefore task to from
-    → IsKnownBy earliest number (lane_of task.level (txn_at task.graph.txns from)) (txn_at task.graph.txns from).invocation
-known_before task number from to earliest known arc before =
+pub known_before : (task : Task) (version from to : ℕ) (earliest : List (ℕ × Earliest)) → AreKnown task version earliest → IsArc task.graph (needed_kinds task) version to → IsBefore task to from
+    → IsKnownBy earliest version (lane_of task.level (txn_at task.graph.txns from)) (txn_at task.graph.txns from).invocation
+known_before task version from to earliest known arc before =
     let t = txn_at task.graph.txns to in
     let u = txn_at task.graph.txns from in
     let (c, ended) = ended_before t u (ordered_in_time task.level t u before) in
@@ -96,67 +91,38 @@ known_before task number from to earliest known arc before =
 
 -- ---- readers of a version
 
--- who reads the version leads to it
-pub reads_it : (task : Task) (number place : ℕ) (v : Version) → needed task.phenomenon ≡ Rw → slice_get task.graph.versions number ≡ Some v → In place (readers_of task.graph.txns v) → IsArc task.graph (needed_kinds task) place (version_vertex task.graph number)
-reads_it task number place v rw at i =
-    let ts = task.graph.txns in
-    let (h, read) = reader_at ts v place i in
-    subst (λ d. IsArc task.graph (kinds_of d Plain) place (version_vertex task.graph number)) (sym rw)
-    (txn (txn_at ts place), version v, txn_there ts place h, (number, refl, at), (refl, read))
+abbrev pub AreReaders : Parts → (version : ℕ) → List ℕ → Type 0
+AreReaders g version places = (place : ℕ) → Contains places place ↔ IsArc g (kinds_of Rw Plain) place version
 
--- and who leads to it reads it
-pub is_read : (task : Task) (number from to : ℕ) (v : Version) → slice_get task.graph.versions number ≡ Some v → IsWayByVersion task.graph (needed_kinds task) from (version_vertex task.graph number) to → In from (readers_of task.graph.txns v)
-is_read task number from to v at is =
-    let g = task.graph in
-    let (x, y, here, there, leads) = is.reads in
-    let (w, (n, same, found), allowed, read) = read_at g (needed_kinds task) from (version_vertex g number) x y is.first is.between here there leads in
-    let one : n ≡ number = omega (arith, same) in
-    let two : w ≡ v = same_Some w v (sym found ∙ ap (slice_get g.versions) one ∙ at) in
-    at_reader g.txns v from is.first (subst (λ z. is_known_to_read (txn_at g.txns from) z ≡ true) two read)
-
-abbrev nothing : Version
-nothing = nil_of (integer (pos 0))
-
--- the version with a number, and its readers
-pub version_of : (g : Parts) (number : ℕ) → number < length g.versions → (v : Version) × (slice_get g.versions number ≡ Some v)
-version_of g number h = (get_or g.versions number nothing, slice_get-get_or g.versions number nothing h)
-
-abbrev pub AreReaders : Parts → (number : ℕ) → List ℕ → Type 0
-AreReaders g number places = (v : Version) → slice_get g.versions number ≡ Some v → places ≡ readers_of g.txns v
-
-pub reader_leads : (task : Task) (number k : ℕ) (places : List ℕ) → needed task.phenomenon ≡ Rw → number < length task.graph.versions → AreReaders task.graph number places → k < length places
-    → IsArc task.graph (needed_kinds task) (get_or places k 0) (version_vertex task.graph number)
-reader_leads task number k places rw h readers at =
-    let (v, is) = version_of task.graph number h in
+pub reader_leads : (task : Task) (version k : ℕ) (places : List ℕ) → needed task.phenomenon ≡ Rw → AreReaders task.graph version places → k < length places
+    → IsArc task.graph (needed_kinds task) (get_or places k 0) version
+reader_leads task version k places by_rw readers at =
     let place = get_or places k 0 in
-    let i : In place places = in_from_Contains place places (k, at, get_or_default places k place 0 at) in
-    reads_it task number place v rw is (subst (In place) (readers v is) i)
+    subst (λ d. IsArc task.graph (kinds_of d Plain) place version) (sym by_rw) ((readers place).0 (k, at, get_or_default places k place 0 at))
 
-pub none_by : (task : Task) (number : ℕ) (places : List ℕ) → number < length task.graph.versions → AreReaders task.graph number places → ((k : ℕ) → k < length places → NoneClosingFromBy task (get_or places k 0) number) → NoneClosingBy task number
-none_by task number places h readers all from to way before =
-    let (v, is) = version_of task.graph number h in
-    let (k, at, same) = Contains_from_in from places (subst (In from) (sym (readers v is)) (is_read task number from to v is way)) in
-    subst (λ place. NoneClosingFromBy task place number) (get_or_default places k 0 from at ∙ same) (all k at) to way before
+pub none_by : (task : Task) (version : ℕ) (places : List ℕ) → needed task.phenomenon ≡ Rw → AreReaders task.graph version places → ((k : ℕ) → k < length places → NoneClosingFromBy task (get_or places k 0) version) → NoneClosingBy task version
+none_by task version places by_rw readers all from to way before =
+    let (k, at, same) = (readers from).1 (subst (λ d. IsArc task.graph (kinds_of d Plain) from version) by_rw way.reads) in
+    subst (λ place. NoneClosingFromBy task place version) (get_or_default places k 0 from at ∙ same) (all k at) to way before
 
 -- ---- an edge by way of the version
 
 pub closes_by :
-    (task : Task) (from number to : ℕ) → AreOfHistory task.graph.txns → RwByVersions task.graph → IsPlace task.graph.txns from → IsPlace task.graph.txns to
-    → IsArc task.graph (needed_kinds task) from (version_vertex task.graph number) → IsArc task.graph (needed_kinds task) (version_vertex task.graph number) to → IsBefore task to from
+    (task : Task) (from version to : ℕ) → AreOfHistory task.graph.txns → RwByVersions task.graph → (IsPlace task.graph.txns version → ⊥) → IsPlace task.graph.txns from → IsPlace task.graph.txns to
+    → IsArc task.graph (needed_kinds task) from version → IsArc task.graph (needed_kinds task) version to → IsBefore task to from
     → AreClosing task (record { from = from; to = to })
-closes_by task from number to kept by_versions h k reads follows before =
+closes_by task from version to kept by_versions between h k reads follows before =
     let g = task.graph in
     let low : to < from = lower_place g.txns kept task.level to from k h before in
-    let vertex = version_vertex g number in
-    let way : IsWayByVersion g (needed_kinds task) from vertex to = record {
+    let way : IsWayByVersion g (needed_kinds task) from version to = record {
       first = h;
-      between = λ place. absurd (omega (arith, place));
+      between = between;
       last = k;
       other = λ same. absurd (omega (arith, low, same));
       reads = reads;
       follows = follows;
     } in
-    record { first = h; last = k; edge = edge_of_way g kept by_versions (needed_kinds task) from vertex to way; back = before }
+    record { first = h; last = k; edge = edge_of_way g kept by_versions (needed_kinds task) from version to way; back = before }
 
 -- ---- paths
 

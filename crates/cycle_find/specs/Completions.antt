@@ -16,21 +16,21 @@ abbrev pub ok_completion_of : Transaction → Option ℕ
 ok_completion_of t = if is_ok t then t.completion else None
 
 -- a completion of a transaction in the lane is noted for the version, and isn't after the index
-abbrev pub IsKnownBy : List (ℕ × Earliest) → (number lane index : ℕ) → Type 0
-IsKnownBy earliest number lane index =
+abbrev pub IsKnownBy : List (ℕ × Earliest) → (version lane index : ℕ) → Type 0
+IsKnownBy earliest version lane index =
     (first : Earliest)
     × (value_of earliest lane ≡ Some first)
-    × (first.version ≡ number)
+    × (first.version ≡ version)
     × (first.completion ≤ index)
 
 -- what was known of the version is known
-abbrev pub KeepsKnown : (number : ℕ) → (before after : List (ℕ × Earliest)) → Type 0
-KeepsKnown number before after =
-    (lane index : ℕ) → IsKnownBy before number lane index → IsKnownBy after number lane index
+abbrev pub KeepsKnown : (version : ℕ) → (before after : List (ℕ × Earliest)) → Type 0
+KeepsKnown version before after =
+    (lane index : ℕ) → IsKnownBy before version lane index → IsKnownBy after version lane index
 
 -- the transaction's completion is known, or an earlier one of its lane, if it is ok
-abbrev pub IsKnown : Level → (number : ℕ) → Transaction → List (ℕ × Earliest) → Type 0
-IsKnown level number t earliest =
+abbrev pub IsKnown : Level → (version : ℕ) → Transaction → List (ℕ × Earliest) → Type 0
+IsKnown level version t earliest =
     (completion : ℕ)
     → ok_completion_of t ≡ Some completion
-    → IsKnownBy earliest number (lane_of level t) completion
+    → IsKnownBy earliest version (lane_of level t) completion

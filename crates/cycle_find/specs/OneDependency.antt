@@ -100,23 +100,22 @@ NoneClosing task = (from : ℕ) → IsPlace task.graph.txns from → NoneClosing
 
 -- ---- edges by way of a version
 
--- the vertex of the version with the number
-abbrev pub version_vertex : Parts → (number : ℕ) → ℕ
-version_vertex g number = length g.txns + number
+abbrev pub IsVertex : Task → ℕ → Type 0
+IsVertex task vertex = vertex < length task.graph.txns + length task.graph.versions
 
--- none by way of the version from the transaction
-abbrev pub NoneClosingFromBy : Task → (from number : ℕ) → Type 0
-NoneClosingFromBy task from number =
+-- none by way of the version's vertex from the transaction
+abbrev pub NoneClosingFromBy : Task → (from version : ℕ) → Type 0
+NoneClosingFromBy task from version =
     (to : ℕ)
-    → IsWayByVersion task.graph (needed_kinds task) from (version_vertex task.graph number) to
+    → IsWayByVersion task.graph (needed_kinds task) from version to
     → ¬ IsBefore task to from
 
-abbrev pub NoneClosingBy : Task → (number : ℕ) → Type 0
-NoneClosingBy task number = (from : ℕ) → NoneClosingFromBy task from number
+abbrev pub NoneClosingBy : Task → (version : ℕ) → Type 0
+NoneClosingBy task version = (from : ℕ) → NoneClosingFromBy task from version
 
 -- the completion of each follower of the version is known, or an earlier one of its lane
-abbrev pub AreKnown : Task → (number : ℕ) → List (ℕ × Earliest) → Type 0
-AreKnown task number earliest =
+abbrev pub AreKnown : Task → (version : ℕ) → List (ℕ × Earliest) → Type 0
+AreKnown task version earliest =
     (to : ℕ)
-    → IsArc task.graph (needed_kinds task) (version_vertex task.graph number) to
-    → IsKnown task.level number (txn_at task.graph.txns to) earliest
+    → IsArc task.graph (needed_kinds task) version to
+    → IsKnown task.level version (txn_at task.graph.txns to) earliest

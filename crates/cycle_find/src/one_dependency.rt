@@ -9,7 +9,7 @@ ghost use Rattle.dep_edges.specs.Tables.{IsPlace};
 ghost use Rattle.edge_graph.specs.Vertices.{IsArc};
 ghost use Rattle.edge_graph.specs.declared.types.Dependencies.TheVariants.{Rw};
 ghost use Rattle.cycle_find.specs.Dependencies as walks;
-ghost use Rattle.cycle_find.specs.OneDependency.{IsFoundByOne, IsPathIfAny, IsBefore, AreClosing, AreClosingOr, IsEither, NoneClosing, NoneClosingFrom, NoneClosingBy, NoneClosingFromBy, version_vertex, AreKnown};
+ghost use Rattle.cycle_find.specs.OneDependency.{IsFoundByOne, IsPathIfAny, IsBefore, AreClosing, AreClosingOr, IsEither, NoneClosing, NoneClosingFrom, NoneClosingBy, NoneClosingFromBy, IsVertex, AreKnown};
 ghost use Rattle.cycle_find.specs.Tasks.{task_of, needed_kinds};
 
 use crate::completions::{Earliest, is_before, is_known_by, lane, note};
@@ -167,12 +167,11 @@ impl<'r, 'g, 'v, 'a> OneDependency<'r, 'g, 'v, 'a> {
     fn by_version(&self) -> Result<Option<Ends>, AllocError>
         requires { walks.needed self.now.phenomenon ≡ Rw }
         ensures { IfOk result (AreClosingOr self.now
-            ((version : ℕ) → version < length self.now.graph.versions
-            → NoneClosingBy self.now version)) }
+            ((version : ℕ) → NoneClosingBy self.now version)) }
     {
         let mut earliest = ProcessMap::new(self.alloc);
         let mut first = None;
-        for version in 0..self.graph.versions() {
+        for version in self.graph.len()..self.needed.vertices() {
             self.note_followers(version, &mut earliest)?;
             first = first_of(first, self.stale_reader(version, &earliest));
         }
@@ -185,10 +184,11 @@ impl<'r, 'g, 'v, 'a> OneDependency<'r, 'g, 'v, 'a> {
         version: usize,
         earliest: &mut ProcessMap<Earliest>,
     ) -> Result<(), AllocError>
-        requires { version < length self.now.graph.versions }
+        requires version { ¬ IsPlace self.now.graph.txns version }
+        requires vertex { IsVertex self.now version }
         ensures { OnOk result (AreKnown self.now version earliest.new) }
     {
-        let followers = self.needed.successors(self.graph.len() + version);
+        let followers = self.needed.successors(version);
         for index in 0..followers.len() {
             let follower = self.graph.txn(followers.at(index));
             note(self.level, version, follower, earliest)?;
@@ -199,7 +199,8 @@ impl<'r, 'g, 'v, 'a> OneDependency<'r, 'g, 'v, 'a> {
     /// An rw edge from a reader of the version to a follower that comes before it.
     fn stale_reader(&self, version: usize, earliest: &ProcessMap<Earliest>) -> Option<Ends>
         requires rw { walks.needed self.now.phenomenon ≡ Rw }
-        requires version { version < length self.now.graph.versions }
+        requires version { ¬ IsPlace self.now.graph.txns version }
+        requires vertex { IsVertex self.now version }
         requires known { AreKnown self.now version earliest.now }
         ensures { AreClosingOr self.now (NoneClosingBy self.now version) result }
     {
@@ -223,13 +224,12 @@ impl<'r, 'g, 'v, 'a> OneDependency<'r, 'g, 'v, 'a> {
 
     /// An rw edge from the reader to the last of the version's followers that comes before it.
     fn follower_before(&self, version: usize, from: usize) -> Option<Ends>
-        requires version { version < length self.now.graph.versions }
+        requires version { ¬ IsPlace self.now.graph.txns version }
         requires from { IsPlace self.now.graph.txns from }
-        requires reads { IsArc self.now.graph (needed_kinds self.now)
-            from (version_vertex self.now.graph version) }
+        requires reads { IsArc self.now.graph (needed_kinds self.now) from version }
         ensures { AreClosingOr self.now (NoneClosingFromBy self.now from version) result }
     {
-        let followers = self.needed.successors(self.graph.len() + version);
+        let followers = self.needed.successors(version);
         let mut last = None;
         for index in 0..followers.len() {
             let to = followers.at(index);

@@ -1,20 +1,20 @@
 //! The graph of a history's transactions.
 
-ghost use Rattle.std.specs.Prelude.{◌≡◌, ◌++◌, ◌==◌, ◌<◌, length, slice_get, All, Some, IfOk, IfErr, OnOk, OnErr};
+ghost use Rattle.std.specs.Prelude.{◌≡◌, ◌↔◌, ℕ, ◌+◌, ◌++◌, ◌==◌, ◌<◌, length, All, Contains, IfOk, IfErr, OnOk, OnErr};
 ghost use Rattle.std.specs.Thread.{IsSync};
 ghost use Rattle.dep_edges.specs.Histories.{AreOfHistory};
 ghost use Rattle.dep_edges.specs.OutEdges.{Begins};
 ghost use Rattle.dep_edges.specs.Tables.{IsPlace, txn_at};
 ghost use Rattle.hist_types.specs.Refusals.{memory_fault};
-ghost use Rattle.hist_types.specs.Transactions.{Version};
-ghost use Rattle.key_versions.specs.Histories.{readers_of};
+ghost use Rattle.hist_types.specs.declared.types.Level.TheVariants.{Plain};
 ghost use Rattle.edge_graph.specs.Kinds.{kinds_of};
 ghost use Rattle.edge_graph.specs.LaidOut.{AreRows};
 ghost use Rattle.edge_graph.specs.Made.{order_edges_over, order_edges_to, AddsDependencies, IsMade};
 ghost use Rattle.edge_graph.specs.Parts.{IsOrderOf, IsMadeOf, AddsEdgesFrom};
 ghost use Rattle.edge_graph.specs.Successors.{AreTurned};
-ghost use Rattle.edge_graph.specs.Vertices.{AreArcs, RwByVersions};
+ghost use Rattle.edge_graph.specs.Vertices.{IsArc, AreArcs, RwByVersions};
 ghost use Rattle.edge_graph.specs.Walks.{IsEdgeIfAny, IsTxnWalk, AreEdgesAlong};
+ghost use Rattle.edge_graph.specs.declared.types.Dependencies.TheVariants.{Rw};
 
 use crate::arcs::GraphArcs;
 use crate::layout;
@@ -232,21 +232,15 @@ impl<'g, 'v, 'a> Graph<'g, 'v, 'a> {
         self.history.txn(place)
     }
 
-    /// How many versions there are.
-    pub fn versions(&self) -> usize
-        ensures { result ≡ length self.now.versions }
-    {
-        self.history.versions()
-    }
-
-    /// The places of the transactions that read the version with this number.
-    pub fn readers(&self, number: usize) -> &'v [u32]
-        requires { number < length self.now.versions }
-        ensures value { (v : Version) → slice_get self.now.versions number ≡ Some v
-            → result.now ≡ readers_of self.now.txns v }
+    /// The places of the transactions that lead to the vertex of a version: they read it.
+    pub fn readers(&self, vertex: usize) -> &'v [u32]
+        requires version { ¬ IsPlace self.now.txns vertex }
+        requires vertex { vertex < length self.now.txns + length self.now.versions }
+        ensures readers { (place : ℕ)
+            → Contains result.now place ↔ IsArc self.now (kinds_of Rw Plain) place vertex }
         ensures within { All (IsPlace self.now.txns) result.now }
     {
-        self.history.readers(number)
+        self.history.readers(vertex - self.history.txns().len())
     }
 
     /// Appends the edges of the kinds that leave the transaction. Out of memory leaves what was there.
