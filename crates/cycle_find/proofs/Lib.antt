@@ -7,3 +7,4 @@ pub mod Noted
 pub mod ClosedByOrder
 pub mod OrderBack
 pub mod Scanning
+pub mod Equal

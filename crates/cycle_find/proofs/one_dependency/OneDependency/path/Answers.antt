@@ -12,5 +12,5 @@ returns c =
     IfOk-weaker c.walk.result _ _
     (λ path is.
     subst (λ task. IsPathIfAny task c.args.from c.args.to path) c.self.view_is
-    (path_found task.graph (order_kinds task) c.arcs-order.result c.vertices-count.result c.args.from c.args.to c.arcs-order.ensures.arcs (option_map (λ walk. walk.items) path) is))
+    (path_found task.graph (order_kinds task) c.arcs-order.result c.vertices.result c.args.from c.args.to c.arcs-order.ensures.arcs (option_map (λ walk. walk.items) path) is))
     c.walk.ensures.walk
