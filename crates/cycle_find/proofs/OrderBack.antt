@@ -1,19 +1,19 @@
 -- A needed edge whose second end comes before its first closes a walk with one dependency edge, and only such an edge does.
-use Rattle.std.proofs.Common.{◌≡◌, ◌∙◌, ◌<◌, ◌≤◌, ◌+◌, ◌-◌, inl, inr, ℕ, List, [], ◌∷◌, length, get_or, true, false, not, Option, Some, None, ◌⊎◌, Contains, refl, sym, ap, subst, arith}
+use Rattle.std.proofs.Common.{◌≡◌, ◌∙◌, ◌<◌, ◌-◌, inl, inr, ℕ, List, [], ◌∷◌, length, true, false, not, ◌⊎◌, Contains, refl, sym, ap, subst, arith}
 use Rattle.std.specs.List.{AllByRecursion}
 use Rattle.std.specs.Prelude.{slice_index}
-use Rattle.std.proofs.lemmas.Bool.{false≢true, and_parts, eqb-true, cases_lt}
+use Rattle.std.proofs.lemmas.Bool.{false≢true, cases_lt}
 use Rattle.std.proofs.lemmas.List.Elements.{All-weaker, recursion_from_All, All-from_recursion}
 use Rattle.hist_types.specs.Edges.{Label, ww, wr, rw, process, realtime, Edge, dependency_labels}
 use Rattle.hist_types.specs.Phenomena.{is_order}
 use Rattle.hist_types.specs.ThinnedOrder.{is_ordered}
-use Rattle.hist_types.specs.Transactions.{Transaction, is_ok, is_node, nodes, transactions_of}
+use Rattle.hist_types.specs.Transactions.{Transaction, is_node, nodes, transactions_of}
 use Rattle.hist_types.specs.Versions.{version_pairs}
 use Rattle.hist_types.specs.declared.types.Level.{Level}
-use Rattle.hist_types.specs.declared.types.Level.TheVariants.{Plain, Process, Realtime}
+use Rattle.hist_types.specs.declared.types.Level.TheVariants.{Plain}
 use Rattle.hist_types.specs.declared.types.Phenomenon.{Phenomenon}
 use Rattle.hist_types.specs.declared.types.Phenomenon.TheVariants.{G0, G1c, GSingle, G2Item}
-use Rattle.hist_types.proofs.Members.{In, in_from_Contains, in_filter, in_filtered}
+use Rattle.hist_types.proofs.Members.{In, in_from_Contains, in_filter}
 use Rattle.history_laws.specs.WaysBack.{is_needed}
 use Rattle.history_laws.proofs.ThinningPaths.{ended_before, ordered_in_time, ends_of, AreNodes, are_nodes, nodes_included}
 use Rattle.history_laws.proofs.ThinningWalks.{Uncounted, count_yes, count_none, within_contains}
@@ -24,12 +24,12 @@ use Rattle.dep_edges.proofs.Out.{one_by_invocation}
 use Rattle.edge_graph.specs.Kinds.{includes, kinds_of}
 use Rattle.edge_graph.specs.Parts.{Parts, edges_in}
 use Rattle.edge_graph.specs.Vertices.{RwByVersions}
-use Rattle.edge_graph.specs.Walks.{IsEdgeBetween, HasEdgeBetween, IsDirectArc, IsWayByVersion, HasDirectArc, HasWayByVersion, AreEdgesBetween, AreEdgesAlong, HasWalkBetween}
+use Rattle.edge_graph.specs.Walks.{IsEdgeBetween, HasEdgeBetween, IsWayByVersion, HasDirectArc, HasWayByVersion, AreEdgesBetween, AreEdgesAlong, HasWalkBetween}
 use Rattle.edge_graph.specs.declared.types.Dependencies.{Dependencies}
 use Rattle.edge_graph.specs.declared.types.Dependencies.TheVariants.{Rw}
 use Rattle.edge_graph.specs.declared.types.Dependencies.TheVariants as dependencies
 use Rattle.edge_graph.specs.declared.types.Kinds.{Kinds}
-use Rattle.edge_graph.proofs.EdgesIn.{levels, plain}
+use Rattle.edge_graph.proofs.EdgesIn.{plain}
 use Rattle.edge_graph.proofs.EdgeArcs.{arc_of_ww, arc_of_wr, way_of_rw, walk_over}
 use Rattle.edge_graph.proofs.Txns.{txn_in, earlier}
 use Rattle.cycle_find.specs.Dependencies.{needed, way_back}

@@ -1,33 +1,32 @@
 -- Arc by arc, reader by reader and version by version: what is left once no edge was found whose second end comes before its first.
-use Rattle.std.proofs.Common.{◌≡◌, ◌↔◌, ◌∙◌, ◌<◌, ◌≤◌, ◌+◌, inl, inr, ℕ, List, [], length, get_or, true, false, is_some, Option, Some, None, Contains, refl, sym, ap, subst, arith}
+use Rattle.std.proofs.Common.{◌≡◌, ◌↔◌, ◌∙◌, ◌<◌, inl, inr, ℕ, List, [], length, get_or, true, false, is_some, Option, Some, None, Contains, refl, sym, ap, subst, arith}
 use Rattle.std.specs.Prelude.{if◌then◌else◌}
 use Rattle.std.proofs.lemmas.Bool.{false≢true, and_parts, eqb-true}
 use Rattle.std.proofs.lemmas.List.{get_or_default}
-use Rattle.std.proofs.lemmas.Option.{same_Some}
-use Rattle.graph_search.specs.Graphs.{HasArcInto, IsWalk, IsWalkIfAny}
+use Rattle.graph_search.specs.Graphs.{HasArcInto, IsWalkIfAny}
 use Rattle.hist_types.specs.ThinnedOrder.{is_ordered}
 use Rattle.hist_types.specs.Edges.{is_ok_before, same_process}
 use Rattle.hist_types.specs.Transactions.{Transaction, is_ok}
 use Rattle.hist_types.specs.declared.types.Level.{Level}
 use Rattle.hist_types.specs.declared.types.Level.TheVariants.{Plain, Process, Realtime}
-use Rattle.history_laws.proofs.ThinningPaths.{EndedBefore, ended_before, ordered_in_time}
+use Rattle.history_laws.proofs.ThinningPaths.{ended_before, ordered_in_time}
 use Rattle.dep_edges.specs.Histories.{AreOfHistory}
 use Rattle.dep_edges.specs.Tables.{IsPlace, txn_at}
 use Rattle.process_map.specs.Values.{value_of}
 use Rattle.edge_graph.specs.Kinds.{kinds_of}
 use Rattle.edge_graph.specs.Parts.{Parts}
 use Rattle.edge_graph.specs.Vertices.{IsArc, AreArcs, graph_by, RwByVersions}
-use Rattle.edge_graph.specs.Walks.{IsDirectArc, IsWayByVersion}
+use Rattle.edge_graph.specs.Walks.{IsWayByVersion}
 use Rattle.edge_graph.specs.declared.types.Dependencies.TheVariants.{Rw}
 use Rattle.edge_graph.specs.declared.types.Kinds.{Kinds}
 use Rattle.edge_graph.proofs.EdgeArcs.{edge_of_way}
-use Rattle.cycle_find.specs.Completions.{lane_of, ok_completion_of, IsKnownBy, IsKnown}
+use Rattle.cycle_find.specs.Completions.{lane_of, ok_completion_of, IsKnownBy}
 use Rattle.cycle_find.specs.OneDependency.{AreClosing, AreClosingOr, IsEither, IsBefore, NoneClosingFrom, NoneClosingBy, NoneClosingFromBy, AreKnown}
 use Rattle.cycle_find.specs.declared.completions.Earliest.{Earliest}
 use Rattle.cycle_find.specs.declared.one_dependency.Ends.{Ends}
 use Rattle.cycle_find.specs.Dependencies.{needed}
 use Rattle.cycle_find.specs.Tasks.{Task, needed_kinds}
-use Rattle.cycle_find.proofs.OrderBack.{all_nodes, lower_place}
+use Rattle.cycle_find.proofs.OrderBack.{lower_place}
 use Rattle.cycle_find.proofs.Passing.{each_arc}
 use Rattle.cycle_find.proofs.RankedArcs.{along}
 

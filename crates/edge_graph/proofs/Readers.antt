@@ -1,8 +1,8 @@
 -- The transactions that read a version are those that lead to its vertex.
-use Rattle.std.proofs.Common.{◌≡◌, ◌↔◌, ◌∙◌, ◌<◌, ◌+◌, ℕ, List, length, true, Some, Contains, refl, sym, ap, subst, arith}
+use Rattle.std.proofs.Common.{◌≡◌, ◌↔◌, ◌∙◌, ◌+◌, ℕ, List, length, true, Some, Contains, refl, sym, ap, subst, arith}
 use Rattle.std.specs.Prelude.{slice_get}
 use Rattle.std.proofs.lemmas.Option.{same_Some, slice_get_within}
-use Rattle.hist_types.specs.Transactions.{Transaction, Version, is_known_to_read}
+use Rattle.hist_types.specs.Transactions.{Version, is_known_to_read}
 use Rattle.hist_types.specs.declared.types.Level.TheVariants.{Plain}
 use Rattle.hist_types.proofs.Members.{In, in_from_Contains, Contains_from_in}
 use Rattle.key_versions.specs.Histories.{readers_of}

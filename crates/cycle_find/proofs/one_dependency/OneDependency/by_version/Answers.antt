@@ -1,4 +1,4 @@
-use Rattle.std.proofs.Common.{◌≡◌, ◌∙◌, ◌<◌, ◌+◌, ℕ, length, arith, below_more, ap, subst}
+use Rattle.std.proofs.Common.{◌<◌, ◌+◌, ℕ, arith, below_more, subst}
 use Rattle.cycle_find.specs.OneDependency.{IsReadyForOne, NoneClosingBy}
 use Rattle.cycle_find.specs.Tasks.{Task, needed_kinds}
 use Rattle.cycle_find.proofs.RankedArcs.{arc_to_within}

@@ -33,8 +33,8 @@ returns-in_default-2 c =
     let none : (walk : List ℕ) → ¬ IsWalk Arc c.args.ends.to c.args.ends.from walk =
     subst (λ found. IsWalkIfAny Arc c.args.ends.to c.args.ends.from (option_map (λ way. way.items) found)) c.in_default-2.is c.in_ok-path.ensures in
     λ thinned walk is.
-        let back = path_back task ready.kept ready.by_versions thinned c.args.ends.from c.args.ends.to c.requires.first c.requires.last c.requires.edge c.requires.back in
-        absurd (none back.0 back.1.steps)
+    let back = path_back task ready.kept ready.by_versions thinned c.args.ends.from c.args.ends.to c.requires.first c.requires.last c.requires.edge c.requires.back in
+    absurd (none back.0 back.1.steps)
 
 pub returns : goal.returns
 returns c =

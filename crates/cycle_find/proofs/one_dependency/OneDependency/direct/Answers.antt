@@ -1,4 +1,4 @@
-use Rattle.std.proofs.Common.{◌≡◌, ◌∙◌, ◌<◌, ℕ, length, arith, below_more, sym, ap}
+use Rattle.std.proofs.Common.{◌≡◌, ◌∙◌, length, arith, below_more, sym, ap}
 use Rattle.cycle_find.specs.OneDependency.{NoneClosing, NoneClosingFrom}
 use Rattle.cycle_find.specs.Tasks.{Task}
 use Rattle.cycle_find.proofs.Scanning.{or_otherwise, or_some}

@@ -1,4 +1,4 @@
-use Rattle.std.proofs.Common.{◌≡◌, ◌∙◌, ℕ, Option, sym, ap, subst}
+use Rattle.std.proofs.Common.{◌≡◌, ◌∙◌, ℕ, sym, ap, subst}
 use Rattle.std.proofs.lemmas.Result.{IfOk-weaker}
 use Rattle.hist_types.specs.declared.types.Level.TheVariants.{Plain}
 use Rattle.edge_graph.specs.declared.types.Dependencies.TheVariants.{Rw}
@@ -35,6 +35,6 @@ returns-else-eq-2 c =
     let task : Task = c.args.self.now in
     let ready : IsReadyForOne task a.needed = subst (λ task. IsReadyForOne task a.needed) c.self.view_is c.self.invariant in
     let other = λ (by_rw : needed task.phenomenon ≡ Rw).
-        is_not_rw c.needed.result (sym c.eq-else-eq.ensures ∙ c.if-eq-2.false) (c.needed.ensures ∙ ap (λ (t : Task). needed t.phenomenon) c.self.view_is ∙ by_rw) in
+    is_not_rw c.needed.result (sym c.eq-else-eq.ensures ∙ c.if-eq-2.false) (c.needed.ensures ∙ ap (λ (t : Task). needed t.phenomenon) c.self.view_is ∙ by_rw) in
     let None : Type 0 = IsThinnedAt task.graph task.level → NeedsMoreThanOne task.phenomenon (edges_in task.graph task.level) in
     or_weaker task (NoneClosing task) None c.direct.result (none_directly task ready.kept ready.by_versions other) c.direct.ensures

@@ -1,4 +1,4 @@
-use Rattle.std.proofs.Common.{◌≡◌, ◌∙◌, ◌<◌, ◌+◌, ℕ, [], length, get_or, arith, below_more, sym, subst, ap}
+use Rattle.std.proofs.Common.{◌≡◌, ◌∙◌, ◌<◌, ℕ, [], length, get_or, arith, below_more, sym, subst, ap}
 use Rattle.graph_search.specs.Graphs.{Leaving}
 use Rattle.hist_types.specs.Transactions.{Transaction}
 use Rattle.dep_edges.specs.Tables.{IsPlace, txn_at}
