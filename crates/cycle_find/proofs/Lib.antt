@@ -3,3 +3,8 @@ pub mod WaysBack
 pub mod Closing
 pub mod Returning
 pub mod Passing
+pub mod Noted
+pub mod ClosedByOrder
+pub mod OrderBack
+pub mod Scanning
+pub mod Equal

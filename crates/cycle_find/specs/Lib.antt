@@ -5,3 +5,5 @@ pub mod Ranked
 pub mod Ways
 pub mod Tasks
 pub mod Prepared
+pub mod Completions
+pub mod OneDependency

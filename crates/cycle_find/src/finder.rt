@@ -187,13 +187,10 @@ impl<'r, 'g, 'v, 'a> Finder<'r, 'g, 'v, 'a> {
         let Some(edge) = self.graph.edge_between(from, to, kinds)? else {
             return Ok(None);
         };
-        let mut edges = Vec::new(self.alloc);
-        edges.push(edge)?;
-        let mut rest = self
+        let back = self
             .graph
             .edges_along(&way, way_back(self.phenomenon), self.level)?;
-        edges.append(&mut rest)?;
-        Ok(Some(Walk::new(edges)))
+        Ok(Some(Walk::closing(self.alloc, edge, back)?))
     }
 
     /// A walk over the arcs of a way back, from one vertex to another, if there is one.

@@ -1,8 +1,10 @@
 //! Searches for the closed walks of phenomena.
 #![tactic(auto)]
 
+mod completions;
 mod finder;
 mod kinds;
+mod one_dependency;
 pub mod ranked_graph;
 pub mod ranked_level;
 mod ranking;

@@ -6,10 +6,13 @@ ghost use Rattle.edge_graph.specs.Parts.{edges_in};
 ghost use Rattle.edge_graph.specs.declared.types.Dependencies.TheVariants.{Ww};
 ghost use Rattle.hist_types.specs.declared.types.Phenomenon.TheVariants.{G0};
 ghost use Rattle.cycle_find.specs.Found.{IsFound, IsReadyIfAny};
+ghost use Rattle.cycle_find.specs.OneDependency.{IsFoundByOne};
 ghost use Rattle.cycle_find.specs.Ranked.{AreRanksAtAll};
 ghost use Rattle.cycle_find.specs.Sharing.{AreSharing};
+ghost use Rattle.cycle_find.specs.Tasks.{task_of};
 
 use crate::finder::Finder;
+use crate::one_dependency::OneDependency;
 use crate::ranking::ranks_within;
 use crate::settle::shows_none;
 use crate::sharing::Shared;
@@ -93,6 +96,10 @@ impl<'r, 'g, 'v, 'a> RankedLevel<'r, 'g, 'v, 'a> {
         ensures found { IfOk result (IsFound phenomenon (edges_in self.now.graph self.now.level)) }
         ensures err { IfErr result (λ fault. fault ≡ memory_fault) }
     {
+        let found = self.find_by_one(phenomenon)?;
+        if found.is_some() {
+            return Ok(found);
+        }
         let (ranks, back) = match phenomenon {
             Phenomenon::G0 => return Ok(self.find_writes()?),
             Phenomenon::G1c => (&self.flow, &self.flow),
@@ -109,6 +116,14 @@ impl<'r, 'g, 'v, 'a> RankedLevel<'r, 'g, 'v, 'a> {
             back,
         );
         Ok(finder.find()?)
+    }
+
+    /// A closed walk that shows the phenomenon with one dependency edge.
+    fn find_by_one(&self, phenomenon: Phenomenon) -> Result<Option<Walk<'a>>, AllocError>
+        ensures { IfOk result
+            (IsFoundByOne (task_of self.now.graph phenomenon self.now.level)) }
+    {
+        OneDependency::new(self.alloc, self.graph, phenomenon, self.level).find()
     }
 
     /// A closed walk that shows G0, which goes along ww edges and the order alone.

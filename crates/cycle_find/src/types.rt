@@ -1,8 +1,9 @@
 //! Closed walks.
 
-ghost use Rattle.std.specs.Prelude.{◌≡◌};
+ghost use Rattle.std.specs.Prelude.{◌≡◌, ◌∷◌, IfOk};
 
 use dep_edges::types::Edge;
+use std::alloc::{AllocError, Global};
 use std::marker::Model;
 
 /// A closed walk: its edges in order.
@@ -25,6 +26,20 @@ impl<'a> Walk<'a> {
         ensures { result ≡ edges.entry.items }
     {
         Walk { edges }
+    }
+
+    /// An edge, and then a way back from its second end to its first.
+    pub(crate) fn closing(
+        alloc: Global,
+        edge: Edge<'a>,
+        mut way_back: Vec<Edge<'a>>,
+    ) -> Result<Self, AllocError>
+        ensures { IfOk result (λ walk. walk ≡ edge.entry ∷ way_back.entry.items) }
+    {
+        let mut edges = Vec::new(alloc);
+        edges.push(edge)?;
+        edges.append(&mut way_back)?;
+        Ok(Walk::new(edges))
     }
 
     pub fn edges(&self) -> &[Edge<'a>]

@@ -21,7 +21,7 @@ use Rattle.edge_graph.specs.Parts.{Parts, IsOrderOf, HasEdge}
 use Rattle.edge_graph.specs.Successors.{Turned, list_at, lists_at}
 use Rattle.edge_graph.specs.Vertices.{Vertex, txn, version, IsVertex, LeadsDirectly, LeadsTo, IsArc, AreArcs, HasRw, LeadsByVersion}
 use Rattle.edge_graph.specs.declared.types.Dependencies.{Dependencies}
-use Rattle.edge_graph.specs.declared.types.Dependencies.TheVariants.{Ww, Wr, Rw, WrAndWw, All as AllOfThem}
+use Rattle.edge_graph.specs.declared.types.Dependencies.TheVariants.{None, Ww, Wr, Rw, WrAndWw, All as AllOfThem}
 use Rattle.edge_graph.specs.declared.types.Kinds.{Kinds}
 use Rattle.edge_graph.proofs.EdgesOut.{IsOrderLabel, order_label, order_included}
 use Rattle.edge_graph.proofs.Joined.{length-joined, joined_at}
@@ -33,6 +33,7 @@ use Rattle.edge_graph.proofs.Txns.{txn_there, txn_of, txn_in, place_by, one_plac
 -- ---- by kind
 
 led_from : (d : Dependencies) (row : Row) (w : ℕ) → In w (led_to d row) → ((has_rw d ≡ true) × In w row.rw) ⊎ (((has_wr d ≡ true) × In w row.wr) ⊎ ((has_ww d ≡ true) × In w row.ww))
+led_from None row w i = absurd i
 led_from Ww row w i = inr (inr (refl, i))
 led_from Wr row w i = inr (inl (refl, i))
 led_from Rw row w i = inl (refl, i)
@@ -44,6 +45,7 @@ led_from AllOfThem row w i =
     ]
 
 led_by_rw : (d : Dependencies) (row : Row) (w : ℕ) → has_rw d ≡ true → In w row.rw → In w (led_to d row)
+led_by_rw None row w e i = absurd (false≢true e)
 led_by_rw Ww row w e i = absurd (false≢true e)
 led_by_rw Wr row w e i = absurd (false≢true e)
 led_by_rw Rw row w e i = i
@@ -51,6 +53,7 @@ led_by_rw WrAndWw row w e i = absurd (false≢true e)
 led_by_rw AllOfThem row w e i = in_front w row.rw (row.wr ++ row.ww) i
 
 led_by_wr : (d : Dependencies) (row : Row) (w : ℕ) → has_wr d ≡ true → In w row.wr → In w (led_to d row)
+led_by_wr None row w e i = absurd (false≢true e)
 led_by_wr Ww row w e i = absurd (false≢true e)
 led_by_wr Wr row w e i = i
 led_by_wr Rw row w e i = absurd (false≢true e)
@@ -58,6 +61,7 @@ led_by_wr WrAndWw row w e i = in_front w row.wr row.ww i
 led_by_wr AllOfThem row w e i = in_back w row.rw (row.wr ++ row.ww) (in_front w row.wr row.ww i)
 
 led_by_ww : (d : Dependencies) (row : Row) (w : ℕ) → has_ww d ≡ true → In w row.ww → In w (led_to d row)
+led_by_ww None row w e i = absurd (false≢true e)
 led_by_ww Ww row w e i = i
 led_by_ww Wr row w e i = absurd (false≢true e)
 led_by_ww Rw row w e i = absurd (false≢true e)

@@ -18,3 +18,4 @@ pub mod EdgeArcs
 pub mod WalkEdges
 pub mod Between
 pub mod Known
+pub mod Readers

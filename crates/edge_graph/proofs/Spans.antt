@@ -8,7 +8,7 @@ use Rattle.std.specs.List.{AllByRecursion}
 use Rattle.edge_graph.specs.FlatRows.{Row, no_row, row_at, led_to, row_in, IsSpanIn, IsRowBehind}
 use Rattle.edge_graph.specs.declared.rows.Span.{Span}
 use Rattle.edge_graph.specs.declared.types.Dependencies.{Dependencies}
-use Rattle.edge_graph.specs.declared.types.Dependencies.TheVariants.{Ww, Wr, Rw, WrAndWw, All as AllOfThem}
+use Rattle.edge_graph.specs.declared.types.Dependencies.TheVariants.{None, Ww, Wr, Rw, WrAndWw, All as AllOfThem}
 
 -- ---- parts
 
@@ -144,6 +144,7 @@ module _ (items more : List ℕ) (ss : List Span) (s : Span) (row : Row) (are : 
 
 -- where its arcs begin, and where they end
 abbrev pub start_of : Dependencies → Span → ℕ
+start_of None s = 0
 start_of Ww s = s.ww
 start_of Wr s = s.wr
 start_of Rw s = s.start
@@ -151,6 +152,7 @@ start_of WrAndWw s = s.wr
 start_of AllOfThem s = s.start
 
 abbrev pub end_of : Dependencies → Span → ℕ
+end_of None s = 0
 end_of Ww s = s.end
 end_of Wr s = s.ww
 end_of Rw s = s.wr
@@ -158,6 +160,7 @@ end_of WrAndWw s = s.end
 end_of AllOfThem s = s.end
 
 pub rising : (d : Dependencies) (items : List ℕ) (s : Span) → IsSpanIn items s → (start_of d s ≤ end_of d s) × (end_of d s ≤ length items)
+rising None items s is = (omega arith, omega arith)
 rising Ww items s is = (is.end, is.within)
 rising Wr items s is = (is.ww, omega (arith, is.end, is.within))
 rising Rw items s is = (is.wr, omega (arith, is.ww, is.end, is.within))
@@ -165,6 +168,7 @@ rising WrAndWw items s is = (omega (arith, is.ww, is.end), is.within)
 rising AllOfThem items s is = (omega (arith, is.wr, is.ww, is.end), is.within)
 
 led_to_parts : (d : Dependencies) (items : List ℕ) (s : Span) → IsSpanIn items s → slice_range items (start_of d s) (end_of d s) ≡ led_to d (row_in items s)
+led_to_parts None items s is = refl
 led_to_parts Ww items s is = refl
 led_to_parts Wr items s is = refl
 led_to_parts Rw items s is = refl

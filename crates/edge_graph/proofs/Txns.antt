@@ -47,7 +47,7 @@ place_by ts t i =
 in_order : (ts : List Transaction) → AreOfHistory ts → AreInvokedInOrder ts
 in_order ts (events, kept, of) = subst AreInvokedInOrder (sym of) (invoked_in_order events)
 
-earlier : (ts : List Transaction) → AreOfHistory ts → (p q : ℕ) → p < q → q < length ts → (txn_at ts p).invocation < (txn_at ts q).invocation
+pub earlier : (ts : List Transaction) → AreOfHistory ts → (p q : ℕ) → p < q → q < length ts → (txn_at ts p).invocation < (txn_at ts q).invocation
 earlier ts kept p q h k =
     let d = nobody in
     let inv = λ (t : Transaction). t.invocation in

@@ -2,7 +2,7 @@
 use Rattle.std.specs.Prelude.{◌≡◌, ◌≤◌, ℕ, List, [], ◌++◌, length, slice_range, slice_index_or}
 use Rattle.edge_graph.specs.declared.rows.Span.{Span}
 use Rattle.edge_graph.specs.declared.types.Dependencies.{Dependencies}
-use Rattle.edge_graph.specs.declared.types.Dependencies.TheVariants.{Ww, Wr, Rw, WrAndWw, All}
+use Rattle.edge_graph.specs.declared.types.Dependencies.TheVariants.{None, Ww, Wr, Rw, WrAndWw, All}
 
 -- what a vertex leads to, by kind of edge
 pub record Row : Type 0 where
@@ -18,6 +18,7 @@ row_at rows vertex = slice_index_or rows vertex no_row
 
 -- what it leads to by these dependencies
 abbrev pub led_to : Dependencies → Row → List ℕ
+led_to None row = []
 led_to Ww row = row.ww
 led_to Wr row = row.wr
 led_to Rw row = row.rw

@@ -5,7 +5,7 @@ use Rattle.hist_types.specs.Phenomena.{is_rw_label}
 use Rattle.hist_types.specs.declared.types.Level.{Level}
 use Rattle.edge_graph.specs.declared.types.Kinds.{Kinds}
 use Rattle.edge_graph.specs.declared.types.Dependencies.{Dependencies}
-use Rattle.edge_graph.specs.declared.types.Dependencies.TheVariants.{Ww, Wr, Rw, WrAndWw, All}
+use Rattle.edge_graph.specs.declared.types.Dependencies.TheVariants.{None, Ww, Wr, Rw, WrAndWw, All}
 
 -- whether an edge with this label is of the kinds; that an order edge is one of their level is said
 -- elsewhere
@@ -21,6 +21,7 @@ abbrev pub includes_directly : Kinds → Label → Bool
 includes_directly kinds label = includes kinds label && not (is_rw_label label)
 
 abbrev pub has_ww : Dependencies → Bool
+has_ww None = false
 has_ww Ww = true
 has_ww Wr = false
 has_ww Rw = false
@@ -28,6 +29,7 @@ has_ww WrAndWw = true
 has_ww All = true
 
 abbrev pub has_wr : Dependencies → Bool
+has_wr None = false
 has_wr Ww = false
 has_wr Wr = true
 has_wr Rw = false
@@ -35,6 +37,7 @@ has_wr WrAndWw = true
 has_wr All = true
 
 abbrev pub has_rw : Dependencies → Bool
+has_rw None = false
 has_rw Ww = false
 has_rw Wr = false
 has_rw Rw = true

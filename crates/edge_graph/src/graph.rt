@@ -1,18 +1,20 @@
 //! The graph of a history's transactions.
 
-ghost use Rattle.std.specs.Prelude.{◌≡◌, ◌++◌, ◌==◌, length, All, IfOk, IfErr, OnOk, OnErr};
+ghost use Rattle.std.specs.Prelude.{◌≡◌, ◌↔◌, ℕ, ◌+◌, ◌++◌, ◌==◌, ◌<◌, length, All, Contains, IfOk, IfErr, OnOk, OnErr};
 ghost use Rattle.std.specs.Thread.{IsSync};
 ghost use Rattle.dep_edges.specs.Histories.{AreOfHistory};
 ghost use Rattle.dep_edges.specs.OutEdges.{Begins};
-ghost use Rattle.dep_edges.specs.Tables.{IsPlace};
+ghost use Rattle.dep_edges.specs.Tables.{IsPlace, txn_at};
 ghost use Rattle.hist_types.specs.Refusals.{memory_fault};
+ghost use Rattle.hist_types.specs.declared.types.Level.TheVariants.{Plain};
 ghost use Rattle.edge_graph.specs.Kinds.{kinds_of};
 ghost use Rattle.edge_graph.specs.LaidOut.{AreRows};
 ghost use Rattle.edge_graph.specs.Made.{order_edges_over, order_edges_to, AddsDependencies, IsMade};
 ghost use Rattle.edge_graph.specs.Parts.{IsOrderOf, IsMadeOf, AddsEdgesFrom};
 ghost use Rattle.edge_graph.specs.Successors.{AreTurned};
-ghost use Rattle.edge_graph.specs.Vertices.{AreArcs, RwByVersions};
+ghost use Rattle.edge_graph.specs.Vertices.{IsArc, AreArcs, RwByVersions};
 ghost use Rattle.edge_graph.specs.Walks.{IsEdgeIfAny, IsTxnWalk, AreEdgesAlong};
+ghost use Rattle.edge_graph.specs.declared.types.Dependencies.TheVariants.{Rw};
 
 use crate::arcs::GraphArcs;
 use crate::layout;
@@ -220,6 +222,25 @@ impl<'g, 'v, 'a> Graph<'g, 'v, 'a> {
         ensures { result ≡ (length self.now.txns == 0) }
     {
         self.len() == 0
+    }
+
+    /// The transaction at a place.
+    pub fn txn(&self, place: usize) -> &'v Txn<'a>
+        requires { IsPlace self.now.txns place }
+        ensures { result.now ≡ txn_at self.now.txns place }
+    {
+        self.history.txn(place)
+    }
+
+    /// The places of the transactions that lead to the vertex of a version: they read it.
+    pub fn readers(&self, vertex: usize) -> &'v [u32]
+        requires version { ¬ IsPlace self.now.txns vertex }
+        requires vertex { vertex < length self.now.txns + length self.now.versions }
+        ensures readers { (place : ℕ)
+            → Contains result.now place ↔ IsArc self.now (kinds_of Rw Plain) place vertex }
+        ensures within { All (IsPlace self.now.txns) result.now }
+    {
+        self.history.readers(vertex - self.history.txns().len())
     }
 
     /// Appends the edges of the kinds that leave the transaction. Out of memory leaves what was there.

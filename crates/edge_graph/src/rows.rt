@@ -63,6 +63,7 @@ impl Rows {
     {
         let span = self.spans[vertex];
         let (start, end) = match dependencies {
+            Dependencies::None => (0, 0),
             Dependencies::Ww => (span.ww, span.end),
             Dependencies::Wr => (span.wr, span.ww),
             Dependencies::Rw => (span.start, span.wr),

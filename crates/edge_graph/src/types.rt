@@ -22,6 +22,7 @@ impl Kinds {
         ensures { result ≡ kinds_of dependencies level }
     {
         let (ww, wr, rw) = match dependencies {
+            Dependencies::None => (false, false, false),
             Dependencies::Ww => (true, false, false),
             Dependencies::Wr => (false, true, false),
             Dependencies::Rw => (false, false, true),
@@ -47,6 +48,8 @@ impl Kinds {
 /// The kinds of dependencies that a search goes over.
 #[derive(Clone, Copy, Debug, PartialEq, Eq)]
 pub enum Dependencies {
+    /// The search goes over the order alone.
+    None,
     Ww,
     Wr,
     Rw,

@@ -1,4 +1,4 @@
-use Rattle.std.proofs.Common.{◌≡◌, ◌∙◌, ◌∷◌, [], ◌++◌, List, ℕ, option_map, sym, ap, subst}
+use Rattle.std.proofs.Common.{◌≡◌, ◌∙◌, ◌∷◌, ℕ, option_map, sym, ap, subst}
 use Rattle.graph_search.specs.Graphs.{IsWalk, IsWalkIfAny}
 use Rattle.hist_types.specs.Edges.{Edge}
 use Rattle.hist_types.specs.Phenomena.{Shows}
@@ -29,7 +29,7 @@ returns-clause-found c =
     let task : Task = record { graph = g; phenomenon = a.phenomenon; level = a.level } in
     let way = c.in-Some.way.items in
     let edge = c.in-Some-2.edge in
-    let rest = c.in_ok-rest.rest.items in
+    let rest = c.in_ok-back.back.items in
     let Arc : ℕ → ℕ → Type 0 = IsArc c.args.self.now.graph (back_kinds c.args.self.now) in
     let walk : IsWalk Arc c.args.to c.args.from way =
     subst (λ found. IsWalkIfAny Arc c.args.to c.args.from (option_map (λ way. way.items) found)) c.in-Some.is c.in_ok-way.ensures.way in
@@ -38,9 +38,7 @@ returns-clause-found c =
     subst (λ kinds. IsEdgeBetween g kinds c.args.from c.args.to edge) kinds (subst (IsEdgeIfAny g c.of-kinds.result c.args.from c.args.to) c.in-Some-2.is c.in_ok-edge.ensures) in
     let are : AreEdgesAlong g (back_kinds task) way rest =
     subst (λ d. AreEdgesAlong g (kinds_of d a.level) way rest) c.way_back-2.ensures
-    (subst (λ xs. AreEdgesAlong g (kinds_of c.way_back-2.result a.level) xs rest) c.deref.ensures.value c.in_ok-rest.ensures) in
-    let items : c.new.result ≡ edge ∷ rest =
-    c.new.ensures ∙ c.in_ok-append.ensures.items
-    ∙ ap (λ (es : List Edge). es ++ rest) (c.in_ok-push.ensures.items ∙ ap (λ (es : List Edge). es ++ edge ∷ []) c.new-edges.ensures.items) in
-    subst (λ (task : Task). Shows task.phenomenon (edges_in task.graph task.level) c.new.result) c.self.view_is
+    (subst (λ xs. AreEdgesAlong g (kinds_of c.way_back-2.result a.level) xs rest) c.deref.ensures.value c.in_ok-back.ensures) in
+    let items : c.in_ok-closing.field-0 ≡ edge ∷ rest = c.in_ok-closing.ensures in
+    subst (λ (task : Task). Shows task.phenomenon (edges_in task.graph task.level) c.in_ok-closing.field-0) c.self.view_is
     (subst (Shows a.phenomenon (edges_in g a.level)) (sym items) (shows_along task c.args.from c.args.to way edge rest walk.begins walk.ends is are))

@@ -4,7 +4,7 @@ use Rattle.edge_graph.specs.FlatRows.{row_at, led_to}
 use Rattle.edge_graph.specs.declared.types.Dependencies.{Dependencies}
 use Rattle.edge_graph.proofs.Spans.{start_of, end_of, read_row}
 use Rattle.edge_graph.proofs.rows.Rows.row.Goals as goal
-use Rattle.edge_graph.proofs.rows.Rows.row.Goals.{in-Ww, in-Wr, in-Rw, in-WrAndWw, in-All}
+use Rattle.edge_graph.proofs.rows.Rows.row.Goals.{in-None, in-Ww, in-Wr, in-Rw, in-WrAndWw, in-All}
 
 pub returns : goal.returns
 returns c =
@@ -14,6 +14,7 @@ returns c =
     let part : Dependencies → ℕ × ℕ = λ d. (start_of d span, end_of d span) in
     let there : c.match-dependencies.start ≡ part d =
     elim c.match-dependencies.branch [
+      | in-None w ↦ w.start-is ∙ sym (ap part w.in-None.is)
       | in-Ww w ↦ w.start-is ∙ sym (ap part w.in-Ww.is)
       | in-Wr w ↦ w.start-is ∙ sym (ap part w.in-Wr.is)
       | in-Rw w ↦ w.start-is ∙ sym (ap part w.in-Rw.is)
