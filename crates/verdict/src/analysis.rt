@@ -117,7 +117,7 @@ impl<'a, S: BuildHasher + Copy> Analysis<'a, S> {
     }
 
     /// The verdict of the events, as `verdict` computes it from scratch. No event is taken again, but what they show is searched
-    /// for anew, in linear time. The analysis stays as it is.
+    /// for anew. The analysis stays as it is.
     ///
     /// Only memory can run out.
     pub fn verdict(&self) -> Result<Verdict<'a>, Fault>
