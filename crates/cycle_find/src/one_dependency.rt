@@ -48,7 +48,7 @@ pub(crate) struct Ends {
     pub to: usize,
 }
 
-/// Of two edges, if there are any, the one whose first end was invoked before that of the other.
+/// Of two edges, if there are any, the one whose first end was invoked first.
 fn first_of(one: Option<Ends>, other: Option<Ends>) -> Option<Ends>
     ensures { IsEither one other result }
 {
@@ -180,7 +180,7 @@ impl<'r, 'g, 'v, 'a> OneDependency<'r, 'g, 'v, 'a> {
         Ok(first)
     }
 
-    /// Whether the first reader of the version, if it has one, was invoked before that of the edge, if there is one.
+    /// Whether the version has a reader that was invoked before the one that was found, if any was.
     fn is_read_before(&self, version: usize, found: &Option<Ends>) -> bool
         requires rw { walks.needed self.now.phenomenon ≡ Rw }
         requires version { ¬ IsPlace self.now.graph.txns version }
