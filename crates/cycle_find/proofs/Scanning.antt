@@ -36,6 +36,10 @@ pub or_weaker : (task : Task) (A B : Type 0) (found : Option Ends) → (A → B)
 or_weaker task A B None f is = f is
 or_weaker task A B (Some ends) f is = is
 
+pub or_if_none : (task : Task) (A B : Type 0) (found : Option Ends) → (found ≡ None → A → B) → AreClosingOr task A found → AreClosingOr task B found
+or_if_none task A B None f is = f refl is
+or_if_none task A B (Some ends) f is = is
+
 pub or_both : (task : Task) (A B : Type 0) (one other found : Option Ends) → IsEither one other found → AreClosingOr task A one → AreClosingOr task B other → AreClosingOr task (A × B) found
 or_both task A B one other None (no_one, no_other) first second = (subst (AreClosingOr task A) no_one first, subst (AreClosingOr task B) no_other second)
 or_both task A B one other (Some ends) (inl is) first second = subst (AreClosingOr task A) is first

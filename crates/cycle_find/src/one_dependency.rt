@@ -48,7 +48,7 @@ pub(crate) struct Ends {
     pub to: usize,
 }
 
-/// Of two edges, if there are any, the one whose first end was invoked before that of the other.
+/// Of two edges, if there are any, the one whose first end was invoked first.
 fn first_of(one: Option<Ends>, other: Option<Ends>) -> Option<Ends>
     ensures { IsEither one other result }
 {
@@ -172,10 +172,29 @@ impl<'r, 'g, 'v, 'a> OneDependency<'r, 'g, 'v, 'a> {
         let mut earliest = ProcessMap::new(self.alloc);
         let mut first = None;
         for version in self.graph.len()..self.needed.vertices() {
-            self.note_followers(version, &mut earliest)?;
-            first = first_of(first, self.stale_reader(version, &earliest));
+            if self.is_read_before(version, &first) {
+                self.note_followers(version, &mut earliest)?;
+                first = first_of(first, self.stale_reader(version, &earliest));
+            }
         }
         Ok(first)
+    }
+
+    /// Whether the version has a reader that was invoked before the one that was found, if any was.
+    fn is_read_before(&self, version: usize, found: &Option<Ends>) -> bool
+        requires rw { walks.needed self.now.phenomenon ≡ Rw }
+        requires version { ¬ IsPlace self.now.graph.txns version }
+        requires vertex { IsVertex self.now version }
+        ensures { found.now ≡ None → OnFalse result (NoneClosingBy self.now version) }
+    {
+        let readers = self.graph.readers(version);
+        if readers.is_empty() {
+            return false;
+        }
+        match found {
+            Some(ends) => (readers[0] as usize) < ends.from,
+            None => true,
+        }
     }
 
     /// Notes, for each lane, when the first of the version's followers completed.
