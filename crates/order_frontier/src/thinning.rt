@@ -21,8 +21,8 @@ use txn_pairs::types::Txn;
 pub struct Thinning {
     moving: Moving,
     order: Order,
-    /// How many of the frontier, from the first on, come before the last transaction too. Later ones completed after its
-    /// invocation.
+    /// How many of the frontier, from the first on, are predecessors of the last transaction too. The others completed after
+    /// its invocation.
     shared: usize,
 }
 
@@ -57,7 +57,7 @@ impl Thinning {
         }
     }
 
-    /// The order before the first event, with room for n transactions, of which so many are ok.
+    /// The order before the first event, with room for `transactions` transactions, `ok` of which are ok.
     fn with_capacity(alloc: Global, transactions: usize, ok: usize) -> Result<Self, AllocError>
         ensures { IfOk result (IsThinningOf []) }
     {
@@ -80,8 +80,8 @@ impl Thinning {
         Ok(())
     }
 
-    /// The next event completed this transaction as an ok. Out of memory leaves the order as it was. An event that completes
-    /// no transaction as an ok changes nothing (`other_completions_change_nothing` of `laws`).
+    /// The next event completed this transaction as an ok. Out of memory leaves the order as it was. A fail or an info changes
+    /// nothing, nor does an ok that completes no transaction (`other_completions_change_nothing` of `laws`).
     pub fn complete(&mut self, txn: &Txn<'_>) -> Result<(), AllocError>
         ensures next { OnOk result (Follows IsCompletedBy txn.now self.old self.new) }
         ensures err { OnErr result (IsOfSame self.old self.new) }

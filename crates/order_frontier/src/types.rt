@@ -186,8 +186,8 @@ fn push_last(last: Option<Predecessor>, list: &mut Vec<Predecessor>) -> Result<S
     Span::new(start, list.len())
 }
 
-/// Adds the predecessors to the list, except those that it ends with already, the first n of them. Returns the range of all of
-/// them.
+/// Adds the predecessors to the list, except the first `shared` of them, which it ends with already, and returns the range of
+/// all of them.
 fn push_range(
     next: &[Predecessor],
     shared: usize,
@@ -206,8 +206,8 @@ fn push_range(
     Ok(span)
 }
 
-/// The row of a transaction that is invoked now. Its predecessors go into the lists, except those that the list for real time
-/// ends with already, the first n of the frontier.
+/// The row of a transaction that is invoked now. Its predecessors go into the lists, except the first `shared` of the frontier,
+/// which the list for real time ends with already.
 fn row_of(
     process: u64,
     invocation: u64,
@@ -233,8 +233,8 @@ fn row_of(
     })
 }
 
-/// The predecessors of each transaction, in the order of the transactions. Transactions share the lists of predecessors, since
-/// those of a thinned order are next to each other by their completions.
+/// The predecessors of each transaction, in the order of the transactions. Transactions share one list of predecessors in
+/// real time, since those of a thinned order are next to each other by their completions.
 pub struct Order {
     rows: Vec<Row>,
     in_process: Vec<Predecessor>,
@@ -290,7 +290,7 @@ impl Order {
         Order::of_ranges(Vec::new(alloc), Vec::new(alloc), Vec::new(alloc))
     }
 
-    /// The order of no transactions, with room for n of them, of which so many are ok.
+    /// The order of no transactions, with room for `transactions` of them, `ok` of which are ok.
     pub(crate) fn with_capacity(
         alloc: Global,
         transactions: usize,
@@ -305,8 +305,8 @@ impl Order {
         ))
     }
 
-    /// Adds a transaction that is invoked now, with what comes before it. The first n of the frontier come before the last
-    /// transaction too, as the last of its predecessors. Out of memory leaves the order as it was.
+    /// Adds a transaction that is invoked now, with what comes before it. The first `shared` of the frontier are the last
+    /// predecessors of the transaction before it too. Out of memory leaves the order as it was.
     pub(crate) fn push(
         &mut self,
         process: u64,
