@@ -39,11 +39,13 @@ pub fn found_blocks_are_anothers()
 /// and then replies, or fills a cell. So it is where what it has then seen begins the row, or, if it fills a cell, is the whole
 /// row and its own block.
 pub fn legal_answers_are_steps()
-    ensures reply { (keys : KeyOrder) (cells seat : ℕ) (request : Request) (answer : Answer) (w : World) (new : View)
+    ensures reply { (keys : KeyOrder) (cells seat : ℕ) (request : Request) (answer : Answer)
+        (w : World) (new : View)
         → IsLegal keys cells seat request answer (w.views seat) new
         → AddsNoBlock answer → IsPrefix new.seen w.row
         → IsAnsweredBySteps keys cells w seat request answer new w.row }
-    ensures fill { (keys : KeyOrder) (cells seat : ℕ) (os : List Operation) (index : ℕ) (w : World) (new : View)
+    ensures fill { (keys : KeyOrder) (cells seat : ℕ) (os : List Operation) (index : ℕ)
+        (w : World) (new : View)
         → IsLegal keys cells seat (write (Ok os)) (accepted index) (w.views seat) new
         → new.seen ≡ w.row ++ next_block seat (w.views seat) os ∷ [] → length w.row < cells
         → IsAnsweredBySteps keys cells w seat (write (Ok os)) (accepted index) new new.seen }
