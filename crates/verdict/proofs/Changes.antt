@@ -19,8 +19,9 @@ use Rattle.txn_pairs.specs.Statuses.{status_of}
 use Rattle.txn_pairs.specs.declared.types.Status.{Status as CodeStatus}
 use Rattle.txn_pairs.specs.declared.types.Status.TheVariants as codes
 
-there : (place : ℕ) (ts : List Transaction) (t : Transaction) → place < length ts → t ≡ get_or ts place t → Contains ts t
-there place ts t within at = subst (Contains ts) (sym at) (Contains-get_or ts place t within)
+-- what is at one of their places is one of them
+is_among : (place : ℕ) (ts : List Transaction) (t : Transaction) → place < length ts → t ≡ get_or ts place t → Contains ts t
+is_among place ts t within at = subst (Contains ts) (sym at) (Contains-get_or ts place t within)
 
 -- a completion leaves nothing open
 ended : (kind : OpKind) → is_invoke kind ≡ false → status_by kind ≡ Open → ⊥
@@ -101,9 +102,9 @@ pub is_begun_by :
     → after ≡ transactions_of (events ++ event ∷ [])
     → IsBegunBy events event t
 is_begun_by index event place before after t events within at begun number now =
-    (subst (λ (ts : List Transaction). Contains ts t) now (there place after t within at), begun.invocation ∙ number)
+    (subst (λ (ts : List Transaction). Contains ts t) now (is_among place after t within at), begun.invocation ∙ number)
 
--- what the code says of a transaction that has ended
+-- a transaction of which the code says that it failed, or may have, has ended
 pub has_ended :
     (status : CodeStatus) (named : Status)
     → (status ≡ codes.Fail) ⊎ (status ≡ codes.Info)
@@ -115,6 +116,19 @@ has_ended codes.Open named (inr e) is unended = cc
 has_ended codes.Ok named either is unended = cc
 has_ended codes.Fail named either is unended = cc
 has_ended codes.Info named either is unended = cc
+
+-- then the event that completed it was a fail or an info
+pub ended_without_ok :
+    (kind : OpKind) (status : CodeStatus)
+    → (status ≡ codes.Fail) ⊎ (status ≡ codes.Info)
+    → status_of status ≡ status_by kind
+    → (kind ≡ kinds.Fail) ⊎ (kind ≡ kinds.Info)
+ended_without_ok kinds.Fail status either is = inl refl
+ended_without_ok kinds.Info status either is = inr refl
+ended_without_ok kinds.Invoke status (inl e) is = cc
+ended_without_ok kinds.Invoke status (inr e) is = cc
+ended_without_ok kinds.Ok status (inl e) is = cc
+ended_without_ok kinds.Ok status (inr e) is = cc
 
 -- the transaction at the place was another one before, which the event with this index completed
 pub record IsCompleted (index : ℕ) (event : Operation) (place : ℕ) (before after : List Transaction) (t : Transaction) : Type 0 where
@@ -163,17 +177,4 @@ pub is_completed_by :
     → after ≡ transactions_of (events ++ event ∷ [])
     → IsCompletedBy events event t
 is_completed_by index event place before after t events within at done ok number now =
-    (subst (λ (ts : List Transaction). Contains ts t) now (there place after t within at), subst (λ (s : Status). IsTrue (is_ok_status s)) (sym ok) refl, done.completion ∙ ap Some number)
-
--- what the code says of a completion by which no transaction is ok
-pub ended_without_ok :
-    (kind : OpKind) (status : CodeStatus)
-    → (status ≡ codes.Fail) ⊎ (status ≡ codes.Info)
-    → status_of status ≡ status_by kind
-    → (kind ≡ kinds.Fail) ⊎ (kind ≡ kinds.Info)
-ended_without_ok kinds.Fail status either is = inl refl
-ended_without_ok kinds.Info status either is = inr refl
-ended_without_ok kinds.Invoke status (inl e) is = cc
-ended_without_ok kinds.Invoke status (inr e) is = cc
-ended_without_ok kinds.Ok status (inl e) is = cc
-ended_without_ok kinds.Ok status (inr e) is = cc
+    (subst (λ (ts : List Transaction). Contains ts t) now (is_among place after t within at), subst (λ (s : Status). IsTrue (is_ok_status s)) (sym ok) refl, done.completion ∙ ap Some number)
