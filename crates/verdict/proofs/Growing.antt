@@ -17,6 +17,7 @@ use Rattle.op_block.specs.Contents.{Contents, operations_of}
 use Rattle.txn_pairs.specs.Growth.{TakesEvent}
 use Rattle.verdict.specs.Analysed.{AreTablesSoFar, events_of_blocks}
 use Rattle.key_versions.specs.Kept.{AreKept}
+use Rattle.order_frontier.specs.Thinnings.{IsThinningOf}
 use Rattle.verdict.specs.declared.analysis.TablesSoFar.{TablesSoFar}
 
 -- ---- blocks
@@ -73,12 +74,14 @@ pub so_far_more :
     → new.events ≡ old.events + 1
     → TakesEvent old.events o old.pairing new.pairing
     → AreKept new.pairing new.versions
+    → IsThinningOf (events ++ o ∷ []) new.order
     → AreTablesSoFar (events ++ o ∷ []) new
-so_far_more events o old new so_far kept count takes versions =
+so_far_more events o old new so_far kept count takes versions order =
     let one = length-append events (o ∷ []) in
     record {
       rules = kept_more events o so_far.rules kept;
       number = omega (arith, count, so_far.number, one);
       txns = takes events (sym so_far.number) so_far.txns;
       versions = versions;
+      order = order;
     }

@@ -8,6 +8,7 @@ use Rattle.hist_types.specs.declared.types.KeyOrder.{KeyOrder}
 use Rattle.journal_core.specs.Blocks.{operations_in}
 use Rattle.op_block.specs.Contents.{Contents}
 use Rattle.key_versions.specs.Kept.{AreKept}
+use Rattle.order_frontier.specs.Thinnings.{IsThinningOf}
 use Rattle.verdict.specs.declared.analysis.TablesSoFar.{TablesSoFar}
 
 -- an analysis as its callers see it: how the versions of each key are ordered, and the events of
@@ -27,3 +28,4 @@ pub record AreTablesSoFar {S H : Type 0}
   pub number : tables.events ≡ length events
   pub txns : tables.pairing ≡ transactions_of events
   pub versions : AreKept tables.pairing tables.versions
+  pub order : IsThinningOf events tables.order

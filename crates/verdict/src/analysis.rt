@@ -15,6 +15,7 @@ use hist_types::types::{Fault, KeyOrder};
 use key_versions::kept::KeptVersions;
 use op_block::block::Block;
 use op_view::op::OpView;
+use order_frontier::thinning::Thinning;
 use std::alloc::{AllocError, Global};
 use std::hash::BuildHasher;
 use std::marker::Model;
@@ -28,6 +29,7 @@ struct TablesSoFar<'a, S: BuildHasher> {
     events: u64,
     pairing: Pairing<'a>,
     versions: KeptVersions<'a, S>,
+    order: Thinning,
 }
 
 impl<'a, S: BuildHasher + Copy> TablesSoFar<'a, S> {
@@ -40,6 +42,7 @@ impl<'a, S: BuildHasher + Copy> TablesSoFar<'a, S> {
             events: 0,
             pairing: Pairing::new(alloc),
             versions: KeptVersions::new(alloc, hasher, keys),
+            order: Thinning::new(alloc),
         }
     }
 
@@ -59,8 +62,16 @@ impl<'a, S: BuildHasher + Copy> TablesSoFar<'a, S> {
         };
         let txn = &self.pairing.txns().as_slice()[place];
         match txn.status() {
-            Status::Open => self.versions.begin(txn),
-            Status::Ok | Status::Fail | Status::Info => self.versions.complete(place, txn),
+            Status::Open => {
+                self.order.begin(txn)?;
+                self.versions.begin(txn)
+            }
+            Status::Ok => {
+                self.order.complete(txn)?;
+                self.versions.complete(place, txn)
+            }
+            // Only an ok transaction comes before others.
+            Status::Fail | Status::Info => self.versions.complete(place, txn),
         }
     }
 }
@@ -129,6 +140,7 @@ impl<'a, S: BuildHasher + Copy> Analysis<'a, S> {
         let tables = &self.tables;
         let txns = tables.pairing.txns();
         let versions = tables.versions.finish(self.alloc, txns)?;
-        verdict_by(self.alloc, tables.events, txns, &versions)
+        let thinned = Some(tables.order.order());
+        verdict_by(self.alloc, tables.events, txns, &versions, thinned)
     }
 }

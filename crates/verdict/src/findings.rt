@@ -1,6 +1,6 @@
 //! Searches for the lowest level of each phenomenon that cycles show.
 
-ghost use Rattle.std.specs.Prelude.{◌≡◌, ◌+◌, ℕ, None, IfOk, IfErr};
+ghost use Rattle.std.specs.Prelude.{◌≡◌, ◌+◌, ℕ, None, IfSome, IfOk, IfErr};
 ghost use Rattle.std.specs.Bool.{OnTrue, OnFalse};
 ghost use Rattle.dep_edges.specs.Histories.{AreOfHistory};
 ghost use Rattle.hist_types.specs.Phenomena.{height};
@@ -162,25 +162,30 @@ fn findings_in_graph_wide<'a, R: Threads + Sync>(
     find_each(alloc, &graph)
 }
 
-/// What is found of the phenomena that cycles show. Where the history settles, no order is thinned and no graph is made.
+/// What is found of the phenomena that cycles show, by the thinned order, if it was kept. Where the history settles, no order is
+/// thinned and no graph is made.
 pub fn findings_of<'a>(
     alloc: Global,
     txns: &Txns<'a>,
     deps: &Deps<'_, 'a>,
+    thinned: Option<&Order>,
 ) -> Result<Findings<'a>, Fault>
     requires history { AreOfHistory txns.now }
     requires deps { deps.now.txns ≡ txns.now }
+    requires thinned { IfSome thinned (λ order. IsThinnedOrder txns.now order.now) }
     ensures ok { IfOk result (AreFindings deps.now.table.keys txns.now) }
     ensures err { IfErr result (λ fault. fault ≡ memory_fault) }
 {
     if settles(alloc, deps)? {
         return Ok(Findings::none());
     }
-    let order = thin(alloc, txns)?;
-    findings_in_graph(alloc, txns, deps, &order)
+    match thinned {
+        Some(order) => findings_in_graph(alloc, txns, deps, order),
+        None => findings_in_graph(alloc, txns, deps, &thin(alloc, txns)?),
+    }
 }
 
-/// As `findings_of`, with a few threads if others can be started.
+/// As `findings_of` where no order was kept, with a few threads if others can be started.
 pub fn findings_of_wide<'a, R: Threads + Sync>(
     rt: &R,
     alloc: Global,

@@ -3,11 +3,12 @@
 //! Only calls whose names end in `_wide` may start threads.
 #![tactic(auto)]
 
-ghost use Rattle.std.specs.Prelude.{◌≡◌, IfOk, IfErr, OnOk, OnErr};
+ghost use Rattle.std.specs.Prelude.{◌≡◌, IfSome, IfOk, IfErr, OnOk, OnErr};
 ghost use Rattle.dep_edges.specs.Histories.{AreOfHistory};
 ghost use Rattle.hist_types.specs.Journal.{KeepsRules};
 ghost use Rattle.hist_types.specs.Refusals.{memory_fault};
 ghost use Rattle.key_versions.specs.Tables.{IsTableOf};
+ghost use Rattle.order_frontier.specs.Predecessors.{IsThinnedOrder};
 ghost use Rattle.verdict.specs.Lowest.{AreTablesOf, IsVerdictFor};
 ghost use Rattle.hist_types.specs.Pieces.{HasTaken, HasTakenInPart};
 ghost use Rattle.hist_types.specs.Reports.{AreFindings, IsVerdictOf};
@@ -31,6 +32,7 @@ use hist_types::whole::write_all;
 use journal_core::events::Events;
 use journal_core::prefix::Prefix;
 use key_versions::table::Versions;
+use order_frontier::types::Order;
 use report_text::report::{Findings, VerdictReport};
 use std::alloc::Global;
 use std::hash::BuildHasher;
@@ -61,7 +63,7 @@ fn reported<'a>(
     Ok(Verdict::new(alloc, report)?)
 }
 
-/// The verdict of this many events, from their transactions and the versions that these name.
+/// The verdict of this many events, from their transactions, the versions that these name, and the thinned order if it was kept.
 ///
 /// Only memory can run out.
 fn verdict_by<'a>(
@@ -69,14 +71,16 @@ fn verdict_by<'a>(
     events: u64,
     txns: &Txns<'a>,
     versions: &Versions<'a>,
+    thinned: Option<&Order>,
 ) -> Result<Verdict<'a>, Fault>
     requires history { AreOfHistory txns.now }
     requires versions { IsTableOf versions.now.keys txns.now versions.now }
+    requires thinned { IfSome thinned (λ order. IsThinnedOrder txns.now order.now) }
     ensures ok { IfOk result (IsVerdictFor versions.now.keys events txns.now) }
     ensures err { IfErr result (λ fault. fault ≡ memory_fault) }
 {
     let deps = edges(alloc, txns, versions)?;
-    let findings = findings_of(alloc, txns, &deps)?;
+    let findings = findings_of(alloc, txns, &deps, thinned)?;
     reported(alloc, events, txns, &deps, findings)
 }
 
@@ -95,7 +99,7 @@ pub fn verdict_from<'a>(
     ensures strict { IfOk result (RefutesExplanations events.now) }
     ensures err { IfErr result (λ fault. fault ≡ memory_fault) }
 {
-    verdict_by(alloc, events.len(), &tables.txns, &tables.versions)
+    verdict_by(alloc, events.len(), &tables.txns, &tables.versions, None)
 }
 
 /// As `verdict_from`, with a few threads if others can be started.

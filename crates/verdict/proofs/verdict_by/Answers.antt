@@ -8,6 +8,7 @@ pub findings_of-requires : goal.findings_of-requires
 findings_of-requires c = record {
   history = c.requires.history;
   deps = ap (λ (h : History). h.txns) c.in_ok-deps.ensures.ok;
+  thinned = c.requires.thinned;
 }
 
 pub reported-requires : goal.reported-requires

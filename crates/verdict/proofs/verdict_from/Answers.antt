@@ -7,6 +7,7 @@ pub verdict_by-requires : goal.verdict_by-requires
 verdict_by-requires c = record {
   history = (c.args.events.now, c.requires.rules, c.requires.tables.txns);
   versions = c.requires.tables.versions;
+  thinned = tt;
 }
 
 pub returns-clause-ok : goal.returns-clause-ok

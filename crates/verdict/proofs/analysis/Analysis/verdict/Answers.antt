@@ -6,6 +6,7 @@ use Rattle.hist_types.specs.declared.types.KeyOrder.{KeyOrder}
 use Rattle.key_versions.specs.Tables.{IsTableOf}
 use Rattle.report_laws.specs.Explained.{RefutesExplanations}
 use Rattle.report_laws.proofs.ExplainedVerdicts.{verdict_refutes}
+use Rattle.order_frontier.specs.Predecessors.{IsThinnedOrder}
 use Rattle.verdict.specs.Analysed.{Analysed, events_of_blocks}
 use Rattle.key_versions.specs.Kept.{AreKept}
 use Rattle.verdict.proofs.analysis.Analysis.verdict.Goals as goal
@@ -18,6 +19,9 @@ pub verdict_by-requires : goal.verdict_by-requires
 verdict_by-requires g c = record {
   history = (events_of_blocks c.self.inside.blocks.items, c.self.invariant.rules, c.txns-txns.ensures ∙ c.self.invariant.txns);
   versions = subst (λ (keys : KeyOrder). IsTableOf keys c.txns-txns.result.now c.in_ok-versions.versions) (sym c.in_ok-versions.ensures.keys) c.in_ok-versions.ensures.ok;
+  thinned =
+      subst (λ (ts : List Transaction). IsThinnedOrder ts c.order.result.now) (sym (c.txns-txns.ensures ∙ c.self.invariant.txns))
+      (c.order.ensures (events_of_blocks c.self.inside.blocks.items) c.self.invariant.order);
 }
 
 pub returns-clause-ok : goal.returns-clause-ok
