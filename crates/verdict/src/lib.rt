@@ -63,8 +63,7 @@ fn reported<'a>(
     Ok(Verdict::new(alloc, report)?)
 }
 
-/// The verdict of this many events, from their transactions, the versions that these name and their thinned order, if it was
-/// kept.
+/// The verdict of this many events, from their transactions, the versions that these name, and the thinned order if it was kept.
 ///
 /// Only memory can run out.
 fn verdict_by<'a>(

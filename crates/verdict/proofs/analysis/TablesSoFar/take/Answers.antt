@@ -1,7 +1,7 @@
-use Rattle.std.proofs.Common.{◌≡◌, ◌∙◌, ◌<◌, ◌∷◌, ◌++◌, [], List, get_or, length, refl, sym, subst, arith}
+use Rattle.std.proofs.Common.{◌≡◌, ◌∙◌, ◌<◌, List, get_or, length, refl, sym, subst, arith}
 use Rattle.std.proofs.lemmas.Option.{slice_get_within}
 use Rattle.std.proofs.lemmas.Result.{on_ok_weaker}
-use Rattle.hist_types.specs.Transactions.{Transaction, transactions_of}
+use Rattle.hist_types.specs.Transactions.{Transaction}
 use Rattle.key_versions.specs.Kept.{AreKept}
 use Rattle.order_frontier.proofs.Thinnings.{thinning_failed, thinning_idle}
 use Rattle.verdict.proofs.Changes.{stays_where_none, begins_where_open, is_begun_by, has_ended, completes_where_ended, is_completed_by, ended_without_ok}
