@@ -2,8 +2,6 @@
 #![tactic(auto)]
 
 #[cfg(test)]
-mod analyses;
-#[cfg(test)]
 mod devices;
 #[cfg(test)]
 mod graphs;
