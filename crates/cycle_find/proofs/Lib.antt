@@ -8,3 +8,4 @@ pub mod ClosedByOrder
 pub mod OrderBack
 pub mod Scanning
 pub mod Equal
+pub mod Pairs

@@ -122,7 +122,7 @@ module _ (ts : List Transaction) (kept : AreOfHistory ts) where
 -- ---- the arcs of a needed edge
 
 -- a needed edge has an arc of its own, or goes by way of a version
-has_arcs :
+pub has_arcs :
     (g : Parts) (phenomenon : Phenomenon) (level : Level) → RwByVersions g → (e : Edge) → Contains (edges_in g level) e → is_needed phenomenon e ≡ true
     → ((needed phenomenon ≡ Rw → ⊥) × HasDirectArc g (needed phenomenon) e) ⊎ ((needed phenomenon ≡ Rw) × HasWayByVersion g Rw e)
 has_arcs g G0 level by_versions e among is = inl (λ same. cc, arc_of_ww g level e among is)

@@ -33,7 +33,7 @@ use Rattle.cycle_find.proofs.RankedArcs.{raise, within, IsArcWithin, rising_with
 
 -- ---- kinds
 
-needed_label : (phenomenon : Phenomenon) (from to : ℕ) (label : Label) → is_needed phenomenon (record { from = from; to = to; label = label }) ≡ true → includes (kinds_of (needed phenomenon) Plain) label ≡ true
+pub needed_label : (phenomenon : Phenomenon) (from to : ℕ) (label : Label) → is_needed phenomenon (record { from = from; to = to; label = label }) ≡ true → includes (kinds_of (needed phenomenon) Plain) label ≡ true
 needed_label G0 from to (ww a b) is = refl
 needed_label G0 from to (wr a) is = absurd (false≢true is)
 needed_label G0 from to (rw a b) is = absurd (false≢true is)

@@ -1,5 +1,5 @@
 -- A search that leaves out the vertices whose rank is too high misses outside way.
-use Rattle.std.proofs.Common.{◌≡◌, ◌∙◌, ◌≤◌, ◌+◌, ◌<◌, ℕ, length, List, get_or, true, false, Option, Some, None, sym, subst, arith}
+use Rattle.std.proofs.Common.{◌≡◌, ◌∙◌, ◌≤◌, ◌+◌, ◌<◌, ℕ, length, List, get_or, Bool, true, false, Option, Some, None, sym, subst}
 use Rattle.std.specs.Prelude.{nat_le, ◌&&◌}
 use Rattle.std.proofs.lemmas.Bool.{true≢false, and_from, le-leb}
 use Rattle.graph_search.specs.Graphs.{VertexSet, HasArcInto, IsWalk, IsWalkIfAny}
@@ -9,20 +9,20 @@ use Rattle.edge_graph.specs.declared.types.Kinds.{Kinds}
 use Rattle.cycle_find.specs.Ranked.{AreRanksOver, AreRanksWithin, not_above}
 use Rattle.cycle_find.proofs.RankedArcs.{along, to_last, within, IsArcWithin, rising_within}
 
-module _ (g : Parts) (kinds : Kinds) (lists : List (List ℕ)) (coarse ranks finer : List ℕ) (arcs : AreArcs g kinds lists) (coarse_are : AreRanksOver g kinds coarse) (are : AreRanksWithin g kinds coarse ranks) (finer_are : AreRanksWithin g kinds coarse finer) (from to most_coarse most most_finer : ℕ) (no_lower : get_or coarse to 0 ≤ get_or coarse from 0) (limit_coarse : most_coarse ≡ get_or coarse to 0) (limit : most ≡ get_or ranks to 0) (limit_finer : most_finer ≡ get_or finer to 0) where
+module _ (g : Parts) (kinds : Kinds) (lists : List (List ℕ)) (coarse ranks back far near : List ℕ) (arcs : AreArcs g kinds lists) (coarse_are : AreRanksOver g kinds coarse) (are : AreRanksWithin g kinds coarse ranks) (back_are : AreRanksWithin g kinds coarse back) (far_are : AreRanksWithin g kinds coarse far) (near_are : AreRanksWithin g kinds coarse near) (from to : ℕ) (no_lower : get_or coarse to 0 ≤ get_or coarse from 0) where
   abbrev allowed : VertexSet
-  allowed = not_above coarse most_coarse ranks most finer most_finer
+  allowed = not_above coarse ranks back far near to
 
-  in_set : (v : ℕ) → get_or coarse v 0 ≤ get_or coarse to 0 → get_or ranks v 0 ≤ get_or ranks to 0 → get_or finer v 0 ≤ get_or finer to 0 → allowed.has v ≡ true
-  in_set v h k l =
-      let low_coarse : get_or coarse v 0 ≤ most_coarse = omega (arith, h, limit_coarse) in
-      let low : get_or ranks v 0 ≤ most = omega (arith, k, limit) in
-      let low_finer : get_or finer v 0 ≤ most_finer = omega (arith, l, limit_finer) in
-      let below_coarse = le-leb (get_or coarse v 0) most_coarse low_coarse in
-      let below = le-leb (get_or ranks v 0) most low in
-      let below_finer = le-leb (get_or finer v 0) most_finer low_finer in
-      and_from (nat_le (get_or coarse v 0) most_coarse && nat_le (get_or ranks v 0) most) (nat_le (get_or finer v 0) most_finer)
-      (and_from (nat_le (get_or coarse v 0) most_coarse) (nat_le (get_or ranks v 0) most) below_coarse below) below_finer
+  abbrev below : List ℕ → ℕ → Bool
+  below some v = nat_le (get_or some v 0) (get_or some to 0)
+
+  in_set : (v : ℕ) → get_or coarse v 0 ≤ get_or coarse to 0 → get_or ranks v 0 ≤ get_or ranks to 0 → get_or back v 0 ≤ get_or back to 0 → get_or far v 0 ≤ get_or far to 0 → get_or near v 0 ≤ get_or near to 0 → allowed.has v ≡ true
+  in_set v by_coarse by_ranks by_back by_far by_near =
+      let low : (some : List ℕ) → get_or some v 0 ≤ get_or some to 0 → below some v ≡ true = λ some h. le-leb (get_or some v 0) (get_or some to 0) h in
+      and_from (below back v && below far v && below near v && below ranks v) (below coarse v)
+      (and_from (below back v && below far v && below near v) (below ranks v)
+      (and_from (below back v && below far v) (below near v)
+      (and_from (below back v) (below far v) (low back by_back) (low far by_far)) (low near by_near)) (low ranks by_ranks)) (low coarse by_coarse)
 
   -- all of a way is in the set
   on_way : (walk : List ℕ) → IsWalk (IsArc g kinds) from to walk → (k : ℕ) → k < length walk → allowed.has (get_or walk k 0) ≡ true
@@ -31,7 +31,9 @@ module _ (g : Parts) (kinds : Kinds) (lists : List (List ℕ)) (coarse ranks fin
       let L = IsArcWithin g kinds coarse in
       in_set (get_or walk k 0) (to_last (IsArc g kinds) coarse coarse_are.rising from to walk is k h)
       (to_last L ranks (rising_within g kinds coarse ranks are) from to walk inner k h)
-      (to_last L finer (rising_within g kinds coarse finer finer_are) from to walk inner k h)
+      (to_last L back (rising_within g kinds coarse back back_are) from to walk inner k h)
+      (to_last L far (rising_within g kinds coarse far far_are) from to walk inner k h)
+      (to_last L near (rising_within g kinds coarse near near_are) from to walk inner k h)
 
   -- no way leads down
   pub none_above : allowed.has from ≡ false → (walk : List ℕ) → IsWalk (IsArc g kinds) from to walk → ⊥

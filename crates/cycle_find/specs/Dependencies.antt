@@ -24,3 +24,10 @@ whole G0 = Ww
 whole G1c = WrAndWw
 whole GSingle = All
 whole G2Item = All
+
+-- the ww and wr edges among those of the way back
+abbrev pub direct_back : Phenomenon → Dependencies
+direct_back G0 = Ww
+direct_back G1c = WrAndWw
+direct_back GSingle = WrAndWw
+direct_back G2Item = WrAndWw

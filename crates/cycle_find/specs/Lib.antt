@@ -7,3 +7,4 @@ pub mod Tasks
 pub mod Prepared
 pub mod Completions
 pub mod OneDependency
+pub mod TwoDependencies

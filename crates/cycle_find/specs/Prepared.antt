@@ -21,10 +21,10 @@ AreWholeRanks task coarse ranks = AreRanksWithin task.graph (whole_kinds task) c
 abbrev pub AreBackRanks : Task → (coarse finer : List ℕ) → Type 0
 AreBackRanks task coarse finer = AreRanksWithin task.graph (back_kinds task) coarse finer
 
--- the arcs of the needed edges and of the way back, and coarse ranks with ranks within them over
--- the whole walk and over the way back
+-- the arcs of the needed edges and of the way back, and coarse ranks with ranks within them: over
+-- the whole walk, and three times over the way back
 pub record IsPrepared (task : Task) (needed back : List (List ℕ))
-    (coarse ranks finer : List ℕ) : Type 0 where
+    (coarse ranks finer far near : List ℕ) : Type 0 where
   pub kept : AreOfHistory task.graph.txns
   pub by_versions : RwByVersions task.graph
   pub needed_arcs : AreArcs task.graph (needed_kinds task) needed
@@ -32,6 +32,8 @@ pub record IsPrepared (task : Task) (needed back : List (List ℕ))
   pub coarse_ranks : AreCoarseRanks task coarse
   pub whole_ranks : AreWholeRanks task coarse ranks
   pub back_ranks : AreBackRanks task coarse finer
+  pub far_ranks : AreBackRanks task coarse far
+  pub near_ranks : AreBackRanks task coarse near
 
 -- the arcs of the dependency edges, coarse ranks over them, and ranks within those
 pub record AreRanked (r : Ranking) (arcs : List (List ℕ)) : Type 0 where

@@ -1,5 +1,5 @@
 -- Ranks of a graph's vertices, and the vertices that a search may enter.
-use Rattle.std.specs.Prelude.{◌≡◌, ℕ, ◌+◌, ◌≤◌, min, List, length, slice_index, ◌&&◌, nat_le}
+use Rattle.std.specs.Prelude.{◌≡◌, ℕ, ◌+◌, ◌≤◌, List, length, slice_index, ◌&&◌, nat_le}
 use Rattle.graph_search.specs.Graphs.{VertexSet}
 use Rattle.edge_graph.specs.Kinds.{kinds_of}
 use Rattle.edge_graph.specs.Parts.{Parts}
@@ -45,13 +45,14 @@ abbrev pub ranking_of : Parts → Dependencies → (coarse ranks : List ℕ) →
 ranking_of graph dependencies coarse ranks =
     record { graph = graph; dependencies = dependencies; coarse = coarse; ranks = ranks }
 
--- the vertices that are above a limit by none of three rankings
-abbrev pub not_above : (coarse : List ℕ) (most_coarse : ℕ) (ranks : List ℕ) (most : ℕ)
-    (finer : List ℕ) (most_finer : ℕ) → VertexSet
-not_above coarse most_coarse ranks most finer most_finer = record {
-  count = min (length coarse) (min (length ranks) (length finer));
+-- the vertices that none of five rankings has above a certain one
+abbrev pub not_above : (coarse ranks back far near : List ℕ) (to : ℕ) → VertexSet
+not_above coarse ranks back far near to = record {
+  count = length coarse;
   has =
-      λ v. nat_le (slice_index coarse v) most_coarse
-      && nat_le (slice_index ranks v) most
-      && nat_le (slice_index finer v) most_finer;
+      λ v. nat_le (slice_index back v) (slice_index back to)
+      && nat_le (slice_index far v) (slice_index far to)
+      && nat_le (slice_index near v) (slice_index near to)
+      && nat_le (slice_index ranks v) (slice_index ranks to)
+      && nat_le (slice_index coarse v) (slice_index coarse to);
 }

@@ -10,14 +10,13 @@ ghost use Rattle.cycle_find.specs.Ranked.{NeverFalls};
 ghost use Rattle.cycle_find.specs.Tasks.{task_of, needed_kinds, whole_kinds, HasReturnBetween, IsShownOr, IsWayBackIfAny, NoneBy, NoneFrom};
 
 use crate::kinds::{needed, way_back};
-use crate::ranking::NotAbove;
+use crate::ranking::{NotAbove, Rankings};
 use crate::types::Walk;
 use edge_graph::arcs::GraphArcs;
 use edge_graph::graph::Graph;
 use edge_graph::types::Kinds;
 use graph_search::arcs::{Arcs, Vertices};
 use graph_search::breadth_first::Search;
-use graph_search::ranks::Ranks;
 use hist_types::types::{Level, Phenomenon};
 use std::alloc::{AllocError, Global};
 use std::marker::Model;
@@ -33,12 +32,8 @@ pub(crate) struct Finder<'r, 'g, 'v, 'a> {
     needed: GraphArcs<'r>,
     /// The arcs of the way back.
     back: GraphArcs<'r>,
-    /// Component numbers that don't fall along any arc of a closed walk.
-    coarse: &'r Ranks,
-    /// Finer ones: where `coarse` is the same, these don't fall along any arc of a closed walk either.
-    ranks: &'r Ranks,
-    /// Component numbers of the way back's arcs alone: finer still.
-    finer: &'r Ranks,
+    /// No way back goes up by any of these.
+    rankings: Rankings<'r>,
 }
 
 impl<'r, 'g, 'v, 'a> Model for Finder<'r, 'g, 'v, 'a> {
@@ -50,7 +45,7 @@ impl<'r, 'g, 'v, 'a> Model for Finder<'r, 'g, 'v, 'a> {
     ghost view = { λ f. task_of f.graph.now f.phenomenon f.level };
 
     ghost invariant = { λ f. IsPrepared (task_of f.graph.now f.phenomenon f.level)
-        f.needed f.back f.coarse.now f.ranks.now f.finer.now };
+        f.needed f.back f.rankings.coarse.now f.rankings.ranks.now f.rankings.back.now f.rankings.far.now f.rankings.near.now };
 }
 
 impl<'r, 'g, 'v, 'a> Finder<'r, 'g, 'v, 'a> {
@@ -59,13 +54,13 @@ impl<'r, 'g, 'v, 'a> Finder<'r, 'g, 'v, 'a> {
         graph: &'r Graph<'g, 'v, 'a>,
         phenomenon: Phenomenon,
         level: Level,
-        coarse: &'r Ranks,
-        ranks: &'r Ranks,
-        finer: &'r Ranks,
+        rankings: Rankings<'r>,
     ) -> Self
-        requires coarse { AreCoarseRanks (task_of graph.now phenomenon level) coarse.now }
-        requires ranks { AreWholeRanks (task_of graph.now phenomenon level) coarse.now ranks.now }
-        requires finer { AreBackRanks (task_of graph.now phenomenon level) coarse.now finer.now }
+        requires coarse { AreCoarseRanks (task_of graph.now phenomenon level) rankings.coarse.now }
+        requires ranks { AreWholeRanks (task_of graph.now phenomenon level) rankings.coarse.now rankings.ranks.now }
+        requires back { AreBackRanks (task_of graph.now phenomenon level) rankings.coarse.now rankings.back.now }
+        requires far { AreBackRanks (task_of graph.now phenomenon level) rankings.coarse.now rankings.far.now }
+        requires near { AreBackRanks (task_of graph.now phenomenon level) rankings.coarse.now rankings.near.now }
         ensures { result ≡ task_of graph.now phenomenon level }
     {
         Finder {
@@ -75,9 +70,7 @@ impl<'r, 'g, 'v, 'a> Finder<'r, 'g, 'v, 'a> {
             level,
             needed: graph.arcs(needed(phenomenon), Level::Plain),
             back: graph.arcs(way_back(phenomenon), level),
-            coarse,
-            ranks,
-            finer,
+            rankings,
         }
     }
 
@@ -127,8 +120,8 @@ impl<'r, 'g, 'v, 'a> Finder<'r, 'g, 'v, 'a> {
         ensures search { search.new ≡ search.old }
         ensures found { IfOk result (IsShownOr self.now (NoneBy self.now from by)) }
     {
-        let above = self.coarse.rank(by) > self.coarse.rank(from)
-            || self.ranks.rank(by) > self.ranks.rank(from);
+        let above = self.rankings.coarse.rank(by) > self.rankings.coarse.rank(from)
+            || self.rankings.ranks.rank(by) > self.rankings.ranks.rank(from);
         if above {
             Ok(None)
         } else if by < self.graph.len() {
@@ -208,12 +201,8 @@ impl<'r, 'g, 'v, 'a> Finder<'r, 'g, 'v, 'a> {
         ensures way { IfOk result (IsWayBackIfAny self.now from to) }
     {
         let allowed = NotAbove {
-            coarse: self.coarse,
-            most_coarse: self.coarse.rank(to),
-            ranks: self.ranks,
-            most: self.ranks.rank(to),
-            finer: self.finer,
-            most_finer: self.finer.rank(to),
+            rankings: self.rankings,
+            to,
         };
         if !allowed.contains(from) {
             return Ok(None);

@@ -30,6 +30,16 @@ pub(crate) fn way_back(phenomenon: Phenomenon) -> Dependencies
     }
 }
 
+/// The ww and wr edges among those.
+pub(crate) fn direct_back(phenomenon: Phenomenon) -> Dependencies
+    ensures { result ≡ walks.direct_back phenomenon }
+{
+    match phenomenon {
+        Phenomenon::G0 => Dependencies::Ww,
+        Phenomenon::G1c | Phenomenon::GSingle | Phenomenon::G2Item => Dependencies::WrAndWw,
+    }
+}
+
 /// What the whole closed walk may use.
 pub(crate) fn whole(phenomenon: Phenomenon) -> Dependencies
     ensures { result ≡ walks.whole phenomenon }

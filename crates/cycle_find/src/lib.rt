@@ -10,4 +10,5 @@ pub mod ranked_level;
 mod ranking;
 mod settle;
 mod sharing;
+mod two_dependencies;
 pub mod types;

@@ -4,18 +4,21 @@ ghost use Rattle.std.specs.Prelude.{◌≡◌, IfOk, IfErr};
 ghost use Rattle.hist_types.specs.Refusals.{memory_fault};
 ghost use Rattle.edge_graph.specs.Parts.{edges_in};
 ghost use Rattle.edge_graph.specs.declared.types.Dependencies.TheVariants.{Ww};
-ghost use Rattle.hist_types.specs.declared.types.Phenomenon.TheVariants.{G0};
+ghost use Rattle.hist_types.specs.declared.types.Phenomenon.TheVariants.{G0, GSingle};
 ghost use Rattle.cycle_find.specs.Found.{IsFound, IsReadyIfAny};
 ghost use Rattle.cycle_find.specs.OneDependency.{IsFoundByOne};
+ghost use Rattle.cycle_find.specs.TwoDependencies.{IsFoundByTwo, IsFoundByLeast, IsLeastIfAny};
+ghost use Rattle.hist_types.specs.declared.types.Level.TheVariants.{Plain};
 ghost use Rattle.cycle_find.specs.Ranked.{AreRanksAtAll};
 ghost use Rattle.cycle_find.specs.Sharing.{AreSharing};
 ghost use Rattle.cycle_find.specs.Tasks.{task_of};
 
 use crate::finder::Finder;
 use crate::one_dependency::OneDependency;
-use crate::ranking::ranks_within;
+use crate::ranking::{Rankings, far_and_near, ranks_within};
 use crate::settle::shows_none;
 use crate::sharing::Shared;
+use crate::two_dependencies::TwoDependencies;
 use crate::types::Walk;
 use edge_graph::graph::Graph;
 use edge_graph::types::Dependencies;
@@ -89,33 +92,50 @@ impl<'r, 'g, 'v, 'a> RankedLevel<'r, 'g, 'v, 'a> {
         self.level
     }
 
-    /// A closed walk that shows the phenomenon at the level, or none where the graph's edges have none.
+    /// A closed walk that shows the phenomenon at the level, or none where the graph's edges have none. At plain it has two edges,
+    /// and at the other levels one dependency edge, if any such walk has no more.
     ///
     /// Only memory can run out. It takes a few numbers for each vertex, and no edges are stored but those of the walk.
     pub fn find(&self, phenomenon: Phenomenon) -> Result<Option<Walk<'a>>, Fault>
         ensures found { IfOk result (IsFound phenomenon (edges_in self.now.graph self.now.level)) }
+        ensures least { IfOk result
+            (IsLeastIfAny (task_of self.now.graph phenomenon self.now.level)) }
         ensures err { IfErr result (λ fault. fault ≡ memory_fault) }
     {
-        let found = self.find_by_one(phenomenon)?;
+        let found = self.find_least(phenomenon)?;
         if found.is_some() {
             return Ok(found);
         }
-        let (ranks, back) = match phenomenon {
+        let ranks = match phenomenon {
             Phenomenon::G0 => return Ok(self.find_writes()?),
-            Phenomenon::G1c => (&self.flow, &self.flow),
-            Phenomenon::GSingle => (&self.ranks, &self.flow),
-            Phenomenon::G2Item => (&self.ranks, &self.ranks),
+            Phenomenon::GSingle => return Ok(self.find_single()?),
+            Phenomenon::G1c => &self.flow,
+            Phenomenon::G2Item => &self.ranks,
         };
-        let finder = Finder::new(
-            self.alloc,
-            self.graph,
-            phenomenon,
-            self.level,
-            self.coarse,
-            ranks,
-            back,
-        );
+        let rankings = Rankings::alike(self.coarse, ranks);
+        let finder = Finder::new(self.alloc, self.graph, phenomenon, self.level, rankings);
         Ok(finder.find()?)
+    }
+
+    /// A closed walk that shows the phenomenon with the least number of dependency edges that any can have at the level.
+    fn find_least(&self, phenomenon: Phenomenon) -> Result<Option<Walk<'a>>, AllocError>
+        ensures { IfOk result
+            (IsFoundByLeast (task_of self.now.graph phenomenon self.now.level)) }
+    {
+        if self.level == Level::Plain {
+            self.find_by_two(phenomenon)
+        } else {
+            self.find_by_one(phenomenon)
+        }
+    }
+
+    /// A closed walk that shows the phenomenon with two edges.
+    fn find_by_two(&self, phenomenon: Phenomenon) -> Result<Option<Walk<'a>>, AllocError>
+        requires { self.now.level ≡ Plain }
+        ensures { IfOk result
+            (IsFoundByTwo (task_of self.now.graph phenomenon self.now.level)) }
+    {
+        TwoDependencies::new(self.alloc, self.graph, phenomenon, self.coarse, self.shared).find()
     }
 
     /// A closed walk that shows the phenomenon with one dependency edge.
@@ -139,14 +159,38 @@ impl<'r, 'g, 'v, 'a> RankedLevel<'r, 'g, 'v, 'a> {
             ww,
             self.level,
         )?;
+        let rankings = Rankings::alike(self.coarse, &ranks);
+        let finder = Finder::new(self.alloc, self.graph, Phenomenon::G0, self.level, rankings);
+        finder.find()
+    }
+
+    /// A closed walk that shows G-single. Where there is none, each pair of a version's reader and follower is looked at, and the
+    /// three rankings over the arcs of the way back settle most of them without a search.
+    fn find_single(&self) -> Result<Option<Walk<'a>>, AllocError>
+        ensures { IfOk result (IsFound GSingle (edges_in self.now.graph self.now.level)) }
+    {
+        let both = far_and_near(
+            self.alloc,
+            self.graph,
+            self.coarse,
+            self.shared,
+            &self.flow,
+            Dependencies::WrAndWw,
+            self.level,
+        )?;
+        let rankings = Rankings {
+            coarse: self.coarse,
+            ranks: &self.ranks,
+            back: &self.flow,
+            far: &both.far,
+            near: &both.near,
+        };
         let finder = Finder::new(
             self.alloc,
             self.graph,
-            Phenomenon::G0,
+            Phenomenon::GSingle,
             self.level,
-            self.coarse,
-            &ranks,
-            &ranks,
+            rankings,
         );
         finder.find()
     }

@@ -1,6 +1,6 @@
 //! Ranks of a graph's vertices, and the vertices that a search may enter.
 
-ghost use Rattle.std.specs.Prelude.{◌≡◌, length, IfOk};
+ghost use Rattle.std.specs.Prelude.{◌≡◌, ◌<◌, length, IfOk};
 ghost use Rattle.edge_graph.specs.Kinds.{kinds_of};
 ghost use Rattle.edge_graph.specs.Vertices.{graph_by};
 ghost use Rattle.cycle_find.specs.Ranked.{AreRanksOver, AreRanksWithin};
@@ -48,6 +48,42 @@ pub(crate) fn ranks_within(
     Ranks::of_leaving(alloc, &arcs, shared.list())
 }
 
+/// Two more rankings of that kind.
+#[derive(Drop)]
+pub(crate) struct FarAndNear {
+    /// By the highest that a vertex leads to.
+    pub far: Ranks,
+    /// By the lowest that leads to a vertex.
+    pub near: Ranks,
+}
+
+/// The two that ranks within the coarse ones give, over the same arcs.
+pub(crate) fn far_and_near(
+    alloc: Global,
+    graph: &Graph<'_, '_, '_>,
+    coarse: &Ranks,
+    shared: &Shared,
+    ranks: &Ranks,
+    dependencies: Dependencies,
+    level: Level,
+) -> Result<FarAndNear, AllocError>
+    requires coarse { AreRanksOver graph.now (kinds_of dependencies level) coarse.now }
+    requires shared { AreSharing coarse.now shared.now }
+    requires ranks { AreRanksWithin graph.now (kinds_of dependencies level) coarse.now ranks.now }
+    ensures far { IfOk result
+        (λ both. AreRanksWithin graph.now (kinds_of dependencies level) coarse.now both.far) }
+    ensures near { IfOk result
+        (λ both. AreRanksWithin graph.now (kinds_of dependencies level) coarse.now both.near) }
+{
+    let arcs = ArcsLeaving {
+        arcs: graph.arcs(dependencies, level),
+        some: shared,
+    };
+    let far = ranks.far_leaving(alloc, &arcs, shared.list())?;
+    let near = ranks.near_leaving(alloc, &arcs, shared.list())?;
+    Ok(FarAndNear { far, near })
+}
+
 /// The arcs of a graph that leave some of its vertices.
 #[derive(Drop)]
 struct ArcsLeaving<'r> {
@@ -72,26 +108,69 @@ impl Arcs for ArcsLeaving<'_> {
     }
 }
 
-/// The vertices that are above a limit by none of three rankings.
+/// Rankings for a search for closed walks.
+#[derive(Clone, Copy)]
+pub(crate) struct Rankings<'r> {
+    /// Component numbers that don't fall along any arc of a closed walk.
+    pub coarse: &'r Ranks,
+    /// Finer ones: where `coarse` is the same, these don't fall along any arc of a closed walk either.
+    pub ranks: &'r Ranks,
+    /// Finer still: where `coarse` is the same, these don't fall along any arc of the way back.
+    pub back: &'r Ranks,
+    /// Nor do these two. They may have vertices the other way round that `back` put in an order for no arc's sake.
+    pub far: &'r Ranks,
+    pub near: &'r Ranks,
+}
+
+impl<'r> Rankings<'r> {
+    /// For a way back over the arcs of the whole walk.
+    pub fn alike(coarse: &'r Ranks, ranks: &'r Ranks) -> Self
+        ensures coarse { result.coarse.now ≡ coarse.now }
+        ensures ranks { result.ranks.now ≡ ranks.now }
+        ensures back { result.back.now ≡ ranks.now }
+        ensures far { result.far.now ≡ ranks.now }
+        ensures near { result.near.now ≡ ranks.now }
+    {
+        Rankings {
+            coarse,
+            ranks,
+            back: ranks,
+            far: ranks,
+            near: ranks,
+        }
+    }
+}
+
+/// The vertices that none of the rankings has above a certain one.
 #[derive(Clone, Copy)]
 pub(crate) struct NotAbove<'r> {
-    pub coarse: &'r Ranks,
-    pub most_coarse: usize,
-    pub ranks: &'r Ranks,
-    pub most: usize,
-    pub finer: &'r Ranks,
-    pub most_finer: usize,
+    pub rankings: Rankings<'r>,
+    pub to: usize,
+    ghost to_within: { to < length rankings.coarse.now },
+    ghost ranks_each: { length rankings.ranks.now ≡ length rankings.coarse.now },
+    ghost back_each: { length rankings.back.now ≡ length rankings.coarse.now },
+    ghost far_each: { length rankings.far.now ≡ length rankings.coarse.now },
+    ghost near_each: { length rankings.near.now ≡ length rankings.coarse.now },
 }
 
 impl Vertices for NotAbove<'_> {
     ghost use Rattle.cycle_find.specs.Ranked.{not_above};
 
-    ghost members = { λ set. not_above
-        set.coarse.now set.most_coarse set.ranks.now set.most set.finer.now set.most_finer };
+    ghost members = { λ set. not_above set.rankings.coarse.now set.rankings.ranks.now
+        set.rankings.back.now set.rankings.far.now set.rankings.near.now set.to };
 
     fn contains(&self, vertex: usize) -> bool {
-        self.coarse.rank(vertex) <= self.most_coarse
-            && self.ranks.rank(vertex) <= self.most
-            && self.finer.rank(vertex) <= self.most_finer
+        let Rankings {
+            coarse,
+            ranks,
+            back,
+            far,
+            near,
+        } = self.rankings;
+        back.rank(vertex) <= back.rank(self.to)
+            && far.rank(vertex) <= far.rank(self.to)
+            && near.rank(vertex) <= near.rank(self.to)
+            && ranks.rank(vertex) <= ranks.rank(self.to)
+            && coarse.rank(vertex) <= coarse.rank(self.to)
     }
 }

@@ -1,19 +1,20 @@
 //! What the transactions of a history depend on each other for.
 
-ghost use Rattle.std.specs.Prelude.{◌≡◌, map, vec_len, OnOk, OnErr};
+ghost use Rattle.std.specs.Prelude.{◌≡◌, ◌==◌, map, vec_len, OnOk, OnErr};
+ghost use Rattle.std.specs.List.{list_any};
 ghost use Rattle.hist_types.specs.Phenomena.{g1a, g1b, stray};
 ghost use Rattle.hist_types.specs.Transactions.{is_node};
 ghost use Rattle.key_versions.specs.Tables.{IsTableOf};
+ghost use Rattle.dep_edges.specs.Added.{Gains, edge_at, wr_edges, ww_edges, rw_edges, edges_of_installs, edges_of_reads, edges_at};
 ghost use Rattle.dep_edges.specs.Histories.{AreOfHistory};
-ghost use Rattle.dep_edges.specs.OutEdges.{AddsEdgesFrom};
+ghost use Rattle.dep_edges.specs.OutEdges.{AddsEdgesFrom, Begins};
 ghost use Rattle.dep_edges.specs.Possible.{RulesOutReads};
-ghost use Rattle.dep_edges.specs.Tables.{IsPlace, txn_at};
+ghost use Rattle.dep_edges.specs.Tables.{IsPlace, IsNumber, IsWritten, txn_at};
 
 use crate::bad_reads::{first_aborted, first_intermediate};
 use crate::history::History;
-use crate::leaving::Marked;
 use crate::possible::Possible;
-use crate::types::{BadRead, Edge};
+use crate::types::{BadRead, Edge, Label};
 use std::alloc::AllocError;
 use std::marker::Model;
 
@@ -21,24 +22,34 @@ use std::marker::Model;
 /// transactions and the table of their versions, which contracts see.
 #[derive(Drop)]
 pub struct Deps<'v, 'a> {
-    marked: Marked<'v, 'a>,
+    history: History<'v, 'a>,
+    /// By place, whether the transaction is a node.
+    nodes: Vec<bool>,
     possible: Possible,
     /// The versions of the stray reads.
     strays: Vec<u32>,
 }
 
 impl<'v, 'a> Model for Deps<'v, 'a> {
-    ghost use Rattle.std.specs.Prelude.{◌≡◌, vec_len};
+    ghost use Rattle.std.specs.Prelude.{◌≡◌, map, vec_len};
     ghost use Rattle.hist_types.specs.Phenomena.{stray};
+    ghost use Rattle.hist_types.specs.Transactions.{is_node};
     ghost use Rattle.dep_edges.specs.Histories.{History as AHistory, IsHistory};
     ghost use Rattle.dep_edges.specs.Possible.{RulesOutReads};
 
     ghost Value = { AHistory };
 
-    ghost view = { λ d. d.marked };
+    ghost view = { λ d. d.history };
 
-    ghost invariant = { λ d. IsHistory d.marked.txns d.marked.table
-        × RulesOutReads d.marked.txns d.possible × (vec_len d.strays ≡ stray d.marked.txns) };
+    ghost invariant = { λ d. IsHistory d.history.txns d.history.table
+        × (d.nodes.items ≡ map (is_node d.history.txns) d.history.txns)
+        × RulesOutReads d.history.txns d.possible × (vec_len d.strays ≡ stray d.history.txns) };
+}
+
+fn is_among(numbers: &[u32], number: u32) -> bool
+    ensures { result ≡ list_any (λ m. m == number) numbers.now }
+{
+    numbers.contains(&number)
 }
 
 impl<'v, 'a> Deps<'v, 'a> {
@@ -56,7 +67,8 @@ impl<'v, 'a> Deps<'v, 'a> {
         ensures { result ≡ history.entry }
     {
         Deps {
-            marked: Marked::new(history, nodes),
+            history,
+            nodes,
             possible,
             strays,
         }
@@ -68,7 +80,7 @@ impl<'v, 'a> Deps<'v, 'a> {
         ensures versions { IsTableOf self.now.table.keys self.now.txns self.now.table }
         ensures kept { AreOfHistory self.now.txns }
     {
-        self.marked.history()
+        &self.history
     }
 
     /// Whether the transaction is a node: an ok one, or an info or open one that wrote what an ok transaction reads.
@@ -76,7 +88,136 @@ impl<'v, 'a> Deps<'v, 'a> {
         requires { IsPlace self.now.txns place }
         ensures { result ≡ is_node self.now.txns (txn_at self.now.txns place) }
     {
-        self.marked.is_node(place)
+        self.nodes[place]
+    }
+
+    /// Gains an edge from the transaction `from` to the one at the place, if that is another node.
+    fn add_edge(
+        &self,
+        from: u64,
+        place: usize,
+        label: Label<'a>,
+        out: &mut Vec<Edge<'a>>,
+    ) -> Result<(), AllocError>
+        requires { IsPlace self.now.txns place }
+        ensures ok { OnOk result (Gains out.old out.new (edge_at self.now from place label.entry)) }
+        ensures err { OnErr result (out.new.items ≡ out.old.items) }
+    {
+        let to = self.history.txn(place).invocation();
+        if self.is_node(place) && from != to {
+            out.push(Edge::new(from, to, label))?;
+        }
+        Ok(())
+    }
+
+    /// Gains the wr edges out of a version that the transaction `from` installs.
+    fn add_wr(&self, from: u64, number: usize, out: &mut Vec<Edge<'a>>) -> Result<(), AllocError>
+        requires number { IsNumber self.now.table number }
+        requires written { IsWritten self.now.table number }
+        ensures ok { OnOk result (Gains out.old out.new (wr_edges self.now from number)) }
+        ensures err { OnErr result (Begins out.old.items out.new.items) }
+    {
+        let version = self.history.written(number);
+        for place in self.history.readers(number) {
+            let label = Label::Wr {
+                key: version.key.copy(),
+                value: version.value.copy(),
+            };
+            self.add_edge(from, *place as usize, label, out)?;
+        }
+        Ok(())
+    }
+
+    /// Gains the ww edges out of a version that the transaction `from` installs.
+    fn add_ww(&self, from: u64, number: usize, out: &mut Vec<Edge<'a>>) -> Result<(), AllocError>
+        requires number { IsNumber self.now.table number }
+        requires written { IsWritten self.now.table number }
+        ensures ok { OnOk result (Gains out.old out.new (ww_edges self.now from number)) }
+        ensures err { OnErr result (Begins out.old.items out.new.items) }
+    {
+        let earlier = self.history.written(number);
+        for follower in self.history.followers(number) {
+            let later = self.history.written(follower.version as usize);
+            let label = Label::Ww {
+                key: later.key,
+                earlier: earlier.value.copy(),
+                later: later.value,
+            };
+            self.add_edge(from, follower.txn as usize, label, out)?;
+        }
+        Ok(())
+    }
+
+    /// Gains the rw edges out of a version that the transaction `from` reads.
+    fn add_rw(&self, from: u64, number: usize, out: &mut Vec<Edge<'a>>) -> Result<(), AllocError>
+        requires { IsNumber self.now.table number }
+        ensures ok { OnOk result (Gains out.old out.new (rw_edges self.now from number)) }
+        ensures err { OnErr result (Begins out.old.items out.new.items) }
+    {
+        let earlier = self.history.version(number);
+        for follower in self.history.followers(number) {
+            let later = self.history.written(follower.version as usize);
+            let label = Label::Rw {
+                key: later.key,
+                earlier: earlier.value(),
+                later: later.value,
+            };
+            self.add_edge(from, follower.txn as usize, label, out)?;
+        }
+        Ok(())
+    }
+
+    /// Gains the wr and the ww edges that leave the transaction at the place.
+    fn add_out_of_installs(
+        &self,
+        from: u64,
+        place: usize,
+        out: &mut Vec<Edge<'a>>,
+    ) -> Result<(), AllocError>
+        requires { IsPlace self.now.txns place }
+        ensures ok { OnOk result (Gains out.old out.new (edges_of_installs self.now from place)) }
+        ensures err { OnErr result (Begins out.old.items out.new.items) }
+    {
+        for number in self.history.installs(place) {
+            self.add_wr(from, *number as usize, out)?;
+            self.add_ww(from, *number as usize, out)?;
+        }
+        Ok(())
+    }
+
+    /// Gains the rw edges that leave the transaction at the place. A version that it reads more than once counts once.
+    fn add_out_of_reads(
+        &self,
+        from: u64,
+        place: usize,
+        out: &mut Vec<Edge<'a>>,
+    ) -> Result<(), AllocError>
+        requires { IsPlace self.now.txns place }
+        ensures ok { OnOk result (Gains out.old out.new (edges_of_reads self.now from place)) }
+        ensures err { OnErr result (Begins out.old.items out.new.items) }
+    {
+        let mut rest = self.history.reads(place);
+        while let Some((number, later)) = rest.split_first() {
+            if !is_among(later, *number) {
+                self.add_rw(from, *number as usize, out)?;
+            }
+            rest = later;
+        }
+        Ok(())
+    }
+
+    /// Gains the edges that leave the transaction `from` at the place; none where it is no node.
+    fn add_edges(&self, from: u64, place: usize, out: &mut Vec<Edge<'a>>) -> Result<(), AllocError>
+        requires place { IsPlace self.now.txns place }
+        requires from { from ≡ (txn_at self.now.txns place).invocation }
+        ensures ok { OnOk result (Gains out.old out.new (edges_at self.now place)) }
+        ensures err { OnErr result (Begins out.old.items out.new.items) }
+    {
+        if !self.is_node(place) {
+            return Ok(());
+        }
+        self.add_out_of_installs(from, place, out)?;
+        self.add_out_of_reads(from, place, out)
     }
 
     /// Appends the dependency edges that leave the transaction; none where it is no node. Out of memory leaves what was there.
@@ -87,8 +228,9 @@ impl<'v, 'a> Deps<'v, 'a> {
             out.old.items out.new.items) }
         ensures err { OnErr result (out.new.items ≡ out.old.items) }
     {
+        let from = self.history.txn(place).invocation();
         let before = out.len();
-        let added = self.marked.add_edges(place, out);
+        let added = self.add_edges(from, place, out);
         if added.is_err() {
             out.truncate(before);
         }
@@ -99,14 +241,14 @@ impl<'v, 'a> Deps<'v, 'a> {
     pub fn g1a(&self) -> Option<BadRead<'a>>
         ensures { result ≡ g1a self.now.txns }
     {
-        first_aborted(self.marked.history(), self.possible)
+        first_aborted(&self.history, self.possible)
     }
 
     /// The first intermediate read: what an ok transaction reads and another one wrote over in itself.
     pub fn g1b(&self) -> Option<BadRead<'a>>
         ensures { result ≡ g1b self.now.txns }
     {
-        first_intermediate(self.marked.history(), self.possible)
+        first_intermediate(&self.history, self.possible)
     }
 
     /// How many external reads of ok transactions return a value that nobody wrote.

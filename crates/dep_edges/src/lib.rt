@@ -10,7 +10,6 @@ mod bad_reads;
 pub mod deps;
 pub mod history;
 pub mod laws;
-mod leaving;
 mod nodes;
 mod possible;
 pub mod types;

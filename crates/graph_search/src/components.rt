@@ -38,7 +38,7 @@ struct Components {
 }
 
 /// A vertex or a place as a number. What has more of them than there are numbers is out of memory.
-fn number_of(place: usize) -> Result<u32, AllocError>
+pub(crate) fn number_of(place: usize) -> Result<u32, AllocError>
     ensures { IfOk result (λ number. number ≡ place) }
 {
     u32::try_from(place).map_err(|_| AllocError)

@@ -8,3 +8,4 @@ mod components;
 pub mod laws;
 mod marks;
 pub mod ranks;
+mod sweeps;

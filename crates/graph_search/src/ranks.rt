@@ -6,6 +6,7 @@ ghost use Rattle.graph_search.specs.Graphs.{Graph, AllLeave, AreRanks, HasArc, N
 
 use crate::arcs::{Arcs, Vertices};
 use crate::components::{component_ranks, component_ranks_from};
+use crate::sweeps::{far_numbers, near_numbers};
 use std::alloc::{AllocError, Global};
 use std::marker::Model;
 
@@ -31,11 +32,9 @@ impl Ranks {
     pub fn of<G: Arcs>(alloc: Global, graph: &G) -> Result<Ranks, AllocError>
         ensures { IfOk result (AreRanks (G.graph graph.now)) }
     {
-        let mut ranks = component_ranks(alloc, graph)?;
-        if !never_fall(graph, &ranks) {
-            ranks.fill(0);
-        }
-        Ok(Ranks { ranks })
+        let numbers = component_ranks(alloc, graph)?;
+        let never_fall = never_fall(graph, &numbers);
+        Ok(Ranks::if_checked(numbers, never_fall))
     }
 
     /// Such ranks of a graph whose arcs all leave vertices on the list. Beside a number for each
@@ -49,11 +48,69 @@ impl Ranks {
         requires leave { AllLeave (G.graph graph.now) vertices.now }
         ensures { IfOk result (AreRanks (G.graph graph.now)) }
     {
-        let mut ranks = component_ranks_from(alloc, graph, vertices)?;
-        if !never_fall_leaving(graph, &ranks, vertices) {
-            ranks.fill(0);
+        let numbers = component_ranks_from(alloc, graph, vertices)?;
+        Ok(Ranks::checked_leaving(graph, numbers, vertices))
+    }
+
+    /// Another ranking of the same graph, in linear time: a vertex ranks higher, the lower the
+    /// greatest of these ranks is that it leads to.
+    ///
+    /// These ranks put any two components in an order, also where neither leads to the other. Where
+    /// this ranking or `near_leaving` has them the other way round, no search is needed. As with
+    /// `of`, it is only part of the contract that ranks don't fall along any arc.
+    pub fn far_leaving<G: Arcs>(
+        &self,
+        alloc: Global,
+        graph: &G,
+        vertices: &[u32],
+    ) -> Result<Ranks, AllocError>
+        requires ranks { length self.now ≡ (G.graph graph.now).count }
+        requires within { All (λ v. v < (G.graph graph.now).count) vertices.now }
+        requires leave { AllLeave (G.graph graph.now) vertices.now }
+        ensures { IfOk result (AreRanks (G.graph graph.now)) }
+    {
+        let numbers = far_numbers(alloc, graph, &self.ranks, vertices)?;
+        Ok(Ranks::checked_leaving(graph, numbers, vertices))
+    }
+
+    /// A third ranking of the same graph, in linear time: a vertex ranks higher, the lower the least
+    /// of these ranks is that leads to it. Its contract and its use are those of `far_leaving`.
+    pub fn near_leaving<G: Arcs>(
+        &self,
+        alloc: Global,
+        graph: &G,
+        vertices: &[u32],
+    ) -> Result<Ranks, AllocError>
+        requires ranks { length self.now ≡ (G.graph graph.now).count }
+        requires within { All (λ v. v < (G.graph graph.now).count) vertices.now }
+        requires leave { AllLeave (G.graph graph.now) vertices.now }
+        ensures { IfOk result (AreRanks (G.graph graph.now)) }
+    {
+        let numbers = near_numbers(alloc, graph, &self.ranks, vertices)?;
+        Ok(Ranks::checked_leaving(graph, numbers, vertices))
+    }
+
+    /// These numbers, or 0 for each vertex if they fall along an arc. All arcs leave vertices on the
+    /// list.
+    fn checked_leaving<G: Arcs>(graph: &G, numbers: Vec<u32>, vertices: &[u32]) -> Ranks
+        requires numbers { length numbers.items ≡ (G.graph graph.now).count }
+        requires within { All (λ v. v < (G.graph graph.now).count) vertices.now }
+        requires leave { AllLeave (G.graph graph.now) vertices.now }
+        ensures { AreRanks (G.graph graph.now) result }
+    {
+        let never_fall = never_fall_leaving(graph, &numbers, vertices);
+        Ranks::if_checked(numbers, never_fall)
+    }
+
+    /// These numbers if a check found that they never fall, else 0 for each vertex.
+    fn if_checked(mut numbers: Vec<u32>, never_fall: bool) -> Ranks
+        ensures { (graph : Graph) → length numbers.items ≡ graph.count
+            → OnTrue never_fall (AreRanks graph numbers.items) → AreRanks graph result }
+    {
+        if !never_fall {
+            numbers.fill(0);
         }
-        Ok(Ranks { ranks })
+        Ranks { ranks: numbers }
     }
 
     /// One rank for all of n vertices, which falls along no arc of any graph.

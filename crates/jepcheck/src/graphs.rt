@@ -1,6 +1,6 @@
 //! Searches in random graphs, held against distances found in another way.
 
-ghost use Rattle.std.specs.Prelude.{◌≡◌, ◌<◌, All, map, length, true, [], slice_index_or, IfOk};
+ghost use Rattle.std.specs.Prelude.{◌≡◌, ◌<◌, ℕ, All, Contains, map, length, true, [], slice_index_or, IfOk};
 
 use graph_search::arcs::{Arcs, Successors, Vertices};
 use graph_search::breadth_first::Search;
@@ -51,6 +51,27 @@ impl Arcs for Lists {
     }
 }
 
+/// The numbers of eight vertices.
+fn all_of_eight() -> [u32; 8]
+    ensures within { All (λ v. v < 8) result }
+    ensures all { (v : ℕ) → v < 8 → Contains result v }
+{
+    [0, 1, 2, 3, 4, 5, 6, 7]
+}
+
+/// The rankings by what ranks the vertices lead to and are led to by, of a graph of eight.
+fn far_and_near(alloc: Global, graph: &Lists, ranks: &Ranks) -> Result<(Ranks, Ranks), AllocError>
+    requires graph { length graph.now.lists.items ≡ 8 }
+    requires ranks { length ranks.now ≡ 8 }
+    ensures far { IfOk result (λ both. length both.0 ≡ 8) }
+    ensures near { IfOk result (λ both. length both.1 ≡ 8) }
+{
+    let vertices = all_of_eight();
+    let far = ranks.far_leaving(alloc, graph, &vertices)?;
+    let near = ranks.near_leaving(alloc, graph, &vertices)?;
+    Ok((far, near))
+}
+
 /// All of eight vertices.
 struct Eight;
 
@@ -85,6 +106,32 @@ fn distances(arcs: &[[bool; 8]; 8]) -> [[usize; 8]; 8] {
     distances
 }
 
+/// Whether two further rankings go by the greatest rank that each vertex leads to and by the least that leads to it.
+fn go_by_walks(ranks: &Ranks, far: &Ranks, near: &Ranks, distances: &[[usize; 8]; 8]) -> bool
+    requires ranks { length ranks.now ≡ 8 }
+    requires far { length far.now ≡ 8 }
+    requires near { length near.now ≡ 8 }
+{
+    for v in 0..8 {
+        let mut farthest = 0;
+        let mut nearest = 8;
+        for w in 0..8 {
+            if distances[v][w] < 8 {
+                farthest = usize::max(farthest, ranks.rank(w));
+            }
+            if distances[w][v] < 8 {
+                nearest = usize::min(nearest, ranks.rank(w));
+            }
+        }
+        let far = far.rank(v).saturating_add(farthest);
+        let near = near.rank(v).saturating_add(nearest);
+        if far != 8 || near != 8 {
+            return false;
+        }
+    }
+    true
+}
+
 #[test]
 fn ranks_tell_components_and_walks_are_shortest(rt: HostRuntime) {
     let mut state: u64 = 1;
@@ -107,6 +154,9 @@ fn ranks_tell_components_and_walks_are_shortest(rt: HostRuntime) {
         let distances = distances(&arcs);
         assert_eq!(rt; graph.vertices(), 8);
         let ranks = Ranks::of(rt.alloc(), &graph).expect(&rt, "memory");
+        let rankings = far_and_near(rt.alloc(), &graph, &ranks);
+        let (far, near) = rankings.expect(&rt, "memory");
+        assert_eq!(rt; go_by_walks(&ranks, &far, &near, &distances), true);
         for v in 0..8 {
             for w in 0..8 {
                 let in_cycle = distances[v][w] < 8 && distances[w][v] < 8;
@@ -118,4 +168,34 @@ fn ranks_tell_components_and_walks_are_shortest(rt: HostRuntime) {
             }
         }
     }
+}
+
+#[test]
+fn three_rankings_settle_what_one_leaves_open(rt: HostRuntime) {
+    let mut graph = Lists::new(rt.alloc(), 8).expect(&rt, "memory");
+    // Two arcs that leave one vertex, two that meet in one, and one apart from all of them.
+    for (from, to) in [(0, 1), (0, 2), (3, 5), (4, 5), (6, 7)] {
+        assert_eq!(rt; graph.vertices(), 8);
+        graph.add(from, to).expect(&rt, "memory");
+    }
+    assert_eq!(rt; graph.vertices(), 8);
+    let ranks = Ranks::of(rt.alloc(), &graph).expect(&rt, "memory");
+    let rankings = far_and_near(rt.alloc(), &graph, &ranks);
+    let (far, near) = rankings.expect(&rt, "memory");
+    let mut open = 0;
+    let mut open_to_all = 0;
+    for v in 0..8 {
+        for w in 0..8 {
+            if ranks.rank(v) <= ranks.rank(w) {
+                open = usize::saturating_add(open, 1);
+                if far.rank(v) <= far.rank(w) && near.rank(v) <= near.rank(w) {
+                    open_to_all = usize::saturating_add(open_to_all, 1);
+                }
+            }
+        }
+    }
+    // No two vertices have one rank, so it leaves half of their pairs open. Each of the five arcs is a walk, and each vertex
+    // is one to itself.
+    assert_eq!(rt; open, 36);
+    assert_eq!(rt; open_to_all, 13);
 }

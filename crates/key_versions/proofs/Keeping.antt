@@ -20,7 +20,7 @@ use Rattle.op_view.specs.Mops.{key_of}
 use Rattle.key_versions.specs.declared.pending.Access.{Access}
 use Rattle.key_versions.specs.Histories.{named_in, named_by, is_named, read_by, seen_in}
 use Rattle.txn_pairs.specs.Completions.{Completes}
-use Rattle.key_versions.specs.Kept.{KeptVersions, HaveAccesses, AreKept}
+use Rattle.key_versions.specs.Kept.{KeptVersions, HaveAccesses, AreKept, StayBeside}
 use Rattle.key_versions.specs.Numbering.{with_versions, AreAccesses}
 use Rattle.key_versions.specs.TxnAccesses.{TxnAccesses, accesses_by, AddsNamed, AreAccessesOf, AreSeenBy}
 use Rattle.key_versions.proofs.Accessing.{accesses_stay, versions_numbered, versions_stay}
@@ -328,3 +328,18 @@ module _ (ts : List Transaction) (kept : KeptVersions) (is : AreKept ts kept) wh
           subst (λ (xs : List Access). AreSeenBy kept.keys kept.versions t xs ws ss) r
           (subst (λ (xs : List Access). AreSeenBy kept.keys kept.versions t a.reads xs ss) w
           (subst (λ (xs : List Access). AreSeenBy kept.keys kept.versions t a.reads a.writes xs) s has.1))
+
+-- ---- the others stay
+
+pub beside_push : (accesses : List TxnAccesses) (a : TxnAccesses) → StayBeside (length accesses) accesses (accesses ++ a ∷ [])
+beside_push [] a zero b other at = absurd (other refl)
+beside_push [] a (suc n) b other at = absurd (no_item b at)
+beside_push (x ∷ accesses) a zero b other at = at
+beside_push (x ∷ accesses) a (suc n) b other at = beside_push accesses a n b (λ e. other (ap suc e)) at
+
+pub beside_set : (accesses : List TxnAccesses) (place : ℕ) (a : TxnAccesses) → StayBeside place accesses (set accesses place a)
+beside_set [] place a n b other at = at
+beside_set (x ∷ accesses) zero a zero b other at = absurd (other refl)
+beside_set (x ∷ accesses) zero a (suc n) b other at = at
+beside_set (x ∷ accesses) (suc place) a zero b other at = at
+beside_set (x ∷ accesses) (suc place) a (suc n) b other at = beside_set accesses place a n b (λ e. other (ap suc e)) at

@@ -3,7 +3,7 @@
 -- A transaction is added when it is invoked, and updated when it completes. A completion names all
 -- that its invocation named, and, if it is ok, what it reads too. So the versions that a history
 -- names only grow, and each keeps its number.
-use Rattle.std.specs.Prelude.{◌≡◌, List, [], ◌∷◌, ⊤}
+use Rattle.std.specs.Prelude.{◌≡◌, ℕ, List, [], ◌∷◌, slice_get, Some, ⊤}
 use Rattle.atom_index.specs.Numbers.{AreNumbered}
 use Rattle.hist_types.specs.Transactions.{Transaction, Version, version_eq, has_version}
 use Rattle.hist_types.specs.declared.types.KeyOrder.{KeyOrder}
@@ -33,3 +33,11 @@ pub record AreKept (ts : List Transaction) (kept : KeptVersions) : Type 0 where
   pub distinct : AreNumbered version_eq kept.versions
   pub named : (v : Version) → has_version kept.versions v ≡ is_named ts v
   pub accesses : HaveAccesses kept.keys kept.versions ts kept.accesses
+
+-- the accesses of each transaction but the one at the place were there before
+abbrev pub StayBeside : (place : ℕ) → (before after : List TxnAccesses) → Type 0
+StayBeside place before after =
+    (other : ℕ) (a : TxnAccesses)
+    → ¬ (other ≡ place)
+    → slice_get after other ≡ Some a
+    → slice_get before other ≡ Some a

@@ -1,12 +1,12 @@
 //! What transactions read and write, kept by number while their run goes on.
 
-ghost use Rattle.std.specs.Prelude.{◌≡◌, ◌<◌, ◌++◌, ◌∷◌, [], List, length, set, slice_get, Some, IfOk, IfErr, OnOk};
+ghost use Rattle.std.specs.Prelude.{◌≡◌, ◌<◌, ◌++◌, ◌∷◌, [], List, length, map, set, slice_get, Some, IfOk, IfErr, OnOk};
 ghost use Rattle.atom_index.specs.Numbers.{AreNumbered};
 ghost use Rattle.hist_types.specs.Refusals.{memory_fault};
 ghost use Rattle.hist_types.specs.Transactions.{Transaction};
 ghost use Rattle.hist_types.specs.declared.types.KeyOrder.TheVariants.{Basic, Sequential};
 ghost use Rattle.key_versions.specs.Given.{IsTableBeside};
-ghost use Rattle.key_versions.specs.Kept.{AreKept};
+ghost use Rattle.key_versions.specs.Kept.{AreKept, StayBeside};
 ghost use Rattle.key_versions.specs.Numbering.{versions_of};
 ghost use Rattle.key_versions.specs.Stepped.{AreStepsOf};
 ghost use Rattle.key_versions.specs.Steps.{last_seen};
@@ -17,6 +17,7 @@ ghost use Rattle.txn_pairs.specs.Completions.{Completes};
 use crate::accessed::Accessed;
 use crate::kept_accesses::KeptAccesses;
 use crate::numbering::Numbering;
+pub use crate::pending::Access;
 use crate::rows::Rows;
 use crate::sequential::follow_steps;
 use crate::steps::Steps;
@@ -86,6 +87,8 @@ impl<'a, S: BuildHasher + Copy> KeptVersions<'a, S> {
         requires { (ts : List Transaction) × AreKept ts self.old }
         ensures kept { (ts : List Transaction)
             → AreKept ts self.old → OnOk result (AreKept (ts ++ txn.now ∷ []) self.new) }
+        ensures others { OnOk result
+            (StayBeside (length self.old.accesses) self.old.accesses self.new.accesses) }
         ensures keys { self.new.keys ≡ self.old.keys }
     {
         self.numbering.take(txn, self.keys, &mut self.accessed)?;
@@ -99,6 +102,7 @@ impl<'a, S: BuildHasher + Copy> KeptVersions<'a, S> {
         ensures kept { (ts : List Transaction) (t : Transaction)
             → AreKept ts self.old → slice_get ts place ≡ Some t → Completes t txn.now
             → OnOk result (AreKept (set ts place txn.now) self.new) }
+        ensures others { OnOk result (StayBeside place self.old.accesses self.new.accesses) }
         ensures keys { self.new.keys ≡ self.old.keys }
     {
         if txn.status() == Status::Ok {
@@ -106,6 +110,22 @@ impl<'a, S: BuildHasher + Copy> KeptVersions<'a, S> {
             self.accesses.set(place, &self.accessed)?;
         }
         Ok(())
+    }
+
+    /// What the transaction at this place reads externally, if it is ok.
+    pub fn reads(&self, place: usize) -> &[Access]
+        requires { place < length self.now.accesses }
+        ensures { slice_get (map (λ a. a.reads) self.now.accesses) place ≡ Some result.now }
+    {
+        self.accesses.reads(place)
+    }
+
+    /// What the transaction at this place writes.
+    pub fn writes(&self, place: usize) -> &[Access]
+        requires { place < length self.now.accesses }
+        ensures { slice_get (map (λ a. a.writes) self.now.accesses) place ≡ Some result.now }
+    {
+        self.accesses.writes(place)
     }
 
     /// What is known of each version, apart from the steps of processes.

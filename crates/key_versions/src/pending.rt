@@ -16,7 +16,7 @@ use std::thread::{Threads, join_mut};
 
 /// A version that a transaction reads or writes, by number, and the nil version of its key.
 #[derive(Clone, Copy, Debug, Default, PartialEq, Eq)]
-pub(crate) struct Access {
+pub struct Access {
     pub nil: u32,
     pub version: u32,
 }

@@ -6,3 +6,14 @@ pub mod NextPoints
 pub mod Steps
 pub mod Staying
 pub mod Rows
+pub mod Listed
+pub mod Accesses
+pub mod Passed
+pub mod CleanReads
+pub mod Bounded
+pub mod Counted
+pub mod StrayReads
+pub mod Changed
+pub mod Installed
+pub mod Advancing
+pub mod OneMore

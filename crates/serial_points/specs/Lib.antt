@@ -2,3 +2,11 @@ pub mod Points
 pub mod ByVersion
 pub mod ByPlace
 pub mod NextPoints
+pub mod CleanReads
+pub mod Users
+pub mod Bounds
+pub mod Strays
+pub mod Passing
+pub mod Falls
+pub mod Clean
+pub mod KeptPoints

@@ -10,9 +10,22 @@ ghost use Rattle.hist_types.specs.Transactions.{Transaction, transactions_of};
 ghost use Rattle.hist_types.specs.declared.types.KeyOrder.{KeyOrder};
 ghost use Rattle.hist_types.specs.declared.types.OpKind.TheVariants.{Invoke, Fail, Info};
 ghost use Rattle.serial_points.specs.ByPlace.{ListPoints, LookUpsSuffice};
+ghost use Rattle.serial_points.specs.CleanReads.{CleanReadsSuffice};
 ghost use Rattle.serial_points.specs.ByVersion.{AreJoinedByVersions, EdgesIntoRise, EdgesOutOfRise, AllEdgesRise};
 ghost use Rattle.serial_points.specs.NextPoints.{PointsStay, WritesNothingRead, PointsMove};
 ghost use Rattle.serial_points.specs.Points.{ArePoints};
+
+mod advance;
+mod bounds;
+mod clean;
+mod falls;
+pub mod kept;
+mod passing;
+mod places;
+mod search;
+mod settling;
+mod strays;
+mod users;
 
 /// Where transactions have points, no cycle shows any phenomenon at any level. No order edge has to be looked at.
 pub fn points_rule_out_cycles()
@@ -49,4 +62,10 @@ pub fn points_after_an_event()
         → PointsStay keys events event }
     ensures moved { (events : List Operation) (event : Operation)
         → KeepsRules (events ++ event ∷ []) → PointsMove events event }
+{}
+
+/// Where the rules are kept, and each version that an ok transaction reads is nil, or was installed by one that didn't fail, or was
+/// written by nobody, or by the transaction itself, no read is aborted or intermediate.
+pub fn clean_reads()
+    ensures { (events : List Operation) → KeepsRules events → CleanReadsSuffice events }
 {}

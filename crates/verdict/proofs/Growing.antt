@@ -1,23 +1,32 @@
 -- The events of blocks, as one block comes after the other and one event after the other.
-use Rattle.std.proofs.Common.{◌≡◌, ℕ, ◌+◌, ◌<◌, List, [], ◌∷◌, ◌++◌, length, map, take, drop, ap, sym, ◌∙◌, subst, arith, append-nil}
+use Rattle.std.proofs.Common.{◌≡◌, ℕ, ◌+◌, ◌<◌, List, [], ◌∷◌, ◌++◌, length, map, take, drop, get_or, Option, Some, None, refl, ap, sym, ◌∙◌, subst, arith, append-nil}
 use Rattle.std.specs.Borrow.{Bor}
 use Rattle.std.specs.Option.{IfSome}
 use Rattle.std.specs.Prelude.{slice_get}
 use Rattle.std.proofs.lemmas.Grind.{flat_map-append}
+use Rattle.std.proofs.lemmas.Option.{slice_get_read}
 use Rattle.std.proofs.lemmas.List.{length-append, map-append, take-append-drop}
 use Rattle.hist_types.specs.Entries.{operation_of}
 use Rattle.hist_types.specs.Journal.{KeepsRules, KeepsRulesAfter}
 use Rattle.hist_types.specs.Operations.{Operation}
+use Rattle.hist_types.specs.Phenomena.{stray}
+use Rattle.hist_types.specs.Transactions.{Transaction, transactions_of}
+use Rattle.hist_types.specs.declared.types.KeyOrder.TheVariants.{Basic}
 use Rattle.hist_types.specs.declared.limits.TheConstants.{MAX_EVENTS}
 use Rattle.history_laws.proofs.Blocks.{kept_by_both}
 use Rattle.journal_core.proofs.Counting.{left_at}
 use Rattle.journal_core.proofs.Journals.{rules_fit}
 use Rattle.journal_core.specs.Blocks.{operations_in}
 use Rattle.op_block.specs.Contents.{Contents, operations_of}
-use Rattle.txn_pairs.specs.Growth.{TakesEvent}
-use Rattle.verdict.specs.Analysed.{AreTablesSoFar, events_of_blocks}
-use Rattle.key_versions.specs.Kept.{AreKept}
+use Rattle.txn_pairs.specs.Growth.{TakesEvent, IsChange}
+use Rattle.serial_points.specs.ByPlace.{AreListed}
+use Rattle.serial_points.specs.CleanReads.{ReadsAreClean}
+use Rattle.serial_points.specs.KeptPoints.{KeptPoints}
+use Rattle.serial_points.specs.Points.{ArePoints}
+use Rattle.verdict.specs.Analysed.{AreTablesSoFar, AreBehind, ArePointsOf, ChangesOne, events_of_blocks}
+use Rattle.key_versions.specs.Kept.{KeptVersions, AreKept}
 use Rattle.order_frontier.specs.Thinnings.{IsThinningOf}
+use Rattle.order_frontier.proofs.Thinnings.{thinning_idle}
 use Rattle.verdict.specs.declared.analysis.TablesSoFar.{TablesSoFar}
 
 -- ---- blocks
@@ -66,22 +75,103 @@ kept_at events block i o kept within is =
     let first : KeepsRulesAfter (events ++ take i os) (o ∷ drop (i + 1) os) = subst (KeepsRulesAfter (events ++ take i os)) (left_at block i o within is) left in
     ((kept_by_both (events ++ take i os) (o ∷ []) (drop (i + 1) os)).0 first).0
 
--- the tables of one event more
-pub so_far_more :
+-- once the event has changed the transaction at the place that was found, the other tables are behind
+pub behind :
+    {S H : Type 0} (events : List Operation) (o : Operation) (old new : TablesSoFar S H) (place : ℕ) (found : Option ℕ)
+    → AreTablesSoFar events old
+    → KeepsRulesAfter events (o ∷ [])
+    → found ≡ Some place
+    → TakesEvent old.events o old.pairing new.pairing
+    → IsChange old.events o found old.pairing new.pairing
+    → IfSome found (λ p. p < length new.pairing)
+    → new.events ≡ old.events + 1
+    → new.versions ≡ old.versions
+    → new.order ≡ old.order
+    → new.points ≡ old.points
+    → AreBehind events o place new
+behind events o old new place found so_far kept is takes change within count versions order points =
+    let one = length-append events (o ∷ []) in
+    record {
+      number = omega (arith, count, so_far.number, one);
+      within = subst (λ (found : Option ℕ). IfSome found (λ p. p < length new.pairing)) is within;
+      changes = λ t there. record {
+        rules = kept_more events o so_far.rules kept;
+        txns = takes events (sym so_far.number) so_far.txns;
+        change =
+            subst (λ (ts : List Transaction). IsChange (length events) o (Some place) ts new.pairing) so_far.txns
+            (subst (λ (i : ℕ). IsChange i o (Some place) old.pairing new.pairing) so_far.number
+            (subst (λ (p : Option ℕ). IsChange old.events o p old.pairing new.pairing) is change));
+        there = there;
+      };
+      versions = subst (AreKept (transactions_of events)) (sym versions) (subst (λ (ts : List Transaction). AreKept ts old.versions) so_far.txns so_far.versions);
+      order = subst (IsThinningOf events) (sym order) so_far.order;
+      points =
+          subst (λ (ps : Option KeptPoints). IfSome ps (ArePointsOf events new.versions)) (sym points)
+          (subst (λ (kept : KeptVersions). IfSome old.points (ArePointsOf events kept)) (sym versions) so_far.points);
+    }
+
+-- the event changed what is now at the place
+pub changed_at :
+    {S H : Type 0} (events : List Operation) (o : Operation) (place : ℕ) (tables : TablesSoFar S H) (now : List Transaction) (t : Transaction)
+    → AreBehind events o place tables
+    → now ≡ tables.pairing
+    → t ≡ get_or now place t
+    → ChangesOne events o now place t
+changed_at events o place tables now t is same at =
+    let within : place < length now = subst (λ (ts : List Transaction). place < length ts) (sym same) is.within in
+    let there : slice_get now place ≡ Some t = slice_get_read now (length now) place t refl within at in
+    subst (λ (ts : List Transaction). ChangesOne events o ts place t) (sym same) (is.changes t (subst (λ (ts : List Transaction). slice_get ts place ≡ Some t) same there))
+
+-- an event that changes no transaction leaves the points
+pub points_idle :
+    (events : List Operation) (o : Operation) (kept : KeptVersions) (points : Option KeptPoints)
+    → KeepsRules events
+    → KeepsRulesAfter events (o ∷ [])
+    → transactions_of (events ++ o ∷ []) ≡ transactions_of events
+    → IfSome points (ArePointsOf events kept)
+    → IfSome points (ArePointsOf (events ++ o ∷ []) kept)
+points_idle events o kept None rules next same are = tt
+points_idle events o kept (Some p) rules next same are =
+    let has = are.points in
+    record {
+      keys = are.keys;
+      points = record {
+        rules = kept_more events o rules next;
+        versions = subst (λ (ts : List Transaction). AreKept ts kept) (sym same) has.versions;
+        users = has.users;
+        bounds = has.bounds;
+        floors = has.floors;
+        strays = ap stray same ∙ has.strays;
+        clean = subst ReadsAreClean (sym same) has.clean;
+        count = has.count ∙ ap length (sym same);
+        are_points = subst (λ (ts : List Transaction). (point : ℕ → ℕ) × AreListed ts p.points point × ArePoints Basic ts point) (sym same) has.are_points;
+      };
+    }
+
+-- where an event changes no transaction, the tables stay
+pub so_far_idle :
     {S H : Type 0} (events : List Operation) (o : Operation) (old new : TablesSoFar S H)
     → AreTablesSoFar events old
     → KeepsRulesAfter events (o ∷ [])
-    → new.events ≡ old.events + 1
     → TakesEvent old.events o old.pairing new.pairing
-    → AreKept new.pairing new.versions
-    → IsThinningOf (events ++ o ∷ []) new.order
+    → new.pairing ≡ old.pairing
+    → new.events ≡ old.events + 1
+    → new.versions ≡ old.versions
+    → new.order ≡ old.order
+    → new.points ≡ old.points
     → AreTablesSoFar (events ++ o ∷ []) new
-so_far_more events o old new so_far kept count takes versions order =
+so_far_idle events o old new so_far kept takes same count versions order points =
     let one = length-append events (o ∷ []) in
+    let now = takes events (sym so_far.number) so_far.txns in
+    let still : transactions_of (events ++ o ∷ []) ≡ transactions_of events = sym now ∙ same ∙ so_far.txns in
     record {
       rules = kept_more events o so_far.rules kept;
       number = omega (arith, count, so_far.number, one);
-      txns = takes events (sym so_far.number) so_far.txns;
-      versions = versions;
-      order = order;
+      txns = now;
+      versions = subst (AreKept new.pairing) (sym versions) (subst (λ (ts : List Transaction). AreKept ts old.versions) (sym same) so_far.versions);
+      order = subst (IsThinningOf (events ++ o ∷ [])) (sym order) (thinning_idle events o old.order so_far.order still);
+      points =
+          subst (λ (ps : Option KeptPoints). IfSome ps (ArePointsOf (events ++ o ∷ []) new.versions)) (sym points)
+          (subst (λ (kept : KeptVersions). IfSome old.points (ArePointsOf (events ++ o ∷ []) kept)) (sym versions)
+          (points_idle events o old.versions old.points so_far.rules kept still so_far.points));
     }

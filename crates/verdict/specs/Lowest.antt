@@ -2,7 +2,7 @@
 use Rattle.std.specs.Prelude.{◌≡◌, ◌↔◌, ◌<◌, ℕ, List, ◌++◌, length, Contains, Option, Some, None}
 use Rattle.hist_types.specs.Edges.{Edge, dependency_edges}
 use Rattle.hist_types.specs.ThinnedOrder.{thinned_edges}
-use Rattle.hist_types.specs.Phenomena.{height, IsThere}
+use Rattle.hist_types.specs.Phenomena.{height, IsThere, g1a, g1b, stray}
 use Rattle.hist_types.specs.Reports.{Findings, finding, Report, IsVerdictOf}
 use Rattle.hist_types.specs.Operations.{Operation}
 use Rattle.hist_types.specs.Transactions.{Transaction, transactions_of}
@@ -15,6 +15,7 @@ use Rattle.order_frontier.specs.Predecessors.{AreOfEvents}
 use Rattle.edge_graph.specs.Parts.{Parts, edges_in}
 use Rattle.cycle_show.specs.Reductions.{IsWitnessOf}
 use Rattle.verdict.specs.declared.tables.Tables.{Tables}
+use Rattle.verdict.specs.declared.types.BadReads.{BadReads}
 
 -- what a verdict of the events is made from
 pub record AreTablesOf (keys : KeyOrder) (events : List Operation) (tables : Tables) : Type 0 where
@@ -27,6 +28,12 @@ abbrev pub IsVerdictFor : KeyOrder → (count : ℕ) → List Transaction → Re
 IsVerdictFor keys count ts report =
     (events : List Operation) → count ≡ length events → ts ≡ transactions_of events
     → IsVerdictOf keys events report
+
+-- what a verdict reports of these transactions' bad reads
+pub record AreBadReadsOf (ts : List Transaction) (reads : BadReads) : Type 0 where
+  pub g1a : reads.g1a ≡ g1a ts
+  pub g1b : reads.g1b ≡ g1b ts
+  pub stray : reads.stray ≡ stray ts
 
 -- the graph of some events' transactions, with their dependency edges and at each level the thinned
 -- order edges

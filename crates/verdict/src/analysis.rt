@@ -1,26 +1,31 @@
 //! The kept analysis of blocks that come one after the other.
 
 ghost use Rattle.std.specs.Prelude.{◌≡◌, [], ◌∷◌, ◌++◌, List, IfOk, OnOk, IfErr};
+ghost use Rattle.std.specs.Bool.{OnTrue};
 ghost use Rattle.hist_types.specs.Journal.{KeepsRulesAfter};
 ghost use Rattle.hist_types.specs.Operations.{Operation};
 ghost use Rattle.hist_types.specs.Refusals.{memory_fault};
-ghost use Rattle.hist_types.specs.Reports.{IsVerdictOf};
+ghost use Rattle.hist_types.specs.Reports.{AreFindings, IsVerdictOf, no_findings};
+ghost use Rattle.hist_types.specs.Transactions.{transactions_of};
+ghost use Rattle.hist_types.specs.declared.types.KeyOrder.TheVariants.{Basic};
 ghost use Rattle.op_block.specs.Contents.{operations_of};
 ghost use Rattle.report_laws.specs.Explained.{RefutesExplanations};
-ghost use Rattle.verdict.specs.Analysed.{AreTablesSoFar};
+ghost use Rattle.verdict.specs.Analysed.{AreBehind, ArePointsOf, AreTablesSoFar};
 
-use crate::types::Verdict;
-use crate::verdict_by;
+use crate::changes::{first_points, points_after, update_order, update_versions};
+use crate::types::{BadReads, Verdict};
+use crate::{reported, verdict_by};
 use hist_types::types::{Fault, KeyOrder};
 use key_versions::kept::KeptVersions;
 use op_block::block::Block;
 use op_view::op::OpView;
 use order_frontier::thinning::Thinning;
+use report_text::report::Findings;
+use serial_points::kept::Points;
 use std::alloc::{AllocError, Global};
 use std::hash::BuildHasher;
 use std::marker::Model;
 use txn_pairs::pairing::Pairing;
-use txn_pairs::types::Status;
 
 /// The tables of events that keep the rules, to be extended by one event after the other.
 #[derive(Drop)]
@@ -30,6 +35,8 @@ struct TablesSoFar<'a, S: BuildHasher> {
     pairing: Pairing<'a>,
     versions: KeptVersions<'a, S>,
     order: Thinning,
+    /// Where there are some, nothing is to be found. They are for basic keys alone.
+    points: Option<Points>,
 }
 
 impl<'a, S: BuildHasher + Copy> TablesSoFar<'a, S> {
@@ -43,6 +50,7 @@ impl<'a, S: BuildHasher + Copy> TablesSoFar<'a, S> {
             pairing: Pairing::new(alloc),
             versions: KeptVersions::new(alloc, hasher, keys),
             order: Thinning::new(alloc),
+            points: first_points(alloc, keys),
         }
     }
 
@@ -57,21 +65,69 @@ impl<'a, S: BuildHasher + Copy> TablesSoFar<'a, S> {
     {
         let place = self.pairing.take(self.events, op)?;
         self.events += 1;
-        let Some(place) = place else {
-            return Ok(());
-        };
-        let txn = &self.pairing.txns().as_slice()[place];
-        match txn.status() {
-            Status::Open => {
-                self.order.begin(txn)?;
-                self.versions.begin(txn)
-            }
-            Status::Ok => {
-                self.order.complete(txn)?;
-                self.versions.complete(place, txn)
-            }
-            // Only an ok transaction comes before others.
-            Status::Fail | Status::Info => self.versions.complete(place, txn),
+        match place {
+            Some(place) => self.update(place),
+            None => Ok(()),
+        }
+    }
+
+    /// Takes the transaction at this place, as the last event made it. Out of memory may leave it taken in part.
+    fn update(&mut self, place: usize) -> Result<(), AllocError>
+        requires { (events : List Operation) × (event : Operation)
+            × AreBehind events event place self.old }
+        ensures tables { (events : List Operation) (event : Operation)
+            → AreBehind events event place self.old
+            → OnOk result (AreTablesSoFar (events ++ event ∷ []) self.new) }
+        ensures keys { OnOk result (self.new.versions.keys ≡ self.old.versions.keys) }
+    {
+        let txns = self.pairing.txns().as_slice();
+        let txn = &txns[place];
+        update_order(&mut self.order, txn)?;
+        update_versions(&mut self.versions, place, txn)?;
+        let points = self.points.take();
+        self.points = points_after(points, txns, &self.versions, place)?;
+        Ok(())
+    }
+
+    /// The verdict where these are points of the events: nothing is put together, and nothing is searched for.
+    fn verdict_by_points(&self, alloc: Global, points: &Points) -> Result<Verdict<'a>, Fault>
+        ensures ok { (events : List Operation)
+            → AreTablesSoFar events self.now → ArePointsOf events self.now.versions points.now
+            → IfOk result (IsVerdictOf Basic events) }
+        ensures err { IfErr result (λ fault. fault ≡ memory_fault) }
+    {
+        // Called for its clauses, which the proof cites.
+        points.find_nothing();
+        let reads = BadReads::none(points.strays());
+        let txns = self.pairing.txns();
+        reported(alloc, self.events, txns, Findings::none(), reads)
+    }
+
+    /// The verdict by the tables, put together, and a search.
+    fn verdict_by_search(&self, alloc: Global) -> Result<Verdict<'a>, Fault>
+        requires { (events : List Operation) × AreTablesSoFar events self.now }
+        ensures ok { (events : List Operation)
+            → AreTablesSoFar events self.now
+            → IfOk result (IsVerdictOf self.now.versions.keys events) }
+        ensures err { IfErr result (λ fault. fault ≡ memory_fault) }
+    {
+        let txns = self.pairing.txns();
+        let versions = self.versions.finish(alloc, txns)?;
+        let thinned = Some(self.order.order());
+        verdict_by(alloc, self.events, txns, &versions, thinned)
+    }
+
+    /// The verdict of the events.
+    fn verdict(&self, alloc: Global) -> Result<Verdict<'a>, Fault>
+        requires { (events : List Operation) × AreTablesSoFar events self.now }
+        ensures ok { (events : List Operation)
+            → AreTablesSoFar events self.now
+            → IfOk result (IsVerdictOf self.now.versions.keys events) }
+        ensures err { IfErr result (λ fault. fault ≡ memory_fault) }
+    {
+        match &self.points {
+            Some(points) => self.verdict_by_points(alloc, points),
+            None => self.verdict_by_search(alloc),
         }
     }
 }
@@ -111,8 +167,8 @@ impl<'a, S: BuildHasher + Copy> Analysis<'a, S> {
         }
     }
 
-    /// Adds a block that counts after those before it, in time for its micro-operations. The only error is out of memory, and
-    /// then the analysis is gone.
+    /// Adds a block that counts after those before it, in time for its micro-operations and for the points that they change. The
+    /// only error is out of memory, and then the analysis is gone.
     pub fn extend(mut self, block: &'a Block) -> Result<Self, Fault>
         requires { KeepsRulesAfter self.events (operations_of block.now) }
         ensures events { IfOk result
@@ -127,8 +183,24 @@ impl<'a, S: BuildHasher + Copy> Analysis<'a, S> {
         Ok(self)
     }
 
-    /// The verdict of the events, as `verdict` computes it from scratch. No event is taken again, but what they show is searched
-    /// for anew. The analysis stays as it is.
+    /// Whether serialization points show that nothing is to be found, so that a verdict takes no search.
+    pub fn has_points(&self) -> bool
+        ensures { OnTrue result
+            (AreFindings self.now.keys (transactions_of self.now.events) no_findings) }
+    {
+        match &self.tables.points {
+            Some(points) => {
+                // Called for its clause on findings, which the proof cites.
+                points.find_nothing();
+                true
+            }
+            None => false,
+        }
+    }
+
+    /// The verdict of the events, as `verdict` computes it from scratch. The analysis stays as it is, and no event is taken again.
+    /// While it has points, there is nothing to do but write the text. Else what the events show is searched for anew, in time for
+    /// all events.
     ///
     /// Only memory can run out.
     pub fn verdict(&self) -> Result<Verdict<'a>, Fault>
@@ -137,10 +209,6 @@ impl<'a, S: BuildHasher + Copy> Analysis<'a, S> {
         ensures strict { IfOk result (RefutesExplanations self.now.events) }
         ensures err { IfErr result (λ fault. fault ≡ memory_fault) }
     {
-        let tables = &self.tables;
-        let txns = tables.pairing.txns();
-        let versions = tables.versions.finish(self.alloc, txns)?;
-        let thinned = Some(tables.order.order());
-        verdict_by(self.alloc, tables.events, txns, &versions, thinned)
+        self.tables.verdict(self.alloc)
     }
 }

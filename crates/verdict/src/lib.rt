@@ -9,13 +9,15 @@ ghost use Rattle.hist_types.specs.Journal.{KeepsRules};
 ghost use Rattle.hist_types.specs.Refusals.{memory_fault};
 ghost use Rattle.key_versions.specs.Tables.{IsTableOf};
 ghost use Rattle.order_frontier.specs.Predecessors.{IsThinnedOrder};
-ghost use Rattle.verdict.specs.Lowest.{AreTablesOf, IsVerdictFor};
+ghost use Rattle.verdict.specs.Lowest.{AreBadReadsOf, AreTablesOf, IsVerdictFor};
 ghost use Rattle.hist_types.specs.Pieces.{HasTaken, HasTakenInPart};
 ghost use Rattle.hist_types.specs.Reports.{AreFindings, IsVerdictOf};
 ghost use Rattle.hist_types.specs.Texts.{verdict_text};
+ghost use Rattle.hist_types.specs.declared.types.KeyOrder.{KeyOrder};
 ghost use Rattle.report_laws.specs.Explained.{RefutesExplanations};
 
 pub mod analysis;
+mod changes;
 mod findings;
 pub mod laws;
 pub mod tables;
@@ -23,7 +25,7 @@ pub mod types;
 
 use crate::findings::{findings_of, findings_of_wide};
 use crate::tables::{Tables, tables_of};
-use crate::types::Verdict;
+use crate::types::{BadReads, Verdict};
 use dep_edges::deps::Deps;
 use dep_edges::edges;
 use hist_types::device::{Failed, Sink};
@@ -39,26 +41,38 @@ use std::hash::BuildHasher;
 use std::thread::Threads;
 use txn_pairs::types::Txns;
 
-/// The verdict of this many events, which reports these findings and what `deps` knows of bad reads.
+/// What is known of bad reads.
+fn bad_reads<'a>(deps: &Deps<'_, 'a>) -> BadReads<'a>
+    ensures { AreBadReadsOf deps.now.txns result }
+{
+    BadReads {
+        g1a: deps.g1a(),
+        g1b: deps.g1b(),
+        stray: deps.stray(),
+    }
+}
+
+/// The verdict of this many events, which reports these findings and reads.
 fn reported<'a>(
     alloc: Global,
     events: u64,
     txns: &Txns<'a>,
-    deps: &Deps<'_, 'a>,
     findings: Findings<'a>,
+    reads: BadReads<'a>,
 ) -> Result<Verdict<'a>, Fault>
-    requires deps { deps.now.txns ≡ txns.now }
-    requires findings { AreFindings deps.now.table.keys txns.now findings }
-    ensures ok { IfOk result (IsVerdictFor deps.now.table.keys events txns.now) }
+    ensures ok { (keys : KeyOrder)
+        → AreFindings keys txns.now findings.entry → AreBadReadsOf txns.now reads.entry
+        → IfOk result (IsVerdictFor keys events txns.now) }
     ensures err { IfErr result (λ fault. fault ≡ memory_fault) }
 {
+    let BadReads { g1a, g1b, stray } = reads;
     let report = VerdictReport {
         prefix: events,
         txns: txns.as_slice().len() as u64,
         findings,
-        g1a: deps.g1a(),
-        g1b: deps.g1b(),
-        stray: deps.stray(),
+        g1a,
+        g1b,
+        stray,
     };
     Ok(Verdict::new(alloc, report)?)
 }
@@ -81,7 +95,7 @@ fn verdict_by<'a>(
 {
     let deps = edges(alloc, txns, versions)?;
     let findings = findings_of(alloc, txns, &deps, thinned)?;
-    reported(alloc, events, txns, &deps, findings)
+    reported(alloc, events, txns, findings, bad_reads(&deps))
 }
 
 /// The verdict of events that keep the rules, from what was made of them. It borrows the journal's blocks.
@@ -119,7 +133,7 @@ pub fn verdict_from_wide<'a, R: Threads + Sync>(
     let txns = &tables.txns;
     let deps = edges(alloc, txns, &tables.versions)?;
     let findings = findings_of_wide(rt, alloc, txns, &deps)?;
-    reported(alloc, events.len(), txns, &deps, findings)
+    reported(alloc, events.len(), txns, findings, bad_reads(&deps))
 }
 
 /// The verdict of the events. It borrows the journal's blocks, and not the prefix. It doesn't depend on the hasher.

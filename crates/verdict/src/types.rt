@@ -1,7 +1,7 @@
 //! Verdicts.
 
 ghost use Rattle.std.specs.Option.{option_copied};
-ghost use Rattle.std.specs.Prelude.{◌≡◌, IfOk, option_map};
+ghost use Rattle.std.specs.Prelude.{◌≡◌, None, IfOk, option_map};
 ghost use Rattle.hist_types.specs.Witness.{Finding as AFinding};
 ghost use Rattle.hist_types.specs.Reports.{finding, strict_of};
 ghost use Rattle.hist_types.specs.Texts.{verdict_text};
@@ -12,6 +12,32 @@ use hist_types::types::{Level, Phenomenon, Strict};
 use report_text::report::{Finding, VerdictReport};
 use std::alloc::{AllocError, Global};
 use std::marker::Model;
+
+/// What is reported of bad reads.
+#[derive(Drop)]
+pub(crate) struct BadReads<'a> {
+    /// The first read of what a failed transaction wrote.
+    pub g1a: Option<BadRead<'a>>,
+    /// The first read of what another transaction wrote over in itself.
+    pub g1b: Option<BadRead<'a>>,
+    /// How many reads returned a value that nobody wrote.
+    pub stray: u64,
+}
+
+impl BadReads<'_> {
+    /// No bad read, and so many stray ones.
+    pub(crate) fn none(stray: u64) -> Self
+        ensures g1a { result.g1a ≡ None }
+        ensures g1b { result.g1b ≡ None }
+        ensures stray { result.stray ≡ stray }
+    {
+        BadReads {
+            g1a: None,
+            g1b: None,
+            stray,
+        }
+    }
+}
 
 /// Everything that is reported of a history, with its text. Keys and values are borrowed from the journal's blocks.
 #[derive(Drop)]

@@ -4,7 +4,7 @@ use Rattle.std.proofs.lemmas.Result.{IfOk-weaker}
 use Rattle.dep_edges.specs.Histories.{History}
 use Rattle.hist_types.specs.Reports.{IsVerdictOf}
 use Rattle.report_laws.proofs.ExplainedVerdicts.{verdict_refutes}
-use Rattle.verdict.specs.Lowest.{IsVerdictFor}
+use Rattle.verdict.specs.Lowest.{AreBadReadsOf, IsVerdictFor}
 use Rattle.verdict.proofs.verdict_from_wide.Goals as goal
 
 pub edges-requires : goal.edges-requires
@@ -13,22 +13,22 @@ edges-requires g c = record {
   versions = c.requires.tables.versions;
 }
 
-pub reported-requires : goal.reported-requires
-reported-requires g c = record {
-  deps = ap (λ (h : History). h.txns) c.in_ok-deps.ensures.ok;
-  findings = c.in_ok-findings.ensures.ok;
-}
-
 pub returns-clause-ok : goal.returns-clause-ok
 returns-clause-ok g c =
-    subst (λ keys. IfOk c.reported.result (IsVerdictOf keys c.args.events.now)) (ap (λ (h : History). h.table.keys) c.in_ok-deps.ensures.ok)
-    (IfOk-weaker _ (IsVerdictFor c.in_ok-deps.deps.table.keys c.len.result c.args.tables.now.txns) _ (λ v is. is c.args.events.now c.len.ensures.count c.requires.tables.txns) c.reported.ensures.ok)
+    let history = c.in_ok-deps.ensures.ok in
+    let keys = c.in_ok-deps.deps.table.keys in
+    let verdict = c.reported.ensures.ok keys c.in_ok-findings.ensures.ok (subst (λ ts. AreBadReadsOf ts c.bad_reads.result) (ap (λ (h : History). h.txns) history) c.bad_reads.ensures) in
+    subst (λ keys. IfOk c.reported.result (IsVerdictOf keys c.args.events.now)) (ap (λ (h : History). h.table.keys) history)
+    (IfOk-weaker _ (IsVerdictFor keys c.len.result c.args.tables.now.txns) _ (λ v is. is c.args.events.now c.len.ensures.count c.requires.tables.txns) verdict)
 
 pub returns-clause-strict : goal.returns-clause-strict
 returns-clause-strict g c =
+    let history = c.in_ok-deps.ensures.ok in
+    let keys = c.in_ok-deps.deps.table.keys in
+    let verdict = c.reported.ensures.ok keys c.in_ok-findings.ensures.ok (subst (λ ts. AreBadReadsOf ts c.bad_reads.result) (ap (λ (h : History). h.txns) history) c.bad_reads.ensures) in
     IfOk-weaker _ _ _ (λ v is.
-    verdict_refutes c.in_ok-deps.deps.table.keys c.args.events.now v c.requires.rules
-    (is c.args.events.now c.len.ensures.count c.requires.tables.txns)) c.reported.ensures.ok
+    verdict_refutes keys c.args.events.now v c.requires.rules
+    (is c.args.events.now c.len.ensures.count c.requires.tables.txns)) verdict
 
 pub returns-clause-err : goal.returns-clause-err
 returns-clause-err g c = c.reported.ensures.err

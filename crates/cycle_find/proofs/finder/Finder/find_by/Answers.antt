@@ -10,12 +10,12 @@ pub returns-then-above-clause-found : goal.returns-then-above-clause-found
 returns-then-above-clause-found c =
     let a = c.self.inside in
     let task : Task = c.args.self.now in
-    let prepared : IsPrepared task a.needed a.back a.coarse.now a.ranks.now a.finer.now = subst (λ task. IsPrepared task a.needed a.back a.coarse.now a.ranks.now a.finer.now) c.self.view_is c.self.invariant in
+    let prepared : IsPrepared task a.needed a.back a.rankings.coarse.now a.rankings.ranks.now a.rankings.back.now a.rankings.far.now a.rankings.near.now = subst (λ task. IsPrepared task a.needed a.back a.rankings.coarse.now a.rankings.ranks.now a.rankings.back.now a.rankings.far.now a.rankings.near.now) c.self.view_is c.self.invariant in
     elim c.if-rank.branch [
       | then-rank w ↦
-          none_from_above task a.coarse.now c.args.from c.args.by prepared.coarse_ranks (omega (arith, w.if-rank.true, c.rank.ensures, c.rank-2.ensures))
+          none_from_above task a.rankings.coarse.now c.args.from c.args.by prepared.coarse_ranks (omega (arith, w.if-rank.true, c.rank.ensures, c.rank-2.ensures))
       | else-rank w ↦
-          none_from_above_within task a.coarse.now a.ranks.now c.args.from c.args.by prepared.coarse_ranks prepared.whole_ranks c.requires.by
+          none_from_above_within task a.rankings.coarse.now a.rankings.ranks.now c.args.from c.args.by prepared.coarse_ranks prepared.whole_ranks c.requires.by
           (omega (arith, ltb-true _ _ (sym w.above-is ∙ c.if-above.true), w.rank-else-rank.ensures, w.rank-else-rank-2.ensures))
     ]
 

@@ -1,7 +1,5 @@
-use Rattle.std.proofs.Common.{◌≡◌, ◌++◌, List, OnOk, subst}
+use Rattle.std.proofs.Common.{subst}
 use Rattle.dep_edges.specs.Histories.{AreOfHistory, History}
-use Rattle.dep_edges.specs.OutEdges.{leaving}
-use Rattle.dep_edges.specs.Tables.{txn_at}
 use Rattle.dep_edges.proofs.Found.{among_at_place}
 use Rattle.dep_edges.proofs.Out.{adds_edges}
 use Rattle.dep_edges.proofs.deps.Deps.edges_from.Goals as goal
@@ -15,4 +13,4 @@ returns-else-is_err-clause-ok c =
     adds_edges h.table.keys c.add_edges-added.result h.txns place before after
     (subst (λ (h : History). AreOfHistory h.txns) c.self.view_is c.self.invariant.0.kept)
     (among_at_place h.txns place c.requires)
-    (subst (λ (h : History). OnOk c.add_edges-added.result (after ≡ before ++ leaving h.table.keys h.txns (txn_at h.txns place))) c.self.view_is c.add_edges-added.ensures.ok)
+    c.add_edges-added.ensures.ok

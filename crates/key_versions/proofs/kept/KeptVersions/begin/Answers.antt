@@ -1,7 +1,8 @@
-use Rattle.std.proofs.Common.{sym, subst}
-use Rattle.key_versions.specs.Kept.{AreKept}
+use Rattle.std.proofs.Common.{◌++◌, ◌∷◌, [], length, sym, subst}
+use Rattle.key_versions.specs.Kept.{KeptVersions, AreKept, StayBeside}
 use Rattle.key_versions.specs.Numbering.{versions_of}
-use Rattle.key_versions.proofs.Keeping.{kept_by, kept_more}
+use Rattle.key_versions.specs.TxnAccesses.{accesses_of}
+use Rattle.key_versions.proofs.Keeping.{beside_push, kept_by, kept_more}
 use Rattle.key_versions.proofs.kept.KeptVersions.begin.Goals as goal
 
 pub take-requires : goal.take-requires
@@ -20,3 +21,10 @@ returns-clause-kept g c = λ ts is.
     let old : AreKept ts (kept_by keys vs accesses) = subst (AreKept ts) (sym c.self.view_is) is in
     rw c.in_ok-push.ensures
     (kept_more keys vs us c.args.txn.now c.in_ok-take.ensures.versions ts accesses a.reads.items a.writes.items a.seen.items old c.in_ok-take.ensures.accesses c.in_ok-take.ensures.seen)
+
+pub returns-clause-others : goal.returns-clause-others
+returns-clause-others g c =
+    let accesses = c.self.inside.accesses in
+    let a = accesses_of c.take.new.accessed in
+    rw c.in_ok-push.ensures
+    (subst (λ (k : KeptVersions). StayBeside (length k.accesses) k.accesses (accesses ++ a ∷ [])) c.self.view_is (beside_push accesses a))

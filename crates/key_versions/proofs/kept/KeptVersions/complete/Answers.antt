@@ -1,8 +1,9 @@
 use Rattle.std.proofs.Common.{rules, ◌≡◌, ◌∙◌, ◌<◌, set, sym, subst}
 use Rattle.hist_types.specs.Transactions.{is_ok}
-use Rattle.key_versions.specs.Kept.{AreKept}
+use Rattle.key_versions.specs.Kept.{KeptVersions, AreKept, StayBeside}
 use Rattle.key_versions.specs.Numbering.{versions_of}
-use Rattle.key_versions.proofs.Keeping.{kept_by, have_count, kept_completed, kept_not_ok}
+use Rattle.key_versions.specs.TxnAccesses.{accesses_of}
+use Rattle.key_versions.proofs.Keeping.{beside_set, kept_by, have_count, kept_completed, kept_not_ok}
 use Rattle.key_versions.proofs.kept.KeptVersions.complete.Goals as goal
 
 pub set-requires : goal.set-requires
@@ -34,3 +35,10 @@ returns-else-eq-clause-kept g c = λ ts t is at done.
     let old : AreKept ts (kept_by keys vs accesses) = subst (AreKept ts) (sym c.self.view_is) is in
     subst (AreKept (set ts c.args.place c.args.txn.now)) c.self.view_is
     (kept_not_ok keys vs t c.args.txn.now done (sym ok ∙ c.if-eq.false) ts c.args.place accesses old at)
+
+pub returns-in_ok-set-clause-others : goal.returns-in_ok-set-clause-others
+returns-in_ok-set-clause-others g c =
+    let accesses = c.self.inside.accesses in
+    let a = accesses_of c.take.new.accessed in
+    rw c.in_ok-set.ensures
+    (subst (λ (k : KeptVersions). StayBeside c.args.place k.accesses (set accesses c.args.place a)) c.self.view_is (beside_set accesses c.args.place a))

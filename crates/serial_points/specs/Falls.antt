@@ -1,0 +1,86 @@
+-- Points that fall, by place, and what is looked at then.
+use Rattle.std.specs.Prelude.{◌≡◌, ◌⊎◌, ◌≤◌, ◌<◌, ℕ, List, length, slice_index, slice_index_or, slice_get, Some, All, IsTrue}
+use Rattle.hist_types.specs.Transactions.{Transaction, is_ok}
+use Rattle.key_versions.specs.TxnAccesses.{TxnAccesses}
+use Rattle.key_versions.specs.declared.pending.Access.{Access}
+use Rattle.serial_points.specs.Bounds.{IsFloored}
+use Rattle.serial_points.specs.Passing.{PassesInto, PassesOutOf}
+use Rattle.serial_points.specs.Points.{IsNotBefore, IsNotAfter}
+use Rattle.serial_points.specs.Users.{places_at}
+use Rattle.serial_points.specs.declared.falls.Fall.{Fall}
+use Rattle.serial_points.specs.declared.users.Users.{Users}
+
+abbrev pub fall_at : List Fall → (k : ℕ) → Fall
+fall_at falls k = slice_index_or falls k (record { place = 0; point = 0 })
+
+-- one of the first n falls is at the place
+abbrev pub IsAmong : List Fall → (n place : ℕ) → Type 0
+IsAmong falls n place = (k : ℕ) × (k < n) × ((fall_at falls k).place ≡ place)
+
+-- no point rose, and no point fell but at this place
+abbrev pub FallsAt : (before after : List ℕ) → (place : ℕ) → Type 0
+FallsAt before after place =
+    (other : ℕ)
+    → (slice_index after other ≤ slice_index before other)
+    × ((slice_index after other ≡ slice_index before other) ⊎ (place ≡ other))
+
+-- no point rose, and no point fell but at the places of the first n falls
+abbrev pub HaveFallen : (before after : List ℕ) → List Fall → (n : ℕ) → Type 0
+HaveFallen before after falls n =
+    (other : ℕ)
+    → (slice_index after other ≤ slice_index before other)
+    × ((slice_index after other ≡ slice_index before other) ⊎ IsAmong falls n other)
+
+-- no point that fell is below the floors
+abbrev pub AreFloored : List TxnAccesses → (points floors : List ℕ) → List Fall → Type 0
+AreFloored accesses points floors falls =
+    (k : ℕ) → k < length falls → IsFloored accesses points floors (fall_at falls k).place
+
+-- ---- what is looked at
+
+-- the point at the place is not before the transaction's invocation, and above what it depends on
+pub record PassesAt (points : List ℕ) (users : Users) (ts : List Transaction)
+    (accesses : List TxnAccesses) (place : ℕ) : Type 0 where
+  pub begun :
+      (t : Transaction) → slice_get ts place ≡ Some t → IsNotBefore (slice_index points place) t
+  pub into :
+      (a : TxnAccesses)
+      → slice_get accesses place ≡ Some a
+      → PassesInto points users place a.reads a.writes
+
+-- the transaction at the place is ok, or its point passes
+abbrev pub PassesUnlessOk :
+    (points : List ℕ) → Users → List Transaction → List TxnAccesses → (place : ℕ) → Type 0
+PassesUnlessOk points users ts accesses place =
+    ((t : Transaction) → slice_get ts place ≡ Some t → IsTrue (is_ok t))
+    ⊎ PassesAt points users ts accesses place
+
+-- so it is of all that write what is read
+abbrev pub WritersPass :
+    (points : List ℕ) → Users → List Transaction → List TxnAccesses → List Access → Type 0
+WritersPass points users ts accesses reads =
+    All
+    (λ (a : Access).
+    All (PassesUnlessOk points users ts accesses) (places_at users.writers a.version))
+    reads
+
+abbrev pub FallsPass :
+    (points : List ℕ) → Users → List Transaction → List TxnAccesses → List Fall → Type 0
+FallsPass points users ts accesses falls =
+    (k : ℕ) → k < length falls → PassesAt points users ts accesses (fall_at falls k).place
+
+-- what is looked at after the transaction at the place became ok, and these points fell
+pub record PassesAfter (points : List ℕ) (users : Users) (ts : List Transaction)
+    (accesses : List TxnAccesses) (falls : List Fall) (place : ℕ) : Type 0 where
+  pub own : PassesAt points users ts accesses place
+  pub ended :
+      (t : Transaction) → slice_get ts place ≡ Some t → IsNotAfter (slice_index points place) t
+  pub out :
+      (a : TxnAccesses)
+      → slice_get accesses place ≡ Some a
+      → PassesOutOf points users place a.reads a.writes
+  pub fallen : FallsPass points users ts accesses falls
+  pub writers :
+      (a : TxnAccesses)
+      → slice_get accesses place ≡ Some a
+      → WritersPass points users ts accesses a.reads

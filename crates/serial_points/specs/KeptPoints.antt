@@ -1,0 +1,127 @@
+-- Points that are kept while a run goes on.
+use Rattle.std.specs.Prelude.{◌≡◌, ℕ, List, [], ◌∷◌, ◌++◌, length, slice_get, slice_index, Some, All}
+use Rattle.hist_types.specs.Journal.{KeepsRules}
+use Rattle.hist_types.specs.Operations.{Operation}
+use Rattle.hist_types.specs.Phenomena.{stray}
+use Rattle.hist_types.specs.Transactions.{Transaction, Status, Ok, Fail, Info, Open, transactions_of}
+use Rattle.hist_types.specs.declared.types.KeyOrder.TheVariants.{Basic}
+use Rattle.key_versions.specs.Kept.{KeptVersions, AreKept, StayBeside}
+use Rattle.key_versions.specs.TxnAccesses.{TxnAccesses}
+use Rattle.txn_pairs.specs.Growth.{IsChange}
+use Rattle.serial_points.specs.Bounds.{AreBounds, AreFloors, BoundsReads, BoundAll, IsFloored, FloorAll}
+use Rattle.serial_points.specs.ByPlace.{AreListed}
+use Rattle.serial_points.specs.Clean.{IsClean, AreUnread}
+use Rattle.serial_points.specs.CleanReads.{ReadsAreClean}
+use Rattle.serial_points.specs.Falls.{HaveFallen, AreFloored, PassesAfter}
+use Rattle.serial_points.specs.Points.{ArePoints}
+use Rattle.serial_points.specs.Users.{AreUsers, IsAmongUsers, UsersStay}
+use Rattle.serial_points.specs.declared.falls.Fall.{Fall}
+use Rattle.serial_points.specs.declared.users.Users.{Users}
+
+pub record KeptPoints : Type 0 where
+  -- by place of transaction
+  pub points : List ℕ
+  pub users : Users
+  -- how many reads are stray
+  pub strays : ℕ
+
+-- The points are points of the events, which keep the rules, and no read of them is a bad one. So
+-- many are stray.
+pub record HasPoints (events : List Operation) (kept : KeptVersions) (p : KeptPoints) :
+    Type 0 where
+  pub rules : KeepsRules events
+  pub versions : AreKept (transactions_of events) kept
+  pub users : AreUsers kept.accesses p.users
+  pub bounds : BoundAll kept.accesses p.points p.users.bounds
+  pub floors : FloorAll kept.accesses p.points p.users.floors
+  pub clean : ReadsAreClean (transactions_of events)
+  pub strays : stray (transactions_of events) ≡ p.strays
+  pub count : length p.points ≡ length (transactions_of events)
+  pub are_points :
+      (point : ℕ → ℕ)
+      × AreListed (transactions_of events) p.points point
+      × ArePoints Basic (transactions_of events) point
+
+-- The event came after those that the points are of, and began or completed the transaction at the
+-- place; the transactions and what is kept of them are those of the events and this one.
+pub record IsNext (events : List Operation) (event : Operation) (before : KeptVersions)
+    (p : KeptPoints) (later : List Transaction) (after : KeptVersions) (place : ℕ) : Type 0 where
+  pub points : HasPoints events before p
+  pub rules : KeepsRules (events ++ event ∷ [])
+  pub txns : later ≡ transactions_of (events ++ event ∷ [])
+  pub kept : AreKept later after
+  pub change : IsChange (length events) event (Some place) (transactions_of events) later
+  pub others : StayBeside place before.accesses after.accesses
+
+-- ---- one event, by how its transaction is now
+
+-- nobody is listed as a reader of what the transaction at the place writes
+abbrev pub IsUnreadAt : Users → List TxnAccesses → (place : ℕ) → Type 0
+IsUnreadAt users accesses place =
+    (a : TxnAccesses) → slice_get accesses place ≡ Some a → AreUnread users.readers a.writes
+
+-- the reads of the transaction at the place are clean
+abbrev pub IsCleanAt : List Transaction → Users → List TxnAccesses → (place : ℕ) → Type 0
+IsCleanAt ts users accesses place =
+    (a : TxnAccesses)
+    → slice_get accesses place ≡ Some a
+    → All (IsClean ts accesses users.writers a.writes) a.reads
+
+-- points fell, and pass
+abbrev pub FallAndPass :
+    (before after : List ℕ) → Users → List Transaction → List TxnAccesses → (place : ℕ) → Type 0
+FallAndPass before after users ts accesses place =
+    (falls : List Fall)
+    × (length after ≡ length before)
+    × HaveFallen before after falls (length falls)
+    × PassesAfter after users ts accesses falls place
+    × AreFloored accesses after users.floors falls
+
+abbrev pub AdvancesBy :
+    Status
+    → (before after : List ℕ)
+    → Users
+    → List Transaction
+    → List TxnAccesses
+    → (place : ℕ)
+    → Type 0
+AdvancesBy Open before after users ts accesses place =
+    IsUnreadAt users accesses place × ((point : ℕ) × (after ≡ before ++ point ∷ []))
+AdvancesBy Fail before after users ts accesses place =
+    IsUnreadAt users accesses place × (after ≡ before)
+AdvancesBy Info before after users ts accesses place = after ≡ before
+AdvancesBy Ok before after users ts accesses place =
+    IsCleanAt ts users accesses place × FallAndPass before after users ts accesses place
+
+-- so it is by the status of the transaction at the place
+abbrev pub PointsAdvance :
+    (before after : List ℕ) → Users → List Transaction → List TxnAccesses → (place : ℕ) → Type 0
+PointsAdvance before after users ts accesses place =
+    (t : Transaction)
+    → slice_get ts place ≡ Some t
+    → AdvancesBy t.status before after users ts accesses place
+
+-- the same users are listed, and what is above their points, or below them, is so again; the
+-- transaction at the place is within it
+pub record HasSettled (points : List ℕ) (before after : Users) (accesses : List TxnAccesses)
+    (place : ℕ) : Type 0 where
+  pub readers : after.readers ≡ before.readers
+  pub writers : after.writers ≡ before.writers
+  pub key_writers : after.key_writers ≡ before.key_writers
+  pub updaters : after.updaters ≡ before.updaters
+  pub bounds : AreBounds points after.readers before.bounds after.bounds
+  pub floors : AreFloors points after.key_writers before.floors after.floors
+  pub bound :
+      (a : TxnAccesses)
+      → slice_get accesses place ≡ Some a
+      → BoundsReads after.bounds (slice_index points place) a.reads a.writes
+  pub floored : IsFloored accesses points after.floors place
+
+-- the transaction at the place is among the users, and no other one is left out
+pub record UsersAdvance (before after : Users) (accesses : List TxnAccesses) (place : ℕ) :
+    Type 0 where
+  pub stay : UsersStay before after
+  pub among :
+      (a : TxnAccesses)
+      → slice_get accesses place ≡ Some a
+      → IsAmongUsers after place a.reads a.writes

@@ -1,0 +1,155 @@
+//! A search for points that may be next. Nothing rests on what it finds: its points are looked at afterwards.
+
+ghost use Rattle.std.specs.Prelude.{◌≡◌};
+ghost use Rattle.key_versions.specs.Kept.{AreKept};
+
+use crate::falls::{Fall, POINTS};
+use crate::users::{Users, has_key, updates};
+use key_versions::kept::{Access, KeptVersions};
+use std::alloc::{AllocError, Global};
+use std::hash::BuildHasher;
+use txn_pairs::types::Txn;
+
+/// How many falls one event may have. With more, the search ends, and its points won't pass.
+const MOST_FALLS: usize = 4096;
+
+/// The point at the place, after the falls.
+fn point_at(points: &[u64], falls: &[Fall], place: u32) -> u64 {
+    let mut point = match points.get(place as usize) {
+        Some(point) => *point,
+        None => 0,
+    };
+    for fall in falls {
+        if fall.place == place {
+            point = fall.point;
+        }
+    }
+    point
+}
+
+/// The least point of the others at the places.
+fn least(points: &[u64], places: &[u32], place: usize) -> u64 {
+    let mut least = u64::MAX;
+    for other in places {
+        if *other as usize != place {
+            least = least.min(point_at(points, &[], *other));
+        }
+    }
+    least
+}
+
+/// A bound below the points of the others that write the key with this nil version.
+fn least_follower(points: &[u64], users: &Users, place: usize, nil: u32, writes: &[Access]) -> u64 {
+    let floor = users.floors.at(nil);
+    if floor > 0 && !has_key(writes, nil) {
+        return floor;
+    }
+    least(points, users.key_writers.at(nil), place)
+}
+
+/// The highest point that the transaction at the place, which is now ok and reads and writes this, may have.
+fn highest(
+    points: &[u64],
+    users: &Users,
+    txn: &Txn<'_>,
+    place: usize,
+    reads: &[Access],
+    writes: &[Access],
+) -> u64 {
+    let mut above = match txn.completion() {
+        Some(completion) => completion.saturating_add(1).saturating_mul(POINTS),
+        None => u64::MAX,
+    };
+    for read in reads {
+        above = above.min(least(points, users.updaters.at(read.version), place));
+        if read.version == read.nil {
+            above = above.min(least_follower(points, users, place, read.nil, writes));
+        }
+    }
+    let own = match points.get(place) {
+        Some(point) => *point,
+        None => 0,
+    };
+    own.min(above.saturating_sub(1))
+}
+
+/// Makes those at the places fall below the point at this place, where they are not.
+fn push_below(
+    points: &[u64],
+    falls: &mut Vec<Fall>,
+    places: &[u32],
+    place: u32,
+) -> Result<(), AllocError> {
+    let point = point_at(points, falls.as_slice(), place);
+    for other in places {
+        if *other != place && point_at(points, falls.as_slice(), *other) >= point {
+            falls.push(Fall {
+                place: *other,
+                point: point.saturating_sub(1),
+            })?;
+        }
+    }
+    Ok(())
+}
+
+/// Makes those fall that the transaction at the place, which reads and writes this, depends on.
+fn push_all_below(
+    points: &[u64],
+    users: &Users,
+    falls: &mut Vec<Fall>,
+    place: u32,
+    reads: &[Access],
+    writes: &[Access],
+) -> Result<(), AllocError> {
+    for read in reads {
+        push_below(points, falls, users.writers.at(read.version), place)?;
+        if updates(writes, *read) {
+            push_below(points, falls, users.readers.at(read.version), place)?;
+        }
+    }
+    for write in writes {
+        let point = point_at(points, falls.as_slice(), place);
+        push_below(points, falls, users.nil_readers(write.nil, point), place)?;
+    }
+    Ok(())
+}
+
+/// Points that fall as the transaction at the place is now ok.
+pub(crate) fn search<'a, S: BuildHasher + Copy>(
+    alloc: Global,
+    points: &[u64],
+    users: &Users,
+    txns: &[Txn<'a>],
+    versions: &KeptVersions<'a, S>,
+    place: usize,
+) -> Result<Vec<Fall>, AllocError>
+    requires { AreKept txns.now versions.now }
+{
+    let mut falls = Vec::new(alloc);
+    if place >= txns.len() {
+        return Ok(falls);
+    }
+    let point = highest(
+        points,
+        users,
+        &txns[place],
+        place,
+        versions.reads(place),
+        versions.writes(place),
+    );
+    let place = u32::try_from(place).map_err(|_| AllocError)?;
+    falls.push(Fall { place, point })?;
+    for i in 0..MOST_FALLS {
+        if i >= falls.len() {
+            break;
+        }
+        let place = falls[i].place;
+        if place as usize >= txns.len() {
+            break;
+        }
+        let reads = versions.reads(place as usize);
+        let writes = versions.writes(place as usize);
+        push_all_below(points, users, &mut falls, place, reads, writes)?;
+    }
+    Ok(falls)
+}
