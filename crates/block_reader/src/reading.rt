@@ -86,12 +86,13 @@ pub(crate) fn read_behind(
 }
 
 /// The operations of a text in blocks, each filled until the next operation doesn't fit or a part of the text ends, or the first
-/// fault of its reading. The blocks share the text, of which nothing is copied. A text of some megabytes is read in parts, by as
-/// many threads as there are processors, where each operation has lines of its own at the top level; in any other it takes one
-/// thread as long as all.
+/// fault of its reading. The blocks share the text, of which nothing is copied. A text of some megabytes is read in parts, by so
+/// many threads, or as many as there are processors if these are fewer, where each operation has lines of its own at the top
+/// level; any other takes one thread as long as all.
 pub fn read_blocks<R: Threads + Sync>(
     rt: &R,
     alloc: Global,
+    workers: usize,
     text: Vec<u8>,
 ) -> Result<Vec<Block>, Fault>
     ensures ok { IfOk result
@@ -99,7 +100,7 @@ pub fn read_blocks<R: Threads + Sync>(
     ensures err { IfErr result (λ fault. (fault ≡ memory_fault) ⊎ GivesFault text.items fault) }
 {
     let text = Bytes::from_vec(text)?;
-    let starts = starts_of(rt, alloc, &text)?;
+    let starts = starts_of(rt, alloc, workers, &text)?;
     let parts = read_parts(rt, alloc, &text, &starts)?;
     read_behind(alloc, &text, parts)
 }

@@ -10,10 +10,10 @@ use std::thread::{Threads, available_parallelism};
 /// The least number of bytes in a part.
 const PART_BYTES: usize = 1 << 20;
 
-/// How many parts a text of this length has: no more than there are processors.
-fn parts_of<R: Threads>(rt: &R, len: usize) -> usize {
+/// How many parts a text of this length has: no more than there are workers and processors.
+fn parts_of<R: Threads>(rt: &R, workers: usize, len: usize) -> usize {
     match available_parallelism(rt) {
-        Ok(processors) => processors.get().min(len / PART_BYTES),
+        Ok(processors) => processors.get().min(workers).min(len / PART_BYTES),
         Err(_) => 1,
     }
 }
@@ -28,12 +28,17 @@ fn line_behind(text: &[u8], offset: usize) -> Option<usize>
     Some(offset + memrchr(b'}', line)? + 1)
 }
 
-/// The start of the text, and ends of lines that part it evenly, as many as there are processors. Where each operation has
-/// lines of its own, as Jepsen prints them, one ends there.
-pub fn starts_of<R: Threads>(rt: &R, alloc: Global, text: &[u8]) -> Result<Vec<usize>, AllocError>
+/// The start of the text, and ends of lines that part it evenly among workers and processors. Where each operation has lines of
+/// its own, as Jepsen prints them, one ends there.
+pub fn starts_of<R: Threads>(
+    rt: &R,
+    alloc: Global,
+    workers: usize,
+    text: &[u8],
+) -> Result<Vec<usize>, AllocError>
     ensures { IfOk result (λ starts. All (IsIn text.now) starts.items) }
 {
-    let parts = parts_of(rt, text.len());
+    let parts = parts_of(rt, workers, text.len());
     let mut starts = Vec::new(alloc);
     starts.push(0)?;
     for part in 1..parts {

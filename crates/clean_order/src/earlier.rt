@@ -1,4 +1,4 @@
-//! Which versions come before a version, although its installer need not have read them.
+//! Which versions come before a version, although whoever installs it need not have read them.
 
 use dep_edges::history::History;
 use hist_types::types::KeyOrder;
@@ -22,43 +22,74 @@ pub struct Earlier {
     links: Vec<Link>,
 }
 
-/// Whether what follows the version may be installed by others than its readers: where it is nil and somebody reads it, and where
-/// keys are sequential.
+/// Whether what follows the version may be installed by others than its readers: where it is nil, and where keys are sequential.
 fn leads_on(history: &History<'_, '_>, number: usize) -> bool {
+    if history.keys() == KeyOrder::Sequential {
+        return true;
+    }
+    number < history.versions() && history.version(number).value().is_none()
+}
+
+/// The place from which on transactions were invoked after all that wrote or read the version had completed. It may be no place.
+fn first_after(history: &History<'_, '_>, invoked: &[u32], number: usize) -> u32 {
     if number >= history.versions() {
-        return false;
+        return 0;
     }
-    match history.version(number).value() {
-        None => !history.readers(number).is_empty(),
-        Some(_) => history.keys() == KeyOrder::Sequential,
+    let mut first = match history.writer(number) {
+        None => 0,
+        Some(writer) => count_at(invoked, writer.txn),
+    };
+    for reader in history.readers(number) {
+        first = first.max(count_at(invoked, *reader));
     }
+    first
+}
+
+/// How many transactions were invoked before the one at the place completed.
+fn count_at(invoked: &[u32], place: u32) -> u32 {
+    invoked.get(place as usize).copied().unwrap_or(NONE)
 }
 
 impl Earlier {
-    pub fn of(alloc: Global, history: &History<'_, '_>) -> Result<Self, AllocError> {
+    /// It is given how many transactions were invoked before each one completed. A transaction that was invoked after all that wrote
+    /// or read a version had completed is put after them in any case, so what it installs needs no link.
+    pub fn of(
+        alloc: Global,
+        history: &History<'_, '_>,
+        invoked: &[u32],
+    ) -> Result<Self, AllocError> {
         let mut earlier = Earlier {
             firsts: vec![in alloc; NONE; history.versions()]?,
-            links: Vec::new(alloc),
+            links: Vec::with_capacity(alloc, history.txns().len())?,
         };
         for number in 0..history.versions() {
             if leads_on(history, number) {
-                earlier.add_followers(history, number)?;
+                earlier.add_followers(history, invoked, number)?;
             }
         }
         Ok(earlier)
     }
 
-    /// Adds the version to those of each one that follows it.
+    /// Adds the version to those of each one that follows it, and that needs a link. Followers come in the order of their places.
     fn add_followers(
         &mut self,
         history: &History<'_, '_>,
+        invoked: &[u32],
         number: usize,
     ) -> Result<(), AllocError> {
         if number >= history.versions() {
             return Ok(());
         }
         let version = u32::try_from(number).map_err(|_| AllocError)?;
-        for follower in history.followers(number) {
+        let followers = history.followers(number);
+        if followers.is_empty() {
+            return Ok(());
+        }
+        let first = first_after(history, invoked, number);
+        for follower in followers {
+            if follower.txn >= first {
+                break;
+            }
             let link = u32::try_from(self.links.len()).map_err(|_| AllocError)?;
             if let Some(first) = self.firsts.get_mut(follower.version as usize) {
                 self.links.push(Link {

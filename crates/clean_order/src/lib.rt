@@ -12,7 +12,7 @@ pub mod laws;
 mod putting;
 mod rising;
 
-use crate::ends::ends;
+use crate::ends::{ends, invoked_before};
 use crate::putting::Putting;
 use crate::rising::rises;
 use dep_edges::deps::Deps;
@@ -34,7 +34,8 @@ pub fn settles(alloc: Global, deps: &Deps<'_, '_>) -> Result<bool, Fault>
 {
     let history = deps.history();
     let ends = ends(alloc, history)?;
-    let mut putting = Putting::new(alloc, history)?;
+    let invoked = invoked_before(alloc, history.txns().len(), &ends)?;
+    let mut putting = Putting::new(alloc, history, &invoked)?;
     if !putting.put_each(&ends)? {
         return Ok(false);
     }

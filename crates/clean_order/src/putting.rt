@@ -43,7 +43,12 @@ pub struct Putting<'h, 'v, 'a> {
 }
 
 impl<'h, 'v, 'a> Putting<'h, 'v, 'a> {
-    pub fn new(alloc: Global, history: &'h History<'v, 'a>) -> Result<Self, AllocError> {
+    /// Nothing was put yet. It is given how many transactions were invoked before each one completed.
+    pub fn new(
+        alloc: Global,
+        history: &'h History<'v, 'a>,
+        invoked: &[u32],
+    ) -> Result<Self, AllocError> {
         let txns = history.txns().len();
         Ok(Putting {
             history,
@@ -51,7 +56,7 @@ impl<'h, 'v, 'a> Putting<'h, 'v, 'a> {
             put: 0,
             begun: vec![in alloc; false; txns]?,
             waiting: Vec::new(alloc),
-            earlier: Earlier::of(alloc, history)?,
+            earlier: Earlier::of(alloc, history, invoked)?,
             looked: vec![in alloc; 0; history.versions()]?,
         })
     }

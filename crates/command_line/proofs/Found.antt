@@ -7,15 +7,21 @@ use Rattle.clap.specs.Words.{Row, Text, first_of, all_of, first_value, rows_of, 
 use Rattle.clap.specs.declared.parser.matches.Found.{Found}
 use Rattle.clap.proofs.WalkLemmas.{first_value-rows, raw_values-rows}
 use Rattle.hist_types.specs.declared.types.KeyOrder.{KeyOrder}
-use Rattle.command_line.specs.Lines.{cells_in, keys_in, come_in_pairs, AreForSessions, IsAskedBy}
+use Rattle.command_line.specs.Lines.{cells_in, workers_in, keys_in, come_in_pairs, AreForCheck, AreForSessions, IsAskedBy}
 use Rattle.command_line.specs.declared.types.Asked.{Asked}
 use Rattle.command_line.specs.declared.types.Asked.TheVariants.{Run, Serve}
-use Rattle.command_line.proofs.Refused.{no_command}
+use Rattle.command_line.proofs.Refused.{no_command, check_is_no_reads, check_is_no_edges, check_is_no_serve}
+use Rattle.command_line.specs.declared.types.Command.TheVariants.{Reads, Edges, Check}
 
 -- the number of cells that is there
 pub cells_found : (f : Found) (r : Option (Bor (List ℕ))) → option_map (λ text. text.now) r ≡ first_value f (codes "cells")
     → option_and_then cells_in (option_map (λ text. text.now) r) ≡ option_and_then cells_in (first_of (codes "cells") (rows_of f))
 cells_found f r e = ap (option_and_then cells_in) (e ∙ first_value-rows f (codes "cells"))
+
+-- the number of threads that is there
+pub workers_found : (f : Found) (r : Option (Bor (List ℕ))) → option_map (λ text. text.now) r ≡ first_value f (codes "workers")
+    → option_and_then workers_in (option_map (λ text. text.now) r) ≡ option_and_then workers_in (first_of (codes "workers") (rows_of f))
+workers_found f r e = ap (option_and_then workers_in) (e ∙ first_value-rows f (codes "workers"))
 
 -- the name of an order of keys that is there
 pub keys_found : (f : Found) (r : Option (Bor (List ℕ))) → option_map (λ text. text.now) r ≡ first_value f (codes "keys")
@@ -26,6 +32,11 @@ keys_found f r e = ap (option_and_then keys_in) (e ∙ first_value-rows f (codes
 pub without_cells : (cells : ℕ) (keys : KeyOrder) (paths : List (List ℕ)) (rows : List Row) (r : Option ℕ) → r ≡ option_and_then cells_in (first_of (codes "cells") rows)
     → r ≡ None → AreForSessions cells keys paths rows → ⊥
 without_cells cells keys paths rows r e none asked = let some : None ≡ Some cells = sym none ∙ (e ∙ asked.cells_are) in cc
+
+-- no number of threads
+pub without_workers : (workers : ℕ) (keys : KeyOrder) (rows : List Row) (r : Option ℕ) → r ≡ option_and_then workers_in (first_of (codes "workers") rows)
+    → r ≡ None → AreForCheck workers keys rows → ⊥
+without_workers workers keys rows r e none asked = let some : None ≡ Some workers = sym none ∙ (e ∙ asked.workers_are) in cc
 
 -- the texts behind references to references
 abbrev pub texts_in : Bor (List (Bor (List ℕ))) → List (List ℕ)
@@ -61,3 +72,14 @@ sessions_where_met asked None rows name same by = absurd (cc)
 sessions_where_met (Run command) (Some subcommand) rows name same by = absurd (no_command command (sym name ∙ by.0))
 sessions_where_met (Serve cells keys paths) (Some subcommand) rows name same by =
     (cells, (keys, (map string_bytes paths.items, subst (AreForSessions cells keys (map string_bytes paths.items)) (same_Some _ _ same) by.1)))
+
+-- where the parse met `check`, whatever is asked for is a check
+pub check_where_met : (asked : Asked) (met : Option (Text × List Row)) (rows : List Row)
+    → option_map (λ subcommand. subcommand.0) met ≡ Some (codes "check") → option_map (λ subcommand. subcommand.1) met ≡ Some rows → IsAskedBy asked met
+    → (workers : ℕ) × ((keys : KeyOrder) × AreForCheck workers keys rows)
+check_where_met asked None rows name same by = absurd (cc)
+check_where_met (Run Reads) (Some subcommand) rows name same by = absurd (check_is_no_reads (sym name ∙ by.0))
+check_where_met (Run (Edges keys)) (Some subcommand) rows name same by = absurd (check_is_no_edges (sym name ∙ by.0))
+check_where_met (Run (Check workers keys)) (Some subcommand) rows name same by =
+    (workers, (keys, subst (AreForCheck workers keys) (same_Some _ _ same) by.1))
+check_where_met (Serve cells keys paths) (Some subcommand) rows name same by = absurd (check_is_no_serve (sym name ∙ by.0))

@@ -29,9 +29,9 @@ pub commands_are_asked :
     (name : List ℕ)
     → AskFor (Run Reads) (name ∷ codes "reads" ∷ [])
     × AskFor (Run (Edges Basic)) (name ∷ codes "edges" ∷ [])
-    × AskFor (Run (Check Basic)) (name ∷ codes "check" ∷ [])
+    × AskFor (Run (Check 1 Basic)) (name ∷ codes "check" ∷ [])
 unfolding clap_on_literals
-commands_are_asked name = ((refl, (refl, tt)), (refl, (refl, refl)), (refl, (refl, refl)))
+commands_are_asked name = ((refl, (refl, tt)), (refl, (refl, refl)), (refl, (refl, record { workers_are = refl; keys_are = refl })))
 
 -- `--keys` asks for keys of the order that it names
 pub edges_with_keys : (keys : KeyOrder) (name : List ℕ) → AskFor (Run (Edges keys)) (name ∷ codes "edges" ∷ codes "--keys" ∷ name_of_order keys ∷ [])
@@ -44,15 +44,28 @@ unfolding clap_on_literals
 edges_with_keys_joined Basic name = (refl, (refl, refl))
 edges_with_keys_joined Sequential name = (refl, (refl, refl))
 
-pub check_with_keys : (keys : KeyOrder) (name : List ℕ) → AskFor (Run (Check keys)) (name ∷ codes "check" ∷ codes "--keys" ∷ name_of_order keys ∷ [])
+pub check_with_keys : (keys : KeyOrder) (name : List ℕ) → AskFor (Run (Check 1 keys)) (name ∷ codes "check" ∷ codes "--keys" ∷ name_of_order keys ∷ [])
 unfolding clap_on_literals
-check_with_keys Basic name = (refl, (refl, refl))
-check_with_keys Sequential name = (refl, (refl, refl))
+check_with_keys Basic name = (refl, (refl, record { workers_are = refl; keys_are = refl }))
+check_with_keys Sequential name = (refl, (refl, record { workers_are = refl; keys_are = refl }))
 
-pub check_with_keys_joined : (keys : KeyOrder) (name : List ℕ) → AskFor (Run (Check keys)) (name ∷ codes "check" ∷ (codes "--keys=" ++ name_of_order keys) ∷ [])
+pub check_with_keys_joined : (keys : KeyOrder) (name : List ℕ) → AskFor (Run (Check 1 keys)) (name ∷ codes "check" ∷ (codes "--keys=" ++ name_of_order keys) ∷ [])
 unfolding clap_on_literals
-check_with_keys_joined Basic name = (refl, (refl, refl))
-check_with_keys_joined Sequential name = (refl, (refl, refl))
+check_with_keys_joined Basic name = (refl, (refl, record { workers_are = refl; keys_are = refl }))
+check_with_keys_joined Sequential name = (refl, (refl, record { workers_are = refl; keys_are = refl }))
+
+-- `--workers` asks for so many threads
+pub check_with_workers :
+    (name : List ℕ)
+    → AskFor (Run (Check 2 Basic)) (name ∷ codes "check" ∷ codes "--workers" ∷ codes "2" ∷ [])
+    × AskFor (Run (Check 64 Basic)) (name ∷ codes "check" ∷ codes "--workers=64" ∷ [])
+    × AskFor (Run (Check 2 Sequential)) (name ∷ codes "check" ∷ codes "--keys" ∷ codes "sequential" ∷ codes "--workers" ∷ codes "2" ∷ [])
+unfolding clap_on_literals
+check_with_workers name = (
+  (refl, (refl, record { workers_are = refl; keys_are = refl })),
+  (refl, (refl, record { workers_are = refl; keys_are = refl })),
+  (refl, (refl, record { workers_are = refl; keys_are = refl })),
+)
 
 -- a name, `serve` and two paths ask for a session, at a journal of so many cells as are asked for
 pub sessions_are_asked :
@@ -96,7 +109,7 @@ pub help_with_a_command : (command : Command) (name : List ℕ) → AskForHelp (
 unfolding clap_on_literals
 help_with_a_command Reads name = refl
 help_with_a_command (Edges keys) name = refl
-help_with_a_command (Check keys) name = refl
+help_with_a_command (Check workers keys) name = refl
 
 -- what the matches hold of a subcommand is what the words ask for
 pub asked_in_matches :

@@ -7,7 +7,7 @@ use Rattle.std.proofs.lemmas.Option.{same_Some}
 use Rattle.std.specs.Prelude.{Option, slice_index, unwrap_or, option_and_then}
 use Rattle.hist_types.specs.declared.types.KeyOrder.{KeyOrder}
 use Rattle.hist_types.specs.declared.types.KeyOrder.TheVariants.{Basic, Sequential}
-use Rattle.command_line.specs.Lines.{program_app, word_of, cells_in, keys_in, name_of_order, come_in_pairs, HasKeys, AreForSessions, AskForNothing}
+use Rattle.command_line.specs.Lines.{program_app, word_of, cells_in, workers_in, keys_in, name_of_order, come_in_pairs, HasKeys, AreForCheck, AreForSessions, AskForNothing}
 use Rattle.command_line.specs.declared.types.Asked.TheVariants.{Run, Serve}
 use Rattle.command_line.specs.declared.types.Command.{Command}
 use Rattle.command_line.specs.declared.types.Command.TheVariants.{Reads, Edges, Check}
@@ -28,7 +28,17 @@ differ a b same less = absurd (omega arith)
 pub no_command : (command : Command) → Some (codes "serve") ≡ Some (word_of command) → ⊥
 no_command Reads e = differ 115 114 (ap initial e) (omega arith)
 no_command (Edges keys) e = differ 115 101 (ap initial e) (omega arith)
-no_command (Check keys) e = differ 115 99 (ap initial e) (omega arith)
+no_command (Check workers keys) e = differ 115 99 (ap initial e) (omega arith)
+
+-- `check` is none of the other subcommands
+pub check_is_no_reads : Some (codes "check") ≡ Some (codes "reads") → ⊥
+check_is_no_reads e = differ 114 99 (sym (ap initial e)) (omega arith)
+
+pub check_is_no_edges : Some (codes "check") ≡ Some (codes "edges") → ⊥
+check_is_no_edges e = differ 101 99 (sym (ap initial e)) (omega arith)
+
+pub check_is_no_serve : Some (codes "check") ≡ Some (codes "serve") → ⊥
+check_is_no_serve e = differ 115 99 (sym (ap initial e)) (omega arith)
 
 -- words that name `serve` and nothing that it can do
 no_sessions : (words : List (List ℕ)) (rows : List Row) → subcommand_of program_app words ≡ Some (codes "serve", rows)
@@ -40,20 +50,25 @@ no_sessions words rows met none (Serve cells keys paths) asks = none cells keys 
 no_keys : (keys : KeyOrder) (rows : List Row) → option_and_then keys_in (first_of (codes "keys") rows) ≡ None → HasKeys keys rows → ⊥
 no_keys keys rows none asked = let some : None ≡ Some keys = sym none ∙ asked in cc
 
--- words that name `edges` or `check`, and no order of keys
+-- words that name `edges` and no order of keys, or `check` and nothing that it can do
 no_edges : (words : List (List ℕ)) (rows : List Row) → subcommand_of program_app words ≡ Some (codes "edges", rows)
     → option_and_then keys_in (first_of (codes "keys") rows) ≡ None → AskForNothing words
 no_edges words rows met none (Run Reads) asks = let same = ap initial (rw met at asks.1).0 in absurd (omega (arith, same))
 no_edges words rows met none (Run (Edges keys)) asks = no_keys keys rows none (rw met at asks.1).1
-no_edges words rows met none (Run (Check keys)) asks = let same = ap initial (rw met at asks.1).0 in absurd (omega (arith, same))
+no_edges words rows met none (Run (Check workers keys)) asks = let same = ap initial (rw met at asks.1).0 in absurd (omega (arith, same))
 no_edges words rows met none (Serve cells keys paths) asks = let same = ap initial (rw met at asks.1).0 in absurd (omega (arith, same))
 
 no_check : (words : List (List ℕ)) (rows : List Row) → subcommand_of program_app words ≡ Some (codes "check", rows)
-    → option_and_then keys_in (first_of (codes "keys") rows) ≡ None → AskForNothing words
+    → ((workers : ℕ) (keys : KeyOrder) → AreForCheck workers keys rows → ⊥) → AskForNothing words
 no_check words rows met none (Run Reads) asks = let same = ap initial (rw met at asks.1).0 in absurd (omega (arith, same))
 no_check words rows met none (Run (Edges keys)) asks = let same = ap initial (rw met at asks.1).0 in absurd (omega (arith, same))
-no_check words rows met none (Run (Check keys)) asks = no_keys keys rows none (rw met at asks.1).1
+no_check words rows met none (Run (Check workers keys)) asks = none workers keys (rw met at asks.1).1
 no_check words rows met none (Serve cells keys paths) asks = let same = ap initial (rw met at asks.1).0 in absurd (omega (arith, same))
+
+-- a number of threads that isn't one
+no_workers : (workers : ℕ) (keys : KeyOrder) (rows : List Row) → option_and_then workers_in (first_of (codes "workers") rows) ≡ None
+    → AreForCheck workers keys rows → ⊥
+no_workers workers keys rows none asked = let some : None ≡ Some workers = sym none ∙ asked.workers_are in cc
 
 -- a number of cells that isn't one
 no_cells : (cells : ℕ) (keys : KeyOrder) (paths : List (List ℕ)) (rows : List Row) → option_and_then cells_in (first_of (codes "cells") rows) ≡ None
@@ -128,11 +143,34 @@ unfolding clap_on_literals
 check_other_keys name =
     let words : List (List ℕ) = name ∷ codes "check" ∷ codes "--keys" ∷ codes "other" ∷ [] in
     let rows : List Row = rows_in (subcommand_of program_app words) in
-    no_check words rows refl refl
+    no_check words rows refl (λ workers keys asked. no_keys keys rows refl asked.keys_are)
 
 pub check_no_keys : (name : List ℕ) → AskForNothing (name ∷ codes "check" ∷ codes "--keys" ∷ [])
 unfolding clap_on_literals
 check_no_keys name = refused (name ∷ codes "check" ∷ codes "--keys" ∷ []) _ refl
+
+pub no_workers_at_all : (name : List ℕ) → AskForNothing (name ∷ codes "check" ∷ codes "--workers=0" ∷ [])
+unfolding clap_on_literals
+no_workers_at_all name = refused (name ∷ codes "check" ∷ codes "--workers=0" ∷ []) _ refl
+
+pub too_many_workers : (name : List ℕ) → AskForNothing (name ∷ codes "check" ∷ codes "--workers=65" ∷ [])
+unfolding clap_on_literals
+too_many_workers name = refused (name ∷ codes "check" ∷ codes "--workers=65" ∷ []) _ refl
+
+pub signed_workers : (name : List ℕ) → AskForNothing (name ∷ codes "check" ∷ codes "--workers=+4" ∷ [])
+unfolding clap_on_literals
+signed_workers name =
+    let words : List (List ℕ) = name ∷ codes "check" ∷ codes "--workers=+4" ∷ [] in
+    let rows : List Row = rows_in (subcommand_of program_app words) in
+    no_check words rows refl (λ workers keys. no_workers workers keys rows refl)
+
+pub workers_left_out : (name : List ℕ) → AskForNothing (name ∷ codes "check" ∷ codes "--workers" ∷ [])
+unfolding clap_on_literals
+workers_left_out name = refused (name ∷ codes "check" ∷ codes "--workers" ∷ []) _ refl
+
+pub edges_with_workers : (name : List ℕ) → AskForNothing (name ∷ codes "edges" ∷ codes "--workers=2" ∷ [])
+unfolding clap_on_literals
+edges_with_workers name = refused (name ∷ codes "edges" ∷ codes "--workers=2" ∷ []) _ refl
 
 pub reads_with_keys : (keys : KeyOrder) (name : List ℕ) → AskForNothing (name ∷ codes "reads" ∷ codes "--keys" ∷ name_of_order keys ∷ [])
 unfolding clap_on_literals

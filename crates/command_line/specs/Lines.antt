@@ -15,6 +15,7 @@ use Rattle.command_line.specs.declared.types.Asked.{Asked}
 use Rattle.command_line.specs.declared.types.Asked.TheVariants.{Run, Serve}
 use Rattle.command_line.specs.declared.types.LineFault.{LineFault}
 use Rattle.command_line.specs.declared.types.LineFault.TheVariants.{Usage, Memory}
+use Rattle.command_line.specs.declared.types.TheConstants.{MAX_WORKERS}
 use Rattle.command_line.specs.declared.words.TheConstants.{HELP, SEE_HELP}
 use Rattle.command_line.specs.declared.types.Command.{Command}
 use Rattle.command_line.specs.declared.types.Command.TheVariants.{Reads, Edges, Check}
@@ -27,7 +28,7 @@ with_required a = record a { top = record a.top { subcommand_required = true } }
 abbrev pub word_of : Command → List ℕ
 word_of Reads = codes "reads"
 word_of (Edges keys) = codes "edges"
-word_of (Check keys) = codes "check"
+word_of (Check workers keys) = codes "check"
 
 -- ---- keys
 
@@ -54,6 +55,33 @@ keys_in text =
 -- what the parse found after a subcommand is the word for this order of keys
 abbrev pub HasKeys : (keys : KeyOrder) → List Row → Type 0
 HasKeys keys rows = option_and_then keys_in (first_of (codes "keys") rows) ≡ Some keys
+
+-- ---- check
+
+-- the number that digits write, if it is from 1 to this one
+abbrev pub number_to : (most : ℕ) → List ℕ → Option ℕ
+number_to most text =
+    let n = digits_value 10 text in
+    if list_all is_ascii_digit text && nat_lt 0 n && nat_le n most then Some n else None
+
+-- `--workers N`, a number from 1 to 64, 1 if it is not given
+abbrev pub workers_rule : Rule
+workers_rule =
+    record (new_rule (codes "workers")) {
+      long = Some (codes "workers");
+      value_names = 1;
+      defaults = codes "1" ∷ [];
+      parser = Some (Unsigned 1 MAX_WORKERS);
+    }
+
+-- the number of threads that digits write, if a history may have so many
+abbrev pub workers_in : List ℕ → Option ℕ
+workers_in text = number_to MAX_WORKERS text
+
+-- what the parse found after `check` is a number of threads and the word for an order of keys
+pub record AreForCheck (workers : ℕ) (keys : KeyOrder) (rows : List Row) : Type 0 where
+  pub workers_are : option_and_then workers_in (first_of (codes "workers") rows) ≡ Some workers
+  pub keys_are : HasKeys keys rows
 
 -- ---- serve
 
@@ -82,9 +110,7 @@ serve_app =
 
 -- the number of cells that digits write, if a row may have so many
 abbrev pub cells_in : List ℕ → Option ℕ
-cells_in text =
-    let n = digits_value 10 text in
-    if list_all is_ascii_digit text && nat_lt 0 n && nat_le n MAX_CELLS then Some n else None
+cells_in text = number_to MAX_CELLS text
 
 -- the paths are two by two, and fewer than 2 ^ 32 pairs
 abbrev pub come_in_pairs : List (List ℕ) → Bool
@@ -112,29 +138,38 @@ AsksForSessions (Run command) rows = ⊥
 abbrev pub app_with_keys : (name : List ℕ) → App
 app_with_keys name = with_rule (new_app name) keys_rule
 
+abbrev pub check_app : App
+check_app = with_rule (with_rule (new_app (codes "check")) workers_rule) keys_rule
+
 -- a subcommand for each command, and one to serve
 abbrev pub program_app : App
 program_app =
     let jepcheck = with_required (new_app (codes "jepcheck")) in
     let reads = with_subcommand jepcheck (new_app (codes "reads")).top in
     let edges = with_subcommand reads (app_with_keys (codes "edges")).top in
-    let check = with_subcommand edges (app_with_keys (codes "check")).top in
+    let check = with_subcommand edges check_app.top in
     with_subcommand check serve_app.top
 
 -- the parse met this subcommand
 abbrev pub IsMet : (name : List ℕ) → Option (Text × List Row) → Type 0
 IsMet name met = option_map (λ subcommand. subcommand.0) met ≡ Some name
 
--- where a command has keys of an order, what the parse found after it names that order
-abbrev pub HasKeysOf : Command → List Row → Type 0
-HasKeysOf Reads rows = Unit {0}
-HasKeysOf (Edges keys) rows = HasKeys keys rows
-HasKeysOf (Check keys) rows = HasKeys keys rows
+-- what the parse found after a command are its options
+abbrev pub HasOptionsOf : Command → List Row → Type 0
+HasOptionsOf Reads rows = Unit {0}
+HasOptionsOf (Edges keys) rows = HasKeys keys rows
+HasOptionsOf (Check workers keys) rows = AreForCheck workers keys rows
+
+-- it asks for a check with these options
+abbrev pub AsksForCheck : Command → List Row → Type 0
+AsksForCheck Reads rows = ⊥
+AsksForCheck (Edges keys) rows = ⊥
+AsksForCheck (Check workers keys) rows = AreForCheck workers keys rows
 
 -- what it met asks for this command
 abbrev pub IsRun : Command → Option (Text × List Row) → Type 0
 IsRun command met =
-    IsMet (word_of command) met × IfSome met (λ subcommand. HasKeysOf command subcommand.1)
+    IsMet (word_of command) met × IfSome met (λ subcommand. HasOptionsOf command subcommand.1)
 
 -- what it met asks for a session for each pair of these paths
 abbrev pub IsServe

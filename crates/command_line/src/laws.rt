@@ -6,13 +6,13 @@ ghost use Rattle.command_line.specs.declared.types.Asked.TheVariants.{Run};
 ghost use Rattle.command_line.specs.declared.types.Command.{Command};
 ghost use Rattle.command_line.specs.declared.types.Command.TheVariants.{Reads, Edges, Check};
 ghost use Rattle.hist_types.specs.declared.types.KeyOrder.{KeyOrder};
-ghost use Rattle.hist_types.specs.declared.types.KeyOrder.TheVariants.{Basic};
+ghost use Rattle.hist_types.specs.declared.types.KeyOrder.TheVariants.{Basic, Sequential};
 
 /// The program's name, whatever it is, and the word of a command ask for the command, with basic keys if it takes `--keys`.
 pub fn commands_are_asked_for()
     ensures reads { (name : List ℕ) → AskFor (Run Reads) (name ∷ codes "reads" ∷ []) }
     ensures edges { (name : List ℕ) → AskFor (Run (Edges Basic)) (name ∷ codes "edges" ∷ []) }
-    ensures check { (name : List ℕ) → AskFor (Run (Check Basic)) (name ∷ codes "check" ∷ []) }
+    ensures check { (name : List ℕ) → AskFor (Run (Check 1 Basic)) (name ∷ codes "check" ∷ []) }
 {}
 
 /// With `--keys`, `edges` and `check` ask for keys of the order that it names, in the next word or after `=`.
@@ -21,9 +21,9 @@ pub fn keys_are_asked_for()
         (name ∷ codes "edges" ∷ codes "--keys" ∷ name_of_order keys ∷ []) }
     ensures edges_joined { (keys : KeyOrder) (name : List ℕ) → AskFor (Run (Edges keys))
         (name ∷ codes "edges" ∷ (codes "--keys=" ++ name_of_order keys) ∷ []) }
-    ensures check { (keys : KeyOrder) (name : List ℕ) → AskFor (Run (Check keys))
+    ensures check { (keys : KeyOrder) (name : List ℕ) → AskFor (Run (Check 1 keys))
         (name ∷ codes "check" ∷ codes "--keys" ∷ name_of_order keys ∷ []) }
-    ensures check_joined { (keys : KeyOrder) (name : List ℕ) → AskFor (Run (Check keys))
+    ensures check_joined { (keys : KeyOrder) (name : List ℕ) → AskFor (Run (Check 1 keys))
         (name ∷ codes "check" ∷ (codes "--keys=" ++ name_of_order keys) ∷ []) }
 {}
 
@@ -39,6 +39,32 @@ pub fn no_keys_are_asked_for()
         → AskForNothing (name ∷ codes "check" ∷ codes "--keys" ∷ []) }
     ensures reads { (keys : KeyOrder) (name : List ℕ)
         → AskForNothing (name ∷ codes "reads" ∷ codes "--keys" ∷ name_of_order keys ∷ []) }
+{}
+
+/// With `--workers`, `check` asks for so many threads, in the next word or after `=`, before another option or after it.
+pub fn workers_are_asked_for()
+    ensures apart { (name : List ℕ) → AskFor (Run (Check 2 Basic))
+        (name ∷ codes "check" ∷ codes "--workers" ∷ codes "2" ∷ []) }
+    ensures joined { (name : List ℕ)
+        → AskFor (Run (Check 64 Basic)) (name ∷ codes "check" ∷ codes "--workers=64" ∷ []) }
+    ensures keys { (name : List ℕ) → AskFor (Run (Check 2 Sequential))
+        (name ∷ codes "check" ∷ codes "--keys" ∷ codes "sequential" ∷ codes "--workers" ∷ codes "2"
+        ∷ []) }
+{}
+
+/// `check` asks for nothing if `--workers` names no number from 1 to 64 in digits alone or is the last word, and `edges` takes no
+/// such option.
+pub fn no_workers_are_asked_for()
+    ensures zero { (name : List ℕ)
+        → AskForNothing (name ∷ codes "check" ∷ codes "--workers=0" ∷ []) }
+    ensures many { (name : List ℕ)
+        → AskForNothing (name ∷ codes "check" ∷ codes "--workers=65" ∷ []) }
+    ensures sign { (name : List ℕ)
+        → AskForNothing (name ∷ codes "check" ∷ codes "--workers=+4" ∷ []) }
+    ensures alone { (name : List ℕ)
+        → AskForNothing (name ∷ codes "check" ∷ codes "--workers" ∷ []) }
+    ensures edges { (name : List ℕ)
+        → AskForNothing (name ∷ codes "edges" ∷ codes "--workers=2" ∷ []) }
 {}
 
 /// The program's name, whatever it is, `serve` and paths two by two ask for a session for each pair, at a journal of 65,536

@@ -3,6 +3,9 @@
 use hist_types::types::KeyOrder;
 use std::alloc::AllocError;
 
+/// The most threads that may work on one history.
+pub const MAX_WORKERS: usize = 64;
+
 /// What is done with a history.
 #[derive(Clone, Copy, Debug, PartialEq, Eq)]
 pub enum Command {
@@ -10,8 +13,8 @@ pub enum Command {
     Reads,
     /// Print the dependency edges between transactions, of keys of this order.
     Edges(KeyOrder),
-    /// Print which phenomena the history has, with what shows each, of keys of this order.
-    Check(KeyOrder),
+    /// Print which phenomena the history has, with what shows each, of keys of this order. So many threads may work on it.
+    Check { workers: usize, keys: KeyOrder },
 }
 
 /// What a command line asks for.

@@ -6,11 +6,11 @@ ghost use Rattle.std.specs.IoError.{error_kind};
 ghost use Rattle.std.specs.List.{list_all};
 ghost use Rattle.std.specs.declared.io.ErrorKind.TheVariants.{OutOfMemory};
 ghost use Rattle.clap.specs.Words.{app_of, first_of, found_of, kind_of, rows_of, rule_of, subcommand_rows_of};
-ghost use Rattle.command_line.specs.Lines.{cells_rule, keys_rule, paths_rule, program_app, cells_in, keys_in, HasKeys, come_in_pairs, AreForSessions, AsksForSessions, IsAskedBy, first_line, AskFor, AskForHelp, MayAskForHelp, IsComplaint, Helps, SaysWhatIsWrong};
+ghost use Rattle.command_line.specs.Lines.{cells_rule, keys_rule, paths_rule, workers_rule, program_app, number_to, cells_in, workers_in, keys_in, HasKeys, AreForCheck, AsksForCheck, come_in_pairs, AreForSessions, AsksForSessions, IsAskedBy, first_line, AskFor, AskForHelp, MayAskForHelp, IsComplaint, Helps, SaysWhatIsWrong};
 ghost use Rattle.command_line.specs.declared.types.Asked.{Asked};
 ghost use Rattle.hist_types.specs.declared.types.KeyOrder.{KeyOrder};
 
-use crate::types::{Asked, Command, LineFault};
+use crate::types::{Asked, Command, LineFault, MAX_WORKERS};
 use clap::error::ErrorKind;
 use hist_types::limits::MAX_CELLS;
 use hist_types::types::KeyOrder;
@@ -21,7 +21,7 @@ use std::io;
 const HELP: &str = "\
 jepcheck 0.1.0: reports where a run of a Jepsen test broke strict serializability.
 
-Usage: jepcheck check [--keys ORDER] < HISTORY
+Usage: jepcheck check [--workers N] [--keys ORDER] < HISTORY
        jepcheck reads < HISTORY
        jepcheck edges [--keys ORDER] < HISTORY
        jepcheck serve [--cells N] [--keys ORDER] IN OUT [IN OUT ...]
@@ -40,6 +40,7 @@ Commands:
            journal of N cells, 65536 if not given and 1048576 at most, and each line of operations takes one
 
 Options:
+  --workers N   how many threads check may use, 1 (the default) to 64; the answer is the same
   --keys ORDER  how check, edges and serve order the versions of a key: by what each transaction shows by itself
                 (basic, the default), or also by what each process sees in turn (sequential). Give sequential
                 only if each register is sequentially consistent for each client
@@ -81,6 +82,18 @@ fn cells_option<'a>(alloc: Global) -> clap::Arg<'a>
         .default_value("65536")
 }
 
+/// How many threads `check` may use.
+fn workers_option<'a>(alloc: Global) -> clap::Arg<'a>
+    ensures rule { rule_of result ≡ workers_rule }
+    ensures local { result.global ≡ false }
+{
+    clap::Arg::new(alloc, "workers")
+        .long("workers")
+        .value_name("N")
+        .value_parser(clap::value_parser!(usize).range(1..=MAX_WORKERS as i64))
+        .default_value("1")
+}
+
 /// Which order the versions of a key have, by its name, which `keys_in` checks.
 fn keys_option<'a>(alloc: Global) -> clap::Arg<'a>
     ensures rule { rule_of result ≡ keys_rule }
@@ -109,7 +122,9 @@ fn program<'a>(alloc: Global) -> Result<clap::Command<'a>, AllocError>
 {
     let reads = clap::Command::new(alloc, "reads");
     let edges = clap::Command::new(alloc, "edges").arg(keys_option(alloc))?;
-    let check = clap::Command::new(alloc, "check").arg(keys_option(alloc))?;
+    let check = clap::Command::new(alloc, "check")
+        .arg(workers_option(alloc))?
+        .arg(keys_option(alloc))?;
     let serve = clap::Command::new(alloc, "serve")
         .arg(cells_option(alloc))?
         .arg(keys_option(alloc))?
@@ -200,15 +215,15 @@ fn all_digits(text: &[u8]) -> bool
     text.iter().all(|b| b.is_ascii_digit())
 }
 
-/// The number of cells that digits write, if a row may have so many.
-fn cells_in(text: &str) -> Option<usize>
-    ensures { result ≡ cells_in text.now }
+/// The number that digits write, if it is from 1 to this one.
+fn number_to(most: usize, text: &str) -> Option<usize>
+    ensures { result ≡ number_to most text.now }
 {
     if !all_digits(text.as_bytes()) {
         return None;
     }
     match text.parse::<usize>() {
-        Ok(cells) if 0 < cells && cells <= MAX_CELLS => Some(cells),
+        Ok(number) if 0 < number && number <= most => Some(number),
         _ => None,
     }
 }
@@ -248,7 +263,15 @@ fn cells_found(serve: &clap::ArgMatches<'_>) -> Option<usize>
     ensures { result ≡ option_and_then cells_in
         (first_of (codes "cells") (rows_of (found_of serve.now))) }
 {
-    cells_in(serve.get_str("cells")?)
+    number_to(MAX_CELLS, serve.get_str("cells")?)
+}
+
+/// How many threads are asked for, where `check` was met with these arguments.
+fn workers_found(check: &clap::ArgMatches<'_>) -> Option<usize>
+    ensures { result ≡ option_and_then workers_in
+        (first_of (codes "workers") (rows_of (found_of check.now))) }
+{
+    number_to(MAX_WORKERS, check.get_str("workers")?)
 }
 
 /// Which order of keys is named, where a command was met with these arguments.
@@ -282,6 +305,23 @@ fn keys_asked(alloc: Global, command: &clap::ArgMatches<'_>) -> Result<KeyOrder,
         Some(keys) => Ok(keys),
         None => Err(no_order(alloc, command.get_str("keys").unwrap_or(""))),
     }
+}
+
+/// What is asked for where `check` was met with these arguments.
+fn check_asked(alloc: Global, check: &clap::ArgMatches<'_>) -> Result<Command, LineFault>
+    ensures only { IfOk result (λ command. AsksForCheck command (rows_of (found_of check.now))) }
+    ensures asked { IfErr result (λ _. (workers : ℕ) (keys : KeyOrder)
+        → ¬ AreForCheck workers keys (rows_of (found_of check.now))) }
+    ensures wrong { IfErr result SaysWhatIsWrong }
+{
+    let Some(workers) = workers_found(check) else {
+        return Err(wrong(
+            alloc,
+            "error: the value of '--workers <N>' is not written in digits",
+        ));
+    };
+    let keys = keys_asked(alloc, check)?;
+    Ok(Command::Check { workers, keys })
 }
 
 /// What is asked for where `serve` was met with these arguments.
@@ -322,7 +362,7 @@ fn asked_by(alloc: Global, matches: &clap::ArgMatches<'_>) -> Result<Asked, Line
     match matches.subcommand() {
         Some(("reads", _)) => Ok(Asked::Run(Command::Reads)),
         Some(("edges", edges)) => Ok(Asked::Run(Command::Edges(keys_asked(alloc, edges)?))),
-        Some(("check", check)) => Ok(Asked::Run(Command::Check(keys_asked(alloc, check)?))),
+        Some(("check", check)) => Ok(Asked::Run(check_asked(alloc, check)?)),
         Some(("serve", serve)) => sessions_asked(alloc, serve),
         _ => Err(wrong(alloc, "error: no command is named")),
     }

@@ -66,12 +66,12 @@ record Refuses (text : List ℕ) (status : Status) (printed : List ℕ) : Type 0
   by : status ≡ statuses.Refused
   line : printed ≡ refusal_line fault
 
-judged : (command : Command) (text : List ℕ) (status : Status) (printed : List ℕ) → status ≢ statuses.Memory → IsAnswer command text status printed → IsReport command text status printed ⊎ Refuses text status printed
+judged : (command : Command) (text : List ℕ) (status : Status) (printed : List ℕ) → status ≢ statuses.Lacking → IsAnswer command text status printed → IsReport command text status printed ⊎ Refuses text status printed
 judged command text statuses.NoPhenomenon printed given a = inl a
 judged command text statuses.SomePhenomenon printed given a = inl a
 judged command text statuses.Refused printed given a = inr (record { fault = a.0; refused = a.1; by = refl; line = a.2 })
 judged command text statuses.DeviceFault printed given a = absurd a
-judged command text statuses.Memory printed given a = absurd (given refl)
+judged command text statuses.Lacking printed given a = absurd (given refl)
 
 -- a phenomenon is found or not
 same_finding : (keys : KeyOrder) (phenomenon : Phenomenon) (ts : List Transaction) (found other : Option Finding) → IsFinding keys phenomenon ts found → IsFinding keys phenomenon ts other → is_some found ≡ is_some other
@@ -136,7 +136,7 @@ same_verdicts keys events status other printed lines one two = (
 
 -- one status, and except for a verdict one output with it
 abbrev IsSame : Command → (status other : Status) → (printed others : List ℕ) → Type 0
-IsSame command status other printed others = (status ≡ other) × (((keys : KeyOrder) → command ≢ the_check keys) → printed ≡ others)
+IsSame command status other printed others = (status ≡ other) × (((workers : ℕ) (keys : KeyOrder) → command ≢ the_check workers keys) → printed ≡ others)
 
 -- events have one report
 one_report : (command : Command) (events others : List Operation) (status other : Status) (printed lines : List ℕ) → events ≡ others
@@ -144,11 +144,11 @@ one_report : (command : Command) (events others : List Operation) (status other 
 one_report the_reads events others status other printed lines same one two =
     (one.0 ∙ (ap (λ (es : List Operation). status_by (names_read (reads_report es))) same ∙ sym two.0), λ no_check. one.1 ∙ (ap (λ (es : List Operation). reads_text (reads_report es)) same ∙ sym two.1))
 one_report (the_edges keys) events others status other printed lines same one two = (one.0 ∙ sym two.0, λ no_check. one.1 ∙ (ap (λ (es : List Operation). edges_text (edges_report keys es)) same ∙ sym two.1))
-one_report (the_check keys) events others status other printed lines same one two =
-    (same_status keys events status other printed lines one (subst (λ (es : List Operation). IsVerdict keys es other lines) (sym same) two), λ no_check. absurd (no_check keys refl))
+one_report (the_check workers keys) events others status other printed lines same one two =
+    (same_status keys events status other printed lines one (subst (λ (es : List Operation). IsVerdict keys es other lines) (sym same) two), λ no_check. absurd (no_check workers keys refl))
 
 -- a text that has one reading has one answer
-pub one_answer : ((text : List ℕ) → HasOneReading (Reads text)) → (command : Command) (text : List ℕ) (status other : Status) (printed others : List ℕ) → status ≢ statuses.Memory → other ≢ statuses.Memory
+pub one_answer : ((text : List ℕ) → HasOneReading (Reads text)) → (command : Command) (text : List ℕ) (status other : Status) (printed others : List ℕ) → status ≢ statuses.Lacking → other ≢ statuses.Lacking
     → IsAnswer command text status printed → IsAnswer command text other others → IsSame command status other printed others
 one_answer one_reading command text status other printed others given too one two = by_kind (judged command text status printed given one) (judged command text other others too two)
   where
@@ -168,8 +168,8 @@ one_refusal one_reading command text printed others one two =
     one.2 ∙ (ap refusal_line (same_refusal text (one_reading text) one.0 two.0 one.1 two.1) ∙ sym two.2)
 
 -- the reports of `check` on a text differ in witnesses alone
-pub one_verdict : ((text : List ℕ) → HasOneReading (Reads text)) → (keys : KeyOrder) (text : List ℕ) (status other : Status) (printed others : List ℕ)
-    → IsReport (the_check keys) text status printed → IsReport (the_check keys) text other others → DifferInWitnessesAlone printed others
-one_verdict one_reading keys text status other printed others r s =
+pub one_verdict : ((text : List ℕ) → HasOneReading (Reads text)) → (workers more : ℕ) (keys : KeyOrder) (text : List ℕ) (status other : Status) (printed others : List ℕ)
+    → IsReport (the_check workers keys) text status printed → IsReport (the_check more keys) text other others → DifferInWitnessesAlone printed others
+one_verdict one_reading workers more keys text status other printed others r s =
     let same = same_operations text (one_reading text) r.events s.events r.given.given s.given.given in
     same_verdicts keys r.events status other printed others r.reported (subst (λ (es : List Operation). IsVerdict keys es other others) (sym same) s.reported)

@@ -4,22 +4,26 @@ use Rattle.std.proofs.KnownBytes.{Appends-nil}
 use Rattle.std.specs.Prelude.{◌≤◌, ◌⊎◌, IfSome}
 use Rattle.std.specs.Io.KnownBytes.{IsAtEnd}
 use Rattle.std.specs.Fmt.{digits}
-use Rattle.hist_types.specs.Refusals.{memory_fault}
-use Rattle.hist_types.specs.Texts.{refusal_line}
 use Rattle.hist_types.specs.declared.device.Source.{Ghosts as Source}
 use Rattle.hist_types.specs.declared.device.Sink.{Ghosts}
 use Rattle.hist_types.specs.Pieces.{HasTaken, HasTakenInPart}
 use Rattle.command_run.specs.Answers.{IsAnswer}
-use Rattle.command_run.specs.Runs.{HasPrintedMemory, HasAnswered, FailedBy, HasRun}
-use Rattle.command_run.specs.Statuses.{code_of}
+use Rattle.command_run.specs.Runs.{HasPrintedLack, HasAnswered, FailedBy, HasRun}
+use Rattle.command_run.specs.Statuses.{code_of, lack_line}
+use Rattle.command_run.specs.declared.answer.Lack.{Lack}
+use Rattle.command_run.specs.declared.answer.Lack.TheVariants.{Memory, Thread}
 use Rattle.command_run.specs.declared.answer.Status.{Status}
 use Rattle.command_run.specs.declared.answer.Status.TheVariants as statuses
 use Rattle.command_line.specs.declared.types.Command.{Command}
 
--- the line of a program that is out of memory
-memory_line : codes "refused 10 Memory\n" ≡ refusal_line memory_fault
+-- the line of each lack
+pub memory_line : codes "refused 10 Memory\n" ≡ lack_line Memory
 unfolding digits
 memory_line = refl
+
+pub thread_line : codes "refused 11 NoThread\n" ≡ lack_line Thread
+unfolding digits
+thread_line = refl
 
 -- what is known of all texts is known of one that a source may give
 of_any : (known : Option (List ℕ)) (P : List ℕ → Type 0) → ((text : List ℕ) → P text) → (text : List ℕ) × IfSome known (λ rest. text ≡ rest) × P text
@@ -31,15 +35,15 @@ abbrev pub HasPrinted : {T : Type 0} → Ghosts T → (wanted status : Status) �
 HasPrinted device wanted status sink sink' printed =
     ((status ≡ wanted) × HasTaken device sink sink' printed) ⊎ ((status ≡ statuses.DeviceFault) × HasTakenInPart device sink sink' printed)
 
--- the line of a program that is out of memory
-pub memory_printed : {T : Type 0} (device : Ghosts T) (status : Status) (sink sink' : T)
-    → HasPrinted device statuses.Memory status sink sink' (codes "refused 10 Memory\n") → HasPrintedMemory device status sink sink'
-memory_printed {T} device status sink sink' printed = by_end (subst (HasPrinted device statuses.Memory status sink sink') memory_line printed)
+-- the line of a program that lacks something
+pub lack_printed : {T : Type 0} (device : Ghosts T) (lack : Lack) (status : Status) (sink sink' : T)
+    → HasPrinted device statuses.Lacking status sink sink' (lack_line lack) → HasPrintedLack device lack status sink sink'
+lack_printed {T} device lack status sink sink' printed = by_end printed
   where
     P : Status → Type 0
-    P s = HasPrintedMemory device s sink sink'
+    P s = HasPrintedLack device lack s sink sink'
 
-    by_end : HasPrinted device statuses.Memory status sink sink' (refusal_line memory_fault) → P status
+    by_end : HasPrinted device statuses.Lacking status sink sink' (lack_line lack) → P status
     by_end (inl (is, taken)) = subst P (sym is) taken
     by_end (inr (is, stopped)) = subst P (sym is) stopped
 
@@ -50,7 +54,7 @@ module _ {T : Type 0} (device : Ghosts T) (command : Command) (text : List ℕ) 
   answered_whole statuses.SomePhenomenon answer taken = (printed, answer, taken.taken)
   answered_whole statuses.Refused answer taken = (printed, answer, taken.taken)
   answered_whole statuses.DeviceFault answer taken = absurd answer
-  answered_whole statuses.Memory answer taken = (printed, answer, taken.taken)
+  answered_whole statuses.Lacking answer taken = (printed, answer, taken.taken)
 
   -- an answer that is printed is answered
   pub printed_answer : (wanted status : Status) → IsAnswer command text wanted printed → HasPrinted device wanted status sink sink' printed
@@ -62,19 +66,19 @@ module _ {T : Type 0} (device : Ghosts T) (command : Command) (text : List ℕ) 
       let P : Status → Type 0 = λ s. HasAnswered command text s (device.contents sink) (device.contents sink') in
       subst P (sym fault) (wanted, printed, answer, stopped.count, stopped.taken)
 
--- out of memory is an answer to every text
-pub memory_answered : {T : Type 0} (device : Ghosts T) (command : Command) (status : Status) (sink sink' : T) (text : List ℕ)
-    → HasPrintedMemory device status sink sink' → HasAnswered command text status (device.contents sink) (device.contents sink')
-memory_answered device command statuses.NoPhenomenon sink sink' text none = absurd none
-memory_answered device command statuses.SomePhenomenon sink sink' text none = absurd none
-memory_answered device command statuses.Refused sink sink' text none = absurd none
-memory_answered device command statuses.DeviceFault sink sink' text stopped =
-    (statuses.Memory, refusal_line memory_fault, refl, stopped.count, stopped.taken)
-memory_answered device command statuses.Memory sink sink' text taken = (refusal_line memory_fault, refl, taken.taken)
+-- what the program lacks is an answer to every text
+pub lack_answered : {T : Type 0} (device : Ghosts T) (command : Command) (lack : Lack) (status : Status) (sink sink' : T) (text : List ℕ)
+    → HasPrintedLack device lack status sink sink' → HasAnswered command text status (device.contents sink) (device.contents sink')
+lack_answered device command lack statuses.NoPhenomenon sink sink' text none = absurd none
+lack_answered device command lack statuses.SomePhenomenon sink sink' text none = absurd none
+lack_answered device command lack statuses.Refused sink sink' text none = absurd none
+lack_answered device command lack statuses.DeviceFault sink sink' text stopped =
+    (statuses.Lacking, lack_line lack, (lack, refl), stopped.count, stopped.taken)
+lack_answered device command lack statuses.Lacking sink sink' text taken = (lack_line lack, (lack, refl), taken.taken)
 
 -- nothing is a beginning of an answer
 pub nothing_printed : (command : Command) (text : List ℕ) (told : Option (List ℕ)) → HasAnswered command text statuses.DeviceFault told told
-nothing_printed command text told = (statuses.Memory, refusal_line memory_fault, refl, 0, Appends-nil told)
+nothing_printed command text told = (statuses.Lacking, lack_line Memory, (Memory, refl), 0, Appends-nil told)
 
 -- a run of which the answer is right for every text
 pub run_on_any : {S T : Type 0} (reads : Source S) (prints : Ghosts T) (command : Command) (status : Status) (source source' : S) (sink sink' : T)

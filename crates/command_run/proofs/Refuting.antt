@@ -77,8 +77,8 @@ strict_by r e = rw e refl
 
 -- ---- the laws
 
-module _ (one_reading : (text : List ℕ) → HasOneReading (Reads text)) (keys : KeyOrder) where
-  unexplained : (text : List ℕ) (status : Status) (printed : List ℕ) (report : IsReport (Check keys) text status printed)
+module _ (one_reading : (text : List ℕ) → HasOneReading (Reads text)) (workers : ℕ) (keys : KeyOrder) where
+  unexplained : (text : List ℕ) (status : Status) (printed : List ℕ) (report : IsReport (Check workers keys) text status printed)
       → strict_of report.reported.report ≡ Refuted
       → HasNoExplanation text
   unexplained text status printed report says events given =
@@ -86,12 +86,12 @@ module _ (one_reading : (text : List ℕ) → HasOneReading (Reads text)) (keys 
       (same_operations text (one_reading text) report.events events report.given.given given.given)
       (verdict_refutes keys report.events report.reported.report report.given.kept report.reported.is_verdict says)
 
-  pub refuted_by_status : (text printed : List ℕ) → IsReport (Check keys) text statuses.SomePhenomenon printed → HasNoExplanation text
+  pub refuted_by_status : (text printed : List ℕ) → IsReport (Check workers keys) text statuses.SomePhenomenon printed → HasNoExplanation text
   refuted_by_status text printed report =
       unexplained text statuses.SomePhenomenon printed report
       (strict_by report.reported.report (by_status (names_phenomenon report.reported.report) report.reported.status_is))
 
-  pub refuted_by_line : (text : List ℕ) (status : Status) (printed : List ℕ) → IsReport (Check keys) text status printed → EndsWith printed (codes "strict refuted\n") → HasNoExplanation text
+  pub refuted_by_line : (text : List ℕ) (status : Status) (printed : List ℕ) → IsReport (Check workers keys) text status printed → EndsWith printed (codes "strict refuted\n") → HasNoExplanation text
   refuted_by_line text status printed report ends =
       unexplained text status printed report
       (says_refuted (strict_of report.reported.report) printed

@@ -20,4 +20,4 @@ module _ (text printed : List ℕ) (events : List Operation) (given : GivesEvent
   pub report_answers : (command : Command) (status : Status) → Reports command events status printed → IsAnswer command text status printed
   report_answers Reads status (is, printed) = by_status Reads _ status is (is, printed)
   report_answers (Edges keys) status (is, printed) = by_status (Edges keys) false status is (is, printed)
-  report_answers (Check keys) status verdict = by_status (Check keys) _ status verdict.status_is verdict
+  report_answers (Check workers keys) status verdict = by_status (Check workers keys) _ status verdict.status_is verdict

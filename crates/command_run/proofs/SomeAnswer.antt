@@ -24,27 +24,27 @@ use Rattle.command_run.specs.declared.answer.Status.TheVariants as statuses
 use Rattle.command_line.specs.declared.types.Command.{Command}
 use Rattle.command_line.specs.declared.types.Command.TheVariants.{Reads as the_reads, Edges as the_edges, Check as the_check}
 
-abbrev is_memory : Status → Bool
-is_memory statuses.Memory = true
-is_memory status = false
+abbrev is_lacking : Status → Bool
+is_lacking statuses.Lacking = true
+is_lacking status = false
 
-not_memory : (status : Status) → is_memory status ≡ false → status ≢ statuses.Memory
-not_memory status other e = false≢true (sym other ∙ ap is_memory e)
+not_lacking : (status : Status) → is_lacking status ≡ false → status ≢ statuses.Lacking
+not_lacking status other e = false≢true (sym other ∙ ap is_lacking e)
 
 refused : (command : Command) (text : List ℕ) (fault : Fault) → IsRefused text fault → HasAnswer command text
-refused command text fault because = (statuses.Refused, refusal_line fault, not_memory statuses.Refused refl, (fault, because, refl))
+refused command text fault because = (statuses.Refused, refusal_line fault, not_lacking statuses.Refused refl, (fault, because, refl))
 
 reported : (command : Command) (text : List ℕ) (events : List Operation) → GivesEvents text events → HasAnswer command text
 reported the_reads text events given = by_reads (names_read (reads_report events)) refl
   where
     by_reads : (named : Bool) → names_read (reads_report events) ≡ named → HasAnswer the_reads text
     by_reads true e =
-        (statuses.SomePhenomenon, reads_text (reads_report events), not_memory statuses.SomePhenomenon refl, record { events = events; given = given; reported = (rw e refl, refl) })
+        (statuses.SomePhenomenon, reads_text (reads_report events), not_lacking statuses.SomePhenomenon refl, record { events = events; given = given; reported = (rw e refl, refl) })
     by_reads false e =
-        (statuses.NoPhenomenon, reads_text (reads_report events), not_memory statuses.NoPhenomenon refl, record { events = events; given = given; reported = (rw e refl, refl) })
+        (statuses.NoPhenomenon, reads_text (reads_report events), not_lacking statuses.NoPhenomenon refl, record { events = events; given = given; reported = (rw e refl, refl) })
 reported (the_edges keys) text events given =
-    (statuses.NoPhenomenon, edges_text (edges_report keys events), not_memory statuses.NoPhenomenon refl, record { events = events; given = given; reported = (refl, refl) })
-reported (the_check keys) text events given = by_named (names_phenomenon report) refl
+    (statuses.NoPhenomenon, edges_text (edges_report keys events), not_lacking statuses.NoPhenomenon refl, record { events = events; given = given; reported = (refl, refl) })
+reported (the_check workers keys) text events given = by_named (names_phenomenon report) refl
   where
     ts : List Transaction
     ts = transactions_of events
@@ -78,11 +78,11 @@ reported (the_check keys) text events given = by_named (names_phenomenon report)
     with_status : (status : Status) → status ≡ status_by (names_phenomenon report) → IsVerdict keys events status (verdict_text report)
     with_status status is = record { report = report; is_verdict = verdict; text = refl; status_is = is }
 
-    by_named : (named : Bool) → names_phenomenon report ≡ named → HasAnswer (the_check keys) text
+    by_named : (named : Bool) → names_phenomenon report ≡ named → HasAnswer (the_check workers keys) text
     by_named true e =
-        (statuses.SomePhenomenon, verdict_text report, not_memory statuses.SomePhenomenon refl, record { events = events; given = given; reported = with_status statuses.SomePhenomenon (rw e refl) })
+        (statuses.SomePhenomenon, verdict_text report, not_lacking statuses.SomePhenomenon refl, record { events = events; given = given; reported = with_status statuses.SomePhenomenon (rw e refl) })
     by_named false e =
-        (statuses.NoPhenomenon, verdict_text report, not_memory statuses.NoPhenomenon refl, record { events = events; given = given; reported = with_status statuses.NoPhenomenon (rw e refl) })
+        (statuses.NoPhenomenon, verdict_text report, not_lacking statuses.NoPhenomenon refl, record { events = events; given = given; reported = with_status statuses.NoPhenomenon (rw e refl) })
 
 judged : (command : Command) (text : List ℕ) (operations : List Operation) → GivesOperations text operations → HasAnswer command text
 judged command text operations given = by_rules (first_broken [] operations) refl

@@ -2,14 +2,15 @@
 use Rattle.std.specs.Prelude.{◌≡◌, ◌≢◌, ◌⊎◌, ℕ, List, [], Option, Some, option_map}
 use Rattle.hist_types.specs.Operations.{Operation}
 use Rattle.hist_types.specs.Journal.{first_broken, KeepsRules}
-use Rattle.hist_types.specs.Refusals.{event_fault, memory_fault}
+use Rattle.hist_types.specs.Refusals.{event_fault}
 use Rattle.hist_types.specs.Reports.{Report, IsVerdictOf, names_phenomenon, reads_report, names_read, edges_report}
 use Rattle.hist_types.specs.Texts.{reads_text, edges_text, verdict_text, refusal_line}
 use Rattle.hist_types.specs.declared.types.Fault.{Fault}
 use Rattle.hist_types.specs.declared.types.KeyOrder.{KeyOrder}
 use Rattle.hist_types.specs.declared.types.KeyOrder.TheVariants.{Basic}
 use Rattle.block_reader.specs.Texts.{GivesOperations, GivesFault}
-use Rattle.command_run.specs.Statuses.{status_by}
+use Rattle.command_run.specs.Statuses.{status_by, lack_line}
+use Rattle.command_run.specs.declared.answer.Lack.{Lack}
 use Rattle.command_run.specs.declared.answer.Status.{Status}
 use Rattle.command_run.specs.declared.answer.Status.TheVariants as statuses
 use Rattle.command_line.specs.declared.types.Command.{Command}
@@ -46,7 +47,7 @@ pub record IsVerdict (keys : KeyOrder) (events : List Operation) (status : Statu
 abbrev pub keys_of : Command → KeyOrder
 keys_of commands.Reads = Basic
 keys_of (commands.Edges keys) = keys
-keys_of (commands.Check keys) = keys
+keys_of (commands.Check workers keys) = keys
 
 -- what a command prints of the events, and the status with it
 abbrev pub Reports : Command → List Operation → Status → List ℕ → Type 0
@@ -55,7 +56,7 @@ Reports commands.Reads events status printed =
     × (printed ≡ reads_text (reads_report events))
 Reports (commands.Edges keys) events status printed =
     (status ≡ statuses.NoPhenomenon) × (printed ≡ edges_text (edges_report keys events))
-Reports (commands.Check keys) events status printed = IsVerdict keys events status printed
+Reports (commands.Check workers keys) events status printed = IsVerdict keys events status printed
 
 -- the report of a command on the events that the text gives
 pub record IsReport (command : Command) (text : List ℕ) (status : Status)
@@ -73,10 +74,10 @@ IsAnswer command text statuses.SomePhenomenon printed =
 IsAnswer command text statuses.Refused printed =
     (fault : Fault) × IsRefused text fault × (printed ≡ refusal_line fault)
 IsAnswer command text statuses.DeviceFault printed = ⊥
-IsAnswer command text statuses.Memory printed = printed ≡ refusal_line memory_fault
+IsAnswer command text statuses.Lacking printed = (lack : Lack) × (printed ≡ lack_line lack)
 
--- the command has an answer to the text other than the one that is out of memory
+-- the command has an answer to the text other than what it lacks
 abbrev pub HasAnswer : Command → List ℕ → Type 0
 HasAnswer command text =
     (status : Status) × (printed : List ℕ)
-    × (status ≢ statuses.Memory) × IsAnswer command text status printed
+    × (status ≢ statuses.Lacking) × IsAnswer command text status printed

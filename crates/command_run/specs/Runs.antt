@@ -3,26 +3,26 @@
 use Rattle.std.specs.Prelude.{◌≡◌, ◌⊎◌, ℕ, ◌≤◌, List, [], take, Option, Result, Err, IfSome, codes, string_bytes}
 use Rattle.std.specs.Io.KnownBytes.{Appends, IsAtEnd}
 use Rattle.hist_types.specs.Devices.{CountsFailure}
-use Rattle.hist_types.specs.Refusals.{memory_fault}
-use Rattle.hist_types.specs.Texts.{refusal_line}
 use Rattle.hist_types.specs.declared.device.Source.{Ghosts as Source}
 use Rattle.hist_types.specs.declared.device.Sink.{Ghosts as Sink}
 use Rattle.hist_types.specs.Pieces.{HasTaken, HasTakenInPart}
 use Rattle.command_run.specs.Answers.{IsAnswer}
-use Rattle.command_run.specs.Statuses.{code_of}
+use Rattle.command_run.specs.Statuses.{code_of, lack_line}
+use Rattle.command_run.specs.declared.answer.Lack.{Lack}
+use Rattle.command_run.specs.declared.answer.Lack.TheVariants.{Memory}
 use Rattle.command_run.specs.declared.answer.Status.{Status}
 use Rattle.command_run.specs.declared.answer.Status.TheVariants as statuses
 use Rattle.command_line.specs.declared.types.LineFault.{LineFault}
 use Rattle.command_line.specs.declared.types.LineFault.TheVariants as line_faults
 use Rattle.command_line.specs.declared.types.Command.{Command}
 
--- the line that says that the program is out of memory was printed, unless the sink failed
-abbrev pub HasPrintedMemory : {T : Type 0} → Sink T → Status → (sink sink' : T) → Type 0
-HasPrintedMemory device statuses.Memory sink sink' =
-    HasTaken device sink sink' (refusal_line memory_fault)
-HasPrintedMemory device statuses.DeviceFault sink sink' =
-    HasTakenInPart device sink sink' (refusal_line memory_fault)
-HasPrintedMemory device status sink sink' = ⊥
+-- the line that says what the program lacks was printed, unless the sink failed
+abbrev pub HasPrintedLack : {T : Type 0} → Sink T → Lack → Status → (sink sink' : T) → Type 0
+HasPrintedLack device lack statuses.Lacking sink sink' =
+    HasTaken device sink sink' (lack_line lack)
+HasPrintedLack device lack statuses.DeviceFault sink sink' =
+    HasTakenInPart device sink sink' (lack_line lack)
+HasPrintedLack device lack status sink sink' = ⊥
 
 -- ---- the run of a command
 
@@ -90,7 +90,7 @@ abbrev pub HasRefusedLine : {T : Type 0} → Sink T → LineFault → Status →
 HasRefusedLine prints (line_faults.Usage text) status sink sink' =
     (status ≡ statuses.Refused) × (sink' ≡ sink)
 HasRefusedLine prints line_faults.Memory status sink sink' =
-    HasPrintedMemory prints status sink sink'
+    HasPrintedLack prints Memory status sink sink'
 
 -- what is said on standard error
 abbrev pub complaint : Result Command LineFault → Status → List ℕ

@@ -2,7 +2,7 @@
 
 ghost use Rattle.std.specs.Prelude.{◌≡◌, IfOk};
 ghost use Rattle.hist_types.specs.Texts.{refusal_line};
-ghost use Rattle.command_run.specs.Statuses.{code_of, status_by};
+ghost use Rattle.command_run.specs.Statuses.{code_of, status_by, lack_line};
 
 use hist_types::types::Fault;
 use report_text::text::refusal_line;
@@ -16,7 +16,8 @@ pub enum Status {
     /// The input was refused, or the command line.
     Refused,
     DeviceFault,
-    Memory,
+    /// The program lacked memory, or a thread.
+    Lacking,
 }
 
 impl Status {
@@ -29,7 +30,38 @@ impl Status {
             Status::SomePhenomenon => 1,
             Status::Refused => 2,
             Status::DeviceFault => 3,
-            Status::Memory => 4,
+            Status::Lacking => 4,
+        }
+    }
+}
+
+/// What a run has no answer without.
+#[derive(Clone, Copy, Debug, PartialEq, Eq)]
+pub enum Lack {
+    Memory,
+    /// A thread couldn't be started.
+    Thread,
+}
+
+impl From<AllocError> for Lack {
+    ghost use Rattle.std.specs.Prelude.{◌≡◌};
+    ghost use Rattle.command_run.specs.declared.answer.Lack.TheVariants.{Memory};
+
+    ghost from_gives = { λ _ lack. lack ≡ Memory };
+
+    fn from(_: AllocError) -> Lack {
+        Lack::Memory
+    }
+}
+
+impl Lack {
+    /// What is printed of it.
+    pub fn line(self) -> &'static [u8]
+        ensures { result.now ≡ lack_line self }
+    {
+        match self {
+            Lack::Memory => b"refused 10 Memory\n",
+            Lack::Thread => b"refused 11 NoThread\n",
         }
     }
 }

@@ -4,12 +4,13 @@ ghost use Rattle.std.specs.Prelude.{◌≡◌, IfOk, IfErr, OnErr};
 ghost use Rattle.hist_types.specs.Pieces.{HasTakenUnlessFailed};
 ghost use Rattle.command_run.specs.Runs.{HasRun, HasRefusedLine, complaint};
 
-use crate::answer::Status;
-use crate::run::{print_memory, run};
+use crate::answer::{Lack, Status};
+use crate::run::{print_lack, run};
 use command_line::types::{Command, LineFault};
 use hist_types::device::{Sink, Source};
 use hist_types::whole::write_all;
 use std::alloc::Global;
+use std::sync::Wait;
 use std::thread::Threads;
 
 /// What is said on standard error: the help, what is wrong with the command line, or that a device failed.
@@ -24,7 +25,7 @@ fn complaint(command: &Result<Command, LineFault>, status: Status) -> &[u8]
 }
 
 /// Runs the command that the command line asks for, and returns how that ended. A sink for errors that fails changes nothing.
-pub fn dispatch<R: Threads + Sync, S: Source, T: Sink, E: Sink>(
+pub fn dispatch<R: Threads + Wait + Sync, S: Source, T: Sink, E: Sink>(
     rt: &R,
     alloc: Global,
     command: Result<Command, LineFault>,
@@ -43,7 +44,7 @@ pub fn dispatch<R: Threads + Sync, S: Source, T: Sink, E: Sink>(
     let status = match &command {
         Ok(command) => run(rt, alloc, *command, source, sink),
         Err(LineFault::Usage(_)) => Status::Refused,
-        Err(LineFault::Memory) => print_memory(sink),
+        Err(LineFault::Memory) => print_lack(sink, Lack::Memory),
     };
     let _ = write_all(errors, complaint(&command, status));
     status

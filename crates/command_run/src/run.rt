@@ -2,23 +2,25 @@
 
 ghost use Rattle.std.specs.Prelude.{◌≡◌, ◌⊎◌, IfOk, IfErr};
 ghost use Rattle.hist_types.specs.Journal.{KeepsRules};
-ghost use Rattle.hist_types.specs.Refusals.{memory_fault};
+ghost use Rattle.verdict.specs.KeyPieces.{IsNumberOfWorkers, IsMemoryOrThread};
 ghost use Rattle.hist_types.specs.Pieces.{HasTaken, HasTakenInPart};
 ghost use Rattle.command_run.specs.Answers.{IsAnswer, IsRefused, Reports, keys_of};
-ghost use Rattle.command_run.specs.Runs.{HasPrintedMemory, HasRun};
+ghost use Rattle.command_run.specs.Runs.{HasPrintedLack, HasRun};
+ghost use Rattle.command_run.specs.Statuses.{lack_line};
 
-use crate::answer::{Answer, Status, refuse};
+use crate::answer::{Answer, Lack, Status, refuse};
 use crate::inputs::journal_of;
 use crate::{check, edges, reads};
 use block_reader::reading::read_blocks;
-use command_line::types::Command;
+use command_line::types::{Command, MAX_WORKERS};
 use hist_types::device::{Failed, Sink, Source};
 use hist_types::types::{Fault, KeyOrder, Refusal};
 use hist_types::whole::{ReadFault, read_all, write_all};
 use journal_core::journal::Core;
-use std::alloc::{AllocError, Global};
+use std::alloc::Global;
+use std::sync::Wait;
 use std::thread::Threads;
-use verdict::tables::tables_of_wide;
+use verdict::tables::tables_of_written;
 
 /// The order of keys that the command rests on. Reads rest on none.
 fn keys_of(command: Command) -> KeyOrder
@@ -26,12 +28,22 @@ fn keys_of(command: Command) -> KeyOrder
 {
     match command {
         Command::Reads => KeyOrder::Basic,
-        Command::Edges(keys) | Command::Check(keys) => keys,
+        Command::Edges(keys) | Command::Check { keys, .. } => keys,
+    }
+}
+
+/// How many threads may work for the command.
+fn workers_of(command: Command) -> usize
+    ensures { IsNumberOfWorkers result }
+{
+    match command {
+        Command::Reads | Command::Edges(_) => 1,
+        Command::Check { workers, .. } => workers.clamp(1, MAX_WORKERS),
     }
 }
 
 /// What the command prints of a journal's events.
-fn report_on<R: Threads + Sync>(
+fn report_on<R: Threads + Wait + Sync>(
     rt: &R,
     alloc: Global,
     command: Command,
@@ -40,20 +52,20 @@ fn report_on<R: Threads + Sync>(
     requires { KeepsRules core.events }
     ensures ok { IfOk result
         (λ answer. Reports command core.entry.events answer.status answer.printed.items) }
-    ensures err { IfErr result (λ fault. fault ≡ memory_fault) }
+    ensures err { IfErr result IsMemoryOrThread }
 {
     let prefix = core.prefix()?;
     let events = prefix.as_events();
-    let tables = tables_of_wide(rt, alloc, events, core.into_written(), keys_of(command))?;
+    let tables = tables_of_written(alloc, events, core.into_written(), keys_of(command))?;
     match command {
         Command::Reads => reads::report(alloc, events, &tables),
         Command::Edges(_) => edges::report(alloc, events, &tables),
-        Command::Check(_) => check::report(rt, alloc, events, &tables),
+        Command::Check { .. } => check::report(rt, alloc, workers_of(command), events, &tables),
     }
 }
 
 /// The report of a command on a text, unless that is refused.
-fn judge<R: Threads + Sync>(
+fn judge<R: Threads + Wait + Sync>(
     rt: &R,
     alloc: Global,
     command: Command,
@@ -61,27 +73,29 @@ fn judge<R: Threads + Sync>(
 ) -> Result<Answer, Fault>
     ensures ok { IfOk result
         (λ answer. IsAnswer command text.items answer.status answer.printed.items) }
-    ensures err { IfErr result (λ fault. (fault ≡ memory_fault) ⊎ IsRefused text.items fault) }
+    ensures err { IfErr result
+        (λ fault. IsMemoryOrThread fault ⊎ IsRefused text.items fault) }
 {
-    let blocks = read_blocks(rt, alloc, text)?;
+    let blocks = read_blocks(rt, alloc, workers_of(command), text)?;
     let core = journal_of(alloc, &blocks)?;
     report_on(rt, alloc, command, core)
 }
 
-/// The answer of a command to a text.
-fn answer_to<R: Threads + Sync>(
+/// The answer of a command to a text, unless the program lacks something.
+fn answer_to<R: Threads + Wait + Sync>(
     rt: &R,
     alloc: Global,
     command: Command,
     text: Vec<u8>,
-) -> Result<Answer, AllocError>
+) -> Result<Answer, Lack>
     ensures { IfOk result
         (λ answer. IsAnswer command text.items answer.status answer.printed.items) }
 {
     match judge(rt, alloc, command, text) {
         Ok(answer) => Ok(answer),
-        Err(fault) if matches!(fault.refusal, Refusal::Memory) => Err(AllocError),
-        Err(fault) => refuse(alloc, fault),
+        Err(fault) if matches!(fault.refusal, Refusal::Memory) => Err(Lack::Memory),
+        Err(fault) if matches!(fault.refusal, Refusal::NoThread) => Err(Lack::Thread),
+        Err(fault) => Ok(refuse(alloc, fault)?),
     }
 }
 
@@ -97,15 +111,15 @@ fn print<T: Sink>(sink: &mut T, status: Status, printed: &[u8]) -> Status
     }
 }
 
-/// Prints that the program is out of memory, which takes none.
-pub fn print_memory<T: Sink>(sink: &mut T) -> Status
-    ensures { HasPrintedMemory T.Sink result sink.old sink.new }
+/// Prints what the program lacks, which takes no memory.
+pub fn print_lack<T: Sink>(sink: &mut T, lack: Lack) -> Status
+    ensures { HasPrintedLack T.Sink lack result sink.old sink.new }
 {
-    print(sink, Status::Memory, b"refused 10 Memory\n")
+    print(sink, Status::Lacking, lack.line())
 }
 
 /// Reads the whole source and prints the command's answer to it.
-pub fn run<R: Threads + Sync, S: Source, T: Sink>(
+pub fn run<R: Threads + Wait + Sync, S: Source, T: Sink>(
     rt: &R,
     alloc: Global,
     command: Command,
@@ -118,10 +132,10 @@ pub fn run<R: Threads + Sync, S: Source, T: Sink>(
     let text = match read_all(alloc, source) {
         Ok(text) => text,
         Err(ReadFault::Device) => return Status::DeviceFault,
-        Err(ReadFault::Memory) => return print_memory(sink),
+        Err(ReadFault::Memory) => return print_lack(sink, Lack::Memory),
     };
     match answer_to(rt, alloc, command, text) {
         Ok(answer) => print(sink, answer.status, &answer.printed),
-        Err(AllocError) => print_memory(sink),
+        Err(lack) => print_lack(sink, lack),
     }
 }

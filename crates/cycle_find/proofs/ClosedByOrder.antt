@@ -1,6 +1,6 @@
 -- A walk with one dependency edge goes back along the order, so the edge's second end comes before its first; and where one node
 -- comes before another, a path of thinned order edges leads from the one to the other.
-use Rattle.std.proofs.Common.{◌≡◌, ◌↔◌, ◌∙◌, ◌<◌, ◌≤◌, inl, inr, ℕ, List, [], ◌∷◌, ◌++◌, Bool, true, false, not, Contains, count_by, sym, ap, subst, arith}
+use Rattle.std.proofs.Common.{◌≡◌, ◌↔◌, ◌∙◌, ◌<◌, ◌≤◌, inl, inr, ℕ, List, [], ◌∷◌, ◌++◌, true, false, Contains, sym, ap, subst, arith}
 use Rattle.std.specs.List.{AllByRecursion, list_all}
 use Rattle.std.proofs.lemmas.Bool.{false≢true, not-false, and_parts}
 use Rattle.hist_types.specs.Edges.{Edge, edge, dependency_labels, order_labels, dependency_edges}
@@ -8,19 +8,17 @@ use Rattle.hist_types.specs.Phenomena.{Leads, Shows, is_ww, is_wr, is_rw, is_ord
 use Rattle.hist_types.specs.ThinnedOrder.{is_ordered, thinned_edges}
 use Rattle.hist_types.specs.Transactions.{Transaction, is_node, nodes}
 use Rattle.hist_types.specs.Versions.{version_pairs}
+use Rattle.hist_types.specs.Witness.{dependencies_in}
 use Rattle.hist_types.specs.declared.types.KeyOrder.{KeyOrder}
 use Rattle.hist_types.specs.declared.types.Level.{Level}
 use Rattle.hist_types.specs.declared.types.Phenomenon.{Phenomenon}
 use Rattle.hist_types.proofs.Members.{In, in_from_Contains, Contains_from_in, in_back, in_append, in_filter}
 use Rattle.history_laws.specs.Paths.{order_edges_between}
 use Rattle.history_laws.specs.WaysBack.{is_needed}
-use Rattle.history_laws.proofs.ThinningCycles.{about_one, leads_apart, all_apart, some_needed, closed_is_led}
-use Rattle.history_laws.proofs.ThinningPaths.{ended_before, ordered_in_time, ordered_from_label, label_from_ordered, edge_between, ends_of, thinned_in_order, leads_on, all_of_both, AreNodes, Way, thinned_way_of, order_edge_of}
-use Rattle.history_laws.proofs.ThinningWalks.{Uncounted, uncounted_edge, count-append, count_yes, all_uncounted, within_in}
-use Rattle.history_laws.proofs.ThinningWitnesses.{dependency_edge, needed_dependency, none_of_three}
-
-abbrev pub is_dependency : Edge → Bool
-is_dependency e = not (is_order e)
+use Rattle.history_laws.proofs.Fewest.{few_by_one}
+use Rattle.history_laws.proofs.ThinningPaths.{ended_before, ordered_in_time, ordered_from_label, label_from_ordered, edge_between, ends_of, thinned_in_order, AreNodes, Way, thinned_way_of, order_edge_of}
+use Rattle.history_laws.proofs.ThinningWalks.{Uncounted, uncounted_edge, all_uncounted, within_in}
+use Rattle.history_laws.proofs.ThinningWitnesses.{is_dependency, dependency_edge, needed_dependency, none_of_three}
 
 -- ---- the order in time
 
@@ -94,24 +92,15 @@ module _ (keys : KeyOrder) (ts : List Transaction) (level : Level) (es : List Ed
       subst (λ z. is_ordered level t z ≡ true) two (subst (λ z. is_ordered level z y ≡ true) one (ordered_from_label level x y label is.labelled))
 
   pub closed_by_order :
-      (phenomenon : Phenomenon) (walk : List Edge) → Shows phenomenon es walk → count_by is_dependency walk ≤ 1
+      (phenomenon : Phenomenon) (walk : List Edge) → Shows phenomenon es walk → dependencies_in walk ≤ 1
       → (e : Edge) × (t u : Transaction) × IsClosedByOrder phenomenon level ts es e t u
   closed_by_order phenomenon walk is few =
-      let (front, e, back, about) = about_one (is_needed phenomenon) walk (some_needed phenomenon walk is.kinds) in
-      let (from, round) = closed_is_led walk is.closed in
-      let led = leads_apart from from front e back (subst (λ xs. Leads from xs from) about.is round) in
-      let within = all_apart (λ (d : Edge). In d es) front (e ∷ back) (subst (AllByRecursion (λ (d : Edge). In d es)) about.is (within_in es walk is.within)) in
-      let rest = back ++ front in
-      let leads : Leads e.to rest e.from = leads_on e.to from e.from back front led.1 led.0 in
-      let i : In e es = within.1.0 in
-      let unordered = needed_dependency phenomenon e about.passes in
-      let n = ap (count_by is_dependency) about.is in
-      let m = count-append is_dependency front (e ∷ back) in
-      let k = count_yes is_dependency e back (ap not unordered) in
-      let l = count-append is_dependency back front in
-      let none : count_by is_dependency rest ≡ 0 = omega (arith, few, n, m, k, l) in
+      let (e, among, needs, rest, back, fewer) = (few_by_one phenomenon es 0).0 (walk, is, few) in
+      let i : In e es = in_from_Contains e es among in
+      let unordered = needed_dependency phenomenon e needs in
+      let none : dependencies_in rest ≡ 0 = omega (arith, fewer) in
       let by_order = all_uncounted is_order is_dependency is_dependency (λ d f g. not-false (is_order d) f) rest none none in
-      let ordered = all_of_order rest (all_of_both (λ (d : Edge). In d es) back front within.1.1 within.0) by_order in
+      let ordered = all_of_order rest (within_in es rest back.within) by_order in
       let (t, u, label, ends) = ends_of (nodes ts) (dependency_labels (version_pairs keys ts)) e (of_dependencies e i unordered) in
       let begins : e.from ≡ t.invocation = ap (λ (d : Edge). d.from) ends.is in
       let finishes : e.to ≡ u.invocation = ap (λ (d : Edge). d.to) ends.is in
@@ -121,13 +110,13 @@ module _ (keys : KeyOrder) (ts : List Transaction) (level : Level) (es : List Ed
         t,
         u,
         record {
-          among = Contains_from_in e es i;
-          needs = about.passes;
+          among = among;
+          needs = needs;
           first = first;
           last = last;
           begins = begins;
           ends = finishes;
-          back = joined e.to e.from u t rest last first finishes begins (λ same. ends.other (sym begins ∙ sym same ∙ finishes)) leads ordered;
+          back = joined e.to e.from u t rest last first finishes begins (λ same. ends.other (sym begins ∙ sym same ∙ finishes)) back.leads ordered;
         },
       )
 

@@ -9,3 +9,6 @@ pub mod OrderBack
 pub mod Scanning
 pub mod Equal
 pub mod Pairs
+pub mod Turned
+pub mod FewBack
+pub mod Past

@@ -15,9 +15,10 @@ use Rattle.hist_types.specs.declared.types.Phenomenon.{Phenomenon}
 use Rattle.hist_types.specs.declared.types.Phenomenon.TheVariants.{G0, G1c, GSingle, G2Item}
 use Rattle.hist_types.proofs.Members.{In, in_from_Contains, in_filter}
 use Rattle.history_laws.specs.WaysBack.{is_needed}
+use Rattle.history_laws.proofs.Fewest.{some_dependency}
 use Rattle.history_laws.proofs.ThinningPaths.{ended_before, ordered_in_time, ends_of, AreNodes, are_nodes, nodes_included}
 use Rattle.history_laws.proofs.ThinningWalks.{Uncounted, count_yes, count_none, within_contains}
-use Rattle.history_laws.proofs.ThinningWitnesses.{needed_dependency}
+use Rattle.history_laws.proofs.ThinningWitnesses.{is_dependency, needed_dependency}
 use Rattle.dep_edges.specs.Histories.{AreOfHistory}
 use Rattle.dep_edges.specs.Tables.{IsPlace, txn_at}
 use Rattle.dep_edges.proofs.Out.{one_by_invocation}
@@ -33,10 +34,11 @@ use Rattle.edge_graph.proofs.EdgesIn.{plain}
 use Rattle.edge_graph.proofs.EdgeArcs.{arc_of_ww, arc_of_wr, way_of_rw, walk_over}
 use Rattle.edge_graph.proofs.Txns.{txn_in, earlier}
 use Rattle.cycle_find.specs.Dependencies.{needed, way_back}
-use Rattle.cycle_find.specs.OneDependency.{ShowsByOne, NeedsMoreThanOne, IsThinnedAt, order_kinds, IsBefore, NoneClosing, NoneClosingBy}
+use Rattle.cycle_find.specs.Found.{ShowsByFewest, NeedsMoreThan, IsThinnedAt}
+use Rattle.cycle_find.specs.OneDependency.{order_kinds, IsBefore, NoneClosing, NoneClosingBy}
 use Rattle.cycle_find.specs.Tasks.{Task, needed_kinds, back_kinds}
 use Rattle.cycle_find.proofs.Closing.{needed_kind, shows}
-use Rattle.cycle_find.proofs.ClosedByOrder.{is_dependency, invoked_before, IsClosedByOrder, closed_by_order, order_path}
+use Rattle.cycle_find.proofs.ClosedByOrder.{invoked_before, IsClosedByOrder, closed_by_order, order_path}
 
 -- ---- labels
 
@@ -71,7 +73,7 @@ pub shows_by_one :
     (task : Task) (from to : ℕ) (e : Edge) (es : List Edge)
     → IsEdgeBetween task.graph (needed_kinds task) from to e
     → AreEdgesBetween task.graph (order_kinds task) to from es
-    → ShowsByOne task.phenomenon (edges_in task.graph task.level) (e ∷ es)
+    → ShowsByFewest task.phenomenon (edges_in task.graph task.level) (e ∷ es)
 shows_by_one task from to e es is are =
     let g = task.graph in
     let level = task.level in
@@ -85,7 +87,10 @@ shows_by_one task from to e es is are =
     } in
     let one = count_yes is_dependency e es (ap not (needed_dependency task.phenomenon e (needed_kind g task.phenomenon e is.edge))) in
     let none = count_none is_dependency es (order_counts level es of_order) in
-    record { shows = shows task from to e es is back; one = omega (arith, one, none) }
+    record {
+      shows = shows task from to e es is back;
+      fewest = λ other is. omega (arith, one, none, some_dependency task.phenomenon (edges_in g level) other is);
+    }
 
 pub shows_by_one_along :
     (task : Task) (from to : ℕ) (path : List ℕ) (e : Edge) (es : List Edge)
@@ -93,7 +98,7 @@ pub shows_by_one_along :
     → slice_index path (length path - 1) ≡ from
     → IsEdgeBetween task.graph (needed_kinds task) from to e
     → AreEdgesAlong task.graph (order_kinds task) path es
-    → ShowsByOne task.phenomenon (edges_in task.graph task.level) (e ∷ es)
+    → ShowsByFewest task.phenomenon (edges_in task.graph task.level) (e ∷ es)
 shows_by_one_along task from to path e es begins ends is are =
     shows_by_one task from to e es is
     (subst (λ n. AreEdgesBetween task.graph (order_kinds task) n from es) begins
@@ -158,7 +163,7 @@ module _ (task : Task) (kept : AreOfHistory task.graph.txns) (by_versions : RwBy
   no_way e t u by_rw none is (from, version, to, ends, way) =
       none version from to (subst (λ d. IsWayByVersion g (kinds_of d Plain) from version to) (sym by_rw) way) (comes_before e t u from to is ends.first ends.last ends.begins ends.ends)
 
-  needs_more : ((e : Edge) (t u : Transaction) → IsClosed e t u → ⊥) → IsThinnedAt g task.level → NeedsMoreThanOne task.phenomenon es
+  needs_more : ((e : Edge) (t u : Transaction) → IsClosed e t u → ⊥) → IsThinnedAt g task.level → NeedsMoreThan 1 task.phenomenon es
   needs_more none thinned walk is = elim (cases_lt 1 _) [
     | inl more ↦ more
     | inr few ↦
@@ -166,17 +171,17 @@ module _ (task : Task) (kept : AreOfHistory task.graph.txns) (by_versions : RwBy
         absurd (none e t u closed)
   ]
 
-  pub none_at_plain : task.level ≡ Plain → IsThinnedAt g task.level → NeedsMoreThanOne task.phenomenon es
+  pub none_at_plain : task.level ≡ Plain → IsThinnedAt g task.level → NeedsMoreThan 1 task.phenomenon es
   none_at_plain same = needs_more (λ e t u is. false≢true (subst (λ level. is_ordered level u t ≡ true) same is.back))
 
-  pub none_directly : (needed task.phenomenon ≡ Rw → ⊥) → NoneClosing task → IsThinnedAt g task.level → NeedsMoreThanOne task.phenomenon es
+  pub none_directly : (needed task.phenomenon ≡ Rw → ⊥) → NoneClosing task → IsThinnedAt g task.level → NeedsMoreThan 1 task.phenomenon es
   none_directly other none = needs_more (λ e t u is.
       elim (has_arcs g task.phenomenon task.level by_versions e is.among is.needs) [
         | inl (direct, arc) ↦ no_direct e t u none is arc
         | inr (same, way) ↦ other same
       ])
 
-  pub none_by_versions : needed task.phenomenon ≡ Rw → ((version : ℕ) → NoneClosingBy task version) → IsThinnedAt g task.level → NeedsMoreThanOne task.phenomenon es
+  pub none_by_versions : needed task.phenomenon ≡ Rw → ((version : ℕ) → NoneClosingBy task version) → IsThinnedAt g task.level → NeedsMoreThan 1 task.phenomenon es
   none_by_versions by_rw none = needs_more (λ e t u is.
       elim (has_arcs g task.phenomenon task.level by_versions e is.among is.needs) [
         | inl (other, arc) ↦ other by_rw

@@ -1,5 +1,5 @@
 -- A walk that shows a phenomenon with two edges is a pair of edges; a pair of edges is such a walk, and has arcs.
-use Rattle.std.proofs.Common.{◌≡◌, ◌∙◌, ◌<◌, ◌≤◌, ◌+◌, inl, inr, ℕ, zero, suc, List, [], ◌∷◌, ◌++◌, length, get_or, Bool, true, false, if◌then◌else◌, is_some, Option, Some, None, ◌⊎◌, Contains, refl, sym, ap, subst, arith}
+use Rattle.std.proofs.Common.{◌≡◌, ◌∙◌, ◌<◌, ◌≤◌, ◌+◌, inl, inr, ℕ, zero, suc, List, [], ◌∷◌, length, get_or, Bool, true, false, not, if◌then◌else◌, is_some, Option, Some, None, ◌⊎◌, Contains, refl, sym, ap, subst, arith}
 use Rattle.std.specs.List.{AllByRecursion, list_all}
 use Rattle.std.specs.Prelude.{◌==◌, slice_get}
 use Rattle.std.proofs.lemmas.Bool.{false≢true, cases_lt, and_parts, eq-eqb}
@@ -7,17 +7,19 @@ use Rattle.std.proofs.lemmas.Option.{get_or_from_slice_get}
 use Rattle.std.proofs.lemmas.List.{get_or_default}
 use Rattle.flat_groups.specs.Groups.{group, groups_from}
 use Rattle.hist_types.specs.Edges.{Label, ww, wr, rw, process, realtime, Edge, dependency_labels}
-use Rattle.hist_types.specs.Phenomena.{Leads, Shows, is_ww, is_wr, is_order, makes}
+use Rattle.hist_types.specs.Phenomena.{Leads, Shows, is_ww, is_wr, is_order}
 use Rattle.hist_types.specs.Transactions.{nodes}
 use Rattle.hist_types.specs.Versions.{version_pairs}
+use Rattle.hist_types.specs.Witness.{dependencies_in}
 use Rattle.hist_types.specs.declared.types.Level.TheVariants.{Plain}
 use Rattle.hist_types.specs.declared.types.Phenomenon.{Phenomenon}
 use Rattle.hist_types.specs.declared.types.Phenomenon.TheVariants.{G0, G1c, GSingle, G2Item}
 use Rattle.hist_types.proofs.Members.{In, in_from_Contains, Contains_from_in}
 use Rattle.history_laws.specs.WaysBack.{is_needed, may_lead_back}
-use Rattle.history_laws.proofs.ThinningCycles.{about_one, leads_apart, all_apart, some_needed, closed_is_led, rest_leads_back}
-use Rattle.history_laws.proofs.ThinningPaths.{ends_of, leads_on, all_of_both}
-use Rattle.history_laws.proofs.ThinningWalks.{within_in}
+use Rattle.history_laws.proofs.Fewest.{few_by_one}
+use Rattle.history_laws.proofs.ThinningPaths.{ends_of}
+use Rattle.history_laws.proofs.ThinningWalks.{count_yes, within_in}
+use Rattle.history_laws.proofs.ThinningWitnesses.{is_dependency}
 use Rattle.dep_edges.specs.Histories.{AreOfHistory}
 use Rattle.dep_edges.specs.Tables.{IsPlace, txn_at}
 use Rattle.edge_graph.specs.Kinds.{includes, kinds_of, has_rw, AreAmong}
@@ -33,7 +35,8 @@ use Rattle.cycle_find.specs.Dependencies.{needed, way_back, direct_back}
 use Rattle.cycle_find.specs.Ranked.{AreRanksOver}
 use Rattle.cycle_find.specs.Sharing.{AreSharing, AreListed}
 use Rattle.cycle_find.specs.Tasks.{Task, needed_kinds, back_kinds}
-use Rattle.cycle_find.specs.TwoDependencies.{NeedsMoreThanTwo, ShowsByTwo, IsTwoOr, AreLevel, vertices_in, direct_kinds, IsPair, NoneDirect, NoneDirectFrom, NoneByVersion, NoneByTwo, HasFollowers, AreFollowed}
+use Rattle.cycle_find.specs.Found.{NeedsMoreThan, ShowsByFewest, IsFewestOr}
+use Rattle.cycle_find.specs.TwoDependencies.{AreLevel, vertices_in, direct_kinds, IsPair, NoneDirect, NoneDirectFrom, NoneByVersion, NoneByTwo, HasFollowers, AreFollowed}
 use Rattle.cycle_find.proofs.Closing.{back_kind, needed_kind, shows}
 use Rattle.cycle_find.proofs.OrderBack.{has_arcs}
 use Rattle.cycle_find.proofs.RankedArcs.{arc_from_within, arc_to_within, behind_version, fewer_plain, among_all}
@@ -49,7 +52,7 @@ rw_of_all G2Item same = refl
 
 -- ---- groups
 
-group_has : (n x : ℕ) (ps : List (ℕ × ℕ)) → In (n, x) ps → In x (group n ps)
+pub group_has : (n x : ℕ) (ps : List (ℕ × ℕ)) → In (n, x) ps → In x (group n ps)
 group_has n x [] i = i
 group_has n x (p ∷ ps) (inl e) =
     let same : (p.0 == n) ≡ true = eq-eqb p.0 n (ap (λ (q : ℕ × ℕ). q.0) e) in
@@ -64,7 +67,7 @@ pub length-groups : (first n : ℕ) (ps : List (ℕ × ℕ)) → length (groups_
 length-groups first zero ps = refl
 length-groups first (suc n) ps = ap suc (length-groups (first + 1) n ps)
 
-group_at : (first n i : ℕ) (ps : List (ℕ × ℕ)) → i < n → slice_get (groups_from first n ps) i ≡ Some (group (first + i) ps)
+pub group_at : (first n i : ℕ) (ps : List (ℕ × ℕ)) → i < n → slice_get (groups_from first n ps) i ≡ Some (group (first + i) ps)
 group_at first zero i ps below = absurd (omega (arith, below))
 group_at first (suc n) zero ps below = let at : first ≡ first + 0 = omega arith in ap (λ k. Some (group k ps)) at
 group_at first (suc n) (suc i) ps below =
@@ -73,11 +76,11 @@ group_at first (suc n) (suc i) ps below =
 
 -- ---- a walk, or nothing
 
-pub two_or : (task : Task) (A B : Type 0) (found : Option (List Edge)) → (A → B) → IsTwoOr task A found → IsTwoOr task B found
+pub two_or : (task : Task) (A B : Type 0) (found : Option (List Edge)) → (A → B) → IsFewestOr task A found → IsFewestOr task B found
 two_or task A B None f is = f is
 two_or task A B (Some walk) f is = is
 
-pub two_otherwise : (task : Task) (A : Type 0) (found : Option (List Edge)) → is_some found ≡ false → IsTwoOr task A found → A
+pub two_otherwise : (task : Task) (A : Type 0) (found : Option (List Edge)) → is_some found ≡ false → IsFewestOr task A found → A
 two_otherwise task A None none is = is
 two_otherwise task A (Some walk) none is = absurd (false≢true (sym none))
 
@@ -143,27 +146,20 @@ all_of_one : (P : Edge → Type 0) (e : Edge) → P e → (k : ℕ) (d : Edge) �
 all_of_one P e p zero d h = p
 all_of_one P e p (suc k) d h = absurd (omega (arith, h))
 
-pub shows_by_two :
+pair_shows :
     (task : Task) (from to : ℕ) (e f : Edge)
     → IsEdgeBetween task.graph (needed_kinds task) from to e
     → IsEdgeBetween task.graph (back_kinds task) to from f
-    → ShowsByTwo task.phenomenon (edges_in task.graph task.level) (e ∷ f ∷ [])
-shows_by_two task from to e f is back = record {
-  shows =
-      shows task from to e (f ∷ []) is
-      (record {
-        leads = (back.leads.begins, back.leads.ends);
-        among = all_of_one (Contains (edges_in task.graph task.level)) f back.edge.among;
-        of_kinds = all_of_one (λ (d : Edge). includes (back_kinds task) d.label ≡ true) f back.edge.kind;
-      });
-  two = refl;
-}
+    → Shows task.phenomenon (edges_in task.graph task.level) (e ∷ f ∷ [])
+pair_shows task from to e f is back =
+    shows task from to e (f ∷ []) is
+    (record {
+      leads = (back.leads.begins, back.leads.ends);
+      among = all_of_one (Contains (edges_in task.graph task.level)) f back.edge.among;
+      of_kinds = all_of_one (λ (d : Edge). includes (back_kinds task) d.label ≡ true) f back.edge.kind;
+    })
 
 -- ---- a walk has a pair
-
-length-both : (xs ys : List Edge) → length (xs ++ ys) ≡ length xs + length ys
-length-both [] ys = omega arith
-length-both (x ∷ xs) ys = let rest = length-both xs ys in omega (arith, rest)
 
 module _ (task : Task) (level : task.level ≡ Plain) (kept : AreOfHistory task.graph.txns) (by_versions : RwByVersions task.graph) where
   abbrev g : Parts
@@ -211,26 +207,50 @@ module _ (task : Task) (level : task.level ≡ Plain) (kept : AreOfHistory task.
       )
   closes e (f ∷ d ∷ rest) i is leads within back few = absurd (omega (arith, few))
 
-  pair_in : (walk : List Edge) → Shows task.phenomenon es walk → length walk ≤ 2 → (from to : ℕ) × IsPair task from to
-  pair_in walk is few =
-      let (front, e, back, about) = about_one (is_needed task.phenomenon) walk (some_needed task.phenomenon walk is.kinds) in
-      let (start, round) = closed_is_led walk is.closed in
-      let led = leads_apart start start front e back (subst (λ xs. Leads start xs start) about.is round) in
-      let within = all_apart (λ (d : Edge). In d es) front (e ∷ back) (subst (AllByRecursion (λ (d : Edge). In d es)) about.is (within_in es walk is.within)) in
-      let made : makes task.phenomenon (front ++ e ∷ back) ≡ true = subst (λ xs. makes task.phenomenon xs ≡ true) about.is is.kinds in
-      let n = ap length about.is in
-      let m = length-both front (e ∷ back) in
-      let k = length-both back front in
-      closes e (back ++ front) within.1.0 about.passes (leads_on e.to start e.from back front led.1 led.0) (all_of_both (λ (d : Edge). In d es) back front within.1.1 within.0)
-      (rest_leads_back task.phenomenon front e back made about.passes) (omega (arith, few, n, m, k))
+  -- each edge is a dependency edge
+  all_counted : (walk : List Edge) → AllByRecursion (λ (d : Edge). In d es) walk → dependencies_in walk ≡ length walk
+  all_counted [] within = refl
+  all_counted (e ∷ walk) within =
+      omega (arith, all_counted walk within.1, count_yes is_dependency e walk (ap not (((levels g Plain e).0 (Contains_from_in e es within.0)).1)))
 
-  needs_more : ((from to : ℕ) → IsPair task from to → ⊥) → NeedsMoreThanTwo task.phenomenon (edges_in g task.level)
-  needs_more none walk is = elim (cases_lt 2 (length walk)) [
+  pair_in : (walk : List Edge) → Shows task.phenomenon es walk → dependencies_in walk ≤ 2 → (from to : ℕ) × IsPair task from to
+  pair_in walk is few =
+      let (e, among, needs, rest, back, fewer) = (few_by_one task.phenomenon es 1).0 (walk, is, few) in
+      let within = within_in es rest back.within in
+      closes e rest (in_from_Contains e es among) needs back.leads within back.kinds (omega (arith, fewer, all_counted rest within))
+
+  at_level : (walk : List Edge) → Shows task.phenomenon (edges_in g task.level) walk → Shows task.phenomenon es walk
+  at_level walk = subst (λ l. Shows task.phenomenon (edges_in g l) walk) level
+
+  needs_more : ((from to : ℕ) → IsPair task from to → ⊥) → NeedsMoreThan 2 task.phenomenon (edges_in g task.level)
+  needs_more none walk is = elim (cases_lt 2 (dependencies_in walk)) [
     | inl more ↦ more
     | inr few ↦
-        let (from, to, pair) = pair_in walk (subst (λ l. Shows task.phenomenon (edges_in g l) walk) level is) few in
+        let (from, to, pair) = pair_in walk (at_level walk is) few in
         absurd (none from to pair)
   ]
+
+  -- ---- a pair is a walk with the fewest
+
+  no_way : (e : Edge) (rest : List Edge) → In e es → Leads e.to rest e.from → length rest ≤ 0 → ⊥
+  no_way e [] i leads few = apart e i leads
+  no_way e (f ∷ rest) i leads few = omega (arith, few)
+
+  two_at_least : (walk : List Edge) → Shows task.phenomenon es walk → 2 ≤ dependencies_in walk
+  two_at_least walk is = elim (cases_lt 1 (dependencies_in walk)) [
+    | inl more ↦ more
+    | inr few ↦
+        let (e, among, needs, rest, back, fewer) = (few_by_one task.phenomenon es 0).0 (walk, is, few) in
+        absurd (no_way e rest (in_from_Contains e es among) back.leads (omega (arith, fewer, all_counted rest (within_in es rest back.within))))
+  ]
+
+  pub shows_by_two :
+      (from to : ℕ) (e f : Edge) → IsEdgeBetween g (needed_kinds task) from to e → IsEdgeBetween g (back_kinds task) to from f
+      → ShowsByFewest task.phenomenon (edges_in g task.level) (e ∷ f ∷ [])
+  shows_by_two from to e f is back =
+      let shown = pair_shows task from to e f is back in
+      let count : dependencies_in (e ∷ f ∷ []) ≡ 2 = all_counted (e ∷ f ∷ []) (within_in es (e ∷ f ∷ []) (at_level (e ∷ f ∷ []) shown).within) in
+      record { shows = shown; fewest = λ other shows. omega (arith, count, two_at_least other (at_level other shows)) }
 
   -- ---- a pair has arcs
 
@@ -316,7 +336,7 @@ module _ (task : Task) (level : task.level ≡ Plain) (kept : AreOfHistory task.
 
   -- ---- no pair
 
-  pub none_directly : (needed task.phenomenon ≡ Rw → ⊥) → NoneDirect task → NeedsMoreThanTwo task.phenomenon (edges_in g task.level)
+  pub none_directly : (needed task.phenomenon ≡ Rw → ⊥) → NoneDirect task → NeedsMoreThan 2 task.phenomenon (edges_in g task.level)
   none_directly other none = needs_more (λ from to pair.
       elim (arcs_there from to pair.0) [
         | inl (direct, arc) ↦ elim (arcs_back from to pair.1) [
@@ -328,7 +348,7 @@ module _ (task : Task) (level : task.level ≡ Plain) (kept : AreOfHistory task.
 
   pub none_by_rw :
       needed task.phenomenon ≡ Rw → (way_back task.phenomenon ≡ All → (version : ℕ) → NoneByTwo task version) → ((version : ℕ) → NoneByVersion task version)
-      → NeedsMoreThanTwo task.phenomenon (edges_in g task.level)
+      → NeedsMoreThan 2 task.phenomenon (edges_in g task.level)
   none_by_rw same two one = needs_more (λ from to pair.
       elim (arcs_there from to pair.0) [
         | inl (other, arc) ↦ other same

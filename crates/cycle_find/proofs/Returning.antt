@@ -17,7 +17,7 @@ use Rattle.dep_edges.specs.Tables.{IsPlace, txn_at}
 use Rattle.edge_graph.specs.Kinds.{includes, kinds_of, AreAmong}
 use Rattle.edge_graph.specs.Parts.{Parts, edges_in}
 use Rattle.edge_graph.specs.Vertices.{IsArc, RwByVersions}
-use Rattle.edge_graph.specs.Walks.{LeadsBetween, IsEdgeOf, AreEdgesBetween, HasDirectArc, HasWayByVersion}
+use Rattle.edge_graph.specs.Walks.{LeadsBetween, IsEdgeOf, IsEdgeBetween, AreEdgesBetween, HasDirectArc, HasWayByVersion}
 use Rattle.edge_graph.specs.declared.types.Dependencies.{Dependencies}
 use Rattle.edge_graph.specs.declared.types.Dependencies.TheVariants.{Ww, Wr, Rw}
 use Rattle.edge_graph.proofs.EdgesIn.{levels}
@@ -77,9 +77,10 @@ module _ (task : Task) (kept : AreOfHistory task.graph.txns) (by_versions : RwBy
   abbrev es : List Edge
   es = edges_in g task.level
 
-  between : (from to : ℕ) (e : Edge) (walk : List Edge) → Contains es e → is_needed task.phenomenon e ≡ true → LeadsBack task.phenomenon es e walk → LeadsBetween g from to e
-      → HasReturnBetween task from to
-  between from to e walk among is back ends =
+  -- the edge, and the edges of its way back
+  pub returning : (from to : ℕ) (e : Edge) (walk : List Edge) → Contains es e → is_needed task.phenomenon e ≡ true → LeadsBack task.phenomenon es e walk → LeadsBetween g from to e
+      → IsEdgeBetween g (needed_kinds task) from to e × AreEdgesBetween g (back_kinds task) to from walk
+  returning from to e walk among is back ends =
       let of_kind : IsEdgeOf g (needed_kinds task) e =
       record {
         among = (levels g task.level e).1 (among, needed_dependency task.phenomenon e is);
@@ -95,7 +96,13 @@ module _ (task : Task) (kept : AreOfHistory task.graph.txns) (by_versions : RwBy
             All-from_recursion (λ (d : Edge). includes (kinds_of (way_back task.phenomenon) task.level) d.label ≡ true) walk
             (back_labels task.phenomenon task.level walk (passes_list (may_lead_back task.phenomenon) walk back.kinds));
       } in
-      ((e, record { edge = of_kind; leads = ends }), walk_over g kept by_versions (back_kinds task) to from ends.last ends.first walk along)
+      (record { edge = of_kind; leads = ends }, along)
+
+  between : (from to : ℕ) (e : Edge) (walk : List Edge) → Contains es e → is_needed task.phenomenon e ≡ true → LeadsBack task.phenomenon es e walk → LeadsBetween g from to e
+      → HasReturnBetween task from to
+  between from to e walk among is back ends =
+      let (edge, along) = returning from to e walk among is back ends in
+      ((e, edge), walk_over g kept by_versions (back_kinds task) to from ends.last ends.first walk along)
 
   directly : (d : Dependencies) (e : Edge) (walk : List Edge) → needed task.phenomenon ≡ d → Contains es e → is_needed task.phenomenon e ≡ true → LeadsBack task.phenomenon es e walk → HasDirectArc g d e
       → (from by to : ℕ) × IsMet task from by to

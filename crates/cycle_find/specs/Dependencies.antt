@@ -2,7 +2,7 @@
 use Rattle.hist_types.specs.declared.types.Phenomenon.{Phenomenon}
 use Rattle.hist_types.specs.declared.types.Phenomenon.TheVariants.{G0, G1c, GSingle, G2Item}
 use Rattle.edge_graph.specs.declared.types.Dependencies.{Dependencies}
-use Rattle.edge_graph.specs.declared.types.Dependencies.TheVariants.{Ww, Wr, Rw, WrAndWw, All}
+use Rattle.edge_graph.specs.declared.types.Dependencies.TheVariants.{None, Ww, Wr, Rw, WrAndWw, All}
 
 -- the edge that it cannot do without
 abbrev pub needed : Phenomenon → Dependencies
@@ -31,3 +31,10 @@ direct_back G0 = Ww
 direct_back G1c = WrAndWw
 direct_back GSingle = WrAndWw
 direct_back G2Item = WrAndWw
+
+-- the edges of the whole walk except those of which it needs one
+abbrev pub others : Phenomenon → Dependencies
+others G0 = None
+others G1c = Ww
+others GSingle = WrAndWw
+others G2Item = WrAndWw

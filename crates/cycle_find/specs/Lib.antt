@@ -8,3 +8,5 @@ pub mod Prepared
 pub mod Completions
 pub mod OneDependency
 pub mod TwoDependencies
+pub mod Fewest
+pub mod Past

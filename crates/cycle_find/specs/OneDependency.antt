@@ -1,17 +1,12 @@
 -- Closed walks with one dependency edge: a needed edge, and order edges from its second end back to
 -- its first.
-use Rattle.std.specs.Prelude.{◌≡◌, ◌↔◌, ◌⊎◌, ℕ, ◌+◌, ◌<◌, List, ◌++◌, length, not, IsTrue, Contains, count_by, Option, Some, None, option_map, Vec}
+use Rattle.std.specs.Prelude.{◌≡◌, ◌⊎◌, ℕ, ◌+◌, ◌<◌, List, length, IsTrue, Option, Some, None, option_map, Vec}
 use Rattle.std.specs.Global.{Global}
 use Rattle.graph_search.specs.Graphs.{IsWalkIfAny}
-use Rattle.hist_types.specs.Edges.{Edge, dependency_edges}
-use Rattle.hist_types.specs.Phenomena.{Shows, is_order}
-use Rattle.hist_types.specs.ThinnedOrder.{is_ordered, thinned_edges}
-use Rattle.hist_types.specs.declared.types.Level.{Level}
-use Rattle.hist_types.specs.declared.types.Phenomenon.{Phenomenon}
+use Rattle.hist_types.specs.ThinnedOrder.{is_ordered}
 use Rattle.dep_edges.specs.Histories.{AreOfHistory}
 use Rattle.dep_edges.specs.Tables.{IsPlace, txn_at}
 use Rattle.edge_graph.specs.Kinds.{kinds_of}
-use Rattle.edge_graph.specs.Parts.{Parts, edges_in}
 use Rattle.edge_graph.specs.Vertices.{IsArc, AreArcs, RwByVersions}
 use Rattle.edge_graph.specs.Walks.{HasEdgeBetween, IsDirectArc, IsWayByVersion}
 use Rattle.edge_graph.specs.declared.types.Dependencies.TheVariants as dependencies
@@ -20,35 +15,6 @@ use Rattle.cycle_find.specs.Completions.{IsKnown}
 use Rattle.cycle_find.specs.Tasks.{Task, needed_kinds}
 use Rattle.cycle_find.specs.declared.completions.Earliest.{Earliest}
 use Rattle.cycle_find.specs.declared.one_dependency.Ends.{Ends}
-
--- how many edges are no order edges
-abbrev pub dependencies_in : List Edge → ℕ
-dependencies_in walk = count_by (λ e. not (is_order e)) walk
-
--- a walk that shows the phenomenon, with one dependency edge
-pub record ShowsByOne (phenomenon : Phenomenon) (es walk : List Edge) : Type 0 where
-  pub shows : Shows phenomenon es walk
-  pub one : dependencies_in walk ≡ 1
-
--- each walk that shows the phenomenon has more
-abbrev pub NeedsMoreThanOne : Phenomenon → List Edge → Type 0
-NeedsMoreThanOne phenomenon es =
-    (walk : List Edge) → Shows phenomenon es walk → 1 < dependencies_in walk
-
--- the graph's order edges at the level are the thinned ones
-abbrev pub IsThinnedAt : Parts → Level → Type 0
-IsThinnedAt g level =
-    (e : Edge)
-    → Contains (edges_in g level) e
-    ↔ Contains (dependency_edges g.keys g.txns ++ thinned_edges level g.txns) e
-
--- a walk that shows it with one dependency edge, or nothing where each needs more, if the order is
--- thinned
-abbrev pub IsFoundByOne : Task → Option (List Edge) → Type 0
-IsFoundByOne task None =
-    IsThinnedAt task.graph task.level
-    → NeedsMoreThanOne task.phenomenon (edges_in task.graph task.level)
-IsFoundByOne task (Some walk) = ShowsByOne task.phenomenon (edges_in task.graph task.level) walk
 
 -- ---- the search
 

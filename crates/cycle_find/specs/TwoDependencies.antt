@@ -1,67 +1,19 @@
 -- Closed walks with two edges at the level plain: an edge of the needed kind from one transaction to
 -- another one, and an edge back.
-use Rattle.std.specs.Prelude.{◌≡◌, ◌⊎◌, ℕ, ◌+◌, ◌<◌, List, length, slice_index, slice_index_or, [], Bool, Contains, Option, Some, None, ⊤}
-use Rattle.hist_types.specs.Edges.{Edge}
-use Rattle.hist_types.specs.Phenomena.{Shows}
-use Rattle.hist_types.specs.declared.types.Level.{Level}
-use Rattle.hist_types.specs.declared.types.Level.TheVariants.{Plain, Process, Realtime}
-use Rattle.hist_types.specs.declared.types.Phenomenon.{Phenomenon}
+use Rattle.std.specs.Prelude.{◌≡◌, ℕ, ◌+◌, List, length, slice_index, slice_index_or, [], Bool, Contains}
+use Rattle.hist_types.specs.declared.types.Level.TheVariants.{Plain}
 use Rattle.dep_edges.specs.Histories.{AreOfHistory}
 use Rattle.dep_edges.specs.Tables.{IsPlace}
 use Rattle.edge_graph.specs.Kinds.{kinds_of}
-use Rattle.edge_graph.specs.Parts.{Parts, edges_in}
+use Rattle.edge_graph.specs.Parts.{Parts}
 use Rattle.edge_graph.specs.Vertices.{IsArc, AreArcs, RwByVersions}
 use Rattle.edge_graph.specs.Walks.{HasEdgeBetween, IsWayByVersion}
 use Rattle.edge_graph.specs.declared.types.Dependencies.TheVariants.{All}
 use Rattle.edge_graph.specs.declared.types.Kinds.{Kinds}
 use Rattle.cycle_find.specs.Dependencies.{direct_back}
-use Rattle.cycle_find.specs.OneDependency.{IsFoundByOne, dependencies_in}
 use Rattle.cycle_find.specs.Ranked.{AreRanksOver}
 use Rattle.cycle_find.specs.Sharing.{AreSharing}
 use Rattle.cycle_find.specs.Tasks.{Task, needed_kinds, back_kinds}
-
--- a walk that shows the phenomenon, with two edges
-pub record ShowsByTwo (phenomenon : Phenomenon) (es walk : List Edge) : Type 0 where
-  pub shows : Shows phenomenon es walk
-  pub two : length walk ≡ 2
-
--- each walk that shows the phenomenon has more
-abbrev pub NeedsMoreThanTwo : Phenomenon → List Edge → Type 0
-NeedsMoreThanTwo phenomenon es = (walk : List Edge) → Shows phenomenon es walk → 2 < length walk
-
--- a walk that shows it with two edges, or nothing where this holds
-abbrev pub IsTwoOr : Task → Type 0 → Option (List Edge) → Type 0
-IsTwoOr task Otherwise None = Otherwise
-IsTwoOr task Otherwise (Some walk) =
-    ShowsByTwo task.phenomenon (edges_in task.graph task.level) walk
-
--- or nothing where each needs more
-abbrev pub IsFoundByTwo : Task → Option (List Edge) → Type 0
-IsFoundByTwo task =
-    IsTwoOr task (NeedsMoreThanTwo task.phenomenon (edges_in task.graph task.level))
-
--- a walk that shows it with the least number of dependency edges that a walk can have at the level:
--- two at plain, or else one; or nothing where each needs more
-abbrev pub IsFoundByLeastAt : Level → Task → Option (List Edge) → Type 0
-IsFoundByLeastAt Plain = IsFoundByTwo
-IsFoundByLeastAt Process = IsFoundByOne
-IsFoundByLeastAt Realtime = IsFoundByOne
-
-abbrev pub IsFoundByLeast : Task → Option (List Edge) → Type 0
-IsFoundByLeast task = IsFoundByLeastAt task.level task
-
--- the walk has that number of them, or each that shows the phenomenon needs more
-abbrev pub IsLeastAt : Level → Task → List Edge → Type 0
-IsLeastAt Plain task walk =
-    (length walk ≡ 2) ⊎ NeedsMoreThanTwo task.phenomenon (edges_in task.graph task.level)
-IsLeastAt Process task walk = (dependencies_in walk ≡ 1) ⊎ IsFoundByOne task None
-IsLeastAt Realtime task walk = (dependencies_in walk ≡ 1) ⊎ IsFoundByOne task None
-
-abbrev pub IsLeastIfAny : Task → Option (List Edge) → Type 0
-IsLeastIfAny task None = ⊤
-IsLeastIfAny task (Some walk) = IsLeastAt task.level task walk
-
--- ---- the search
 
 abbrev pub vertices_in : Parts → ℕ
 vertices_in g = length g.txns + length g.versions

@@ -2,12 +2,15 @@
 #![tactic(auto)]
 
 mod completions;
+mod fewest;
 mod finder;
-mod kinds;
+pub mod kinds;
+mod leading;
 mod one_dependency;
 pub mod ranked_graph;
 pub mod ranked_level;
 mod ranking;
+mod ranks_past;
 mod settle;
 mod sharing;
 mod two_dependencies;

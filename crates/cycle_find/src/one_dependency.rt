@@ -9,7 +9,8 @@ ghost use Rattle.dep_edges.specs.Tables.{IsPlace};
 ghost use Rattle.edge_graph.specs.Vertices.{IsArc};
 ghost use Rattle.edge_graph.specs.declared.types.Dependencies.TheVariants.{Rw};
 ghost use Rattle.cycle_find.specs.Dependencies as walks;
-ghost use Rattle.cycle_find.specs.OneDependency.{IsFoundByOne, IsPathIfAny, IsBefore, AreClosing, AreClosingOr, IsEither, NoneClosing, NoneClosingFrom, NoneClosingBy, NoneClosingFromBy, IsVertex, AreKnown};
+ghost use Rattle.cycle_find.specs.Found.{IsFoundByFewest};
+ghost use Rattle.cycle_find.specs.OneDependency.{IsPathIfAny, IsBefore, AreClosing, AreClosingOr, IsEither, NoneClosing, NoneClosingFrom, NoneClosingBy, NoneClosingFromBy, IsVertex, AreKnown};
 ghost use Rattle.cycle_find.specs.Tasks.{task_of, needed_kinds};
 
 use crate::completions::{Earliest, is_before, is_known_by, lane, note};
@@ -71,6 +72,7 @@ pub(crate) struct OneDependency<'r, 'g, 'v, 'a> {
 }
 
 impl<'r, 'g, 'v, 'a> Model for OneDependency<'r, 'g, 'v, 'a> {
+    ghost use Rattle.cycle_find.specs.Found.{IsFoundByFewest};
     ghost use Rattle.cycle_find.specs.OneDependency.{IsReadyForOne};
     ghost use Rattle.cycle_find.specs.Tasks.{Task, task_of};
 
@@ -101,7 +103,7 @@ impl<'r, 'g, 'v, 'a> OneDependency<'r, 'g, 'v, 'a> {
 
     /// A closed walk with one dependency edge.
     pub fn find(&self) -> Result<Option<Walk<'a>>, AllocError>
-        ensures { IfOk result (IsFoundByOne self.now) }
+        ensures { IfOk result (IsFoundByFewest 1 self.now) }
     {
         match self.ends()? {
             Some(ends) => self.close(ends),
@@ -111,7 +113,7 @@ impl<'r, 'g, 'v, 'a> OneDependency<'r, 'g, 'v, 'a> {
 
     /// The first needed edge whose second end comes before its first.
     fn ends(&self) -> Result<Option<Ends>, AllocError>
-        ensures { IfOk result (AreClosingOr self.now (IsFoundByOne self.now None)) }
+        ensures { IfOk result (AreClosingOr self.now (IsFoundByFewest 1 self.now None)) }
     {
         if self.level == Level::Plain {
             // At plain nothing comes before anything.
@@ -262,7 +264,7 @@ impl<'r, 'g, 'v, 'a> OneDependency<'r, 'g, 'v, 'a> {
     /// The closed walk along a needed edge and a path of order edges back.
     fn close(&self, ends: Ends) -> Result<Option<Walk<'a>>, AllocError>
         requires { AreClosing self.now ends }
-        ensures { IfOk result (IsFoundByOne self.now) }
+        ensures { IfOk result (IsFoundByFewest 1 self.now) }
     {
         let kinds = Kinds::of(needed(self.phenomenon), Level::Plain);
         let Some(edge) = self.graph.edge_between(ends.from, ends.to, kinds)? else {

@@ -5,14 +5,15 @@ ghost use Rattle.hist_types.specs.Refusals.{memory_fault};
 ghost use Rattle.edge_graph.specs.Parts.{edges_in};
 ghost use Rattle.edge_graph.specs.declared.types.Dependencies.TheVariants.{Ww};
 ghost use Rattle.hist_types.specs.declared.types.Phenomenon.TheVariants.{G0, GSingle};
-ghost use Rattle.cycle_find.specs.Found.{IsFound, IsReadyIfAny};
-ghost use Rattle.cycle_find.specs.OneDependency.{IsFoundByOne};
-ghost use Rattle.cycle_find.specs.TwoDependencies.{IsFoundByTwo, IsFoundByLeast, IsLeastIfAny};
+ghost use Rattle.hist_types.specs.Phenomena.{Shows};
+ghost use Rattle.hist_types.specs.Witness.{HasFewest};
+ghost use Rattle.cycle_find.specs.Found.{HasFewestIfAny, IsFound, IsFoundByFewest, IsReadyIfAny, NeedsMoreThan, floor_of};
 ghost use Rattle.hist_types.specs.declared.types.Level.TheVariants.{Plain};
 ghost use Rattle.cycle_find.specs.Ranked.{AreRanksAtAll};
 ghost use Rattle.cycle_find.specs.Sharing.{AreSharing};
 ghost use Rattle.cycle_find.specs.Tasks.{task_of};
 
+use crate::fewest::Fewest;
 use crate::finder::Finder;
 use crate::one_dependency::OneDependency;
 use crate::ranking::{Rankings, far_and_near, ranks_within};
@@ -92,40 +93,45 @@ impl<'r, 'g, 'v, 'a> RankedLevel<'r, 'g, 'v, 'a> {
         self.level
     }
 
-    /// A closed walk that shows the phenomenon at the level, or none where the graph's edges have none. At plain it has two edges,
-    /// and at the other levels one dependency edge, if any such walk has no more.
+    /// A closed walk that shows the phenomenon at the level, or none where the graph's edges have none. Of all such walks it has
+    /// the fewest dependency edges; order edges count nothing.
     ///
-    /// Only memory can run out. It takes a few numbers for each vertex, and no edges are stored but those of the walk.
+    /// Only memory can run out. It takes a few numbers for each vertex and arc, and no edges are stored but those of the walk.
     pub fn find(&self, phenomenon: Phenomenon) -> Result<Option<Walk<'a>>, Fault>
         ensures found { IfOk result (IsFound phenomenon (edges_in self.now.graph self.now.level)) }
-        ensures least { IfOk result
-            (IsLeastIfAny (task_of self.now.graph phenomenon self.now.level)) }
+        ensures fewest { IfOk result
+            (HasFewestIfAny (task_of self.now.graph phenomenon self.now.level)) }
         ensures err { IfErr result (λ fault. fault ≡ memory_fault) }
     {
-        let found = self.find_least(phenomenon)?;
+        let found = self.find_floor(phenomenon)?;
         if found.is_some() {
             return Ok(found);
         }
-        let ranks = match phenomenon {
-            Phenomenon::G0 => return Ok(self.find_writes()?),
-            Phenomenon::GSingle => return Ok(self.find_single()?),
-            Phenomenon::G1c => &self.flow,
-            Phenomenon::G2Item => &self.ranks,
-        };
-        let rankings = Rankings::alike(self.coarse, ranks);
-        let finder = Finder::new(self.alloc, self.graph, phenomenon, self.level, rankings);
-        Ok(finder.find()?)
+        match self.find_first(phenomenon)? {
+            Some(first) => Ok(Some(self.find_fewest(phenomenon, first)?)),
+            None => Ok(None),
+        }
     }
 
-    /// A closed walk that shows the phenomenon with the least number of dependency edges that any can have at the level.
-    fn find_least(&self, phenomenon: Phenomenon) -> Result<Option<Walk<'a>>, AllocError>
-        ensures { IfOk result
-            (IsFoundByLeast (task_of self.now.graph phenomenon self.now.level)) }
+    /// The fewest dependency edges that any closed walk at the level can have.
+    fn floor(&self) -> usize
+        ensures { result ≡ floor_of self.now.level }
     {
-        if self.level == Level::Plain {
-            self.find_by_two(phenomenon)
-        } else {
-            self.find_by_one(phenomenon)
+        match self.level {
+            Level::Plain => 2,
+            Level::Process | Level::Realtime => 1,
+        }
+    }
+
+    /// A closed walk that shows the phenomenon with no more than those.
+    fn find_floor(&self, phenomenon: Phenomenon) -> Result<Option<Walk<'a>>, AllocError>
+        ensures { IfOk result
+            (IsFoundByFewest (floor_of self.now.level)
+            (task_of self.now.graph phenomenon self.now.level)) }
+    {
+        match self.level {
+            Level::Plain => self.find_by_two(phenomenon),
+            Level::Process | Level::Realtime => self.find_by_one(phenomenon),
         }
     }
 
@@ -133,7 +139,7 @@ impl<'r, 'g, 'v, 'a> RankedLevel<'r, 'g, 'v, 'a> {
     fn find_by_two(&self, phenomenon: Phenomenon) -> Result<Option<Walk<'a>>, AllocError>
         requires { self.now.level ≡ Plain }
         ensures { IfOk result
-            (IsFoundByTwo (task_of self.now.graph phenomenon self.now.level)) }
+            (IsFoundByFewest 2 (task_of self.now.graph phenomenon self.now.level)) }
     {
         TwoDependencies::new(self.alloc, self.graph, phenomenon, self.coarse, self.shared).find()
     }
@@ -141,9 +147,38 @@ impl<'r, 'g, 'v, 'a> RankedLevel<'r, 'g, 'v, 'a> {
     /// A closed walk that shows the phenomenon with one dependency edge.
     fn find_by_one(&self, phenomenon: Phenomenon) -> Result<Option<Walk<'a>>, AllocError>
         ensures { IfOk result
-            (IsFoundByOne (task_of self.now.graph phenomenon self.now.level)) }
+            (IsFoundByFewest 1 (task_of self.now.graph phenomenon self.now.level)) }
     {
         OneDependency::new(self.alloc, self.graph, phenomenon, self.level).find()
+    }
+
+    /// A closed walk that shows the phenomenon, with any number of them.
+    fn find_first(&self, phenomenon: Phenomenon) -> Result<Option<Walk<'a>>, AllocError>
+        ensures { IfOk result (IsFound phenomenon (edges_in self.now.graph self.now.level)) }
+    {
+        let ranks = match phenomenon {
+            Phenomenon::G0 => return self.find_writes(),
+            Phenomenon::GSingle => return self.find_single(),
+            Phenomenon::G1c => &self.flow,
+            Phenomenon::G2Item => &self.ranks,
+        };
+        let rankings = Rankings::alike(self.coarse, ranks);
+        Finder::new(self.alloc, self.graph, phenomenon, self.level, rankings).find()
+    }
+
+    /// A closed walk with the fewest, by one that shows the phenomenon. Each has more than the floor.
+    fn find_fewest(&self, phenomenon: Phenomenon, first: Walk<'a>) -> Result<Walk<'a>, AllocError>
+        requires { Shows phenomenon (edges_in self.now.graph self.now.level) first }
+        ensures shows { IfOk result (Shows phenomenon (edges_in self.now.graph self.now.level)) }
+        ensures fewest { NeedsMoreThan (floor_of self.now.level) phenomenon
+            (edges_in self.now.graph self.now.level)
+            → IfOk result (HasFewest phenomenon (edges_in self.now.graph self.now.level)) }
+    {
+        let floor = self.floor();
+        if first.dependency_edges() <= floor + 1 {
+            return Ok(first);
+        }
+        Fewest::new(self.alloc, self.graph, phenomenon, self.level)?.find(first, floor)
     }
 
     /// A closed walk that shows G0, which goes along ww edges and the order alone.

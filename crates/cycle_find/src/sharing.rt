@@ -26,6 +26,13 @@ impl Model for Shared {
     ghost invariant = { λ s. AreListed s.flags.items s.list.items };
 }
 
+/// No memory holds more numbers than there are.
+pub(crate) fn number(vertex: usize) -> Result<u32, AllocError>
+    ensures { IfOk result (λ n. n ≡ vertex) }
+{
+    u32::try_from(vertex).map_err(|_| AllocError)
+}
+
 /// Where a vertex is counted: by its rank, which is less than the number of vertices.
 fn slot(ranks: &Ranks, vertex: usize) -> usize
     requires { vertex < length ranks.now }
@@ -65,7 +72,7 @@ fn list_of(alloc: Global, flags: &[bool]) -> Result<Vec<u32>, AllocError>
     let mut list = Vec::new(alloc);
     for (vertex, flag) in flags.iter().enumerate() {
         if *flag {
-            list.push(u32::try_from(vertex).map_err(|_| AllocError)?)?;
+            list.push(number(vertex)?)?;
         }
     }
     Ok(list)

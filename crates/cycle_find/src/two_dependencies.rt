@@ -18,15 +18,16 @@ ghost use Rattle.flat_groups.specs.Groups.{IsNumbered};
 ghost use Rattle.graph_search.specs.Graphs.{HasArc};
 ghost use Rattle.hist_types.specs.declared.types.Level.TheVariants.{Plain};
 ghost use Rattle.cycle_find.specs.Dependencies as walks;
+ghost use Rattle.cycle_find.specs.Found.{IsFewestOr, IsFoundByFewest};
 ghost use Rattle.cycle_find.specs.OneDependency.{IsVertex};
 ghost use Rattle.cycle_find.specs.Tasks.{task_of, needed_kinds};
 ghost use Rattle.cycle_find.specs.Ranked.{AreRanksOver};
 ghost use Rattle.cycle_find.specs.Sharing.{AreSharing};
 ghost use Rattle.edge_graph.specs.Kinds.{kinds_of};
-ghost use Rattle.cycle_find.specs.TwoDependencies.{AreLevel, IsFoundByTwo, IsTwoOr, IsPair, NoneDirect, NoneDirectFrom, NoneByVersion, NoneBackTo, NoneByTwo, NoneBackFrom, NoneByBoth, AreFollowed, HasFollowers, Includes, vertices_in, IsMarked, KeepsMarks, AreMarked, AreReadersMarked, IsReadMarked, AreReadMarked};
+ghost use Rattle.cycle_find.specs.TwoDependencies.{AreLevel, IsPair, NoneDirect, NoneDirectFrom, NoneByVersion, NoneBackTo, NoneByTwo, NoneBackFrom, NoneByBoth, AreFollowed, HasFollowers, Includes, vertices_in, IsMarked, KeepsMarks, AreMarked, AreReadersMarked, IsReadMarked, AreReadMarked};
 
 use crate::kinds::{direct_back, needed, way_back};
-use crate::sharing::Shared;
+use crate::sharing::{Shared, number};
 use crate::types::Walk;
 use edge_graph::arcs::GraphArcs;
 use edge_graph::graph::Graph;
@@ -37,13 +38,6 @@ use graph_search::ranks::Ranks;
 use hist_types::types::{Level, Phenomenon};
 use std::alloc::{AllocError, Global};
 use std::marker::Model;
-
-/// No memory holds more numbers than there are.
-fn number(vertex: usize) -> Result<u32, AllocError>
-    ensures { IfOk result (λ n. n ≡ vertex) }
-{
-    u32::try_from(vertex).map_err(|_| AllocError)
-}
 
 /// Whether there is an arc from one vertex to the other.
 fn leads(arcs: &GraphArcs<'_>, from: usize, to: usize) -> bool
@@ -141,7 +135,7 @@ impl<'r, 'g, 'v, 'a> TwoDependencies<'r, 'g, 'v, 'a> {
 
     /// A closed walk with two edges.
     pub fn find(&self) -> Result<Option<Walk<'a>>, AllocError>
-        ensures { IfOk result (IsFoundByTwo self.now) }
+        ensures { IfOk result (IsFoundByFewest 2 self.now) }
     {
         if needed(self.phenomenon) == Dependencies::Rw {
             self.by_rw()
@@ -152,7 +146,7 @@ impl<'r, 'g, 'v, 'a> TwoDependencies<'r, 'g, 'v, 'a> {
 
     /// One along two edges with arcs of their own: ww or wr edges.
     fn direct(&self) -> Result<Option<Walk<'a>>, AllocError>
-        ensures { IfOk result (IsTwoOr self.now (NoneDirect self.now)) }
+        ensures { IfOk result (IsFewestOr self.now (NoneDirect self.now)) }
     {
         for vertex in self.shared.list() {
             let found = self.direct_from(*vertex as usize)?;
@@ -166,7 +160,7 @@ impl<'r, 'g, 'v, 'a> TwoDependencies<'r, 'g, 'v, 'a> {
     /// One whose first edge has an arc that leaves the vertex.
     fn direct_from(&self, from: usize) -> Result<Option<Walk<'a>>, AllocError>
         requires { IsVertex self.now from }
-        ensures { IfOk result (IsTwoOr self.now (NoneDirectFrom self.now from)) }
+        ensures { IfOk result (IsFewestOr self.now (NoneDirectFrom self.now from)) }
     {
         let successors = self.needed.successors(from);
         for index in 0..successors.len() {
@@ -184,7 +178,7 @@ impl<'r, 'g, 'v, 'a> TwoDependencies<'r, 'g, 'v, 'a> {
     /// One along an rw edge: two of them where the phenomenon allows it and there is such a walk.
     fn by_rw(&self) -> Result<Option<Walk<'a>>, AllocError>
         requires { walks.needed self.now.phenomenon ≡ Rw }
-        ensures { IfOk result (IsFoundByTwo self.now) }
+        ensures { IfOk result (IsFoundByFewest 2 self.now) }
     {
         let mut marks = vec![in self.alloc; 0; self.needed.vertices()]?;
         let found = self.by_two_if_allowed(&mut marks)?;
@@ -199,7 +193,7 @@ impl<'r, 'g, 'v, 'a> TwoDependencies<'r, 'g, 'v, 'a> {
         requires rw { walks.needed self.now.phenomenon ≡ Rw }
         requires marks { length marks.old ≡ vertices_in self.now.graph }
         ensures { IfOk result
-            (IsTwoOr self.now ((version : ℕ) → NoneByVersion self.now version)) }
+            (IsFewestOr self.now ((version : ℕ) → NoneByVersion self.now version)) }
     {
         for vertex in self.shared.list() {
             let found = self.by_version(*vertex as usize, marks)?;
@@ -220,7 +214,7 @@ impl<'r, 'g, 'v, 'a> TwoDependencies<'r, 'g, 'v, 'a> {
         requires vertex { IsVertex self.now version }
         requires marks { length marks.old ≡ vertices_in self.now.graph }
         ensures marks { length marks.new ≡ length marks.old }
-        ensures found { IfOk result (IsTwoOr self.now (NoneByVersion self.now version)) }
+        ensures found { IfOk result (IsFewestOr self.now (NoneByVersion self.now version)) }
     {
         if version < self.graph.len() {
             return Ok(None);
@@ -263,7 +257,7 @@ impl<'r, 'g, 'v, 'a> TwoDependencies<'r, 'g, 'v, 'a> {
         requires to { IsVertex self.now to }
         requires marks { length marks.now ≡ vertices_in self.now.graph }
         requires marked { AreReadersMarked self.now version marks.now }
-        ensures { IfOk result (IsTwoOr self.now (NoneBackTo self.now version to)) }
+        ensures { IfOk result (IsFewestOr self.now (NoneBackTo self.now version to)) }
     {
         let back = self.back.successors(to);
         for index in 0..back.len() {
@@ -283,7 +277,7 @@ impl<'r, 'g, 'v, 'a> TwoDependencies<'r, 'g, 'v, 'a> {
         requires rw { walks.needed self.now.phenomenon ≡ Rw }
         requires marks { length marks.old ≡ vertices_in self.now.graph }
         ensures marks { length marks.new ≡ length marks.old }
-        ensures found { IfOk result (IsTwoOr self.now
+        ensures found { IfOk result (IsFewestOr self.now
             (walks.way_back self.now.phenomenon ≡ dependencies.All → (version : ℕ) → NoneByTwo self.now version)) }
     {
         if way_back(self.phenomenon) == Dependencies::All {
@@ -299,7 +293,7 @@ impl<'r, 'g, 'v, 'a> TwoDependencies<'r, 'g, 'v, 'a> {
         requires marks { length marks.old ≡ vertices_in self.now.graph }
         ensures marks { length marks.new ≡ length marks.old }
         ensures found { IfOk result
-            (IsTwoOr self.now ((version : ℕ) → NoneByTwo self.now version)) }
+            (IsFewestOr self.now ((version : ℕ) → NoneByTwo self.now version)) }
     {
         let followed = self.followed()?;
         for vertex in self.shared.list() {
@@ -377,7 +371,7 @@ impl<'r, 'g, 'v, 'a> TwoDependencies<'r, 'g, 'v, 'a> {
         requires followed { AreFollowed self.now followed.now }
         requires marks { length marks.old ≡ vertices_in self.now.graph }
         ensures marks { length marks.new ≡ length marks.old }
-        ensures found { IfOk result (IsTwoOr self.now (NoneByTwo self.now version)) }
+        ensures found { IfOk result (IsFewestOr self.now (NoneByTwo self.now version)) }
     {
         if version < self.graph.len() {
             return Ok(None);
@@ -434,7 +428,7 @@ impl<'r, 'g, 'v, 'a> TwoDependencies<'r, 'g, 'v, 'a> {
         requires followed { AreFollowed self.now followed.now }
         requires marks { length marks.now ≡ vertices_in self.now.graph }
         requires marked { AreReadMarked self.now version marks.now }
-        ensures { IfOk result (IsTwoOr self.now (NoneBackFrom self.now version from)) }
+        ensures { IfOk result (IsFewestOr self.now (NoneBackFrom self.now version from)) }
     {
         for other in followed.get(from) {
             if is_marked(marks, *other as usize, version) {
@@ -455,7 +449,7 @@ impl<'r, 'g, 'v, 'a> TwoDependencies<'r, 'g, 'v, 'a> {
         other: usize,
     ) -> Result<Option<Walk<'a>>, AllocError>
         requires { IsVertex self.now version }
-        ensures { IfOk result (IsTwoOr self.now (NoneByBoth self.now from version other)) }
+        ensures { IfOk result (IsFewestOr self.now (NoneByBoth self.now from version other)) }
     {
         let followers = self.needed.successors(version);
         for index in 0..followers.len() {
@@ -473,7 +467,7 @@ impl<'r, 'g, 'v, 'a> TwoDependencies<'r, 'g, 'v, 'a> {
 
     /// The closed walk along an edge from one transaction to the other, and an edge back.
     fn close(&self, from: usize, to: usize) -> Result<Option<Walk<'a>>, AllocError>
-        ensures { IfOk result (IsTwoOr self.now (¬ IsPair self.now from to)) }
+        ensures { IfOk result (IsFewestOr self.now (¬ IsPair self.now from to)) }
     {
         if from >= self.graph.len() || to >= self.graph.len() {
             return Ok(None);

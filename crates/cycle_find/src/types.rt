@@ -1,7 +1,9 @@
 //! Closed walks.
 
 ghost use Rattle.std.specs.Prelude.{◌≡◌, ◌∷◌, IfOk};
+ghost use Rattle.hist_types.specs.Witness.{dependencies_in};
 
+use crate::kinds::dependencies_in;
 use dep_edges::types::Edge;
 use std::alloc::{AllocError, Global};
 use std::marker::Model;
@@ -40,6 +42,13 @@ impl<'a> Walk<'a> {
         edges.push(edge)?;
         edges.append(&mut way_back)?;
         Ok(Walk::new(edges))
+    }
+
+    /// How many of its edges are no order edges.
+    pub fn dependency_edges(&self) -> usize
+        ensures { result ≡ dependencies_in self.now }
+    {
+        dependencies_in(&self.edges)
     }
 
     pub fn edges(&self) -> &[Edge<'a>]

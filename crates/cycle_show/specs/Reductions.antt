@@ -1,10 +1,9 @@
--- What a closed walk is reduced to: a witness of whatever the walk shows, with no more dependency
--- edges.
-use Rattle.std.specs.Prelude.{ℕ, List, not, count_by}
+-- What a closed walk is reduced to: a witness of whatever the walk shows.
+use Rattle.std.specs.Prelude.{List}
 use Rattle.hist_types.specs.Operations.{Operation}
 use Rattle.hist_types.specs.Transactions.{transactions_of}
 use Rattle.hist_types.specs.Edges.{Edge, edges_at}
-use Rattle.hist_types.specs.Phenomena.{Shows, is_order}
+use Rattle.hist_types.specs.Phenomena.{Shows}
 use Rattle.hist_types.specs.Witness.{IsWitness}
 use Rattle.hist_types.specs.declared.types.Level.{Level}
 use Rattle.hist_types.specs.declared.types.Phenomenon.{Phenomenon}
@@ -17,7 +16,3 @@ IsWitnessOf walk witness =
     (keys : KeyOrder) (phenomenon : Phenomenon) (level : Level) (events : List Operation)
     → Shows phenomenon (edges_at keys level (transactions_of events)) walk
     → IsWitness keys phenomenon level (transactions_of events) witness
-
--- how many edges are no order edges
-abbrev pub dependencies : List Edge → ℕ
-dependencies walk = count_by (λ e. not (is_order e)) walk

@@ -2,7 +2,7 @@
 
 ghost use Rattle.std.specs.Prelude.{◌≡◌, ◌<◌, length, IfSome};
 ghost use Rattle.std.specs.List.{position_from};
-ghost use Rattle.hist_types.specs.Phenomena.{is_ww, is_wr, is_rw, is_order};
+ghost use Rattle.hist_types.specs.Phenomena.{is_ww, is_wr, is_rw};
 ghost use Rattle.dep_edges.specs.Labels.{label_of};
 ghost use Rattle.cycle_show.specs.Paths.{needed_place, joined};
 
@@ -24,12 +24,6 @@ pub fn is_rw(edge: &Edge<'_>) -> bool
     ensures { result ≡ is_rw edge.now }
 {
     matches!(edge.label(), Label::Rw { .. })
-}
-
-pub fn is_order(edge: &Edge<'_>) -> bool
-    ensures { result ≡ is_order edge.now }
-{
-    matches!(edge.label(), Label::Process { .. } | Label::Realtime { .. })
 }
 
 /// The same label.

@@ -3,7 +3,8 @@
 
 ghost use Rattle.std.specs.Prelude.{◌≡◌, ◌≤◌, IfOk, IfErr};
 ghost use Rattle.hist_types.specs.Refusals.{memory_fault};
-ghost use Rattle.cycle_show.specs.Reductions.{IsWitnessOf, dependencies};
+ghost use Rattle.hist_types.specs.Witness.{dependencies_in};
+ghost use Rattle.cycle_show.specs.Reductions.{IsWitnessOf};
 
 mod kinds;
 mod path;
@@ -23,7 +24,7 @@ use std::alloc::Global;
 /// memory can run out.
 pub fn tighten<'a>(alloc: Global, walk: &Walk<'a>) -> Result<Witness<'a>, Fault>
     ensures witness { IfOk result (IsWitnessOf walk.now) }
-    ensures dependencies { IfOk result (λ told. dependencies told ≤ dependencies walk.now) }
+    ensures dependencies { IfOk result (λ told. dependencies_in told ≤ dependencies_in walk.now) }
     ensures err { IfErr result (λ fault. fault ≡ memory_fault) }
 {
     let mut edges = short_round(alloc, walk.edges())?;

@@ -4,7 +4,8 @@ ghost use Rattle.std.specs.Prelude.{◌≡◌, ◌-◌, ◌<◌, ◌≤◌, [], 
 ghost use Rattle.hist_types.specs.Witness.{ends_in_order, stations};
 ghost use Rattle.cycle_show.specs.Paths.{path_to, last_joined, followed, walked, KnowsPlaces, short_round, IsLeastAt};
 
-use crate::kinds::{copy, is_order, joined, needed};
+use crate::kinds::{copy, joined, needed};
+use cycle_find::kinds::is_order;
 use dep_edges::types::Edge;
 use std::alloc::{AllocError, Global};
 use std::collections::HashMap;

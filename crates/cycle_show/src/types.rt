@@ -1,7 +1,9 @@
 //! Witnesses.
 
 ghost use Rattle.std.specs.Prelude.{◌≡◌};
+ghost use Rattle.hist_types.specs.Witness.{dependencies_in};
 
+use cycle_find::kinds::dependencies_in;
 use dep_edges::types::Edge;
 use std::marker::Model;
 
@@ -32,5 +34,12 @@ impl<'a> Witness<'a> {
         ensures { result.now ≡ self.now }
     {
         &self.edges
+    }
+
+    /// How many of its edges are no order edges. The one that is reported of a phenomenon has the fewest that are possible.
+    pub fn dependency_edges(&self) -> usize
+        ensures { result ≡ dependencies_in self.now }
+    {
+        dependencies_in(&self.edges)
     }
 }

@@ -1,15 +1,12 @@
 -- The first thing that is found along a list, and how far nothing was found.
-use Rattle.std.proofs.Common.{◌≡◌, ℕ, zero, suc, ◌+◌, ◌<◌, List, [], ◌∷◌, ◌++◌, length, get_or, take, flat_map, Option, Some, None, unwrap_or, slice_get, refl, sym, ◌∙◌, ap, arith, append-nil, pos}
+use Rattle.std.proofs.Common.{◌≡◌, ℕ, zero, suc, ◌+◌, ◌<◌, List, [], ◌∷◌, ◌++◌, length, get_or, take, flat_map, Option, Some, None, unwrap_or, slice_get, refl, sym, ◌∙◌, ap, arith, append-nil}
 use Rattle.std.proofs.lemmas.Grind.{take_at_read}
 use Rattle.std.proofs.lemmas.List.Concat.{flat_map-append}
 use Rattle.std.proofs.lemmas.Option.{unwrap_or-slice_get, slice_get-get_or}
-use Rattle.hist_types.specs.Atoms.{integer}
 use Rattle.hist_types.specs.Phenomena.{first_of}
-use Rattle.hist_types.specs.Transactions.{Transaction, Version, Open}
-use Rattle.hist_types.specs.Versions.{nil_of}
+use Rattle.hist_types.specs.Transactions.{Transaction, Open}
 use Rattle.hist_types.proofs.Members.{In}
-use Rattle.key_versions.specs.Tables.{Table}
-use Rattle.dep_edges.specs.Tables.{IsPlace, IsNumber, txn_at, version_at}
+use Rattle.dep_edges.specs.Tables.{IsPlace, txn_at}
 use Rattle.dep_edges.proofs.Writers.{in_at}
 
 both_none : {A : Type 0} (xs ys : List A) → xs ++ ys ≡ [] → (xs ≡ []) × (ys ≡ [])
@@ -67,14 +64,6 @@ read_at_place ts place below =
     same (Some t) e =
         sym (unwrap_or-slice_get ts place (txn_at ts place)) ∙ ap (λ o. unwrap_or o (txn_at ts place)) e ∙ sym (ap (λ o. unwrap_or o (record { process = 0; invocation = 0; completion = None; status = Open; mops = [] })) e)
     same None e = let none : ⊥ = cc (e, slice_get-get_or ts place (txn_at ts place) below) in elim none [ ]
-
-pub read_at_number : (table : Table) (number : ℕ) → IsNumber table number → get_or table.versions number (version_at table number) ≡ version_at table number
-read_at_number table number below = same (slice_get table.versions number) refl
-  where
-    same : (o : Option Version) → slice_get table.versions number ≡ o → get_or table.versions number (version_at table number) ≡ version_at table number
-    same (Some v) e =
-        sym (unwrap_or-slice_get table.versions number (version_at table number)) ∙ ap (λ o. unwrap_or o (version_at table number)) e ∙ sym (ap (λ o. unwrap_or o (nil_of (integer (pos 0)))) e)
-    same None e = let none : ⊥ = cc (e, slice_get-get_or table.versions number (version_at table number) below) in elim none [ ]
 
 pub among_at_place : (ts : List Transaction) (place : ℕ) → IsPlace ts place → In (txn_at ts place) ts
 among_at_place ts place below =

@@ -1,5 +1,5 @@
--- The marks, and which transactions are nodes.
-use Rattle.std.proofs.Common.{◌≡◌, ℕ, zero, suc, ◌+◌, ◌<◌, List, [], ◌∷◌, ◌++◌, length, get_or, take, drop, Bool, true, false, not, ◌&&◌, ◌||◌, ◌==◌, if◌then◌else◌, map, fold, Option, Some, None, unwrap_or, slice_get, Contains, refl, sym, ◌∙◌, ap, subst, arith, inl, inr}
+-- The marks of all pieces, and which transactions are nodes.
+use Rattle.std.proofs.Common.{◌≡◌, ℕ, zero, suc, ◌+◌, ◌<◌, List, [], ◌∷◌, ◌++◌, length, get_or, take, drop, Bool, true, false, not, ◌&&◌, ◌||◌, ◌==◌, if◌then◌else◌, map, Option, Some, None, unwrap_or, slice_get, Contains, All, refl, sym, ◌∙◌, ap, subst, arith, inl, inr, pos}
 use Rattle.std.specs.List.{list_any}
 use Rattle.std.specs.Option.{is_some}
 use Rattle.std.proofs.Math.ListN.{set}
@@ -10,8 +10,10 @@ use Rattle.std.proofs.lemmas.Grind.{take_at_read, fold-append}
 use Rattle.hist_types.specs.Journal.{Write, writes_of}
 use Rattle.hist_types.specs.Operations.{Mop, read, write}
 use Rattle.hist_types.specs.Transactions.{Transaction, Version, Open, version_of, has_version, is_ok, is_failed, is_known_to_read, writes, was_read, is_node}
+use Rattle.hist_types.specs.Atoms.{integer}
+use Rattle.hist_types.specs.Versions.{nil_of}
 use Rattle.hist_types.specs.declared.types.KeyOrder.{KeyOrder}
-use Rattle.hist_types.proofs.Members.{In, Contains_from_in, in_front, in_back, in_map, in_mapped}
+use Rattle.hist_types.proofs.Members.{In, in_from_Contains, Contains_from_in, in_front, in_back, in_map, in_mapped}
 use Rattle.history_laws.proofs.Processes.{told_apart}
 use Rattle.history_laws.proofs.ThinningPaths.{any_passes}
 use Rattle.history_laws.proofs.VersionMembers.{in_from_has, has_from_in}
@@ -19,11 +21,11 @@ use Rattle.history_laws.proofs.WrittenOnce.{AreApart, one_writer}
 use Rattle.key_versions.specs.Histories.{named_in, named_by, from_place, readers_of, writer_of}
 use Rattle.key_versions.specs.Tables.{Table, IsTableOf}
 use Rattle.key_versions.specs.declared.types.Writer.{Writer}
-use Rattle.dep_edges.specs.Histories.{AreOfHistory}
-use Rattle.dep_edges.specs.Tables.{txn_at, version_at, IsNumber, marked_by, marked, all_marked}
-use Rattle.dep_edges.proofs.Found.{read_at_number}
+use Rattle.dep_edges.specs.Histories.{AreOfHistory, History}
+use Rattle.dep_edges.specs.Pieces.{Piece, IsOf, ArePiecesOf, unfailed_place, read_writer, with_marks, with_all_marks}
+use Rattle.dep_edges.specs.Tables.{txn_at, version_at, IsPlace, IsNumber}
 use Rattle.dep_edges.proofs.Out.{apart_of}
-use Rattle.dep_edges.proofs.Lists.{within_at}
+use Rattle.dep_edges.proofs.Lists.{all_in, within_at}
 use Rattle.dep_edges.proofs.Places.{from_some_place}
 use Rattle.dep_edges.proofs.Writers.{in_at, writer_wrote, has_writer}
 
@@ -86,14 +88,13 @@ one_of : (xs : List ℕ) → not (length xs == 0) ≡ true → (x : ℕ) × In x
 one_of [] e = elim (false≢true e) [ ]
 one_of (x ∷ xs) e = (x, inl refl)
 
+pub each_of : {X : Type 0} (P : X → Type 0) (xs : List X) (x : X) → All P xs → In x xs → P x
+each_of P xs x all i = let (k, below, here) = Contains_from_in x xs i in subst P here (all k x below)
+
+pub version_is : (table : Table) (n : ℕ) (v : Version) → slice_get table.versions n ≡ Some v → version_at table n ≡ v
+version_is table n v e = ap (λ o. unwrap_or o (nil_of (integer (pos 0)))) e
+
 -- ---- marks, one by one
-
-abbrev marks_place : List Transaction → Option Writer → Bool → ℕ → Bool
-marks_place ts None was_read k = false
-marks_place ts (Some w) was_read k = (was_read && not (is_failed (txn_at ts w.txn))) && (w.txn == k)
-
-abbrev marks_at : List Transaction → ℕ → Version → Bool
-marks_at ts k v = marks_place ts (writer_of ts v) (not (length (readers_of ts v) == 0)) k
 
 or_none : (b : Bool) → b ≡ (b || false)
 or_none true = refl
@@ -107,20 +108,8 @@ or_later : (a b c : Bool) → ((a || b) || c) ≡ (a || (b || c))
 or_later true b c = refl
 or_later false b c = refl
 
-length_set : (test : Bool) (marks : List Bool) (n : ℕ) → length (if test then set marks n true else marks) ≡ length marks
-length_set true marks n = length-set marks n true
-length_set false marks n = refl
-
-length_marked_by : (ts : List Transaction) (o : Option Writer) (was_read : Bool) (marks : List Bool) → length (marked_by ts o was_read marks) ≡ length marks
-length_marked_by ts None was_read marks = refl
-length_marked_by ts (Some w) was_read marks = length_set (was_read && not (is_failed (txn_at ts w.txn))) marks w.txn
-
-pub length_marked : (ts : List Transaction) (marks : List Bool) (v : Version) → length (marked ts marks v) ≡ length marks
-length_marked ts marks v = length_marked_by ts (writer_of ts v) (not (length (readers_of ts v) == 0)) marks
-
-set_at : (test : Bool) (marks : List Bool) (n k : ℕ) → k < length marks → get_or (if test then set marks n true else marks) k false ≡ (get_or marks k false || (test && (n == k)))
-set_at false marks n k below = or_none (get_or marks k false)
-set_at true marks n k below = elim (cases_Bool (n == k)) [
+set_at : (marks : List Bool) (n k : ℕ) → k < length marks → get_or (set marks n true) k false ≡ (get_or marks k false || (n == k))
+set_at marks n k below = elim (cases_Bool (n == k)) [
   | inl e ↦ (
       let here : n ≡ k = eqb-true n k e in
       subst (λ m. get_or (set marks m true) k false ≡ true) (sym here) (get_or-set_same marks k true false below)
@@ -133,26 +122,35 @@ set_at true marks n k below = elim (cases_Bool (n == k)) [
       ∙ ap (λ b. get_or marks k false || b) (sym e))
 ]
 
-marked_by_at :
-    (ts : List Transaction) (o : Option Writer) (was_read : Bool) (marks : List Bool) (k : ℕ)
-    → k < length marks
-    → get_or (marked_by ts o was_read marks) k false ≡ (get_or marks k false || marks_place ts o was_read k)
-marked_by_at ts None was_read marks k below = or_none (get_or marks k false)
-marked_by_at ts (Some w) was_read marks k below = set_at (was_read && not (is_failed (txn_at ts w.txn))) marks w.txn k below
+pub length_with_marks : (marks : List Bool) (places : List ℕ) → length (with_marks marks places) ≡ length marks
+length_with_marks marks [] = refl
+length_with_marks marks (p ∷ places) = length_with_marks (set marks p true) places ∙ length-set marks p true
 
-length_all : (ts : List Transaction) (vs : List Version) (marks : List Bool) → length (fold (marked ts) marks vs) ≡ length marks
-length_all ts [] marks = refl
-length_all ts (v ∷ vs) marks = length_all ts vs (marked ts marks v) ∙ length_marked ts marks v
+-- whether it is one of them
+abbrev is_one : ℕ → List ℕ → Bool
+is_one k places = list_any (λ p. p == k) places
 
-all_at :
-    (ts : List Transaction) (vs : List Version) (marks : List Bool) (k : ℕ)
-    → k < length marks
-    → get_or (fold (marked ts) marks vs) k false ≡ (get_or marks k false || list_any (marks_at ts k) vs)
-all_at ts [] marks k below = or_none (get_or marks k false)
-all_at ts (v ∷ vs) marks k below =
-    all_at ts vs (marked ts marks v) k (subst (λ n. k < n) (sym (length_marked ts marks v)) below)
-    ∙ ap (λ b. b || list_any (marks_at ts k) vs) (marked_by_at ts (writer_of ts v) (not (length (readers_of ts v) == 0)) marks k below)
-    ∙ or_later (get_or marks k false) (marks_at ts k v) (list_any (marks_at ts k) vs)
+marks_at : (marks : List Bool) (places : List ℕ) (k : ℕ) → k < length marks → get_or (with_marks marks places) k false ≡ (get_or marks k false || is_one k places)
+marks_at marks [] k below = or_none (get_or marks k false)
+marks_at marks (p ∷ places) k below =
+    marks_at (set marks p true) places k (subst (λ n. k < n) (sym (length-set marks p true)) below)
+    ∙ ap (λ b. b || is_one k places) (set_at marks p k below)
+    ∙ or_later (get_or marks k false) (p == k) (is_one k places)
+
+pub length_all_marks : (marks : List Bool) (pieces : List Piece) → length (with_all_marks marks pieces) ≡ length marks
+length_all_marks marks [] = refl
+length_all_marks marks (p ∷ pieces) = length_all_marks (with_marks marks p.writers) pieces ∙ length_with_marks marks p.writers
+
+-- whether one of the pieces has it
+abbrev some_has : ℕ → List Piece → Bool
+some_has k pieces = list_any (λ (p : Piece). is_one k p.writers) pieces
+
+all_at : (marks : List Bool) (pieces : List Piece) (k : ℕ) → k < length marks → get_or (with_all_marks marks pieces) k false ≡ (get_or marks k false || some_has k pieces)
+all_at marks [] k below = or_none (get_or marks k false)
+all_at marks (p ∷ pieces) k below =
+    all_at (with_marks marks p.writers) pieces k (subst (λ n. k < n) (sym (length_with_marks marks p.writers)) below)
+    ∙ ap (λ b. b || some_has k pieces) (marks_at marks p.writers k below)
+    ∙ or_later (get_or marks k false) (is_one k p.writers) (some_has k pieces)
 
 -- ---- who is marked
 
@@ -163,25 +161,39 @@ one_if false n m i = elim i [ ]
 pub in_if : (test : Bool) (n : ℕ) → test ≡ true → In n (if test then n ∷ [] else [])
 in_if test n e = subst (λ b. In n (if b then n ∷ [] else [])) (sym e) (inl refl)
 
-marked_was_read :
-    (ts : List Transaction) (k : ℕ) (t : Transaction) (v : Version) (o : Option Writer)
-    → txn_at ts k ≡ t
-    → writer_of ts v ≡ o
-    → marks_place ts o (not (length (readers_of ts v) == 0)) k ≡ true
-    → (not (is_failed t) && was_read ts t) ≡ true
-marked_was_read ts k t v None is e marks = elim (false≢true marks) [ ]
-marked_was_read ts k t v (Some w) is e marks =
-    let (both, here) = and_parts (not (length (readers_of ts v) == 0) && not (is_failed (txn_at ts w.txn))) (w.txn == k) marks in
-    let (was, unfailed) = and_parts (not (length (readers_of ts v) == 0)) (not (is_failed (txn_at ts w.txn))) both in
-    let same : txn_at ts w.txn ≡ t = ap (txn_at ts) (eqb-true w.txn k here) ∙ is in
-    let wrote : writes t v ≡ true = subst (λ x. writes x v ≡ true) same (writer_wrote ts v w e).wrote in
+some_if : (test : Bool) (n k : ℕ) → (if test then Some n else None) ≡ Some k → (test ≡ true) × (n ≡ k)
+some_if true n k e = (refl, same_Some n k e)
+some_if false n k e = elim (none-some k e) [ ]
+
+was_written : (ts : List Transaction) (k : ℕ) (v : Version) (o : Option Writer) (was_read : Bool) → writer_of ts v ≡ o → unfailed_place ts o was_read ≡ Some k → (slice_get ts k ≡ Some (txn_at ts k)) × (writes (txn_at ts k) v ≡ true) × (not (is_failed (txn_at ts k)) ≡ true) × (was_read ≡ true)
+was_written ts k v None was_read is e = elim (none-some k e) [ ]
+was_written ts k v (Some w) was_read is e =
+    let (both, here) = some_if (was_read && not (is_failed (txn_at ts w.txn))) w.txn k e in
+    let (was, unfailed) = and_parts was_read (not (is_failed (txn_at ts w.txn))) both in
+    let by = writer_wrote ts v w is in (
+      subst (λ n. slice_get ts n ≡ Some (txn_at ts n)) here by.place,
+      subst (λ n. writes (txn_at ts n) v ≡ true) here by.wrote,
+      subst (λ n. not (is_failed (txn_at ts n)) ≡ true) here unfailed,
+      was,
+    )
+
+-- there is such a transaction, and some transaction reads what it wrote
+marked_was_read : (ts : List Transaction) (k : ℕ) (v : Version) → read_writer ts v ≡ Some k → (not (is_failed (txn_at ts k)) && was_read ts (txn_at ts k)) ≡ true
+marked_was_read ts k v e =
+    let t = txn_at ts k in
+    let (place, wrote, unfailed, was) = was_written ts k v (writer_of ts v) (not (length (readers_of ts v) == 0)) refl e in
     let (p, reader) = one_of (readers_of ts v) was in
     let (j, u, get, i) = from_some_place (λ place t. if is_known_to_read t v then place ∷ [] else []) 0 ts p reader in
     let seen : is_known_to_read u v ≡ true = one_if (is_known_to_read u v) (0 + j) p i in
     let (a, among, made) = in_map version_of v (writes_of t.mops) (in_from_has v (map version_of (writes_of t.mops)) wrote) in
-    and_from (not (is_failed t)) (was_read ts t) (subst (λ x. not (is_failed x) ≡ true) same unfailed)
+    and_from (not (is_failed t)) (was_read ts t) unfailed
     (any_passes (λ w. list_any (λ r. is_known_to_read r (version_of w)) ts) a (writes_of t.mops) among
     (any_passes (λ r. is_known_to_read r (version_of a)) u ts (in_at ts j u get) (subst (λ x. is_known_to_read u x ≡ true) (sym made) seen)))
+
+pub place_of_writer : (ts : List Transaction) (k : ℕ) (v : Version) → read_writer ts v ≡ Some k → IsPlace ts k
+place_of_writer ts k v e =
+    let (place, wrote, unfailed, was) = was_written ts k v (writer_of ts v) (not (length (readers_of ts v) == 0)) refl e in
+    within_at ts k (txn_at ts k) place
 
 named : (ok : Bool) (mops : List Mop) (w : Write) → In w (writes_of mops) → In (version_of w) (named_in ok mops)
 named ok [] w i = elim i [ ]
@@ -201,7 +213,7 @@ read_is_marked :
     → (k : ℕ) (t : Transaction)
     → slice_get ts k ≡ Some t
     → (not (is_failed t) && was_read ts t) ≡ true
-    → list_any (marks_at ts k) table.versions ≡ true
+    → (number : ℕ) × IsNumber table number × (read_writer ts (version_at table number) ≡ Some k)
 read_is_marked keys ts table of told k t at e =
     let (unfailed, was) = and_parts (not (is_failed t)) (was_read ts t) e in
     let (a, among, some) = some_passes (λ w. list_any (λ r. is_known_to_read r (version_of w)) ts) (writes_of t.mops) was in
@@ -212,63 +224,89 @@ read_is_marked keys ts table of told k t at e =
     let i : In t ts = in_at ts k t at in
     let in_table : In v table.versions =
     in_from_has v table.versions (told.named v ∙ any_passes (λ (x : Transaction). has_version (named_by x) v) t ts i (has_from_in v (named_by t) (named (is_ok t) t.mops a among))) in
+    let (number, found) = place_in table.versions v in_table in
     let (w, is) = some_writer (writer_of ts v) (has_writer ts v ∙ any_passes (λ x. writes x v) t ts i wrote) in
     let by = writer_wrote ts v w is in
     let same : txn_at ts w.txn ≡ t = one ts of (txn_at ts w.txn) t v by.among (Contains_from_in t ts i) by.wrote wrote in
     let here : w.txn ≡ k = one_place ts (apart_of ts of) w.txn k t (by.place ∙ ap Some same) at in
     let was_read : not (length (readers_of ts v) == 0) ≡ true =
     has_one (readers_of ts v) (0 + j) (to_some_place (λ place x. if is_known_to_read x v then place ∷ [] else []) 0 ts j u (0 + j) get (in_if (is_known_to_read u v) (0 + j) seen)) in
-    any_passes (marks_at ts k) v table.versions in_table
-    (ap (λ o. marks_place ts o (not (length (readers_of ts v) == 0)) k) is
-    ∙ and_from (not (length (readers_of ts v) == 0) && not (is_failed (txn_at ts w.txn))) (w.txn == k)
+    let by_it : read_writer ts v ≡ Some k =
+    ap (λ o. unfailed_place ts o (not (length (readers_of ts v) == 0))) is
+    ∙ ap (λ b. if b then Some w.txn else None)
     (and_from (not (length (readers_of ts v) == 0)) (not (is_failed (txn_at ts w.txn))) was_read (subst (λ x. not (is_failed x) ≡ true) (sym same) unfailed))
-    (eq-eqb w.txn k here))
+    ∙ ap Some here in
+    (number, within_at table.versions number v found, ap (read_writer ts) (version_is table number v found) ∙ by_it)
   where
     one : (ts : List Transaction) → AreOfHistory ts → (x t : Transaction) (v : Version) → Contains ts x → Contains ts t → writes x v ≡ true → writes t v ≡ true → x ≡ t
     one ts (events, kept, of) x t v i j e d = one_writer events kept x t (subst (λ us. Contains us x) of i) (subst (λ us. Contains us t) of j) v e d
 
 node_at :
-    (keys : KeyOrder) (ts : List Transaction) (table : Table)
-    → AreOfHistory ts
-    → IsTableOf keys ts table
+    (h : History) (pieces : List Piece)
+    → AreOfHistory h.txns
+    → IsTableOf h.table.keys h.txns h.table
+    → ArePiecesOf h pieces
     → (k : ℕ) (t : Transaction)
-    → slice_get ts k ≡ Some t
-    → get_or (all_marked ts table.versions) k false ≡ is_node ts t
-node_at keys ts table of told k t at =
+    → slice_get h.txns k ≡ Some t
+    → get_or (with_all_marks (map is_ok h.txns) pieces) k false ≡ is_node h.txns t
+node_at h pieces of told are k t at =
+    let ts = h.txns in
     let below : k < length ts = within_at ts k t at in
-    let same : list_any (marks_at ts k) table.versions ≡ (not (is_failed t) && was_read ts t) =
-    same_tests (list_any (marks_at ts k) table.versions) (not (is_failed t) && was_read ts t)
+    let is : txn_at ts k ≡ t = ap (λ o. unwrap_or o (record { process = 0; invocation = 0; completion = None; status = Open; mops = [] })) at in
+    let same : some_has k pieces ≡ (not (is_failed t) && was_read ts t) =
+    same_tests (some_has k pieces) (not (is_failed t) && was_read ts t)
     (λ e.
-    let (v, among, marks) = some_passes (marks_at ts k) table.versions e in
-    marked_was_read ts k t v (writer_of ts v) (ap (λ o. unwrap_or o (record { process = 0; invocation = 0; completion = None; status = Open; mops = [] })) at) refl marks)
-    (read_is_marked keys ts table of told k t at) in
-    all_at ts table.versions (map is_ok ts) k (subst (λ n. k < n) (sym (length-map ts is_ok)) below)
-    ∙ ap (λ b. b || list_any (marks_at ts k) table.versions) (mapped_at is_ok ts k t at)
+    let (piece, among, has) = some_passes (λ (p : Piece). is_one k p.writers) pieces e in
+    let (p, there, here) = some_passes (λ p. p == k) piece.writers has in
+    let (number, within, by) = each_of (IsOf h) pieces piece are.of among p (Contains_from_in p piece.writers there) in
+    subst (λ x. (not (is_failed x) && was_read ts x) ≡ true) is
+    (marked_was_read ts k (version_at h.table number) (by ∙ ap Some (eqb-true p k here))))
+    (λ e.
+    let (number, within, by) = read_is_marked h.table.keys ts h.table of told k t at e in
+    let (piece, among, seen) = are.seen number within in
+    any_passes (λ (p : Piece). is_one k p.writers) piece pieces (in_from_Contains piece pieces among)
+    (any_passes (λ p. p == k) k piece.writers (in_from_Contains k piece.writers (seen.writer k by)) (eq-eqb k k refl))) in
+    all_at (map is_ok ts) pieces k (subst (λ n. k < n) (sym (length-map ts is_ok)) below)
+    ∙ ap (λ b. b || some_has k pieces) (mapped_at is_ok ts k t at)
     ∙ ap (λ b. is_ok t || b) same
 
--- when all versions have been gone over, exactly the nodes are marked
-pub nodes_marked : (keys : KeyOrder) (ts : List Transaction) (table : Table) → AreOfHistory ts → IsTableOf keys ts table → all_marked ts table.versions ≡ map (is_node ts) ts
-nodes_marked keys ts table of told =
-    same_lists (all_marked ts table.versions) (map (is_node ts) ts)
-    (length_all ts table.versions (map is_ok ts) ∙ length-map ts is_ok ∙ sym (length-map ts (is_node ts)))
+-- with the marks of all pieces exactly the nodes are marked
+pub nodes_marked :
+    (h : History) (pieces : List Piece)
+    → AreOfHistory h.txns
+    → IsTableOf h.table.keys h.txns h.table
+    → ArePiecesOf h pieces
+    → with_all_marks (map is_ok h.txns) pieces ≡ map (is_node h.txns) h.txns
+nodes_marked h pieces of told are =
+    let ts = h.txns in
+    same_lists (with_all_marks (map is_ok ts) pieces) (map (is_node ts) ts)
+    (length_all_marks (map is_ok ts) pieces ∙ length-map ts is_ok ∙ sym (length-map ts (is_node ts)))
     (λ k below.
     let within : k < length ts = subst (λ n. k < n) (length-map ts (is_node ts)) below in
     let (t, at) = item_at ts k within in
-    node_at keys ts table of told k t at ∙ sym (mapped_at (is_node ts) ts k t at))
+    node_at h pieces of told are k t at ∙ sym (mapped_at (is_node ts) ts k t at))
   where
     item_at : (ts : List Transaction) (k : ℕ) → k < length ts → (t : Transaction) × (slice_get ts k ≡ Some t)
     item_at [] k below = let none : ⊥ = omega (arith, below) in elim none [ ]
     item_at (t ∷ ts) zero below = (t, refl)
     item_at (t ∷ ts) (suc k) below = item_at ts k (omega (arith, below))
 
--- one version more
-pub marked_more : (ts : List Transaction) (table : Table) (n : ℕ) → IsNumber table n → all_marked ts (take (n + 1) table.versions) ≡ marked ts (all_marked ts (take n table.versions)) (version_at table n)
-marked_more ts table n below =
-    ap (all_marked ts) ((take_at_read table.versions n (version_at table n) below).1 ∙ ap (λ v. take n table.versions ++ v ∷ []) (read_at_number table n below))
-    ∙ fold-append (marked ts) (map is_ok ts) (take n table.versions) (version_at table n ∷ [])
+-- one piece more
+pub marks_more :
+    (marks : List Bool) (pieces : List Piece) (i : ℕ) (piece : Piece)
+    → i < length pieces
+    → piece ≡ get_or pieces i piece
+    → with_all_marks marks (take (i + 1) pieces) ≡ with_marks (with_all_marks marks (take i pieces)) piece.writers
+marks_more marks pieces i piece below is =
+    ap (with_all_marks marks) ((take_at_read pieces i piece below).1 ∙ ap (λ p. take i pieces ++ p ∷ []) (sym is))
+    ∙ fold-append (λ ms (p : Piece). with_marks ms p.writers) marks (take i pieces) (piece ∷ [])
 
-pub length_all_marked : (ts : List Transaction) (vs : List Version) → length (all_marked ts vs) ≡ length ts
-length_all_marked ts vs = length_all ts vs (map is_ok ts) ∙ length-map ts is_ok
+-- the places of a piece are places of the history
+pub places_of : (h : History) (piece : Piece) → IsOf h piece → All (IsPlace h.txns) piece.writers
+places_of h piece of =
+    all_in (IsPlace h.txns) piece.writers (λ place i.
+    let (number, within, by) = of place (Contains_from_in place piece.writers i) in
+    place_of_writer h.txns place (version_at h.table number) by)
 
 -- what is written through a slice of a whole list
 pub written_back : {X : Type 0} (xs ys : List X) (n : ℕ) → length xs ≡ n → take n (xs ++ drop (length xs) ys) ≡ xs

@@ -1,9 +1,9 @@
--- What a look at each version rules out.
-use Rattle.std.proofs.Common.{◌≡◌, ℕ, ◌≤◌, ◌+◌, List, [], ◌∷◌, length, take, Bool, true, false, not, ◌&&◌, ◌||◌, ◌==◌, if◌then◌else◌, All, Contains, map, flat_map, ◌++◌, None, refl, sym, ◌∙◌, ap, subst, inl, inr}
+-- What a look at each version gives, and what all looks rule out.
+use Rattle.std.proofs.Common.{◌≡◌, ℕ, ◌+◌, ◌<◌, List, [], ◌∷◌, length, Bool, true, false, not, ◌&&◌, ◌||◌, ◌==◌, if◌then◌else◌, Contains, map, flat_map, fold, ◌++◌, Option, Some, None, option_to_list, refl, sym, ◌∙◌, ap, subst, arith, inl, inr}
 use Rattle.std.specs.List.{list_any}
-use Rattle.std.proofs.lemmas.Bool.{false≢true, not-true}
-use Rattle.std.proofs.lemmas.List.{take_all}
-use Rattle.std.proofs.lemmas.List.Elements.{All-more}
+use Rattle.std.proofs.lemmas.Bool.{false≢true, not-true, cases_lt}
+use Rattle.std.proofs.lemmas.List.Elements.{Contains-append_cases, Contains-append_left, Contains-append_right}
+use Rattle.std.proofs.lemmas.Option.{none-some, same_Some}
 use Rattle.hist_types.specs.Atoms.{Atom, atom_eq}
 use Rattle.hist_types.specs.Operations.{Mop, read, write}
 use Rattle.hist_types.specs.Phenomena.{for_each_read, first_of, bad_read, aborted_writers, intermediate_writers, is_stray, g1a, g1b, stray}
@@ -12,13 +12,16 @@ use Rattle.hist_types.specs.declared.types.KeyOrder.{KeyOrder}
 use Rattle.hist_types.proofs.Members.{In, in_from_Contains, Contains_from_in}
 use Rattle.history_laws.proofs.ThinningPaths.{any_passes}
 use Rattle.history_laws.proofs.VersionMembers.{in_from_has, has_from_in}
-use Rattle.key_versions.specs.Histories.{named_in, named_by, read_by, readers_of}
+use Rattle.key_versions.specs.Histories.{named_in, named_by, read_by, readers_of, writer_of}
 use Rattle.key_versions.specs.Tables.{Table, IsTableOf}
-use Rattle.dep_edges.specs.Possible.{RulesOut, RulesOutReadsOf, RulesOutReads, either}
+use Rattle.key_versions.specs.declared.types.Writer.{Writer}
+use Rattle.dep_edges.specs.Histories.{History}
+use Rattle.dep_edges.specs.Pieces.{Piece, ArePiecesOf, Sees, possible_in, read_writer, unfailed_place}
+use Rattle.dep_edges.specs.Possible.{RulesOut, RulesOutReads, either}
 use Rattle.dep_edges.specs.Tables.{IsNumber, version_at}
 use Rattle.dep_edges.specs.declared.possible.Possible.{Possible}
-use Rattle.dep_edges.proofs.Found.{read_at_number}
-use Rattle.dep_edges.proofs.Marks.{place_in, to_some_place, has_one, in_if}
+use Rattle.dep_edges.proofs.Lists.{within_at}
+use Rattle.dep_edges.proofs.Marks.{place_in, to_some_place, has_one, in_if, version_is}
 use Rattle.dep_edges.proofs.Writers.{reads_by_transaction}
 
 pub and_none : (b : Bool) → (b && false) ≡ false
@@ -45,15 +48,15 @@ out_behind ts v p q out = record {
   stray = λ e. out.stray (neither p.stray q.stray e).1;
 }
 
-pub one_ruled :
-    (ts : List Transaction) (table : Table) (n : ℕ) (p : Possible)
-    → IsNumber table n
-    → All (RulesOutReadsOf ts p) (take n table.versions)
-    → RulesOutReadsOf ts p (version_at table n)
-    → All (RulesOutReadsOf ts p) (take (n + 1) table.versions)
-one_ruled ts table n p below before here =
-    All-more (RulesOutReadsOf ts p) table.versions n (version_at table n) below before
-    (subst (RulesOutReadsOf ts p) (sym (read_at_number table n below)) here)
+more_ruled : (ts : List Transaction) (v : Version) (start : Possible) (pieces : List Piece) → RulesOut ts v start → RulesOut ts v (fold (λ p (piece : Piece). either p piece.possible) start pieces)
+more_ruled ts v start [] out = out
+more_ruled ts v start (piece ∷ pieces) out = more_ruled ts v (either start piece.possible) pieces (out_before ts v start piece.possible out)
+
+one_ruled : (ts : List Transaction) (v : Version) (start : Possible) (pieces : List Piece) (piece : Piece) → In piece pieces → RulesOut ts v piece.possible → RulesOut ts v (fold (λ p (piece : Piece). either p piece.possible) start pieces)
+one_ruled ts v start (q ∷ pieces) piece (inl e) out =
+    more_ruled ts v (either start q.possible) pieces (out_behind ts v start q.possible (subst (λ (r : Piece). RulesOut ts v r.possible) (sym e) out))
+one_ruled ts v start (q ∷ pieces) piece (inr i) out = one_ruled ts v (either start q.possible) pieces piece i out
+one_ruled ts v start [] piece i out = elim i [ ]
 
 -- ---- what is read has readers, and is among the versions
 
@@ -93,18 +96,81 @@ among_versions keys ts table told t v there seen =
     (has_from_in v (named_by t) named))
 
 -- all versions were looked at
-pub all_ruled :
-    (keys : KeyOrder) (ts : List Transaction) (table : Table) (n : ℕ) (p : Possible)
-    → IsTableOf keys ts table
-    → length table.versions ≤ n
-    → All (RulesOutReadsOf ts p) (take n table.versions)
-    → RulesOutReads ts p
-all_ruled keys ts table n p told over all = record {
+pub all_ruled : (h : History) (pieces : List Piece) → IsTableOf h.table.keys h.txns h.table → ArePiecesOf h pieces → RulesOutReads h.txns (possible_in pieces)
+all_ruled h pieces told are = record {
   each = λ v t there seen.
-      let (k, below, here) = Contains_from_in v table.versions (among_versions keys ts table told t v there seen) in
-      let each : All (RulesOutReadsOf ts p) table.versions = subst (All (RulesOutReadsOf ts p)) (take_all n table.versions over) all in
-      subst (RulesOutReadsOf ts p) here (each k v below) t there seen;
+      let (number, at) = place_in h.table.versions v (among_versions h.table.keys h.txns h.table told t v there seen) in
+      let (piece, among, is) = are.seen number (within_at h.table.versions number v at) in
+      one_ruled h.txns v (record { aborted = false; intermediate = false; stray = false }) pieces piece (in_from_Contains piece pieces among)
+      (subst (λ u. RulesOut h.txns u piece.possible) (version_is h.table number v at)
+      (is.possible t there (subst (Contains (read_by t)) (sym (version_is h.table number v at)) seen)));
 }
+
+-- ---- one look
+
+unread : (ts : List Transaction) (v : Version) → (length (readers_of ts v) == 0) ≡ true → read_writer ts v ≡ None
+unread ts v none = ap (λ b. unfailed_place ts (writer_of ts v) (not b)) none ∙ nobody (writer_of ts v)
+  where
+    nobody : (o : Option Writer) → unfailed_place ts o false ≡ None
+    nobody None = refl
+    nobody (Some w) = refl
+
+-- a version that nobody read adds nothing
+pub sees_unread : (h : History) (piece : Piece) (number : ℕ) → (length (readers_of h.txns (version_at h.table number)) == 0) ≡ true → Sees h piece piece number
+sees_unread h piece number none =
+    let v = version_at h.table number in
+    record {
+      of = λ of. of;
+      kept = λ w seen. seen;
+      seen = record {
+        possible = λ t there seen. elim (false≢true (sym (ap not none) ∙ read_by_some h.txns t v there seen)) [ ];
+        writer = λ place e. elim (none-some place (sym (unread h.txns v none) ∙ e)) [ ];
+      };
+    }
+
+-- what reads of it may be is added, and the place of the transaction that wrote it
+pub sees_read :
+    (h : History) (before after : Piece) (number : ℕ) (q : Possible)
+    → IsNumber h.table number
+    → after.possible ≡ either before.possible q
+    → RulesOut h.txns (version_at h.table number) q
+    → after.writers ≡ before.writers ++ option_to_list (read_writer h.txns (version_at h.table number))
+    → Sees h before after number
+sees_read h before after number q within possible out writers =
+    let v = version_at h.table number in
+    let place = read_writer h.txns v in
+    record {
+      of = λ of p has. elim (Contains-append_cases before.writers (option_to_list place) p (subst (λ ps. Contains ps p) writers has)) [
+        | inl old ↦ of p old
+        | inr new ↦ (number, within, only place p (in_from_Contains p (option_to_list place) new))
+      ];
+      kept = λ w seen. record {
+        possible = λ t there reads. subst (RulesOut h.txns w) (sym possible) (out_before h.txns w before.possible q (seen.possible t there reads));
+        writer = λ p e. subst (λ ps. Contains ps p) (sym writers) (Contains-append_left before.writers (option_to_list place) p (seen.writer p e));
+      };
+      seen = record {
+        possible = λ t there reads. subst (RulesOut h.txns v) (sym possible) (out_behind h.txns v before.possible q out);
+        writer = λ p e.
+            subst (λ ps. Contains ps p) (sym writers)
+            (Contains-append_right before.writers (option_to_list place) p (Contains_from_in p (option_to_list place) (has place p e)));
+      };
+    }
+  where
+    only : (o : Option ℕ) (p : ℕ) → In p (option_to_list o) → o ≡ Some p
+    only None p i = elim i [ ]
+    only (Some n) p (inl e) = ap Some e
+    only (Some n) p (inr i) = elim i [ ]
+
+    has : (o : Option ℕ) (p : ℕ) → o ≡ Some p → In p (option_to_list o)
+    has None p e = elim (none-some p e) [ ]
+    has (Some n) p e = inl (same_Some n p e)
+
+-- what holds below n and at n
+pub one_further : (P : ℕ → Type 0) (n : ℕ) → ((m : ℕ) → m < n → P m) → P n → (m : ℕ) → m < n + 1 → P m
+one_further P n before here m below = elim (cases_lt m n) [
+  | inl less ↦ before m less
+  | inr not_less ↦ subst P (sym (omega (arith, below, not_less))) here
+]
 
 -- ---- what is ruled out isn't found
 

@@ -5,3 +5,4 @@ pub mod Added
 pub mod Tables
 pub mod Reads
 pub mod Possible
+pub mod Pieces

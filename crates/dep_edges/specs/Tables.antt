@@ -1,9 +1,8 @@
 -- What a table of versions says of a history, by place of transaction and by number of version.
-use Rattle.std.specs.Prelude.{◌<◌, ◌≡◌, ℕ, List, [], pos, Bool, true, not, ◌&&◌, ◌==◌, if◌then◌else◌, Option, Some, None, IsSome, unwrap_or, slice_get, slice_set, length, map, fold}
+use Rattle.std.specs.Prelude.{◌<◌, ◌≡◌, ℕ, List, [], pos, Option, Some, None, IsSome, unwrap_or, slice_get, length}
 use Rattle.hist_types.specs.Atoms.{integer}
-use Rattle.hist_types.specs.Transactions.{Transaction, Version, Open, is_ok, is_failed}
+use Rattle.hist_types.specs.Transactions.{Transaction, Version, Open}
 use Rattle.hist_types.specs.Versions.{nil_of}
-use Rattle.key_versions.specs.Histories.{writer_of, readers_of}
 use Rattle.key_versions.specs.Tables.{Table}
 use Rattle.key_versions.specs.declared.types.Writer.{Writer}
 use Rattle.key_versions.specs.declared.types.Follower.{Follower}
@@ -52,18 +51,3 @@ pub record IsBehind (ts : List Transaction) (table : Table) (v : Version)
   pub number : IsNumber table f.version
   pub key : (version_at table f.version).key ≡ v.key
   pub written : IsSome (version_at table f.version).value
-
--- ---- nodes
-
--- marks with that of a version's writer, if the version was read and the writer didn't fail
-abbrev pub marked_by : List Transaction → Option Writer → (was_read : Bool) → List Bool → List Bool
-marked_by ts None was_read marks = marks
-marked_by ts (Some w) was_read marks =
-    if was_read && not (is_failed (txn_at ts w.txn)) then slice_set marks w.txn true else marks
-
-abbrev pub marked : List Transaction → List Bool → Version → List Bool
-marked ts marks v = marked_by ts (writer_of ts v) (not (length (readers_of ts v) == 0)) marks
-
--- the ok transactions are marked, and then those that wrote what was read
-abbrev pub all_marked : List Transaction → List Version → List Bool
-all_marked ts vs = fold (marked ts) (map is_ok ts) vs

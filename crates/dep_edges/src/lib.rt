@@ -3,24 +3,44 @@
 
 ghost use Rattle.std.specs.Prelude.{◌≡◌, IfOk, IfErr};
 ghost use Rattle.hist_types.specs.Refusals.{memory_fault};
+ghost use Rattle.key_versions.specs.KeyNumbers.{AreKeyNumbers};
 ghost use Rattle.key_versions.specs.Tables.{IsTableOf};
 ghost use Rattle.dep_edges.specs.Histories.{AreOfHistory};
+ghost use Rattle.dep_edges.specs.Pieces.{ArePiecesOf, IsPieceOf};
 
 mod bad_reads;
 pub mod deps;
 pub mod history;
 pub mod laws;
 mod nodes;
+pub mod pieces;
 mod possible;
 pub mod types;
 
 use crate::deps::Deps;
 use crate::history::History;
+use crate::pieces::{PieceDeps, piece, whole};
 use crate::possible::possible_in;
 use hist_types::types::Fault;
-use key_versions::table::Versions;
-use std::alloc::Global;
+use key_versions::table::{KeyNumbers, Versions};
+use std::alloc::{AllocError, Global};
 use txn_pairs::types::Txns;
+
+/// What is known of a history's transactions, by what all pieces of its keys give.
+fn deps_of<'v, 'a>(
+    alloc: Global,
+    history: History<'v, 'a>,
+    pieces: &[PieceDeps],
+) -> Result<Deps<'v, 'a>, AllocError>
+    requires versions { IsTableOf history.table.keys history.txns history.table }
+    requires pieces { ArePiecesOf history pieces.now }
+    ensures { IfOk result (λ deps. deps ≡ history.entry) }
+{
+    let possible = possible_in(pieces);
+    let strays = bad_reads::strays(alloc, &history, possible)?;
+    let nodes = nodes::nodes(alloc, &history, pieces)?;
+    Ok(Deps::new(history, nodes, possible, strays))
+}
 
 /// What the transactions depend on each other for. No edge is stored: the edges that leave a transaction are found from what
 /// it reads and installs, over the table of the versions, which has the order of the keys. The time is linear in the history.
@@ -37,8 +57,52 @@ pub fn edges<'v, 'a>(
     ensures err { IfErr result (λ fault. fault ≡ memory_fault) }
 {
     let history = History::new(txns, versions);
-    let possible = possible_in(&history);
-    let strays = bad_reads::strays(alloc, &history, possible)?;
-    let nodes = nodes::nodes(alloc, &history)?;
-    Ok(Deps::new(history, nodes, possible, strays))
+    let whole = whole(alloc, &history)?;
+    Ok(deps_of(alloc, history, &[whole])?)
+}
+
+/// What one look at each version of some keys gives: of those from the number `from` up to but not including `to`. Pieces can be
+/// made side by side, and `join` puts them together. The time is linear in the history's versions, whichever keys are asked for.
+///
+/// Only memory can run out.
+pub fn edges_piece(
+    alloc: Global,
+    txns: &Txns<'_>,
+    versions: &Versions<'_>,
+    keys: &KeyNumbers,
+    from: usize,
+    to: usize,
+) -> Result<PieceDeps, AllocError>
+    requires history { AreOfHistory txns.now }
+    requires versions { IsTableOf versions.now.keys txns.now versions.now }
+    requires keys { AreKeyNumbers versions.now.versions keys.now.count keys.now.of_versions.items }
+    ensures { IfOk result (IsPieceOf
+        (record { txns = txns.now; table = versions.now }) keys.now.of_versions.items from to) }
+{
+    piece(
+        alloc,
+        &History::new(txns, versions),
+        keys.of_versions.as_slice(),
+        from,
+        to,
+    )
+}
+
+/// What `edges` gives, from pieces that together have all keys, in any order.
+///
+/// Only memory can run out.
+pub fn join<'v, 'a>(
+    alloc: Global,
+    txns: &'v Txns<'a>,
+    versions: &'v Versions<'a>,
+    pieces: &[PieceDeps],
+) -> Result<Deps<'v, 'a>, Fault>
+    requires history { AreOfHistory txns.now }
+    requires versions { IsTableOf versions.now.keys txns.now versions.now }
+    requires pieces { ArePiecesOf
+        (record { txns = txns.now; table = versions.now }) pieces.now }
+    ensures ok { IfOk result (λ deps. deps ≡ record { txns = txns.now; table = versions.now }) }
+    ensures err { IfErr result (λ fault. fault ≡ memory_fault) }
+{
+    Ok(deps_of(alloc, History::new(txns, versions), pieces)?)
 }

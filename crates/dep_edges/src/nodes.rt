@@ -1,10 +1,12 @@
 //! Which transactions are nodes.
 
-ghost use Rattle.std.specs.Prelude.{◌≡◌, length, map, IfOk};
+ghost use Rattle.std.specs.Prelude.{◌≡◌, ◌<◌, length, map, All, IfOk};
 ghost use Rattle.hist_types.specs.Transactions.{is_ok, is_failed, is_node};
-ghost use Rattle.dep_edges.specs.Tables.{IsNumber, version_at, marked};
+ghost use Rattle.key_versions.specs.Tables.{IsTableOf};
+ghost use Rattle.dep_edges.specs.Pieces.{ArePiecesOf, with_marks};
 
 use crate::history::History;
+use crate::pieces::PieceDeps;
 use std::alloc::{AllocError, Global};
 use txn_pairs::types::{Status, Txn};
 
@@ -27,28 +29,30 @@ fn ok_marks(alloc: Global, txns: &[Txn<'_>]) -> Result<Vec<bool>, AllocError>
     txns.iter().map(is_ok).collect(alloc)
 }
 
-/// Marks the transaction that wrote the version, if the version was read and the transaction didn't fail.
-fn mark(history: &History<'_, '_>, number: usize, nodes: &mut [bool])
-    requires number { IsNumber history.now.table number }
-    requires nodes { length nodes.old ≡ length history.now.txns }
-    ensures { nodes.new ≡ marked history.now.txns nodes.old (version_at history.now.table number) }
+/// Marks the transactions at these places.
+fn mark_all(nodes: &mut [bool], places: &[u32])
+    requires { All (λ place. place < length nodes.old) places.now }
+    ensures { nodes.new ≡ with_marks nodes.old places.now }
 {
-    if let Some(writer) = history.writer(number) {
-        let place = writer.txn as usize;
-        if !history.readers(number).is_empty() && !is_failed(history.txn(place)) {
-            nodes[place] = true;
-        }
+    for place in places {
+        nodes[*place as usize] = true;
     }
 }
 
 /// A mark for each transaction, whether it is a node: all ok ones are, and each info or open one that wrote a version which an
-/// ok transaction reads, also one that it wrote over.
-pub fn nodes(alloc: Global, history: &History<'_, '_>) -> Result<Vec<bool>, AllocError>
+/// ok transaction reads, also one that it wrote over. A transaction may be a node by a version of another piece.
+pub fn nodes(
+    alloc: Global,
+    history: &History<'_, '_>,
+    pieces: &[PieceDeps],
+) -> Result<Vec<bool>, AllocError>
+    requires versions { IsTableOf history.now.table.keys history.now.txns history.now.table }
+    requires pieces { ArePiecesOf history.now pieces.now }
     ensures { IfOk result (λ nodes. nodes.items ≡ map (is_node history.now.txns) history.now.txns) }
 {
     let mut nodes = ok_marks(alloc, history.txns())?;
-    for number in 0..history.versions() {
-        mark(history, number, &mut nodes);
+    for piece in pieces {
+        mark_all(&mut nodes, piece.writers());
     }
     Ok(nodes)
 }

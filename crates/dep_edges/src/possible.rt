@@ -1,11 +1,13 @@
 //! Which kinds of bad reads there may be, by one look at each version.
 
 ghost use Rattle.std.specs.Prelude.{◌≡◌, ◌||◌};
-ghost use Rattle.dep_edges.specs.Possible.{RulesOut, RulesOutReads, either};
+ghost use Rattle.dep_edges.specs.Pieces.{possible_in};
+ghost use Rattle.dep_edges.specs.Possible.{RulesOut, either};
 ghost use Rattle.dep_edges.specs.Tables.{IsNumber, version_at};
 
 use crate::history::History;
 use crate::nodes::is_failed;
+use crate::pieces::PieceDeps;
 
 /// Which kinds of bad reads there may be. Where one is ruled out, no read has to be looked at for it.
 #[derive(Clone, Copy)]
@@ -16,14 +18,14 @@ pub struct Possible {
 }
 
 impl Possible {
-    const NONE: Possible = Possible {
+    pub const NONE: Possible = Possible {
         aborted: false,
         intermediate: false,
         stray: false,
     };
 
     /// What reads of the version may be.
-    fn by_reads_of(history: &History<'_, '_>, number: usize) -> Possible
+    pub fn by_reads_of(history: &History<'_, '_>, number: usize) -> Possible
         requires { IsNumber history.now.table number }
         ensures { RulesOut history.now.txns (version_at history.now.table number) result }
     {
@@ -40,7 +42,7 @@ impl Possible {
         }
     }
 
-    fn or(self, other: Possible) -> Possible
+    pub fn or(self, other: Possible) -> Possible
         ensures { result ≡ either self other }
     {
         Possible {
@@ -51,15 +53,11 @@ impl Possible {
     }
 }
 
-/// What the reads of the history may be.
-pub fn possible_in(history: &History<'_, '_>) -> Possible
-    ensures { RulesOutReads history.now.txns result }
+/// What the reads of any of the pieces may be.
+pub fn possible_in(pieces: &[PieceDeps]) -> Possible
+    ensures { result ≡ possible_in pieces.now }
 {
-    let mut found = Possible::NONE;
-    for number in 0..history.versions() {
-        if !history.readers(number).is_empty() {
-            found = found.or(Possible::by_reads_of(history, number));
-        }
-    }
-    found
+    pieces
+        .iter()
+        .fold(Possible::NONE, |found, piece| found.or(piece.possible()))
 }

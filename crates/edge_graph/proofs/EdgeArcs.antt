@@ -1,52 +1,115 @@
--- Edges as arcs, one by one and along a walk.
-use Rattle.std.proofs.Common.{◌≡◌, ◌∙◌, ◌<◌, ◌+◌, ◌-◌, ◌⊎◌, inl, inr, ℕ, zero, suc, List, [], ◌∷◌, length, Bool, true, false, not, ◌||◌, Some, Contains, refl, sym, ap, subst, arith}
+-- Edges as arcs, one by one and along a walk, which costs no more than they have dependencies.
+use Rattle.std.proofs.Common.{◌≡◌, ◌∙◌, ◌<◌, ◌≤◌, ◌+◌, ◌-◌, ◌⊎◌, inl, inr, ℕ, zero, suc, List, [], ◌∷◌, length, Bool, true, false, not, Some, Contains, refl, sym, ap, subst, arith}
 use Rattle.std.specs.Prelude.{slice_get, slice_index}
 use Rattle.std.specs.List.{AllByRecursion}
 use Rattle.std.proofs.lemmas.Bool.{false≢true, and_parts, and_from}
 use Rattle.std.proofs.lemmas.List.Elements.{recursion_from_All}
 use Rattle.std.proofs.lemmas.Option.{same_Some, slice_get_within, slice_get-get_or, get_or_from_slice_get}
+use Rattle.graph_search.specs.Costs.{LeadsWithin}
 use Rattle.graph_search.specs.Graphs.{IsWalk}
 use Rattle.hist_types.specs.Edges.{Label, ww, wr, rw, process, realtime, Edge, edge, dependency_edges}
-use Rattle.hist_types.specs.Phenomena.{Leads, is_ww_label, is_wr_label, is_rw_label, is_ww, is_wr, is_rw}
+use Rattle.hist_types.specs.Phenomena.{Leads, is_ww_label, is_wr_label, is_rw_label, is_ww, is_wr, is_rw, is_order}
 use Rattle.hist_types.specs.Transactions.{Transaction, Version, is_node, nodes, is_known_to_read}
 use Rattle.hist_types.specs.declared.types.Level.{Level}
 use Rattle.hist_types.specs.declared.types.Level.TheVariants.{Plain}
 use Rattle.history_laws.proofs.DependencyEdges.{edges_by_versions}
+use Rattle.history_laws.proofs.ThinningWalks.{one_if, count-cons}
 use Rattle.hist_types.proofs.Members.{in_from_Contains, Contains_from_in, in_filter}
 use Rattle.dep_edges.specs.Histories.{AreOfHistory}
 use Rattle.dep_edges.specs.Tables.{IsPlace, txn_at}
-use Rattle.edge_graph.specs.Kinds.{includes, includes_directly, has_ww, has_wr, has_rw, kinds_of, AreAmong}
+use Rattle.edge_graph.specs.Kinds.{includes, includes_directly, kinds_of, AreAmong}
 use Rattle.edge_graph.specs.Parts.{Parts, HasEdge, edges_in}
 use Rattle.edge_graph.specs.Vertices.{Vertex, txn, version, IsVertex, Follows, LeadsTo, IsArc, RwByVersions}
 use Rattle.edge_graph.specs.Walks.{LeadsBetween, IsEdgeOf, HasEdgeBetween, IsDirectArc, IsWayByVersion, HasDirectArc, HasWayByVersion, HasWalkBetween, AreEdgesBetween}
+use Rattle.hist_types.specs.Witness.{dependencies_in}
 use Rattle.edge_graph.specs.declared.types.Dependencies.{Dependencies}
-use Rattle.edge_graph.specs.declared.types.Dependencies.TheVariants.{Ww, Wr, Rw}
+use Rattle.edge_graph.specs.declared.types.Dependencies.TheVariants.{None, Ww, Wr, Rw}
 use Rattle.edge_graph.specs.declared.types.Kinds.{Kinds}
-use Rattle.edge_graph.proofs.EdgesIn.{listed, plain, dependency_of}
+use Rattle.edge_graph.proofs.EdgesIn.{listed, plain, dependency_of, is_order_label}
 use Rattle.edge_graph.proofs.Txns.{txn_there, txn_of, txn_in, place_by, one_place}
 
--- ---- fewer dependencies
+-- ---- fewer kinds
+
+module _ (g : Parts) (few more : Kinds) (ww_too : few.ww ≡ true → more.ww ≡ true) (wr_too : few.wr ≡ true → more.wr ≡ true) (rw_too : few.rw ≡ true → more.rw ≡ true) (edges : (e : Edge) → HasEdge g few.level e → HasEdge g more.level e) where
+  more_direct : (label : Label) → includes_directly few label ≡ true → includes_directly more label ≡ true
+  more_direct (ww earlier later) h = and_from more.ww true (ww_too (and_parts few.ww true h).0) refl
+  more_direct (wr v) h = and_from more.wr true (wr_too (and_parts few.wr true h).0) refl
+  more_direct (rw earlier later) h = absurd (false≢true (and_parts few.rw false h).1)
+  more_direct (process number) h = refl
+  more_direct (realtime completion invocation) h = refl
+
+  more_leads : (x y : Vertex) → LeadsTo g few x y → LeadsTo g more x y
+  more_leads (txn t) (txn u) (label, has, is) = (label, edges (edge t u label) has, more_direct label is)
+  more_leads (txn t) (version v) (allowed, read) = (rw_too allowed, read)
+  more_leads (version v) (txn u) (allowed, follows) = (rw_too allowed, follows)
+  more_leads (version v) (version w) leads = leads
+
+  more_arc : (v w : ℕ) → IsArc g few v w → IsArc g more v w
+  more_arc v w (x, y, at, at', leads) = (x, y, at, at', more_leads x y leads)
+
+-- plain's edges are edges of each level
+plain_edge : (g : Parts) (level : Level) (e : Edge) → HasEdge g Plain e → HasEdge g level e
+plain_edge g level e has = inl ((plain g e).0 ((listed g Plain e).1 has))
 
 module _ (g : Parts) (few more : Dependencies) (among : AreAmong few more) where
-  more_direct : (lower higher : Level) (label : Label) → includes_directly (kinds_of few lower) label ≡ true → includes_directly (kinds_of more higher) label ≡ true
-  more_direct lower higher (ww earlier later) h = and_from (has_ww more) true (among.ww (and_parts (has_ww few) true h).0) refl
-  more_direct lower higher (wr v) h = and_from (has_wr more) true (among.wr (and_parts (has_wr few) true h).0) refl
-  more_direct lower higher (rw earlier later) h = absurd (false≢true (and_parts (has_rw few) false h).1)
-  more_direct lower higher (process number) h = refl
-  more_direct lower higher (realtime completion invocation) h = refl
-
-  more_leads : (lower higher : Level) → ((e : Edge) → HasEdge g lower e → HasEdge g higher e) → (x y : Vertex) → LeadsTo g (kinds_of few lower) x y → LeadsTo g (kinds_of more higher) x y
-  more_leads lower higher edges (txn t) (txn u) (label, has, direct) = (label, edges (edge t u label) has, more_direct lower higher label direct)
-  more_leads lower higher edges (txn t) (version v) (allowed, read) = (among.rw allowed, read)
-  more_leads lower higher edges (version v) (txn u) (allowed, follows) = (among.rw allowed, follows)
-  more_leads lower higher edges (version v) (version w) leads = leads
-
   pub more_at_level : (level : Level) (v w : ℕ) → IsArc g (kinds_of few level) v w → IsArc g (kinds_of more level) v w
-  more_at_level level v w (x, y, at, at', leads) = (x, y, at, at', more_leads level level (λ e has. has) x y leads)
+  more_at_level level = more_arc g (kinds_of few level) (kinds_of more level) among.ww among.wr among.rw (λ e has. has)
 
   pub more_than_plain : (level : Level) (v w : ℕ) → IsArc g (kinds_of few Plain) v w → IsArc g (kinds_of more level) v w
-  more_than_plain level v w (x, y, at, at', leads) =
-      (x, y, at, at', more_leads Plain level (λ e has. inl ((plain g e).0 ((listed g Plain e).1 has))) x y leads)
+  more_than_plain level = more_arc g (kinds_of few Plain) (kinds_of more level) among.ww among.wr among.rw (plain_edge g level)
+
+-- ---- walks
+
+module _ (Arc : ℕ → ℕ → Type 0) where
+  alone : (v : ℕ) → IsWalk Arc v v (v ∷ [])
+  alone v = record { some = omega arith; begins = refl; ends = refl; joined = λ k h. absurd (omega (arith, h)) }
+
+  before : (from next to : ℕ) (walk : List ℕ) → Arc from next → IsWalk Arc next to walk → IsWalk Arc from to (from ∷ walk)
+  before from next to [] arc is = absurd (omega (arith, is.some))
+  before from next to (v ∷ vs) arc is =
+      record {
+        some = omega arith;
+        begins = refl;
+        ends =
+            let n : suc (suc (length vs)) - 1 ≡ suc (length vs) = omega arith in
+            let m : suc (length vs) - 1 ≡ length vs = omega arith in
+            ap (λ k. slice_index (from ∷ v ∷ vs) k) n ∙ ap (λ k. slice_index (v ∷ vs) k) (sym m) ∙ is.ends;
+        joined = joined';
+      }
+    where
+      joined' : (k : ℕ) → k + 1 < length (from ∷ v ∷ vs) → Arc (slice_index (from ∷ v ∷ vs) k) (slice_index (from ∷ v ∷ vs) (k + 1))
+      joined' zero h = subst (Arc from) (sym is.begins) arc
+      joined' (suc k) h =
+          let e : suc (k + 1) ≡ suc k + 1 = omega arith in
+          subst (λ n. Arc (slice_index (from ∷ v ∷ vs) (suc k)) (slice_index (from ∷ v ∷ vs) n)) e (is.joined k (omega (arith, h)))
+
+-- ---- arcs by what they cost
+
+-- the dependencies of the kinds
+abbrev at_plain : Kinds → Kinds
+at_plain kinds = record { ww = kinds.ww; wr = kinds.wr; rw = kinds.rw; level = Plain }
+
+abbrev IsFree : Parts → Kinds → ℕ → ℕ → Type 0
+IsFree g kinds v w = IsArc g (kinds_of None kinds.level) v w ⊎ ((IsPlace g.txns v → ⊥) × IsArc g (at_plain kinds) v w)
+
+abbrev IsPaid : Parts → Kinds → ℕ → ℕ → Type 0
+IsPaid g kinds v w = IsPlace g.txns v × IsArc g (at_plain kinds) v w
+
+module _ (g : Parts) (kinds : Kinds) where
+  plain_arc : (v w : ℕ) → IsArc g (at_plain kinds) v w → IsArc g kinds v w
+  plain_arc = more_arc g (at_plain kinds) kinds (λ h. h) (λ h. h) (λ h. h) (plain_edge g kinds.level)
+
+  free_arc : (v w : ℕ) → IsFree g kinds v w → IsArc g kinds v w
+  free_arc v w (inl arc) =
+      more_arc g (kinds_of None kinds.level) kinds (λ h. absurd (false≢true h)) (λ h. absurd (false≢true h)) (λ h. absurd (false≢true h)) (λ e has. has) v w arc
+  free_arc v w (inr (out, arc)) = plain_arc v w arc
+
+  pub walk_of : (most from : ℕ) (rest : List ℕ) (to : ℕ) → LeadsWithin (IsFree g kinds) (IsPaid g kinds) most from rest to → IsWalk (IsArc g kinds) from to (from ∷ rest)
+  walk_of most from [] to same = subst (λ n. IsWalk (IsArc g kinds) from n (from ∷ [])) same (alone (IsArc g kinds) from)
+  walk_of most from (v ∷ rest) to (inl (free, leads)) =
+      before (IsArc g kinds) from v to (v ∷ rest) (free_arc from v free) (walk_of most v rest to leads)
+  walk_of most from (v ∷ rest) to (inr (fewer, is, paid, leads)) =
+      before (IsArc g kinds) from v to (v ∷ rest) (plain_arc from v paid.1) (walk_of fewer v rest to leads)
 
 -- ---- vertices
 
@@ -99,9 +162,6 @@ rw_label (rw earlier later) e = (earlier, later, refl)
 rw_label (process number) e = absurd (false≢true e)
 rw_label (realtime completion invocation) e = absurd (false≢true e)
 
-abbrev is_order_label : Label → Bool
-is_order_label label = not (is_ww_label label || is_wr_label label || is_rw_label label)
-
 ww_is_no_order : (label : Label) → is_ww_label label ≡ true → is_order_label label ≡ false
 ww_is_no_order (ww earlier later) e = refl
 ww_is_no_order (wr v) e = absurd (false≢true e)
@@ -122,6 +182,35 @@ rw_is_no_order (wr v) e = absurd (false≢true e)
 rw_is_no_order (rw earlier later) e = refl
 rw_is_no_order (process number) e = absurd (false≢true e)
 rw_is_no_order (realtime completion invocation) e = absurd (false≢true e)
+
+directly_of_order : (level : Level) (label : Label) → is_order_label label ≡ true → includes_directly (kinds_of None level) label ≡ true
+directly_of_order level (ww earlier later) e = absurd (false≢true e)
+directly_of_order level (wr v) e = absurd (false≢true e)
+directly_of_order level (rw earlier later) e = absurd (false≢true e)
+directly_of_order level (process number) e = refl
+directly_of_order level (realtime completion invocation) e = refl
+
+-- an order edge, an rw edge, or a dependency edge with an arc of its own
+abbrev IsOneOf : Label → Type 0
+IsOneOf label =
+    (is_order_label label ≡ true) ⊎ ((is_rw_label label ≡ true) ⊎ ((is_order_label label ≡ false) × (not (is_rw_label label) ≡ true)))
+
+one_of : (label : Label) → IsOneOf label
+one_of (ww earlier later) = inr (inr (refl, refl))
+one_of (wr v) = inr (inr (refl, refl))
+one_of (rw earlier later) = inr (inl refl)
+one_of (process number) = inl refl
+one_of (realtime completion invocation) = inl refl
+
+included_at_plain : (kinds : Kinds) (label : Label) → includes kinds label ≡ true → includes (at_plain kinds) label ≡ true
+included_at_plain kinds (ww earlier later) h = h
+included_at_plain kinds (wr v) h = h
+included_at_plain kinds (rw earlier later) h = h
+included_at_plain kinds (process number) h = refl
+included_at_plain kinds (realtime completion invocation) h = refl
+
+abbrev pub is_dependency : Edge → Bool
+is_dependency e = not (is_order e)
 
 abbrev edge_by : ℕ → ℕ → Label → Edge
 edge_by from to label = record { from = from; to = to; label = label }
@@ -280,43 +369,11 @@ module _ (g : Parts) where
 
     -- ---- walks over the arcs of edges
 
-    abbrev Arc : ℕ → ℕ → Type 0
-    Arc = IsArc g kinds
-
-    alone : (v : ℕ) → IsWalk Arc v v (v ∷ [])
-    alone v = record { some = omega arith; begins = refl; ends = refl; joined = λ k h. absurd (omega (arith, h)) }
-
-    before : (from next to : ℕ) (walk : List ℕ) → Arc from next → IsWalk Arc next to walk → IsWalk Arc from to (from ∷ walk)
-    before from next to [] arc is = absurd (omega (arith, is.some))
-    before from next to (v ∷ vs) arc is =
-        record {
-          some = omega arith;
-          begins = refl;
-          ends =
-              let n : suc (suc (length vs)) - 1 ≡ suc (length vs) = omega arith in
-              let m : suc (length vs) - 1 ≡ length vs = omega arith in
-              ap (λ k. slice_index (from ∷ v ∷ vs) k) n ∙ ap (λ k. slice_index (v ∷ vs) k) (sym m) ∙ is.ends;
-          joined = joined';
-        }
-      where
-        joined' : (k : ℕ) → k + 1 < length (from ∷ v ∷ vs) → Arc (slice_index (from ∷ v ∷ vs) k) (slice_index (from ∷ v ∷ vs) (k + 1))
-        joined' zero h = subst (Arc from) (sym is.begins) arc
-        joined' (suc k) h =
-            let e : suc (k + 1) ≡ suc k + 1 = omega arith in
-            subst (λ n. Arc (slice_index (from ∷ v ∷ vs) (suc k)) (slice_index (from ∷ v ∷ vs) n)) e (is.joined k (omega (arith, h)))
-
-    abbrev LeadsOn : ℕ → ℕ → Type 0
-    LeadsOn from next = (to : ℕ) (walk : List ℕ) → IsWalk Arc next to walk → (walk' : List ℕ) × IsWalk Arc from to walk'
-
     second_place : (e : Edge) → HasEdge g kinds.level e → (to : ℕ) × IsPlace g.txns to × (e.to ≡ inv g to)
     second_place e (inl c) = let (from, to, leads) = ends_of e c in (to, leads.last, leads.ends)
     second_place e (inr (c, (u, node, to))) =
         let (place, h, at) = place_by g.txns u (in_filter (is_node g.txns) u g.txns (in_from_Contains u (nodes g.txns) node)) in
         (place, h, to ∙ ap (λ (x : Transaction). x.invocation) (sym at))
-
-    not_rw : (b : Bool) → (b ≡ true) ⊎ (not b ≡ true)
-    not_rw true = inl refl
-    not_rw false = inr refl
 
     rw_allowed : (label : Label) → is_rw_label label ≡ true → includes kinds label ≡ true → kinds.rw ≡ true
     rw_allowed (ww earlier later) e h = absurd (false≢true e)
@@ -325,35 +382,68 @@ module _ (g : Parts) where
     rw_allowed (process number) e h = absurd (false≢true e)
     rw_allowed (realtime completion invocation) e h = absurd (false≢true e)
 
-    one_step : (from : ℕ) (e : Edge) → IsPlace g.txns from → e.from ≡ inv g from → IsEdgeOf g kinds e → (to : ℕ) × IsPlace g.txns to × (e.to ≡ inv g to) × LeadsOn from to
+    abbrev Free : ℕ → ℕ → Type 0
+    Free = IsFree g kinds
+
+    abbrev Paid : ℕ → ℕ → Type 0
+    Paid = IsPaid g kinds
+
+    -- with one more to pay where the edge is a dependency
+    abbrev GoesOn : (from to : ℕ) → Edge → Type 0
+    GoesOn from to e =
+        (most last : ℕ) (rest : List ℕ)
+        → LeadsWithin Free Paid most to rest last
+        → (rest' : List ℕ) × LeadsWithin Free Paid (one_if (is_dependency e) + most) from rest' last
+
+    one_step : (from : ℕ) (e : Edge) → IsPlace g.txns from → e.from ≡ inv g from → IsEdgeOf g kinds e → (to : ℕ) × IsPlace g.txns to × (e.to ≡ inv g to) × GoesOn from to e
     one_step from e h begins of =
         let has = (listed g kinds.level e).0 of.among in
         let (to, k, ends) = second_place e has in
         let leads : LeadsBetween g from to e = record { first = h; last = k; begins = begins; ends = ends } in
-        elim (not_rw (is_rw e)) [
+        elim (one_of e.label) [
           | inl is ↦ (
-              let d = dependency_of g kinds.level e of.among (rw_is_no_order e.label is) in
-              let (vertex, by) = way by_versions kinds from to e (rw_allowed e.label is of.kind) leads d is in
-              (to, k, ends, (λ last walk rest. (from ∷ vertex ∷ walk, before from vertex last (vertex ∷ walk) by.reads (before vertex to last walk by.follows rest)))))
-          | inr other ↦ (
-              let arc = direct kinds from to e leads has (and_from (includes kinds e.label) (not (is_rw e)) of.kind other) in
-              (to, k, ends, (λ last walk rest. (from ∷ walk, before from to last walk arc.arc rest))))
+              let arc = direct (kinds_of None kinds.level) from to e leads has (directly_of_order kinds.level e.label is) in
+              let none : (most : ℕ) → one_if (is_dependency e) + most ≡ most = λ most. ap (λ b. one_if (not b) + most) is ∙ omega arith in
+              (to, k, ends, (λ most last rest on. (to ∷ rest, inl (inl arc.arc, subst (λ n. LeadsWithin Free Paid n to rest last) (sym (none most)) on)))))
+          | inr others ↦ elim others [
+            | inl is ↦ (
+                let other = rw_is_no_order e.label is in
+                let c = dependency_of g kinds.level e of.among other in
+                let (vertex, by) = way by_versions (at_plain kinds) from to e (rw_allowed e.label is of.kind) leads c is in
+                let one : (most : ℕ) → one_if (is_dependency e) + most ≡ suc most = λ most. ap (λ b. one_if (not b) + most) other ∙ omega arith in
+                (to, k, ends, (λ most last rest on. (vertex ∷ to ∷ rest, inr (most, one most, (h, by.reads), inl (inr (by.between, by.follows), on))))))
+            | inr (other, no_rw) ↦ (
+                let c = dependency_of g kinds.level e of.among other in
+                let arc = direct (at_plain kinds) from to e leads (inl c) (and_from (includes (at_plain kinds) e.label) (not (is_rw_label e.label)) (included_at_plain kinds e.label of.kind) no_rw) in
+                let one : (most : ℕ) → one_if (is_dependency e) + most ≡ suc most = λ most. ap (λ b. one_if (not b) + most) other ∙ omega arith in
+                (to, k, ends, (λ most last rest on. (to ∷ rest, inr (most, one most, (h, arc.arc), on)))))
+          ]
         ]
 
-    walk_from :
+    cheap_from :
         (es : List Edge) (from to : ℕ) → IsPlace g.txns from → IsPlace g.txns to → Leads (inv g from) es (inv g to)
         → AllByRecursion (λ e. Contains (edges_in g kinds.level) e) es → AllByRecursion (λ (e : Edge). includes kinds e.label ≡ true) es
-        → (walk : List ℕ) × IsWalk Arc from to walk
-    walk_from [] from to h k leads among of =
-        (from ∷ [], subst (λ n. IsWalk Arc from n (from ∷ [])) (one_place g.txns kept from to h k leads) (alone from))
-    walk_from (e ∷ es) from to h k (begins, leads) (a, among) (o, of) =
+        → (most : ℕ) → dependencies_in es ≤ most → (rest : List ℕ) × LeadsWithin Free Paid most from rest to
+    cheap_from [] from to h k leads among of most few = ([], one_place g.txns kept from to h k leads)
+    cheap_from (e ∷ es) from to h k (begins, leads) (a, among) (o, of) most few =
         let (next, l, ends, go) = one_step from e h begins (record { among = a; kind = o }) in
-        let (walk, rest) = walk_from es next to l k (subst (λ n. Leads n es (inv g to)) ends leads) among of in
-        go to walk rest
+        let cost = one_if (is_dependency e) in
+        let count = count-cons is_dependency e es in
+        let fewer : dependencies_in es ≤ most - cost = omega (arith, count, few) in
+        let whole : cost + (most - cost) ≡ most = omega (arith, count, few) in
+        let (rest, on) = cheap_from es next to l k (subst (λ n. Leads n es (inv g to)) ends leads) among of (most - cost) fewer in
+        let (rest', leads') = go (most - cost) to rest on in
+        (rest', subst (λ n. LeadsWithin Free Paid n from rest' to) whole leads')
+
+    pub cheap_over :
+        (from to : ℕ) → IsPlace g.txns from → IsPlace g.txns to → (es : List Edge) → AreEdgesBetween g kinds from to es
+        → (most : ℕ) → dependencies_in es ≤ most → (rest : List ℕ) × LeadsWithin Free Paid most from rest to
+    cheap_over from to h k es are =
+        cheap_from es from to h k are.leads (recursion_from_All (λ e. Contains (edges_in g kinds.level) e) es are.among)
+        (recursion_from_All (λ (e : Edge). includes kinds e.label ≡ true) es are.of_kinds)
 
     pub walk_over : (from to : ℕ) → IsPlace g.txns from → IsPlace g.txns to → (es : List Edge) → AreEdgesBetween g kinds from to es → HasWalkBetween g kinds from to
     walk_over from to h k es are =
-        let (walk, is) =
-        walk_from es from to h k are.leads (recursion_from_All (λ e. Contains (edges_in g kinds.level) e) es are.among)
-        (recursion_from_All (λ (e : Edge). includes kinds e.label ≡ true) es are.of_kinds) in
-        (walk, record { first = h; last = k; steps = is })
+        let count = dependencies_in es in
+        let (rest, leads) = cheap_over from to h k es are count (omega arith) in
+        (from ∷ rest, record { first = h; last = k; steps = walk_of g kinds count from rest to leads })

@@ -87,7 +87,7 @@ order_label_of Realtime order e i =
     let (p, there, is) = in_map (realtime_edge b.invocation) e b.in_realtime j in
     subst (λ (d : Edge). IsOrderLabel d.label) is tt
 
-abbrev is_order_label : Label → Bool
+abbrev pub is_order_label : Label → Bool
 is_order_label label = not (is_ww_label label || is_wr_label label || is_rw_label label)
 
 order_labelled : (label : Label) → IsOrderLabel label → is_order_label label ≡ true

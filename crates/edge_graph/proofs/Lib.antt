@@ -16,6 +16,8 @@ pub mod Orderings
 pub mod EdgesIn
 pub mod EdgeArcs
 pub mod WalkEdges
+pub mod SplitArcs
+pub mod CheapWalks
 pub mod Between
 pub mod Known
 pub mod Readers

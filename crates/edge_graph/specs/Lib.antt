@@ -2,6 +2,7 @@ pub mod Kinds
 pub mod Parts
 pub mod Vertices
 pub mod Walks
+pub mod Costs
 pub mod FlatRows
 pub mod LaidOut
 pub mod Runs

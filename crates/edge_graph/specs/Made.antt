@@ -1,5 +1,5 @@
 -- How a graph is kept.
-use Rattle.std.specs.Prelude.{◌≡◌, ℕ, ◌<◌, List, [], ◌∷◌, ◌++◌, length, map, filter, flat_map, All}
+use Rattle.std.specs.Prelude.{◌≡◌, ℕ, ◌<◌, List, [], ◌∷◌, ◌++◌, length, take, drop, map, filter, flat_map, All}
 use Rattle.hist_types.specs.Edges.{Label, process, realtime_label, Edge, edge}
 use Rattle.hist_types.specs.Transactions.{Transaction}
 use Rattle.hist_types.specs.declared.types.Level.{Level}
@@ -68,6 +68,10 @@ joined dependencies [] lists = []
 joined dependencies (row ∷ rows) [] = led_to dependencies row ∷ joined dependencies rows []
 joined dependencies (row ∷ rows) (list ∷ lists) =
     (led_to dependencies row ++ list) ∷ joined dependencies rows lists
+
+-- of the first vertices the lists of the one, of all others those of the other
+abbrev pub split_at : ℕ → List (List ℕ) → List (List ℕ) → List (List ℕ)
+split_at vertices first second = take vertices first ++ drop vertices second
 
 abbrev pub AreWithin : List (List ℕ) → Type 0
 AreWithin lists = All (All (λ w. w < length lists)) lists

@@ -54,10 +54,14 @@ IsArc g kinds v w =
 abbrev pub graph_by : List (List ℕ) → Graph
 graph_by lists = record { count = length lists; successors = λ v. slice_index_or lists v [] }
 
--- exactly these arcs between exactly these vertices
-pub record AreArcs (g : Parts) (kinds : Kinds) (lists : List (List ℕ)) : Type 0 where
+-- exactly these arcs between exactly the vertices
+pub record AreArcsThat (g : Parts) (Leads : ℕ → ℕ → Type 0) (lists : List (List ℕ)) : Type 0 where
   pub count : length lists ≡ length g.txns + length g.versions
-  pub arcs : (v w : ℕ) → HasArc (graph_by lists) v w ↔ IsArc g kinds v w
+  pub arcs : (v w : ℕ) → HasArc (graph_by lists) v w ↔ Leads v w
+
+-- exactly the arcs of the kinds
+abbrev pub AreArcs : Parts → Kinds → List (List ℕ) → Type 0
+AreArcs g kinds = AreArcsThat g (IsArc g kinds)
 
 -- some rw edge joins the transactions
 abbrev pub HasRw : KeyOrder → List Transaction → Transaction → Transaction → Type 0

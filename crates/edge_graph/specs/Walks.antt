@@ -3,16 +3,18 @@
 -- A walk over arcs goes from one transaction to the next directly, by an edge other than rw, or by
 -- way of a version, by an rw edge; where the transaction that reads a version installs the next one
 -- itself, there is no edge.
-use Rattle.std.specs.Prelude.{◌≡◌, ℕ, ◌-◌, List, length, slice_index, IsTrue, Option, Some, None, Contains, All}
+use Rattle.std.specs.Prelude.{◌≡◌, ℕ, ◌-◌, List, length, slice_index, IsTrue, Option, Some, None, Contains, All, ⊤}
 use Rattle.graph_search.specs.Graphs.{IsWalk}
 use Rattle.hist_types.specs.Edges.{Edge}
-use Rattle.hist_types.specs.Phenomena.{Leads}
+use Rattle.hist_types.specs.Phenomena.{Leads, is_order}
+use Rattle.hist_types.specs.declared.types.Level.{Level}
 use Rattle.hist_types.specs.declared.types.Level.TheVariants.{Plain}
 use Rattle.dep_edges.specs.Tables.{IsPlace, txn_at}
 use Rattle.edge_graph.specs.Kinds.{includes, kinds_of}
 use Rattle.edge_graph.specs.Parts.{Parts, edges_in}
 use Rattle.edge_graph.specs.Vertices.{IsArc}
 use Rattle.edge_graph.specs.declared.types.Dependencies.{Dependencies}
+use Rattle.edge_graph.specs.declared.types.Dependencies.TheVariants as dependencies
 use Rattle.edge_graph.specs.declared.types.Kinds.{Kinds}
 
 -- the edge leads from the transaction at the one place to that at the other
@@ -38,6 +40,12 @@ HasEdgeBetween g kinds from to = (e : Edge) × IsEdgeBetween g kinds from to e
 abbrev pub IsEdgeIfAny : Parts → Kinds → (from to : ℕ) → Option Edge → Type 0
 IsEdgeIfAny g kinds from to None = (e : Edge) → ¬ IsEdgeBetween g kinds from to e
 IsEdgeIfAny g kinds from to (Some e) = IsEdgeBetween g kinds from to e
+
+-- such an edge, if there is one, is an order edge where some order edge leads there
+abbrev pub IsOrderEdgeIfAny : Parts → Level → (from to : ℕ) → Option Edge → Type 0
+IsOrderEdgeIfAny g level from to None = ⊤
+IsOrderEdgeIfAny g level from to (Some e) =
+    HasEdgeBetween g (kinds_of dependencies.None level) from to → IsTrue (is_order e)
 
 -- ---- one edge as arcs
 

@@ -1,7 +1,7 @@
 //! The arcs that a search for cycles goes over.
 
-ghost use Rattle.std.specs.Prelude.{◌≡◌};
-ghost use Rattle.edge_graph.specs.Made.{joined, AreWithin};
+ghost use Rattle.std.specs.Prelude.{◌≡◌, ◌≤◌, length};
+ghost use Rattle.edge_graph.specs.Made.{joined, AreWithin, split_at};
 
 use crate::orders::LaterNodes;
 use crate::rows::VertexRows;
@@ -60,5 +60,59 @@ impl Arcs for GraphArcs<'_> {
             self.rows.row(vertex, self.dependencies),
             self.order.get(vertex),
         )
+    }
+}
+
+/// Of some kinds the arcs that leave transactions, and of others those that leave versions.
+#[derive(Drop)]
+pub struct SplitArcs<'g> {
+    txns: usize,
+    of_txns: GraphArcs<'g>,
+    of_versions: GraphArcs<'g>,
+}
+
+impl<'g> Model for SplitArcs<'g> {
+    ghost use Rattle.std.specs.Prelude.{◌≡◌, ◌≤◌, List, ℕ, length};
+    ghost use Rattle.edge_graph.specs.Made.{split_at};
+
+    ghost Value = { List (List ℕ) };
+
+    ghost view = { λ a. split_at a.txns a.of_txns a.of_versions };
+
+    ghost invariant = { λ a. (a.txns ≤ length a.of_txns)
+        × (length a.of_versions ≡ length a.of_txns) };
+}
+
+impl<'g> SplitArcs<'g> {
+    /// With the first vertices as transactions.
+    pub(crate) fn new(txns: usize, of_txns: GraphArcs<'g>, of_versions: GraphArcs<'g>) -> Self
+        requires txns { txns ≤ length of_txns }
+        requires versions { length of_versions ≡ length of_txns }
+        ensures { result ≡ split_at txns of_txns.entry of_versions.entry }
+    {
+        SplitArcs {
+            txns,
+            of_txns,
+            of_versions,
+        }
+    }
+}
+
+impl Arcs for SplitArcs<'_> {
+    ghost use Rattle.edge_graph.specs.Vertices.{graph_by};
+
+    ghost graph = { graph_by };
+
+    fn vertices(&self) -> usize {
+        self.of_txns.vertices()
+    }
+
+    #[inline(always)]
+    fn successors(&self, vertex: usize) -> Successors<'_> {
+        if vertex < self.txns {
+            self.of_txns.successors(vertex)
+        } else {
+            self.of_versions.successors(vertex)
+        }
     }
 }

@@ -7,16 +7,17 @@ ghost use Rattle.dep_edges.specs.OutEdges.{Begins};
 ghost use Rattle.dep_edges.specs.Tables.{IsPlace, txn_at};
 ghost use Rattle.hist_types.specs.Refusals.{memory_fault};
 ghost use Rattle.hist_types.specs.declared.types.Level.TheVariants.{Plain};
+ghost use Rattle.edge_graph.specs.Costs.{IsFreeArc, IsPaidArc, AreAsCheap};
 ghost use Rattle.edge_graph.specs.Kinds.{kinds_of};
 ghost use Rattle.edge_graph.specs.LaidOut.{AreRows};
 ghost use Rattle.edge_graph.specs.Made.{order_edges_over, order_edges_to, AddsDependencies, IsMade};
 ghost use Rattle.edge_graph.specs.Parts.{IsOrderOf, IsMadeOf, AddsEdgesFrom};
 ghost use Rattle.edge_graph.specs.Successors.{AreTurned};
-ghost use Rattle.edge_graph.specs.Vertices.{IsArc, AreArcs, RwByVersions};
-ghost use Rattle.edge_graph.specs.Walks.{IsEdgeIfAny, IsTxnWalk, AreEdgesAlong};
+ghost use Rattle.edge_graph.specs.Vertices.{IsArc, AreArcs, AreArcsThat, RwByVersions};
+ghost use Rattle.edge_graph.specs.Walks.{IsEdgeIfAny, IsOrderEdgeIfAny, IsTxnWalk, AreEdgesAlong};
 ghost use Rattle.edge_graph.specs.declared.types.Dependencies.TheVariants.{Rw};
 
-use crate::arcs::GraphArcs;
+use crate::arcs::{GraphArcs, SplitArcs};
 use crate::layout;
 use crate::orders::Orders;
 use crate::rows::VertexRows;
@@ -288,7 +289,31 @@ impl<'g, 'v, 'a> Graph<'g, 'v, 'a> {
         GraphArcs::new(&self.rows, self.orders.at(level), dependencies)
     }
 
-    /// An edge of the kinds from one transaction to another, if there is one. It looks through all that leave the first.
+    /// Of the arcs of these dependencies and of the order of the level those that cost nothing: the order's, and those that leave
+    /// versions.
+    pub fn free_arcs(&self, dependencies: Dependencies, level: Level) -> SplitArcs<'_>
+        ensures { AreArcsThat self.now (IsFreeArc self.now dependencies level) result }
+    {
+        SplitArcs::new(
+            self.len(),
+            self.arcs(Dependencies::None, level),
+            self.arcs(dependencies, Level::Plain),
+        )
+    }
+
+    /// The arcs of these dependencies that cost one: those that leave transactions.
+    pub fn paid_arcs(&self, dependencies: Dependencies) -> SplitArcs<'_>
+        ensures { AreArcsThat self.now (IsPaidArc self.now dependencies) result }
+    {
+        SplitArcs::new(
+            self.len(),
+            self.arcs(dependencies, Level::Plain),
+            self.arcs(Dependencies::None, Level::Plain),
+        )
+    }
+
+    /// An edge of the kinds from one transaction to another, if there is one; an order edge, if one leads there. It looks through
+    /// all that leave the first.
     pub fn edge_between(
         &self,
         from: usize,
@@ -297,21 +322,24 @@ impl<'g, 'v, 'a> Graph<'g, 'v, 'a> {
     ) -> Result<Option<Edge<'a>>, AllocError>
         requires from { IsPlace self.now.txns from }
         requires to { IsPlace self.now.txns to }
-        ensures { IfOk result (IsEdgeIfAny self.now kinds from to) }
+        ensures edge { IfOk result (IsEdgeIfAny self.now kinds from to) }
+        ensures order { IfOk result (IsOrderEdgeIfAny self.now kinds.level from to) }
     {
         let invocation = self.history.txn(to).invocation();
+        let order = Kinds::of(Dependencies::None, kinds.level);
         let mut leaving = Vec::new(self.alloc);
         self.edges_from(from, kinds, &mut leaving)?;
+        let mut found = None;
         for edge in leaving {
-            if edge.to() == invocation {
-                return Ok(Some(edge));
+            if edge.to() == invocation && (found.is_none() || order.includes(edge.label())) {
+                found = Some(edge);
             }
         }
-        Ok(None)
+        Ok(found)
     }
 
     /// The edges of a walk over the arcs of these dependencies and of the order of the level, from a transaction to a
-    /// transaction.
+    /// transaction. Where an order edge leads to the next transaction, it is that one.
     pub fn edges_along(
         &self,
         walk: &[usize],
@@ -319,8 +347,10 @@ impl<'g, 'v, 'a> Graph<'g, 'v, 'a> {
         level: Level,
     ) -> Result<Vec<Edge<'a>>, AllocError>
         requires { IsTxnWalk self.now (kinds_of dependencies level) walk.now }
-        ensures { IfOk result
+        ensures edges { IfOk result
             (λ es. AreEdgesAlong self.now (kinds_of dependencies level) walk.now es.items) }
+        ensures cheap { IfOk result
+            (λ es. AreAsCheap self.now dependencies level walk.now es.items) }
     {
         let kinds = Kinds::of(dependencies, level);
         let mut edges = Vec::new(self.alloc);

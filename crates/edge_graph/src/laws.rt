@@ -1,16 +1,20 @@
 //! Laws of this crate's definitions: the contracts of functions that do nothing.
 
-ghost use Rattle.std.specs.Prelude.{◌≡◌, ◌++◌, ◌↔◌, ℕ, List, map, All, Contains, IsTrue, IsFalse};
+ghost use Rattle.std.specs.Prelude.{◌≡◌, ◌≤◌, ◌++◌, ◌↔◌, ℕ, List, map, All, Contains, IsTrue, IsFalse};
+ghost use Rattle.graph_search.specs.Costs.{LeadsWithin, IsWalkWithin};
+ghost use Rattle.graph_search.specs.Graphs.{IsWalk};
 ghost use Rattle.hist_types.specs.Edges.{Edge, dependency_edges, edges_at};
 ghost use Rattle.hist_types.specs.ThinnedOrder.{thinned_edges};
 ghost use Rattle.hist_types.specs.Phenomena.{is_ww, is_wr, is_rw, is_order};
 ghost use Rattle.hist_types.specs.Transactions.{Transaction};
+ghost use Rattle.hist_types.specs.Witness.{dependencies_in};
 ghost use Rattle.hist_types.specs.declared.types.KeyOrder.{KeyOrder};
 ghost use Rattle.hist_types.specs.declared.types.Level.{Level};
 ghost use Rattle.hist_types.specs.declared.types.Level.TheVariants.{Plain};
 ghost use Rattle.order_frontier.specs.Predecessors.{Before, HasOrderEdges, HasThinnedEdges, NoPredecessorTwice, name_of, names};
 ghost use Rattle.dep_edges.specs.Histories.{AreOfHistory};
 ghost use Rattle.dep_edges.specs.Tables.{IsPlace};
+ghost use Rattle.edge_graph.specs.Costs.{IsFreeArc, IsPaidArc};
 ghost use Rattle.edge_graph.specs.Kinds.{kinds_of, AreAmong};
 ghost use Rattle.edge_graph.specs.Parts.{Parts, IsOrderOf, IsMadeOf, HasEdge, edges_in};
 ghost use Rattle.edge_graph.specs.Vertices.{IsArc, RwByVersions};
@@ -92,4 +96,22 @@ pub fn walks_over_arcs()
     ensures { (g : Parts) → AreOfHistory g.txns → RwByVersions g
         → (kinds : Kinds) → (from to : ℕ) → IsPlace g.txns from → IsPlace g.txns to
         → (es : List Edge) → AreEdgesBetween g kinds from to es → HasWalkBetween g kinds from to }
+{}
+
+/// A walk over arcs that cost nothing or one is a walk over the arcs of these dependencies and of the order of the level.
+pub fn walks_of_costs()
+    ensures { (g : Parts) → (d : Dependencies) → (level : Level) → (most from to : ℕ)
+        → (walk : List ℕ) → IsWalkWithin (IsFreeArc g d level) (IsPaidArc g d) most from to walk
+        → IsWalk (IsArc g (kinds_of d level)) from to walk }
+{}
+
+/// Where edges lead from one transaction to another, a walk over their arcs costs no more than they have dependencies.
+pub fn cheap_walks_over_arcs()
+    ensures { (g : Parts) → AreOfHistory g.txns → RwByVersions g
+        → (d : Dependencies) → (level : Level) → (from to : ℕ)
+        → IsPlace g.txns from → IsPlace g.txns to
+        → (es : List Edge) → AreEdgesBetween g (kinds_of d level) from to es
+        → (most : ℕ) → dependencies_in es ≤ most
+        → (rest : List ℕ)
+        × LeadsWithin (IsFreeArc g d level) (IsPaidArc g d) most from rest to }
 {}

@@ -1,4 +1,6 @@
 pub mod Walks
+pub mod Costs
+pub mod Bounds
 pub mod Marked
 pub mod Reaching
 pub mod Opening

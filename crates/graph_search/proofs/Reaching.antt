@@ -1,12 +1,11 @@
--- One more vertex reached, and what a search that reaches no more has shown.
-use Rattle.std.proofs.Common.{◌≡◌, ℕ, ◌+◌, ◌-◌, ◌<◌, List, [], ◌∷◌, ◌++◌, length, Bool, true, false, not, cond, get_or, set, replicate, suc, zero, subst, sym, ap, refl, ◌∙◌, inl, inr, ◌⊎◌, arith, IsTrue, get_or-set_same, get_or-set_other}
+-- One more vertex reached, and searches that go on from one another.
+use Rattle.std.proofs.Common.{◌≡◌, ℕ, ◌+◌, ◌-◌, ◌<◌, ◌≤◌, List, [], ◌∷◌, ◌++◌, length, Bool, true, false, not, cond, get_or, set, replicate, suc, zero, subst, sym, ap, refl, ◌∙◌, inl, inr, ◌⊎◌, arith, IsTrue, get_or-set_same, get_or-set_other}
 use Rattle.std.specs.List.{count_by, sum_by}
 use Rattle.std.proofs.lemmas.List.{length-set, length-replicate, length_push, get_or_append_left, get_or_push, get_or_default, get_or-replicate, get_or_past}
-use Rattle.std.proofs.lemmas.List.Elements.{All-push}
 use Rattle.std.proofs.lemmas.List.Sums.{sum_by-cons, sum_by-set}
 use Rattle.std.proofs.lemmas.Bool.{cases_lt, cases_eq, false≢true}
-use Rattle.graph_search.specs.Graphs.{Graph, VertexSet, HasArcInto, IsWalk}
-use Rattle.graph_search.specs.Visits.{vertex_at, parent_at, IsMarked, AreReached, Extends, IsOpened, IsStep}
+use Rattle.graph_search.specs.Graphs.{Graph, VertexSet, HasArcInto}
+use Rattle.graph_search.specs.Visits.{vertex_at, parent_at, IsMarked, AreReached, EndsIn, Extends, HasNoneOf, IsOpened}
 use Rattle.graph_search.specs.declared.breadth_first.Visit.{Visit}
 
 abbrev pub visit : ℕ → ℕ → Visit
@@ -61,41 +60,32 @@ vertex_read queue k x h e = ap (λ (u : Visit). u.vertex) (e ∙ get_or_default 
 pub parent_read : (queue : List Visit) (k : ℕ) (x : Visit) → k < length queue → x ≡ get_or queue k x → x.parent ≡ parent_at queue k
 parent_read queue k x h e = ap (λ (u : Visit). u.parent) (e ∙ get_or_default queue k x none h)
 
-pub vertex_within : (Leads : ℕ → ℕ → Type 0) (marks : List Bool) (queue : List Visit) (k : ℕ) → AreReached Leads marks queue → k < length queue
-    → vertex_at queue k < length marks
-vertex_within Leads marks queue k are h = are.within k none h
+pub vertex_within : (marks : List Bool) (queue : List Visit) (k : ℕ) → AreReached marks queue → k < length queue → vertex_at queue k < length marks
+vertex_within marks queue k are h = marked_within marks (vertex_at queue k) (are.marked k h)
 
 -- one more vertex
 
-pub reach : (Leads : ℕ → ℕ → Type 0) (marks : List Bool) (queue : List Visit) (at v : ℕ)
-    → AreReached Leads marks queue → at < length queue → v < length marks → Leads (vertex_at queue at) v → get_or marks v false ≡ false
-    → AreReached Leads (set marks v true) (queue ++ visit v at ∷ [])
-reach Leads marks queue at v are in-queue in-marks leads new =
+last : (queue : List Visit) (x : Visit) (k : ℕ) → k < length (queue ++ x ∷ []) → (k < length queue) ⊎ (length queue ≡ k)
+last queue x k h =
+    let longer : length (queue ++ x ∷ []) ≡ length queue + 1 = length_push queue x in
+    elim (cases_lt k (length queue)) [ inl lt ↦ inl lt | inr ge ↦ inr (omega (arith, longer)) ]
+
+pub reach : (marks : List Bool) (queue : List Visit) (at v : ℕ)
+    → AreReached marks queue → at < length queue → v < length marks → get_or marks v false ≡ false
+    → AreReached (set marks v true) (queue ++ visit v at ∷ [])
+reach marks queue at v are in-queue in-marks new =
     let x = visit v at in
     let size : length (set marks v true) ≡ length marks = length-set marks v true in
     let longer : length (queue ++ x ∷ []) ≡ length queue + 1 = length_push queue x in
-    let last : (k : ℕ) → k < length (queue ++ x ∷ []) → (k < length queue) ⊎ (length queue ≡ k) =
-    λ k h. elim (cases_lt k (length queue)) [ inl lt ↦ inl lt | inr ge ↦ inr (omega (arith, longer)) ] in
-    let parent_in : (k : ℕ) → 0 < k → k < length (queue ++ x ∷ []) → parent_at (queue ++ x ∷ []) k < k =
-    λ k pos h. elim (last k h) [
-      | inl lt ↦ subst (λ p. p < k) (sym (parent_before queue x k lt)) (are.earlier k pos lt)
-      | inr e ↦ subst (λ p. p < k) (sym (parent_pushed queue x k e)) (subst (λ n. at < n) e in-queue)
-    ] in
     record {
-      within = All-push (λ (u : Visit). u.vertex < length (set marks v true)) queue x
-          (λ k d h. subst (λ n. (get_or queue k d).vertex < n) (sym size) (are.within k d h))
-          (subst (λ n. v < n) (sym size) in-marks);
-      earlier = parent_in;
-      led = λ k pos h. elim (last k h) [
-        | inl lt ↦
-            let back : parent_at queue k < length queue = omega (arith, are.earlier k pos lt) in
-            subst (λ w. Leads (vertex_at (queue ++ x ∷ []) (parent_at (queue ++ x ∷ []) k)) w) (sym (vertex_before queue x k lt))
-            (subst (λ w. Leads w (vertex_at queue k)) (sym (ap (vertex_at (queue ++ x ∷ [])) (parent_before queue x k lt) ∙ vertex_before queue x (parent_at queue k) back))
-            (are.led k pos lt))
-        | inr e ↦
-            subst (λ w. Leads (vertex_at (queue ++ x ∷ []) (parent_at (queue ++ x ∷ []) k)) w) (sym (vertex_pushed queue x k e))
-            (subst (λ w. Leads w v) (sym (ap (vertex_at (queue ++ x ∷ [])) (parent_pushed queue x k e) ∙ vertex_before queue x at in-queue))
-            leads)
+      some = omega (arith, longer);
+      earlier = λ k pos h. elim (last queue x k h) [
+        | inl lt ↦ subst (λ p. p < k) (sym (parent_before queue x k lt)) (are.earlier k pos lt)
+        | inr e ↦ subst (λ p. p < k) (sym (parent_pushed queue x k e)) (subst (λ n. at < n) e in-queue)
+      ];
+      marked = λ k h. elim (last queue x k h) [
+        | inl lt ↦ subst (λ w. IsMarked (set marks v true) w) (sym (vertex_before queue x k lt)) (marked_more marks v (vertex_at queue k) in-marks (are.marked k lt))
+        | inr e ↦ subst (λ w. IsMarked (set marks v true) w) (sym (vertex_pushed queue x k e)) (marked_same marks v in-marks)
       ];
       queued = λ w is. elim (marked_cases marks v w is) [
         | inl old ↦
@@ -112,24 +102,83 @@ reach Leads marks queue at v are in-queue in-marks leads new =
           after;
     }
 
-pub extend : (marks marks' : List Bool) (queue queue' : List Visit) (at v : ℕ) → v < length marks'
-    → Extends marks queue marks' queue' → Extends marks queue (set marks' v true) (queue' ++ visit v at ∷ [])
-extend marks marks' queue queue' at v h x = record {
-  count = length-set marks' v true ∙ x.count;
-  marked = λ w is. marked_more marks' v w h (x.marked w is);
-  longer = omega (arith, x.longer, length_push queue' (visit v at));
-  same = λ k lt. vertex_before queue' (visit v at) k (omega (arith, lt, x.longer)) ∙ x.same k lt;
+pub parent_within : (marks : List Bool) (queue : List Visit) (k : ℕ) → AreReached marks queue → 0 < k → k < length queue → parent_at queue k < length queue
+parent_within marks queue k are pos h = omega (arith, are.earlier k pos h)
+
+pub extend : (Leads : ℕ → ℕ → Type 0) (limit : ℕ) (marks marks' : List Bool) (queue queue' : List Visit) (at v : ℕ)
+    → Extends Leads limit marks queue marks' queue' → AreReached marks' queue' → at < length queue → at < limit → v < length marks'
+    → get_or marks' v false ≡ false → Leads (vertex_at queue at) v
+    → Extends Leads limit marks queue (set marks' v true) (queue' ++ visit v at ∷ [])
+extend Leads limit marks marks' queue queue' at v is are in-queue below h new leads =
+    let x = visit v at in
+    let grown = queue' ++ visit v at ∷ [] in
+    record {
+      count = length-set marks' v true ∙ is.count;
+      marked = λ w m. marked_more marks' v w h (is.marked w m);
+      longer = omega (arith, is.longer, length_push queue' x);
+      same = λ k lt. vertex_before queue' x k (omega (arith, lt, is.longer)) ∙ is.same k lt;
+      parents = λ k lt. parent_before queue' x k (omega (arith, lt, is.longer)) ∙ is.parents k lt;
+      new = λ k ge lt. elim (last queue' x k lt) [
+        | inl old ↦ subst (λ w. IsMarked marks w → ⊥) (sym (vertex_before queue' x k old)) (is.new k ge old)
+        | inr e ↦ subst (λ w. IsMarked marks w → ⊥) (sym (vertex_pushed queue' x k e)) (λ m. false≢true (sym new ∙ is.marked v m))
+      ];
+      led = λ k ge lt. elim (last queue' x k lt) [
+        | inl old ↦
+            let back : parent_at queue' k < length queue' = parent_within marks' queue' k are (omega arith) old in
+            subst (λ w. Leads (vertex_at grown (parent_at grown k)) w) (sym (vertex_before queue' x k old))
+            (subst (λ w. Leads w (vertex_at queue' k)) (sym (ap (vertex_at grown) (parent_before queue' x k old) ∙ vertex_before queue' x (parent_at queue' k) back))
+            (is.led k ge old))
+        | inr e ↦
+            let here : vertex_at grown at ≡ vertex_at queue at = vertex_before queue' x at (omega (arith, in-queue, is.longer)) ∙ is.same at in-queue in
+            subst (λ w. Leads (vertex_at grown (parent_at grown k)) w) (sym (vertex_pushed queue' x k e))
+            (subst (λ w. Leads w v) (sym (ap (vertex_at grown) (parent_pushed queue' x k e) ∙ here)) leads)
+      ];
+      from = λ k ge lt. elim (last queue' x k lt) [
+        | inl old ↦ subst (λ p. p < limit) (sym (parent_before queue' x k old)) (is.from k ge old)
+        | inr e ↦ subst (λ p. p < limit) (sym (parent_pushed queue' x k e)) below
+      ];
+    }
+
+pub extend_none : (Leads : ℕ → ℕ → Type 0) (limit : ℕ) (marks : List Bool) (queue : List Visit) → Extends Leads limit marks queue marks queue
+extend_none Leads limit marks queue = record {
+  count = refl;
+  marked = λ w is. is;
+  longer = omega arith;
+  same = λ k lt. refl;
+  parents = λ k lt. refl;
+  new = λ k ge lt. absurd (omega (arith, ge, lt));
+  led = λ k ge lt. absurd (omega (arith, ge, lt));
+  from = λ k ge lt. absurd (omega (arith, ge, lt));
 }
 
-pub extend_none : (marks : List Bool) (queue : List Visit) → Extends marks queue marks queue
-extend_none marks queue = record { count = refl; marked = λ w is. is; longer = omega arith; same = λ k lt. refl }
-
-pub extend_twice : (m m' m'' : List Bool) (q q' q'' : List Visit) → Extends m q m' q' → Extends m' q' m'' q'' → Extends m q m'' q''
-extend_twice m m' m'' q q' q'' x y = record {
+pub extend_twice : (Leads : ℕ → ℕ → Type 0) (l l' limit : ℕ) (m m' m'' : List Bool) (q q' q'' : List Visit) → l ≤ limit → l' ≤ limit
+    → AreReached m q → AreReached m' q' → Extends Leads l m q m' q' → Extends Leads l' m' q' m'' q'' → Extends Leads limit m q m'' q''
+extend_twice Leads l l' limit m m' m'' q q' q'' below below' are are' x y = record {
   count = y.count ∙ x.count;
   marked = λ w is. y.marked w (x.marked w is);
   longer = omega (arith, x.longer, y.longer);
   same = λ k lt. y.same k (omega (arith, lt, x.longer)) ∙ x.same k lt;
+  parents = λ k lt. y.parents k (omega (arith, lt, x.longer)) ∙ x.parents k lt;
+  new = λ k ge lt. elim (cases_lt k (length q')) [
+    | inl old ↦ subst (λ w. IsMarked m w → ⊥) (sym (y.same k old)) (x.new k ge old)
+    | inr ge' ↦ λ is. y.new k ge' lt (x.marked (vertex_at q'' k) is)
+  ];
+  led = λ k ge lt. elim (cases_lt k (length q')) [
+    | inl old ↦
+        let back : parent_at q' k < length q' = parent_within m' q' k are' (omega (arith, are.some, ge)) old in
+        subst (λ w. Leads (vertex_at q'' (parent_at q'' k)) w) (sym (y.same k old))
+        (subst (λ w. Leads w (vertex_at q' k)) (sym (ap (vertex_at q'') (y.parents k old) ∙ y.same (parent_at q' k) back))
+        (x.led k ge old))
+    | inr ge' ↦ y.led k ge' lt
+  ];
+  from = λ k ge lt. elim (cases_lt k (length q')) [
+    | inl old ↦
+        let here : parent_at q' k < l = x.from k ge old in
+        subst (λ p. p < limit) (sym (y.parents k old)) (omega (arith, here, below))
+    | inr ge' ↦
+        let here : parent_at q'' k < l' = y.from k ge' lt in
+        omega (arith, here, below')
+  ];
 }
 
 -- the first vertex
@@ -140,17 +189,20 @@ count_replicate (suc n) =
     let one : 1 + n ≡ suc n = omega arith in
     sum_by-cons (λ b. cond (not b) 1 0) false (replicate n false) ∙ ap (λ m. 1 + m) (count_replicate n) ∙ one
 
-pub start : (Leads : ℕ → ℕ → Type 0) (n from : ℕ) → from < n
-    → AreReached Leads (set (replicate n false) from true) (visit from 0 ∷ [])
-start Leads n from h =
+start_marked : (n from : ℕ) → from < n → IsMarked (set (replicate n false) from true) from
+start_marked n from h = marked_same (replicate n false) from (subst (λ m. from < m) (sym (length-replicate n false)) h)
+
+pub start : (n from : ℕ) → from < n → AreReached (set (replicate n false) from true) (visit from 0 ∷ [])
+start n from h =
     let marks = replicate n false in
     let size : length marks ≡ n = length-replicate n false in
     let size' : length (set marks from true) ≡ n = length-set marks from true ∙ size in
     record {
-      within = All-push (λ (u : Visit). u.vertex < length (set marks from true)) [] (visit from 0)
-          (λ k d l. absurd (omega (arith, l))) (subst (λ m. from < m) (sym size') h);
+      some = omega arith;
       earlier = λ k pos l. absurd (omega (arith, pos, l));
-      led = λ k pos l. absurd (omega (arith, pos, l));
+      marked = λ k l.
+          let zero' : k ≡ 0 = omega (arith, l) in
+          subst (λ k'. IsMarked (set marks from true) (vertex_at (visit from 0 ∷ []) k')) (sym zero') (start_marked n from h);
       queued = λ w is. elim (marked_cases marks from w is) [
         | inl old ↦ absurd (false≢true (sym (get_or-replicate n w false false (subst (λ m. w < m) size (marked_within marks w old))) ∙ old))
         | inr e ↦ (0, omega arith, sym e)
@@ -164,48 +216,21 @@ start Leads n from h =
           after;
     }
 
-pub start_marked : (n from : ℕ) → from < n → IsMarked (set (replicate n false) from true) from
-start_marked n from h = marked_same (replicate n false) from (subst (λ m. from < m) (sym (length-replicate n false)) h)
+-- whether targets were reached
 
-pub start_unmarked : (n from to : ℕ) → (from ≡ to → ⊥) → IsMarked (set (replicate n false) from true) to → ⊥
-start_unmarked n from to other is =
-    elim (marked_cases (replicate n false) from to is) [
-      | inl old ↦ false≢true (sym (get_or-replicate n to false false (subst (λ m. to < m) (length-replicate n false) (marked_within (replicate n false) to old))) ∙ old)
-      | inr e ↦ other (sym e)
-    ]
+pub none_pushed : (set' : VertexSet) (place : ℕ) (queue : List Visit) (v at : ℕ) → HasNoneOf set' place queue → (IsTrue (set'.has v) → ⊥)
+    → HasNoneOf set' place (queue ++ visit v at ∷ [])
+none_pushed set' place queue v at none other k ge lt = elim (last queue (visit v at) k lt) [
+  | inl old ↦ subst (λ w. IsTrue (set'.has w) → ⊥) (sym (vertex_before queue (visit v at) k old)) (none k ge old)
+  | inr e ↦ subst (λ w. IsTrue (set'.has w) → ⊥) (sym (vertex_pushed queue (visit v at) k e)) other
+]
 
--- no more to reach
-
-along : (Leads : ℕ → ℕ → Type 0) (marks : List Bool) (queue : List Visit) (from to : ℕ) (walk : List ℕ)
-    → AreReached Leads marks queue → ((k : ℕ) → k < length queue → IsOpened Leads marks (vertex_at queue k)) → IsMarked marks from
-    → IsWalk Leads from to walk → (k : ℕ) → k < length walk → IsMarked marks (get_or walk k 0)
-along Leads marks queue from to walk are opened first is zero h = subst (λ v. IsMarked marks v) (sym is.begins) first
-along Leads marks queue from to walk are opened first is (suc k) h =
-    let here : IsMarked marks (get_or walk k 0) = along Leads marks queue from to walk are opened first is k (omega arith) in
-    let (j, l, e) = are.queued (get_or walk k 0) here in
-    let more : k + 1 ≡ suc k = omega arith in
-    let next : Leads (get_or walk k 0) (get_or walk (k + 1) 0) = is.joined k (omega arith) in
-    subst (λ m. IsMarked marks (get_or walk m 0)) more
-    (opened j l (get_or walk (k + 1) 0) (subst (λ v. Leads v (get_or walk (k + 1) 0)) (sym e) next))
-
-pub no_walk : (Leads : ℕ → ℕ → Type 0) (marks : List Bool) (queue : List Visit) (from to : ℕ)
-    → AreReached Leads marks queue → ((k : ℕ) → k < length queue → IsOpened Leads marks (vertex_at queue k)) → IsMarked marks from
-    → (IsMarked marks to → ⊥) → (walk : List ℕ) → IsWalk Leads from to walk → ⊥
-no_walk Leads marks queue from to are opened first unfound walk is =
-    unfound (subst (λ v. IsMarked marks v) is.ends (along Leads marks queue from to walk are opened first is (length walk - 1) (omega (arith, is.some))))
-
--- a walk by the queue's steps
-
-pub led_walk : (Leads : ℕ → ℕ → Type 0) (marks : List Bool) (queue : List Visit) (from to from' to' : ℕ) (walk : List ℕ)
-    → AreReached Leads marks queue → from' ≡ from → to' ≡ to → IsWalk (IsStep queue) from' to' walk → IsWalk Leads from to walk
-led_walk Leads marks queue from to from' to' walk are begins ends is = record {
-  some = is.some;
-  begins = is.begins ∙ begins;
-  ends = is.ends ∙ ends;
-  joined = λ k h.
-      let (j, pos, l, v, w) = is.joined k h in
-      subst (λ u. Leads (get_or walk k 0) u) w (subst (λ u. Leads u (vertex_at queue j)) v (are.led j pos l));
-}
+pub ends_pushed : (set' : VertexSet) (queue queue' : List Visit) (v at : ℕ) → length queue ≤ length queue' → true ≡ set'.has v
+    → EndsIn set' queue (queue' ++ visit v at ∷ [])
+ends_pushed set' queue queue' v at longer is =
+    let size : length (queue' ++ visit v at ∷ []) ≡ length queue' + 1 = length_push queue' (visit v at) in
+    let place : length queue' ≡ length (queue' ++ visit v at ∷ []) - 1 = omega (arith, size) in
+    (omega (arith, longer, size), subst (λ w. IsTrue (set'.has w)) (sym (vertex_pushed queue' (visit v at) (length (queue' ++ visit v at ∷ []) - 1) place)) (sym is))
 
 -- all arcs of a vertex
 

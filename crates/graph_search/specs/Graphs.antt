@@ -28,6 +28,10 @@ pub record VertexSet : Type 0 where
 abbrev pub of_rank : List ℕ → ℕ → VertexSet
 of_rank ranks rank = record { count = length ranks; has = λ v. slice_index ranks v == rank }
 
+-- one of the vertices below a count
+abbrev pub single : (count vertex : ℕ) → VertexSet
+single count vertex = record { count = count; has = λ v. v == vertex }
+
 -- an arc into a set of vertices
 abbrev pub HasArcInto : Graph → VertexSet → ℕ → ℕ → Type 0
 HasArcInto g set v w = HasArc g v w × IsTrue (set.has w)
@@ -44,9 +48,13 @@ abbrev pub IsWalkIfAny : (ℕ → ℕ → Type 0) → ℕ → ℕ → Option (Li
 IsWalkIfAny Leads from to None = (walk : List ℕ) → ¬ IsWalk Leads from to walk
 IsWalkIfAny Leads from to (Some walk) = IsWalk Leads from to walk
 
--- ranks of which none falls along an arc that leaves the vertex
-abbrev pub NeverFallFrom : Graph → (ranks : List ℕ) → (vertex : ℕ) → Type 0
-NeverFallFrom g ranks v = (w : ℕ) → HasArc g v w → slice_index ranks v ≤ slice_index ranks w
+-- a vertex leads to none whose number is below another one
+abbrev pub NoneBelow : Graph → (numbers : List ℕ) → (vertex least : ℕ) → Type 0
+NoneBelow g numbers v least = (w : ℕ) → HasArc g v w → least ≤ slice_index numbers w
+
+-- along no arc it falls from one list of numbers to another one
+abbrev pub NeverFallBetween : Graph → (before after : List ℕ) → Type 0
+NeverFallBetween g before after = (v w : ℕ) → HasArc g v w → slice_index before v ≤ slice_index after w
 
 -- each arc leaves one of these vertices
 abbrev pub AllLeave : Graph → (vertices : List ℕ) → Type 0

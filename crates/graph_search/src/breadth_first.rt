@@ -2,6 +2,7 @@
 
 ghost use Rattle.std.specs.Prelude.{◌≡◌, ◌+◌, ◌-◌, ℕ, ◌<◌, List, [], ◌∷◌, length, replicate, slice_set, true, false, option_map, IfOk, OnOk};
 ghost use Rattle.std.specs.Bool.{OnTrue, OnFalse};
+ghost use Rattle.graph_search.specs.Costs.{IsWalkToTargetIfAny};
 ghost use Rattle.graph_search.specs.Graphs.{HasArcInto, IsWalk, IsWalkIfAny};
 
 use crate::arcs::{Arcs, Vertices};
@@ -26,7 +27,7 @@ pub(crate) struct Reached {
 }
 
 impl Reached {
-    ghost use Rattle.graph_search.specs.Visits.{AreReached, Extends, IsMarked, IsOpened, IsStep, vertex_at, parent_at};
+    ghost use Rattle.graph_search.specs.Visits.{AreCheap, AreOpened, AreReached, EndsInOther, GoesOn, IsOpened, IsStep, vertex_at, parent_at};
 
     /// Begins a search at a vertex.
     fn start(&mut self, from: usize) -> Result<(), AllocError>
@@ -47,35 +48,29 @@ impl Reached {
         Ok(())
     }
 
-    /// Reaches all that the vertex at a place in the queue leads to, and returns whether `to` was
-    /// among it. What was reached last is then `to`.
-    fn open<G: Arcs, S: Vertices>(
+    /// Reaches all that the vertex at a place in the queue leads to, up to the first target that is
+    /// new, and returns whether there was one. It is then the last in the queue.
+    fn open<G: Arcs, S: Vertices, T: Vertices>(
         &mut self,
         graph: &G,
         allowed: &S,
+        targets: &T,
         at: usize,
-        to: usize,
     ) -> Result<bool, AllocError>
         requires graph { (G.graph graph.now).count ≡ length self.old.marks }
         requires allowed { (S.members allowed.now).count ≡ length self.old.marks }
-        requires reached { AreReached (HasArcInto (G.graph graph.now) (S.members allowed.now))
-            self.old.marks self.old.queue.items }
+        requires targets { (T.members targets.now).count ≡ length self.old.marks }
+        requires reached { AreReached self.old.marks self.old.queue.items }
         requires at { at < length self.old.queue.items }
-        requires to { ¬ IsMarked self.old.marks to }
         ensures count { length self.new.marks ≡ length self.old.marks }
-        ensures reached { OnOk result
-            (AreReached (HasArcInto (G.graph graph.now) (S.members allowed.now))
-            self.new.marks self.new.queue.items) }
-        ensures extends { OnOk result
-            (Extends self.old.marks self.old.queue.items self.new.marks self.new.queue.items) }
-        ensures found { IfOk result
-            (λ found. OnTrue found
-            (vertex_at self.new.queue.items (length self.new.queue.items - 1) ≡ to)) }
+        ensures goes_on { IfOk result
+            (GoesOn (HasArcInto (G.graph graph.now) (S.members allowed.now)) (T.members targets.now)
+            (at + 1)
+            self.old.marks self.old.queue.items self.new.marks self.new.queue.items) }
         ensures opened { IfOk result
             (λ found. OnFalse found
             (IsOpened (HasArcInto (G.graph graph.now) (S.members allowed.now))
             self.new.marks (vertex_at self.old.queue.items at))) }
-        ensures unfound { IfOk result (λ found. OnFalse found (¬ IsMarked self.new.marks to)) }
     {
         let vertex = self.queue[at].vertex;
         let successors = graph.successors(vertex);
@@ -86,12 +81,124 @@ impl Reached {
                     vertex: next,
                     parent: at,
                 })?;
-                if next == to {
+                if targets.contains(next) {
                     return Ok(true);
                 }
             }
         }
         Ok(false)
+    }
+
+    /// Opens the vertices from a place in the queue on, and what is reached from them, until
+    /// nothing is new or a target is reached.
+    fn open_all<G: Arcs, S: Vertices, T: Vertices>(
+        &mut self,
+        graph: &G,
+        allowed: &S,
+        targets: &T,
+        from: usize,
+    ) -> Result<bool, AllocError>
+        requires graph { (G.graph graph.now).count ≡ length self.old.marks }
+        requires allowed { (S.members allowed.now).count ≡ length self.old.marks }
+        requires targets { (T.members targets.now).count ≡ length self.old.marks }
+        requires reached { AreReached self.old.marks self.old.queue.items }
+        ensures count { length self.new.marks ≡ length self.old.marks }
+        ensures goes_on { IfOk result
+            (GoesOn (HasArcInto (G.graph graph.now) (S.members allowed.now)) (T.members targets.now)
+            (length self.new.queue.items)
+            self.old.marks self.old.queue.items self.new.marks self.new.queue.items) }
+        ensures opened { IfOk result
+            (λ found. OnFalse found
+            (AreOpened (HasArcInto (G.graph graph.now) (S.members allowed.now))
+            self.new.marks self.new.queue.items from (length self.new.queue.items))) }
+    {
+        let mut at = from;
+        while at < self.queue.len() {
+            if self.open(graph, allowed, targets, at)? {
+                return Ok(true);
+            }
+            at += 1;
+        }
+        Ok(false)
+    }
+
+    /// Opens the vertices that are now in the queue, from a place on, until a target is reached.
+    fn open_layer<G: Arcs, S: Vertices, T: Vertices>(
+        &mut self,
+        graph: &G,
+        allowed: &S,
+        targets: &T,
+        from: usize,
+    ) -> Result<bool, AllocError>
+        requires graph { (G.graph graph.now).count ≡ length self.old.marks }
+        requires allowed { (S.members allowed.now).count ≡ length self.old.marks }
+        requires targets { (T.members targets.now).count ≡ length self.old.marks }
+        requires reached { AreReached self.old.marks self.old.queue.items }
+        ensures count { length self.new.marks ≡ length self.old.marks }
+        ensures goes_on { IfOk result
+            (GoesOn (HasArcInto (G.graph graph.now) (S.members allowed.now)) (T.members targets.now)
+            (length self.old.queue.items)
+            self.old.marks self.old.queue.items self.new.marks self.new.queue.items) }
+        ensures opened { IfOk result
+            (λ found. OnFalse found
+            (AreOpened (HasArcInto (G.graph graph.now) (S.members allowed.now))
+            self.new.marks self.new.queue.items from (length self.old.queue.items))) }
+    {
+        for at in from..self.queue.len() {
+            if self.open(graph, allowed, targets, at)? {
+                return Ok(true);
+            }
+        }
+        Ok(false)
+    }
+
+    /// Searches from a vertex layer by layer, each of which costs one more paid arc, until a target
+    /// is reached. It is then the last in the queue.
+    fn search<F: Arcs, P: Arcs, S: Vertices, T: Vertices>(
+        &mut self,
+        free: &F,
+        paid: &P,
+        allowed: &S,
+        targets: &T,
+        from: usize,
+        most: usize,
+    ) -> Result<bool, AllocError>
+        requires free { (F.graph free.now).count ≡ length self.old.marks }
+        requires paid { (P.graph paid.now).count ≡ length self.old.marks }
+        requires allowed { (S.members allowed.now).count ≡ length self.old.marks }
+        requires targets { (T.members targets.now).count ≡ length self.old.marks }
+        requires from { from < length self.old.marks }
+        ensures count { length self.new.marks ≡ length self.old.marks }
+        ensures reached { OnOk result (AreReached self.new.marks self.new.queue.items) }
+        ensures first { OnOk result (vertex_at self.new.queue.items 0 ≡ from) }
+        ensures cheap { OnOk result
+            (AreCheap (HasArcInto (F.graph free.now) (S.members allowed.now))
+            (HasArcInto (P.graph paid.now) (S.members allowed.now)) most self.new.queue.items) }
+        ensures found { IfOk result
+            (λ found. OnTrue found
+            (EndsInOther (T.members targets.now) self.new.queue.items)) }
+        ensures unfound { IfOk result
+            (λ found. OnFalse found
+            (IsWalkToTargetIfAny (HasArcInto (F.graph free.now) (S.members allowed.now))
+            (HasArcInto (P.graph paid.now) (S.members allowed.now)) (T.members targets.now)
+            most from None)) }
+    {
+        self.start(from)?;
+        let mut layer = 0;
+        for _cost in 0..most {
+            if self.open_all(free, allowed, targets, layer)? {
+                return Ok(true);
+            }
+            let next_layer = self.queue.len();
+            if self.open_layer(paid, allowed, targets, layer)? {
+                return Ok(true);
+            }
+            if self.queue.len() == next_layer {
+                return Ok(false);
+            }
+            layer = next_layer;
+        }
+        self.open_all(free, allowed, targets, layer)
     }
 
     /// The way to the vertex at a place in the queue.
@@ -161,15 +268,61 @@ impl Search {
         if from == to {
             return Ok(Some(vec![in alloc; from]?));
         }
-        self.reached.start(from)?;
-        let mut at = 0;
-        while at < self.reached.queue.len() {
-            if self.reached.open(graph, allowed, at, to)? {
-                let last = self.reached.queue.len() - 1;
-                return Ok(Some(self.reached.walk_to(alloc, last)?));
-            }
-            at += 1;
+        let target = Single {
+            vertices: graph.vertices(),
+            vertex: to,
+        };
+        self.walk_within(alloc, graph, graph, allowed, &target, from, 0)
+    }
+
+    /// A walk from a vertex to another one that is a target, if there is one that costs at most so
+    /// much: along arcs into allowed vertices, free ones and at most so many paid ones.
+    pub fn walk_within<F: Arcs, P: Arcs, S: Vertices, T: Vertices>(
+        &mut self,
+        alloc: Global,
+        free: &F,
+        paid: &P,
+        allowed: &S,
+        targets: &T,
+        from: usize,
+        most: usize,
+    ) -> Result<Option<Vec<usize>>, AllocError>
+        requires free { (F.graph free.now).count ≡ self.old }
+        requires paid { (P.graph paid.now).count ≡ self.old }
+        requires allowed { (S.members allowed.now).count ≡ self.old }
+        requires targets { (T.members targets.now).count ≡ self.old }
+        requires from { from < self.old }
+        ensures count { self.new ≡ self.old }
+        ensures walk { let leads_freely = HasArcInto (F.graph free.now) (S.members allowed.now) in
+            let leads_paid = HasArcInto (P.graph paid.now) (S.members allowed.now) in
+            IfOk result
+            (λ found. IsWalkToTargetIfAny leads_freely leads_paid (T.members targets.now) most from
+            (option_map (λ walk. walk.items) found)) }
+    {
+        if !self
+            .reached
+            .search(free, paid, allowed, targets, from, most)?
+        {
+            return Ok(None);
         }
-        Ok(None)
+        let last = self.reached.queue.len() - 1;
+        Ok(Some(self.reached.walk_to(alloc, last)?))
+    }
+}
+
+/// A vertex alone.
+#[derive(Clone, Copy)]
+struct Single {
+    vertices: usize,
+    vertex: usize,
+}
+
+impl Vertices for Single {
+    ghost use Rattle.graph_search.specs.Graphs.{single};
+
+    ghost members = { λ set. single set.vertices set.vertex };
+
+    fn contains(&self, vertex: usize) -> bool {
+        vertex == self.vertex
     }
 }

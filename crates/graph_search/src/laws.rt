@@ -1,6 +1,7 @@
-//! What ranks say of walks: the contracts of functions that do nothing.
+//! What ranks and numbers say of walks: the contracts of functions that do nothing.
 
-ghost use Rattle.std.specs.Prelude.{◌≡◌, ℕ, ◌≤◌, List, All, slice_index};
+ghost use Rattle.std.specs.Prelude.{◌≡◌, ℕ, ◌<◌, ◌≤◌, List, All, slice_index};
+ghost use Rattle.graph_search.specs.Costs.{BoundsWalks, LeadsWithin, not_above};
 ghost use Rattle.graph_search.specs.Graphs.{Graph, VertexSet, HasArc, HasArcInto, AreRanks, IsWalk, of_rank};
 
 /// Ranks don't fall along a walk, so all of it is between the ranks of its ends.
@@ -30,4 +31,30 @@ pub fn one_rank_is_enough()
         → IsWalk (HasArcInto g (of_rank ranks (slice_index ranks to))) from to walk }
     ensures outside { (g : Graph) (allowed : VertexSet) (walk : List ℕ) (from to : ℕ)
         → IsWalk (HasArcInto g allowed) from to walk → IsWalk (HasArc g) from to walk }
+{}
+
+/// What costs at most so much costs at most more, and may take more arcs.
+pub fn walks_that_may_cost_more()
+    ensures most { (free paid : Graph) (most more from to : ℕ) (rest : List ℕ) → most ≤ more
+        → LeadsWithin (HasArc free) (HasArc paid) most from rest to
+        → LeadsWithin (HasArc free) (HasArc paid) more from rest to }
+    ensures arcs { (free paid free' paid' : Graph) (most from to : ℕ) (rest : List ℕ)
+        → ((v w : ℕ) → HasArc free v w → HasArc free' v w)
+        → ((v w : ℕ) → HasArc paid v w → HasArc paid' v w)
+        → LeadsWithin (HasArc free) (HasArc paid) most from rest to
+        → LeadsWithin (HasArc free') (HasArc paid') most from rest to }
+{}
+
+/// Where numbers bound walks, a cheap walk begins and stays at vertices whose number isn't above
+/// its end. So whoever looks for such a walk needs to enter no other.
+pub fn cheap_walks_stay_below()
+    ensures begins { (free paid : Graph) (places most top from to : ℕ) (numbers rest : List ℕ)
+        → BoundsWalks (HasArc free) (HasArc paid) places most numbers → to < places → to ≤ top
+        → LeadsWithin (HasArc free) (HasArc paid) most from rest to
+        → slice_index numbers from ≤ top }
+    ensures stays { (free paid : Graph) (places most top from to : ℕ) (numbers rest : List ℕ)
+        → BoundsWalks (HasArc free) (HasArc paid) places most numbers → to < places → to ≤ top
+        → LeadsWithin (HasArc free) (HasArc paid) most from rest to
+        → LeadsWithin (HasArcInto free (not_above numbers top))
+        (HasArcInto paid (not_above numbers top)) most from rest to }
 {}

@@ -5,6 +5,7 @@
 pub mod arcs;
 pub mod breadth_first;
 mod components;
+pub mod labels;
 pub mod laws;
 mod marks;
 pub mod ranks;

@@ -1,8 +1,8 @@
 //! Ranks of vertices, which don't fall along any arc.
 
 ghost use Rattle.std.specs.Prelude.{◌≡◌, ◌↔◌, ℕ, ◌<◌, ◌≤◌, List, length, slice_index, All, IfOk, IsTrue};
-ghost use Rattle.std.specs.Bool.{OnTrue};
-ghost use Rattle.graph_search.specs.Graphs.{Graph, AllLeave, AreRanks, HasArc, NeverFallFrom, of_rank};
+ghost use Rattle.std.specs.Bool.{OnFalse, OnTrue};
+ghost use Rattle.graph_search.specs.Graphs.{Graph, AllLeave, AreRanks, NeverFallBetween, NoneBelow, of_rank};
 
 use crate::arcs::{Arcs, Vertices};
 use crate::components::{component_ranks, component_ranks_from};
@@ -103,14 +103,13 @@ impl Ranks {
     }
 
     /// These numbers if a check found that they never fall, else 0 for each vertex.
-    fn if_checked(mut numbers: Vec<u32>, never_fall: bool) -> Ranks
+    fn if_checked(numbers: Vec<u32>, never_fall: bool) -> Ranks
         ensures { (graph : Graph) → length numbers.items ≡ graph.count
             → OnTrue never_fall (AreRanks graph numbers.items) → AreRanks graph result }
     {
-        if !never_fall {
-            numbers.fill(0);
+        Ranks {
+            ranks: zeros_unless(never_fall, numbers),
         }
-        Ranks { ranks: numbers }
     }
 
     /// One rank for all of n vertices, which falls along no arc of any graph.
@@ -145,16 +144,41 @@ impl Ranks {
     }
 }
 
-/// Whether ranks fall along none of a vertex's arcs.
-fn never_fall_from<G: Arcs>(graph: &G, ranks: &[u32], vertex: usize) -> bool
-    requires ranks { length ranks.now ≡ (G.graph graph.now).count }
-    requires vertex { vertex < (G.graph graph.now).count }
-    ensures { IsTrue result ↔ NeverFallFrom (G.graph graph.now) ranks.now vertex }
+/// These numbers if they passed a check, else as many zeros.
+pub(crate) fn zeros_unless(checked: bool, mut numbers: Vec<u32>) -> Vec<u32>
+    ensures length { length result.items ≡ length numbers.items }
+    ensures checked { OnTrue checked (result.items ≡ numbers.items) }
+    ensures unchecked { OnFalse checked ((v : ℕ) → slice_index result.items v ≡ 0) }
 {
-    let rank = ranks[vertex];
+    if !checked {
+        numbers.fill(0);
+    }
+    numbers
+}
+
+/// Whether a vertex leads to none whose number is below another one.
+fn none_below<G: Arcs>(graph: &G, numbers: &[u32], vertex: usize, least: u32) -> bool
+    requires numbers { length numbers.now ≡ (G.graph graph.now).count }
+    requires vertex { vertex < (G.graph graph.now).count }
+    ensures { IsTrue result ↔ NoneBelow (G.graph graph.now) numbers.now vertex least }
+{
     let successors = graph.successors(vertex);
     for index in 0..successors.len() {
-        if ranks[successors.at(index)] < rank {
+        if numbers[successors.at(index)] < least {
+            return false;
+        }
+    }
+    true
+}
+
+/// Whether along no arc it falls from one list of numbers to another one.
+pub(crate) fn never_fall_between<G: Arcs>(graph: &G, before: &[u32], after: &[u32]) -> bool
+    requires before { length before.now ≡ (G.graph graph.now).count }
+    requires after { length after.now ≡ (G.graph graph.now).count }
+    ensures { IsTrue result ↔ NeverFallBetween (G.graph graph.now) before.now after.now }
+{
+    for vertex in 0..graph.vertices() {
+        if !none_below(graph, after, vertex, before[vertex]) {
             return false;
         }
     }
@@ -162,16 +186,11 @@ fn never_fall_from<G: Arcs>(graph: &G, ranks: &[u32], vertex: usize) -> bool
 }
 
 /// Whether ranks fall along no arc.
-fn never_fall<G: Arcs>(graph: &G, ranks: &[u32]) -> bool
+pub(crate) fn never_fall<G: Arcs>(graph: &G, ranks: &[u32]) -> bool
     requires { length ranks.now ≡ (G.graph graph.now).count }
     ensures { IsTrue result ↔ AreRanks (G.graph graph.now) ranks.now }
 {
-    for vertex in 0..graph.vertices() {
-        if !never_fall_from(graph, ranks, vertex) {
-            return false;
-        }
-    }
-    true
+    never_fall_between(graph, ranks, ranks)
 }
 
 /// The same where all arcs leave vertices on the list.
@@ -182,7 +201,8 @@ fn never_fall_leaving<G: Arcs>(graph: &G, ranks: &[u32], vertices: &[u32]) -> bo
     ensures { OnTrue result (AreRanks (G.graph graph.now) ranks.now) }
 {
     for vertex in vertices {
-        if !never_fall_from(graph, ranks, *vertex as usize) {
+        let vertex = *vertex as usize;
+        if !none_below(graph, ranks, vertex, ranks[vertex]) {
             return false;
         }
     }

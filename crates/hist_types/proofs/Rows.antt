@@ -13,6 +13,7 @@ pub mod Cutting
 pub mod Texts
 pub mod Printed
 pub mod Absence
+pub mod Fewest
 pub mod Verdicts
 pub mod Explanations
 pub mod Handed

@@ -17,3 +17,4 @@ pub mod ThinningWalks
 pub mod ThinningBound
 pub mod ThinningCycles
 pub mod ThinningWitnesses
+pub mod Fewest

@@ -7,10 +7,10 @@ use Rattle.hist_types.specs.Transactions.{Transaction, nodes, transactions_of}
 use Rattle.hist_types.specs.Edges.{Edge, edge, is_ok_before, same_process, order_labels, dependency_edges, edges_at}
 use Rattle.hist_types.specs.ThinnedOrder.{thinned_edges}
 use Rattle.hist_types.specs.Operations.{Operation}
-use Rattle.hist_types.specs.Phenomena.{Leads, IsClosedWalk, is_ww, is_wr, is_rw, is_order, makes, IsThere, height, IsShownBy}
+use Rattle.hist_types.specs.Phenomena.{Leads, IsClosedWalk, is_ww, is_wr, is_rw, is_order, makes, IsThere, height, Shows, IsShownBy}
 use Rattle.history_laws.specs.Paths.{order_edges_between}
 use Rattle.history_laws.specs.Walks.{WalksCarryOver}
-use Rattle.history_laws.specs.WaysBack.{is_needed, may_lead_back, HasWayBack}
+use Rattle.history_laws.specs.WaysBack.{is_needed, may_lead_back, LeadsBack, HasWayBack}
 use Rattle.hist_types.specs.declared.types.Level.{Level}
 use Rattle.hist_types.specs.declared.types.Level.TheVariants.{Plain, Process, Realtime}
 use Rattle.hist_types.specs.declared.types.Phenomenon.{Phenomenon}
@@ -190,24 +190,33 @@ pub closed_is_led : (walk : List Edge) → IsClosedWalk walk → (from : ℕ) ×
 closed_is_led [] none = elim none [ ]
 closed_is_led (e ∷ walk) closed = (e.from, closed_leads e walk closed)
 
-returns_to_one : (phenomenon : Phenomenon) (es : List Edge) → IsShownBy phenomenon es → HasWayBack phenomenon es
-returns_to_one phenomenon es h =
-    let walk : List Edge = h.0 in
-    let (front, e, back, about) = about_one (is_needed phenomenon) walk (some_needed phenomenon walk h.1.kinds) in
-    let (from, round) = closed_is_led walk h.1.closed in
+-- a closed walk turned so that an edge of the needed kind comes first
+pub turned_to_one :
+    (phenomenon : Phenomenon) (es walk : List Edge)
+    → Shows phenomenon es walk
+    → (front : List Edge) × (e : Edge) × (back : List Edge) × IsAbout (is_needed phenomenon) walk front e back × Contains es e × LeadsBack phenomenon es e (back ++ front)
+turned_to_one phenomenon es walk shows =
+    let (front, e, back, about) = about_one (is_needed phenomenon) walk (some_needed phenomenon walk shows.kinds) in
+    let (from, round) = closed_is_led walk shows.closed in
     let led = leads_apart from from front e back (subst (λ es. Leads from es from) about.is round) in
-    let within = all_apart (λ (d : Edge). In d es) front (e ∷ back) (subst (AllByRecursion (λ (d : Edge). In d es)) about.is (within_in es walk h.1.within)) in
-    let made : makes phenomenon (front ++ e ∷ back) ≡ true = subst (λ es. makes phenomenon es ≡ true) about.is h.1.kinds in (
+    let within = all_apart (λ (d : Edge). In d es) front (e ∷ back) (subst (AllByRecursion (λ (d : Edge). In d es)) about.is (within_in es walk shows.within)) in
+    let made : makes phenomenon (front ++ e ∷ back) ≡ true = subst (λ es. makes phenomenon es ≡ true) about.is shows.kinds in (
+      front,
       e,
+      back,
+      about,
       Contains_from_in e es within.1.0,
-      about.passes,
-      back ++ front,
       record {
         leads = leads_on e.to from e.from back front led.1 led.0;
         within = within_contains es (back ++ front) (all_of_both (λ (d : Edge). In d es) back front within.1.1 within.0);
         kinds = rest_leads_back phenomenon front e back made about.passes;
       },
     )
+
+returns_to_one : (phenomenon : Phenomenon) (es : List Edge) → IsShownBy phenomenon es → HasWayBack phenomenon es
+returns_to_one phenomenon es h =
+    let (front, e, back, about, among, leads) = turned_to_one phenomenon es h.0 h.1 in
+    (e, among, about.passes, back ++ front, leads)
 
 second_holds : (a b c : Bool) → b ≡ true → (a || b || c) ≡ true
 second_holds true b c is = refl
@@ -231,16 +240,20 @@ closing_makes GSingle e walk is back =
     eq-eqb (count_by is_rw (e ∷ walk)) 1 (omega (arith, none, count_yes is_rw e walk is))
 closing_makes G2Item e walk is back = or_left (is_rw e) (list_any is_rw walk) is
 
+pub closed_by_edge :
+    (phenomenon : Phenomenon) (es : List Edge) (e : Edge) (walk : List Edge)
+    → Contains es e
+    → is_needed phenomenon e ≡ true
+    → LeadsBack phenomenon es e walk
+    → Shows phenomenon es (e ∷ walk)
+closed_by_edge phenomenon es e walk among is back = record {
+  closed = back.leads;
+  within = All-cons (Contains es) e walk among back.within;
+  kinds = closing_makes phenomenon e walk is back.kinds;
+}
+
 one_closes : (phenomenon : Phenomenon) (es : List Edge) → HasWayBack phenomenon es → IsShownBy phenomenon es
-one_closes phenomenon es r =
-    let e : Edge = r.0 in (
-      e ∷ r.3,
-      record {
-        closed = r.4.leads;
-        within = All-cons (Contains es) e r.3 r.1 r.4.within;
-        kinds = closing_makes phenomenon e r.3 r.2 r.4.kinds;
-      },
-    )
+one_closes phenomenon es (e, among, is, walk, back) = (e ∷ walk, closed_by_edge phenomenon es e walk among is back)
 
 pub closed_by_one : (phenomenon : Phenomenon) (es : List Edge) → IsShownBy phenomenon es ↔ HasWayBack phenomenon es
 closed_by_one phenomenon es = (returns_to_one phenomenon es, one_closes phenomenon es)

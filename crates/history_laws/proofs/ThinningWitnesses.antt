@@ -1,6 +1,6 @@
 -- What is shown has a witness: a way back is made simple, order edges side by side become one, and the walk is turned to begin at
 -- its least transaction.
-use Rattle.std.proofs.Common.{◌≡◌, ◌↔◌, inl, inr, ℕ, ◌≤◌, List, [], ◌∷◌, ◌++◌, Bool, true, false, not, ◌&&◌, ◌||◌, ◌==◌, nat_eq, nat_le, count_by, filter, refl, sym, ◌∙◌, ap, subst, arith}
+use Rattle.std.proofs.Common.{◌≡◌, ◌↔◌, inl, inr, ℕ, ◌≤◌, List, [], ◌∷◌, ◌++◌, Bool, true, false, not, ◌&&◌, ◌||◌, ◌==◌, nat_eq, nat_le, Contains, count_by, filter, refl, sym, ◌∙◌, ap, subst, arith}
 use Rattle.std.specs.List.{AllByRecursion, IsDistinct, list_any, list_all}
 use Rattle.std.proofs.lemmas.Bool.{false≢true, and_parts, and_from, or_cases, or_right, or_parts, and_right, cases_Bool, cases_lt, eqb-true, eqb-false, ne_eqb, le-leb, not_from_false, not_from_true}
 use Rattle.std.proofs.lemmas.Cmp.{nat_eq_equiv}
@@ -11,20 +11,20 @@ use Rattle.hist_types.specs.Operations.{Operation}
 use Rattle.hist_types.specs.Transactions.{Transaction, nodes, transactions_of, installed_by, is_known_to_read, installs}
 use Rattle.hist_types.specs.Versions.{VersionPair, version_pairs}
 use Rattle.hist_types.specs.Edges.{Label, Edge, dependency_edges, dependency_labels, ww_labels, wr_labels, rw_labels, edges_at, order_edges}
-use Rattle.hist_types.specs.Phenomena.{Leads, IsClosedWalk, is_ww_label, is_wr_label, is_rw_label, is_ww, is_wr, is_rw, is_order, makes, IsThere}
+use Rattle.hist_types.specs.Phenomena.{Leads, IsClosedWalk, is_ww_label, is_wr_label, is_rw_label, is_ww, is_wr, is_rw, is_order, makes, Shows, IsThere}
 use Rattle.history_laws.specs.Paths.{order_edges_between}
 use Rattle.history_laws.specs.Walks.{SameCounts}
-use Rattle.history_laws.specs.WaysBack.{is_needed, may_lead_back, HasWayBack}
+use Rattle.history_laws.specs.WaysBack.{is_needed, may_lead_back, LeadsBack}
 use Rattle.history_laws.specs.Shown.{HasWitness}
-use Rattle.hist_types.specs.Witness.{stations, alternates, ends_in_order, IsWitness}
+use Rattle.hist_types.specs.Witness.{stations, alternates, ends_in_order, IsWitness, dependencies_in}
 use Rattle.hist_types.specs.declared.types.Level.{Level}
 use Rattle.hist_types.specs.declared.types.Phenomenon.{Phenomenon}
 use Rattle.hist_types.specs.declared.types.Phenomenon.TheVariants.{G0, G1c, GSingle, G2Item}
 use Rattle.hist_types.specs.declared.types.KeyOrder.{KeyOrder}
 use Rattle.hist_types.proofs.Members.{In, in_from_Contains, in_front, in_back, in_append, in_map}
 use Rattle.history_laws.proofs.ThinningPaths.{are_nodes, nodes_included, ends_of, two_in_one, leads_on, all_of_both}
-use Rattle.history_laws.proofs.ThinningWalks.{Uncounted, uncounted_edge, within_in, within_contains, closed_from, count-append, makes_alike}
-use Rattle.history_laws.proofs.ThinningCycles.{closing_makes, closed_is_led, all_apart, closed_by_one}
+use Rattle.history_laws.proofs.ThinningWalks.{Uncounted, uncounted_edge, within_in, within_contains, closed_from, count-cons, count-append, count_no, makes_alike}
+use Rattle.history_laws.proofs.ThinningCycles.{closing_makes, closed_is_led, all_apart, turned_to_one}
 
 -- ---- a way without turns
 
@@ -50,6 +50,13 @@ pub record IsSimple (es : List Edge) (p : Edge → Bool) (from to : ℕ) (walk :
 abbrev Joins : List Edge → (Edge → Bool) → Type 0
 Joins es p = (e f : Edge) → In e es → In f es → is_order e ≡ true → is_order f ≡ true → f.from ≡ e.to → (d : Edge) × In d es × (d.from ≡ e.from) × (d.to ≡ f.to) × (is_order d ≡ true) × (p d ≡ true)
 
+-- the walk has no more dependency edges than the other
+abbrev HasNoMore : (walk other : List Edge) → Type 0
+HasNoMore walk other = dependencies_in walk ≤ dependencies_in other
+
+abbrev pub is_dependency : Edge → Bool
+is_dependency e = not (is_order e)
+
 pub alternates_less : (after : Bool) (walk : List Edge) → alternates after walk ≡ true → alternates false walk ≡ true
 alternates_less after [] e = refl
 alternates_less after (f ∷ walk) e = (and_parts (not (after && is_order f)) (alternates (is_order f) walk) e).1
@@ -63,7 +70,7 @@ from_station :
     (es : List Edge) (p : Edge → Bool) (a from to : ℕ) (walk : List Edge)
     → IsSimple es p from to walk
     → list_any (nat_eq a) (stations walk) ≡ true
-    → (rest : List Edge) × IsSimple es p a to rest
+    → (rest : List Edge) × IsSimple es p a to rest × HasNoMore rest walk
 unfolding IsDistinct
 from_station es p a from to [] s on = elim (false≢true on) [ ]
 from_station es p a from to (e ∷ walk) s on =
@@ -78,16 +85,18 @@ from_station es p a from to (e ∷ walk) s on =
           off_end = s.off_end;
           apart = s.apart;
         },
+        omega arith,
       )
       | inr later ↦
-          from_station es p a e.to to walk (record {
+          let (rest, simple, few) = from_station es p a e.to to walk (record {
             leads = s.leads.1;
             within = s.within.1;
             passes = s.passes.1;
             different = s.different.1;
             off_end = s.off_end.1;
             apart = alternates_less (is_order e) walk (and_parts (not (false && is_order e)) (alternates (is_order e) walk) s.apart).1;
-          }) later
+          }) later in
+          (rest, simple, omega (arith, few, count-cons is_dependency e walk))
     ]
 
 -- one edge in front, where its first end is new
@@ -99,7 +108,7 @@ one_more :
     → ¬ (e.from ≡ to)
     → IsOff e.from (stations walk)
     → IsSimple es p e.to to walk
-    → (longer : List Edge) × IsSimple es p e.from to longer
+    → (longer : List Edge) × IsSimple es p e.from to longer × HasNoMore longer (e ∷ walk)
 unfolding IsDistinct
 one_more es p e to [] joins i pass other off s = (
   e ∷ [],
@@ -111,6 +120,7 @@ one_more es p e to [] joins i pass other off s = (
     off_end = (ne_eqb to e.from (λ same. other (sym same)), tt);
     apart = refl;
   },
+  omega arith,
 )
 one_more es p e to (f ∷ walk) joins i pass other off s = elim (cases_Bool (is_order e && is_order f)) [
   | inl both ↦
@@ -127,6 +137,7 @@ one_more es p e to (f ∷ walk) joins i pass other off s = elim (cases_Bool (is_
           off_end = (ne_eqb to d.from (λ same. other (sym (same ∙ from))), s.off_end.1);
           apart = apart;
         },
+        omega (arith, count_no is_dependency d walk (ap not order), count-cons is_dependency e (f ∷ walk), count-cons is_dependency f walk),
       )
   | inr apart ↦ (
     e ∷ f ∷ walk,
@@ -138,6 +149,7 @@ one_more es p e to (f ∷ walk) joins i pass other off s = elim (cases_Bool (is_
       off_end = (ne_eqb to e.from (λ same. other (sym same)), s.off_end);
       apart = and_from (not (is_order e && is_order f)) (alternates (is_order f) walk) (not_from_false (is_order e && is_order f) apart) s.apart;
     },
+    omega arith,
   )
 ]
 
@@ -147,17 +159,21 @@ simple_way :
     → Leads from walk to
     → AllByRecursion (λ e. In e es) walk
     → AllByRecursion (λ e. p e ≡ true) walk
-    → (simple : List Edge) × IsSimple es p from to simple
-simple_way es p from to [] joins leads within passes = ([], none_here es p from to leads)
+    → (simple : List Edge) × IsSimple es p from to simple × HasNoMore simple walk
+simple_way es p from to [] joins leads within passes = ([], none_here es p from to leads, omega arith)
 simple_way es p from to (e ∷ walk) joins leads within passes =
-    subst (λ n. (simple : List Edge) × IsSimple es p n to simple) leads.0 (by (simple_way es p e.to to walk joins leads.1 within.1 passes.1))
+    subst (λ n. (simple : List Edge) × IsSimple es p n to simple × HasNoMore simple (e ∷ walk)) leads.0 (by (simple_way es p e.to to walk joins leads.1 within.1 passes.1))
   where
-    by : (rest : List Edge) × IsSimple es p e.to to rest → (simple : List Edge) × IsSimple es p e.from to simple
-    by rest = elim (cases_Bool (e.from == to)) [
-      | inl there ↦ ([], none_here es p e.from to (eqb-true e.from to there))
-      | inr further ↦ elim (cases_Bool (list_any (nat_eq e.from) (stations rest.0))) [
-        | inl again ↦ from_station es p e.from e.to to rest.0 rest.1 again
-        | inr fresh ↦ one_more es p e to rest.0 joins within.0 passes.0 (eqb-false e.from to further) (off_from_none e.from (stations rest.0) fresh) rest.1
+    by : (rest : List Edge) × IsSimple es p e.to to rest × HasNoMore rest walk → (simple : List Edge) × IsSimple es p e.from to simple × HasNoMore simple (e ∷ walk)
+    by (rest, simple, few) = elim (cases_Bool (e.from == to)) [
+      | inl there ↦ ([], none_here es p e.from to (eqb-true e.from to there), omega arith)
+      | inr further ↦ elim (cases_Bool (list_any (nat_eq e.from) (stations rest))) [
+        | inl again ↦
+            let (part, is, fewer) = from_station es p e.from e.to to rest simple again in
+            (part, is, omega (arith, few, fewer, count-cons is_dependency e walk))
+        | inr fresh ↦
+            let (longer, is, fewer) = one_more es p e to rest joins within.0 passes.0 (eqb-false e.from to further) (off_from_none e.from (stations rest) fresh) simple in
+            (longer, is, omega (arith, few, fewer, count-cons is_dependency e walk, count-cons is_dependency e rest))
       ]
     ]
 
@@ -281,14 +297,18 @@ round_of_simple phenomenon es e walk i needed s =
     }
 
 round_walk :
-    (keys : KeyOrder) (phenomenon : Phenomenon) (level : Level) (events : List Operation)
-    → HasWayBack phenomenon (edges_at keys level (transactions_of events))
-    → (walk : List Edge) × IsRound phenomenon (edges_at keys level (transactions_of events)) walk
-round_walk keys phenomenon level events r =
+    (keys : KeyOrder) (phenomenon : Phenomenon) (level : Level) (events : List Operation) (e : Edge) (back : List Edge)
+    → Contains (edges_at keys level (transactions_of events)) e
+    → is_needed phenomenon e ≡ true
+    → LeadsBack phenomenon (edges_at keys level (transactions_of events)) e back
+    → (walk : List Edge) × IsRound phenomenon (edges_at keys level (transactions_of events)) walk × HasNoMore walk (e ∷ back)
+round_walk keys phenomenon level events e back among needed leads =
     let es : List Edge = edges_at keys level (transactions_of events) in
-    let e : Edge = r.0 in
-    let (walk, s) = simple_way es (may_lead_back phenomenon) e.to e.from r.3 (edges_join keys phenomenon level events) r.4.leads (within_in es r.3 r.4.within) (passes_list (may_lead_back phenomenon) r.3 r.4.kinds) in
-    (e ∷ walk, round_of_simple phenomenon es e walk (in_from_Contains e es r.1) r.2 s)
+    let (walk, s, few) = simple_way es (may_lead_back phenomenon) e.to e.from back (edges_join keys phenomenon level events) leads.leads (within_in es back leads.within) (passes_list (may_lead_back phenomenon) back leads.kinds) in (
+      e ∷ walk,
+      round_of_simple phenomenon es e walk (in_from_Contains e es among) needed s,
+      omega (arith, few, count-cons is_dependency e walk, count-cons is_dependency e back),
+    )
 
 -- ---- turned to begin at the least
 
@@ -449,20 +469,36 @@ turned_witness keys phenomenon level ts front e back r least =
 witness_of_round :
     (keys : KeyOrder) (phenomenon : Phenomenon) (level : Level) (ts : List Transaction) (walk : List Edge)
     → IsRound phenomenon (edges_at keys level ts) walk
-    → (other : List Edge) × IsWitness keys phenomenon level ts other
+    → (other : List Edge) × IsWitness keys phenomenon level ts other × HasNoMore other walk
 witness_of_round keys phenomenon level ts [] r = elim r.closed [ ]
 witness_of_round keys phenomenon level ts (d ∷ walk) r =
     let es : List Edge = edges_at keys level ts in
     let (front, e, back, l) = least_of d walk in
-    (e ∷ back ++ front, turned_witness keys phenomenon level ts front e back (subst (IsRound phenomenon es) l.is r) (λ c i. l.least c (subst (In c) (sym l.is) i)))
+    let same : dependencies_in (d ∷ walk) ≡ dependencies_in (front ++ e ∷ back) = ap dependencies_in l.is in (
+      e ∷ back ++ front,
+      turned_witness keys phenomenon level ts front e back (subst (IsRound phenomenon es) l.is r) (λ c i. l.least c (subst (In c) (sym l.is) i)),
+      omega (arith, same, counts_turned is_dependency front (e ∷ back)),
+    )
+
+-- each walk that shows the phenomenon has a witness with no more dependency edges
+pub witness_of_walk :
+    (keys : KeyOrder) (phenomenon : Phenomenon) (level : Level) (events : List Operation) (walk : List Edge)
+    → Shows phenomenon (edges_at keys level (transactions_of events)) walk
+    → (told : List Edge) × IsWitness keys phenomenon level (transactions_of events) told × (dependencies_in told ≤ dependencies_in walk)
+witness_of_walk keys phenomenon level events walk shows =
+    let ts : List Transaction = transactions_of events in
+    let (front, e, back, about, among, leads) = turned_to_one phenomenon (edges_at keys level ts) walk shows in
+    let (round, is, few) = round_walk keys phenomenon level events e (back ++ front) among about.passes leads in
+    let (told, witness, fewer) = witness_of_round keys phenomenon level ts round is in
+    let same : dependencies_in walk ≡ dependencies_in (front ++ e ∷ back) = ap dependencies_in about.is in
+    (told, witness, omega (arith, few, fewer, same, counts_turned is_dependency front (e ∷ back)))
 
 pub has_witness :
     (keys : KeyOrder) (phenomenon : Phenomenon) (level : Level) (events : List Operation)
     → IsThere keys phenomenon level (transactions_of events) ↔ HasWitness keys phenomenon level (transactions_of events)
-has_witness keys phenomenon level events =
-    let ts : List Transaction = transactions_of events in (
-      λ h.
-          let round = round_walk keys phenomenon level events ((closed_by_one phenomenon (edges_at keys level ts)).0 h) in
-          witness_of_round keys phenomenon level ts round.0 round.1,
-      λ w. (w.0, w.1.shows),
-    )
+has_witness keys phenomenon level events = (
+  λ h.
+      let (told, witness, few) = witness_of_walk keys phenomenon level events h.0 h.1 in
+      (told, witness),
+  λ w. (w.0, w.1.shows),
+)

@@ -1,9 +1,10 @@
 -- One edge and the way back (what a search needs): a phenomenon is there exactly where an edge of its
 -- kind has a way back.
-use Rattle.std.specs.Prelude.{List, true, All, Contains, Bool, not, ◌||◌, IsTrue}
+use Rattle.std.specs.Prelude.{ℕ, ◌≤◌, List, true, All, Contains, Bool, not, ◌||◌, IsTrue}
 use Rattle.std.specs.List.{list_all}
 use Rattle.hist_types.specs.Edges.{Edge}
-use Rattle.hist_types.specs.Phenomena.{Leads, is_ww, is_wr, is_rw, is_order}
+use Rattle.hist_types.specs.Phenomena.{Leads, Shows, is_ww, is_wr, is_rw, is_order}
+use Rattle.hist_types.specs.Witness.{dependencies_in}
 use Rattle.hist_types.specs.declared.types.Phenomenon.{Phenomenon}
 use Rattle.hist_types.specs.declared.types.Phenomenon.TheVariants.{G0, G1c, GSingle, G2Item}
 
@@ -36,3 +37,20 @@ HasWayBack phenomenon es =
     × IsTrue (is_needed phenomenon e)
     × (walk : List Edge)
     × LeadsBack phenomenon es e walk
+
+-- ---- with few dependency edges
+
+-- some walk along these edges shows the phenomenon, with at most so many dependency edges
+abbrev pub IsShownWithin : Phenomenon → List Edge → (most : ℕ) → Type 0
+IsShownWithin phenomenon es most =
+    (walk : List Edge) × Shows phenomenon es walk × (dependencies_in walk ≤ most)
+
+-- some edge of the needed kind has a way back with at most so many
+abbrev pub HasWayBackWithin : Phenomenon → List Edge → (most : ℕ) → Type 0
+HasWayBackWithin phenomenon es most =
+    (e : Edge)
+    × Contains es e
+    × IsTrue (is_needed phenomenon e)
+    × (walk : List Edge)
+    × LeadsBack phenomenon es e walk
+    × (dependencies_in walk ≤ most)

@@ -22,7 +22,7 @@ ghost use Rattle.history_laws.specs.Times.{AreInvokedInOrder, CompletesLater, Co
 ghost use Rattle.history_laws.specs.Paths.{IncludesAllOk, OrderEdgesArePaths};
 ghost use Rattle.history_laws.specs.OpenAtOnce.{open_at, most_open, LimitsPredecessors};
 ghost use Rattle.history_laws.specs.Walks.{WalksCarryToThinned, WalksCarryToOrder, WalksCarryUp};
-ghost use Rattle.history_laws.specs.Shown.{IsMadeByCounts, ThinningKeepsIt, ThinnedEdgesShowIt, AnyEdgesShowItByAWayBack, ThinnedEdgesHaveAWayBack, IsThereWithAWitness, PhenomenaRise};
+ghost use Rattle.history_laws.specs.Shown.{IsMadeByCounts, ThinningKeepsIt, ThinnedEdgesShowIt, ThinningKeepsTheFewest, AnyEdgesShowItByAWayBack, FewEdgesShowItByAWayBack, ThinnedEdgesHaveAWayBack, IsThereWithAWitness, WalksHaveWitnesses, PhenomenaRise};
 ghost use Rattle.hist_types.specs.Transactions.{Transaction, transactions_of, Version, external_reads, external_writes, writes, nodes};
 ghost use Rattle.hist_types.specs.Versions.{process_pairs, version_pairs};
 ghost use Rattle.hist_types.specs.declared.types.KeyOrder.{KeyOrder};
@@ -96,6 +96,8 @@ pub fn thinning_keeps_phenomena()
     ensures nodes { (phenomenon : Phenomenon) (level : Level) → ThinningKeepsIt phenomenon level }
     ensures history { (keys : KeyOrder) (phenomenon : Phenomenon) (level : Level)
         → ThinnedEdgesShowIt keys phenomenon level }
+    ensures fewest { (keys : KeyOrder) (phenomenon : Phenomenon) (level : Level)
+        → ThinningKeepsTheFewest keys phenomenon level }
 {}
 
 /// No transaction has more thinned predecessors in real time than transactions were ever open at once, or more than one within
@@ -117,17 +119,21 @@ pub fn levels_rise()
 {}
 
 /// A phenomenon is there exactly where some edge of its kind has a way back from its second end to its first, along the kinds of
-/// edges that the phenomenon allows.
+/// edges that the phenomenon allows. The closed walk has one dependency edge more than the way back.
 pub fn cycles_by_one_edge()
     ensures edges { (phenomenon : Phenomenon) → AnyEdgesShowItByAWayBack phenomenon }
+    ensures few { (phenomenon : Phenomenon) → FewEdgesShowItByAWayBack phenomenon }
     ensures thinned { (keys : KeyOrder) (phenomenon : Phenomenon) (level : Level)
         → ThinnedEdgesHaveAWayBack keys phenomenon level }
 {}
 
-/// A phenomenon that is there at a level has a witness there, and a phenomenon with a witness is there.
+/// A phenomenon that is there at a level has a witness there, and a phenomenon with a witness is there. Each walk that shows it has
+/// a witness with no more dependency edges.
 pub fn phenomena_have_witnesses()
-    ensures { (keys : KeyOrder) (phenomenon : Phenomenon) (level : Level)
+    ensures there { (keys : KeyOrder) (phenomenon : Phenomenon) (level : Level)
         → IsThereWithAWitness keys phenomenon level }
+    ensures few { (keys : KeyOrder) (phenomenon : Phenomenon) (level : Level)
+        → WalksHaveWitnesses keys phenomenon level }
 {}
 
 /// Edges in order are those that were given, one for each place, and they rise. All dependency edges of a history are there.

@@ -58,6 +58,18 @@ const WRITE_SKEW: &str = "{:type :invoke, :process 0, :value [[:w :x 1] [:r :y n
 {:type :ok, :process 1, :value [[:r :x 1]]}
 ";
 
+/// A register is written twice, and then read at last and at first. With sequential keys a stale read is a cycle with one
+/// dependency edge, in real time, and one by way of the other read has two.
+const OLD_READ: &str = "{:type :invoke, :process 0, :value [[:w :x 1]]}
+{:type :ok, :process 0, :value [[:w :x 1]]}
+{:type :invoke, :process 0, :value [[:w :x 2]]}
+{:type :ok, :process 0, :value [[:w :x 2]]}
+{:type :invoke, :process 1, :value [[:r :x nil]]}
+{:type :ok, :process 1, :value [[:r :x 2]]}
+{:type :invoke, :process 2, :value [[:r :x nil]]}
+{:type :ok, :process 2, :value [[:r :x 1]]}
+";
+
 /// Reads of values that nobody wrote. Later one of them is written.
 const STRAY_READS: &str = "{:type :invoke, :process 0, :value [[:r :x nil] [:w :x 1]]}
 {:type :ok, :process 0, :value [[:r :x 7] [:w :x 1]]}
@@ -129,6 +141,11 @@ impl<'a, S: BuildHasher + Copy> Kept<'a, S> {
         let kept = self.analysis.verdict()?;
         Ok(said(&kept) == said(&anew) && self.analysis.has_points() == has_points)
     }
+}
+
+/// How many dependency edges the cycle has that shows the phenomenon, if one does.
+fn dependency_edges(verdict: &Verdict<'_>, phenomenon: Phenomenon) -> Option<usize> {
+    Some(verdict.witness(phenomenon)?.dependency_edges())
 }
 
 /// What a verdict says, without what shows it: the levels, whether there are aborted and intermediate reads, how many stray ones.
@@ -268,11 +285,33 @@ fn writes(alloc: Global, word: &str) -> Result<String, AllocError> {
 #[test]
 fn kept_analyses_agree_with_new_ones(rt: HostRuntime) -> Result<(), Fail> {
     let alloc = rt.alloc();
-    for text in [CLEAN, STALE_READ, BAD_READS, WRITE_SKEW, STRAY_READS] {
+    for text in [
+        CLEAN,
+        STALE_READ,
+        OLD_READ,
+        BAD_READS,
+        WRITE_SKEW,
+        STRAY_READS,
+    ] {
         for keys in [KeyOrder::Basic, KeyOrder::Sequential] {
             assert!(rt; agree(alloc, text, keys)?, "{keys:?} keys of {text}");
         }
     }
+    Ok(())
+}
+
+#[test]
+fn a_cycle_has_the_fewest_dependency_edges(rt: HostRuntime) -> Result<(), Fail> {
+    let alloc = rt.alloc();
+    let hasher = BuildHasherDefault::<FoldHasher>::new();
+    let blocks = blocks_of(alloc, OLD_READ)?;
+    let mut kept = Kept::new(alloc, hasher, KeyOrder::Sequential);
+    for block in &blocks {
+        kept = kept.extend(block)?;
+    }
+    let verdict = kept.analysis.verdict()?;
+    assert_eq!(rt; verdict.level(Phenomenon::GSingle), Some(Level::Realtime));
+    assert_eq!(rt; dependency_edges(&verdict, Phenomenon::GSingle), Some(1));
     Ok(())
 }
 

@@ -89,7 +89,7 @@ impl Sink for Sipping {
 const TURNS: u64 = 10_000_000;
 
 /// Whether the flag is set before it was looked at too often.
-fn is_set_in_time(flag: &AtomicBool) -> bool {
+pub fn is_set_in_time(flag: &AtomicBool) -> bool {
     for _ in 0..TURNS {
         if flag.load(Ordering::SeqCst) {
             return true;

@@ -88,7 +88,7 @@ fn is_order_of(alloc: Global, prefix: &Prefix<'_>, order: &Order) -> Result<bool
 #[test]
 fn a_moving_frontier_gives_the_thinned_order(rt: HostRuntime) -> Result<(), Fail> {
     let alloc = rt.alloc();
-    let blocks = read_blocks(&rt, alloc, Vec::from_slice(alloc, HISTORY)?)?;
+    let blocks = read_blocks(&rt, alloc, 4, Vec::from_slice(alloc, HISTORY)?)?;
     let core = journal_of(alloc, &blocks)?;
     let prefix = core.prefix()?;
     let txns = txns_of(alloc, &prefix)?;

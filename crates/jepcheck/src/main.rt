@@ -18,6 +18,8 @@ mod serve;
 mod sessions;
 #[cfg(test)]
 mod settling;
+#[cfg(test)]
+mod workers;
 
 use crate::serve::{open_pairs, serve};
 use command_line::types::{Asked, LineFault};

@@ -7,6 +7,7 @@ use command_run::dispatch::dispatch;
 use command_run::run::run;
 use hist_types::device::MemorySource;
 use std::process::Abort;
+use std::sync::Wait;
 use std::test::Fail;
 use std::thread::Threads;
 
@@ -45,7 +46,7 @@ fn a_source_of_one_byte_a_call(rt: HostRuntime) -> Result<(), Fail> {
         let mut source = Dripping::new(ABORTED_READ, calls);
         let mut sink = Sipping::new(512, 512);
         let status = run(&rt, rt.alloc(), Command::Reads, &mut source, &mut sink);
-        if matches!(status, Status::Memory) {
+        if matches!(status, Status::Lacking) {
             assert_eq!(rt; sink.taken.as_slice(), MEMORY_LINE);
         } else if calls as usize <= ABORTED_READ.len() {
             assert!(rt; matches!(status, Status::DeviceFault), "at call {calls}");
@@ -65,7 +66,7 @@ fn a_sink_of_one_byte_a_call(rt: HostRuntime) -> Result<(), Fail> {
         let mut sink = Sipping::new(1, calls);
         let status = run(&rt, rt.alloc(), Command::Reads, &mut source, &mut sink);
         let taken = sink.taken.as_slice();
-        if matches!(status, Status::Memory) {
+        if matches!(status, Status::Lacking) {
             assert_eq!(rt; taken, MEMORY_LINE);
         } else if calls as usize >= ABORTED_READ_OUT.len() {
             assert!(rt; matches!(status, Status::SomePhenomenon), "at call {calls}");
@@ -81,7 +82,7 @@ fn a_sink_of_one_byte_a_call(rt: HostRuntime) -> Result<(), Fail> {
 
 /// What was asked is done over a clean history: the status, what was printed and what was said on the sink for errors. Where
 /// a run is out of memory it says so, and a second one has the answer.
-fn does<R: Abort + AllocGlobal + Threads + Sync>(
+fn does<R: Abort + AllocGlobal + Threads + Wait + Sync>(
     rt: &R,
     command: Result<Command, LineFault>,
     reads_before_failure: u64,

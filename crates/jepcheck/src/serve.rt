@@ -1,7 +1,7 @@
 //! Sessions over files and named pipes.
 
-use command_run::answer::Status;
-use command_run::run::print_memory;
+use command_run::answer::{Lack, Status};
+use command_run::run::print_lack;
 use hist_types::device::{Sink, StreamSink, StreamSource};
 use hist_types::types::{Fault, KeyOrder, Refusal};
 use hist_types::whole::write_all;
@@ -39,7 +39,7 @@ fn status_of(ends: &[Result<Ended, SessionFault>]) -> Status {
         match end {
             Ok(Ended::Quit | Ended::Eof) => {}
             Err(SessionFault::Device { answered: _ }) => return Status::DeviceFault,
-            Err(SessionFault::Memory) => return Status::Memory,
+            Err(SessionFault::Memory) => return Status::Lacking,
         }
     }
     Status::NoPhenomenon
@@ -58,14 +58,6 @@ fn serve_clients<R: Threads + Wait + Sync>(
     Ok(status_of(&ends))
 }
 
-/// Prints that no thread could be started.
-fn print_no_thread<T: Sink>(sink: &mut T) -> Status {
-    match write_all(sink, b"refused 11 NoThread\n") {
-        Ok(()) => Status::Memory,
-        Err(_) => Status::DeviceFault,
-    }
-}
-
 /// Serves the pairs of paths that were opened, and prints what keeps it from that.
 fn serve_opened<R: Threads + Wait + Sync, T: Sink>(
     rt: &R,
@@ -77,14 +69,17 @@ fn serve_opened<R: Threads + Wait + Sync, T: Sink>(
 ) -> Status {
     let clients = match opened {
         Ok(clients) => clients,
-        Err(error) if error.kind() == ErrorKind::OutOfMemory => return print_memory(sink),
+        Err(error) if error.kind() == ErrorKind::OutOfMemory => return print_lack(
+            sink,
+            Lack::Memory,
+        ),
         Err(_) => return Status::DeviceFault,
     };
     match serve_clients(rt, alloc, cells, keys, clients) {
-        Ok(Status::Memory) => print_memory(sink),
+        Ok(Status::Lacking) => print_lack(sink, Lack::Memory),
         Ok(status) => status,
-        Err(fault) if fault.refusal == Refusal::NoThread => print_no_thread(sink),
-        Err(_) => print_memory(sink),
+        Err(fault) if fault.refusal == Refusal::NoThread => print_lack(sink, Lack::Thread),
+        Err(_) => print_lack(sink, Lack::Memory),
     }
 }
 

@@ -63,7 +63,7 @@ fn do_settle<'a>(alloc: Global, prefix: &Prefix<'a>, txns: &Txns<'a>) -> Result<
 fn clean_histories_settle(rt: HostRuntime) -> Result<(), Fail> {
     let alloc = rt.alloc();
     for (text, clean) in [(CLEAN, true), (SKEWED, false), (STALE, false)] {
-        let blocks = read_blocks(&rt, alloc, Vec::from_slice(alloc, text)?)?;
+        let blocks = read_blocks(&rt, alloc, 4, Vec::from_slice(alloc, text)?)?;
         let mut core = Core::new(alloc);
         for block in &blocks {
             core.judge(block)?;

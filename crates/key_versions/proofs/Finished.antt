@@ -1,9 +1,10 @@
 -- The table that is put together from what is known.
 use Rattle.std.proofs.Common.{◌≡◌, ℕ, List, length, map, Option, sym, ◌∙◌, ap}
 use Rattle.std.proofs.lemmas.List.{length-map}
-use Rattle.hist_types.specs.Atoms.{Atom}
+use Rattle.hist_types.specs.Atoms.{Atom, atom_eq}
 use Rattle.hist_types.specs.Transactions.{Transaction, Version}
 use Rattle.hist_types.specs.declared.types.KeyOrder.{KeyOrder}
+use Rattle.atom_index.specs.Numbers.{AreNumbered}
 use Rattle.key_versions.specs.declared.pending.Written.{Written}
 use Rattle.key_versions.specs.declared.types.Writer.{Writer}
 use Rattle.key_versions.specs.declared.types.Follower.{Follower}
@@ -26,11 +27,12 @@ table_with order versions writers readers followers accesses =
     }
 
 module _ (keys values : List Atom) (pairs : List (ℕ × Option ℕ)) (versions : List Version) (rows : List Known) (writers : List Written) (readers : List (List ℕ)) (followers : List (List Follower)) (numbered : versions_in keys values pairs ≡ versions) (by_writer : map writer_in writers ≡ map (λ (k : Known). k.writer) rows) (by_reader : readers ≡ map (λ (k : Known). k.readers) rows) (by_follower : followers ≡ map (λ (k : Known). k.followers) rows) where
-  pub are_versions : AreInRange keys values pairs → length (map (λ (k : Known). k.writer) rows) ≡ length versions → AreVersions keys values pairs writers readers followers
-  are_versions within count =
+  pub are_versions : AreNumbered atom_eq keys → AreInRange keys values pairs → length (map (λ (k : Known). k.writer) rows) ≡ length versions → AreVersions keys values pairs writers readers followers
+  are_versions apart within count =
       let count_rows : length rows ≡ length pairs =
       sym (length-map rows (λ (k : Known). k.writer)) ∙ count ∙ sym (ap length numbered) ∙ length-map pairs (version_by keys values) in
       record {
+        keys_numbered = apart;
         in_range = within;
         writer_of_each = sym (length-map writers writer_in) ∙ ap length by_writer ∙ length-map rows (λ (k : Known). k.writer) ∙ count_rows;
         readers_of_each = ap length by_reader ∙ length-map rows (λ (k : Known). k.readers) ∙ count_rows;

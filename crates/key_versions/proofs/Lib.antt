@@ -2,6 +2,7 @@ mod Changed
 mod Spans
 mod Gathered
 mod Finished
+pub mod KeyNumbers
 mod Places
 mod NilNumbers
 mod Numbered
@@ -18,7 +19,9 @@ mod Journaled
 pub mod Callers
 mod ByPlace
 mod Pairs
+mod LastSeen
 mod Seen
+mod Taken
 mod Stepping
 mod Interleaved
 mod Marked

@@ -4,17 +4,17 @@ use Rattle.std.specs.Prelude.{not, ◌&&◌, ◌||◌, ◌==◌}
 use Rattle.std.specs.Option.{option_or, unwrap_or}
 use Rattle.std.proofs.lemmas.Bool.{eqb-true, eq-eqb, or_parts}
 use Rattle.std.proofs.lemmas.Grind.{flat_map-append}
-use Rattle.std.proofs.lemmas.List.{append_assoc, append-nil}
+use Rattle.std.proofs.lemmas.List.{append-nil}
 use Rattle.std.proofs.lemmas.List.Folds.{list_any-append}
 use Rattle.key_versions.specs.declared.pending.Access.{Access}
 use Rattle.key_versions.specs.Rows.{is_of_key, has_nil, lasts, with_access, with_read}
-use Rattle.key_versions.specs.Steps.{last_number, seen_after, with_first, firsts, step_from, steps_to, AreApart, AreOfSameKeys}
+use Rattle.key_versions.specs.Steps.{last_number, seen_after, seen_so_far, with_first, firsts, step_from, steps_to, AreOfSameKeys}
 
-or_none : (b : Bool) → (b || false) ≡ b
+pub or_none : (b : Bool) → (b || false) ≡ b
 or_none true = refl
 or_none false = refl
 
-or_true : (b : Bool) → (b || true) ≡ true
+pub or_true : (b : Bool) → (b || true) ≡ true
 or_true true = refl
 or_true false = refl
 
@@ -60,9 +60,6 @@ last_more nil accs a = last_number-append nil accs (a ∷ []) ∙ by (a.nil == n
 
 -- ---- what a process saw last, once it went on to some of the versions that it meets
 
-abbrev pub seen_so_far : (process : ℕ) (met seen : List Access) (one nil : ℕ) → Option ℕ → Option ℕ
-seen_so_far process met seen one nil before = cond ((process == one) && has_nil nil met) (last_number nil seen) before
-
 -- the version that it comes from
 pub seen_before :
     (process : ℕ) (met seen : List Access) (nil : ℕ) (before : Option ℕ) → has_nil nil met ≡ false → seen_so_far process met seen process nil before ≡ before
@@ -89,10 +86,10 @@ seen_next process met seen to last one nil before is =
     by true false e = ap (λ b. cond b (last_number nil seen) before) (sym (or_none (has_nil nil met)))
 
 -- the last version of a key that it meets
-pub last_met : (met seen : List Access) (nil n last : ℕ) → AreOfSameKeys seen met → has_nil nil met ≡ true → last ≡ unwrap_or (last_number nil seen) n → last_number nil seen ≡ Some last
-last_met met seen nil n last same has is =
-    let (m, some) = last_some nil seen (same nil ∙ has) in
-    some ∙ ap Some (sym (is ∙ ap (λ (o : Option ℕ). unwrap_or o n) some))
+pub last_met : (seen : List Access) (nil n : ℕ) → has_nil nil seen ≡ true → last_number nil seen ≡ Some (unwrap_or (last_number nil seen) n)
+last_met seen nil n has =
+    let (m, some) = last_some nil seen has in
+    some ∙ ap Some (sym (ap (λ (o : Option ℕ). unwrap_or o n) some))
 
 pub seen_all :
     (process : ℕ) (met seen : List Access) (one nil : ℕ) (before : Option ℕ) → AreOfSameKeys seen met
@@ -134,7 +131,7 @@ or_assoc-bool : (a b c : Bool) → ((a || b) || c) ≡ (a || (b || c))
 or_assoc-bool true b c = refl
 or_assoc-bool false b c = refl
 
-folded_keys : (nil : ℕ) (met accs : List Access) → has_nil nil (fold with_first met accs) ≡ (has_nil nil met || has_nil nil accs)
+pub folded_keys : (nil : ℕ) (met accs : List Access) → has_nil nil (fold with_first met accs) ≡ (has_nil nil met || has_nil nil accs)
 folded_keys nil met [] = sym (or_none (has_nil nil met))
 folded_keys nil met (a ∷ accs) =
     folded_keys nil (with_first met a) accs ∙ ap (λ b. b || has_nil nil accs) (first_keys nil met a) ∙ or_assoc-bool (has_nil nil met) (a.nil == nil) (has_nil nil accs)
@@ -154,22 +151,6 @@ pub firsts_keys : (reads writes : List Access) (nil : ℕ) → has_nil nil (read
 firsts_keys reads writes nil =
     list_any-append (is_of_key nil) reads writes
     ∙ sym (folded_keys nil (fold with_first [] reads) (lasts writes) ∙ ap (λ b. b || has_nil nil (lasts writes)) (folded_keys nil [] reads) ∙ ap (λ b. has_nil nil reads || b) (lasts_keys nil writes))
-
-apart_more : (before accs : List Access) (a : Access) → AreApart before accs → has_nil a.nil (before ++ accs) ≡ false → AreApart before (accs ++ a ∷ [])
-apart_more before [] a apart none = (ap (has_nil a.nil) (sym (append-nil before)) ∙ none, tt)
-apart_more before (b ∷ accs) a apart none =
-    (apart.0, apart_more (before ++ b ∷ []) accs a apart.1 (ap (has_nil a.nil) (append_assoc before (b ∷ []) accs) ∙ none))
-
-folded_apart : (met accs : List Access) → AreApart [] met → AreApart [] (fold with_first met accs)
-folded_apart met [] apart = apart
-folded_apart met (a ∷ accs) apart = folded_apart (with_first met a) accs (by (has_nil a.nil met) refl)
-  where
-    by : (b : Bool) → has_nil a.nil met ≡ b → AreApart [] (cond b met (met ++ a ∷ []))
-    by true has = apart
-    by false none = apart_more [] met a apart none
-
-pub firsts_apart : (reads writes : List Access) → AreApart [] (firsts reads writes)
-firsts_apart reads writes = folded_apart (fold with_first [] reads) (lasts writes) (folded_apart [] reads tt)
 
 -- what a micro-operation adds
 pub keys_added :

@@ -8,8 +8,9 @@ pub mod Given
 pub mod Views
 pub mod Pending
 pub mod Pairs
-pub mod SeenKeys
+pub mod LastSeen
 pub mod Steps
 pub mod Stepped
 pub mod TxnAccesses
 pub mod Kept
+pub mod KeyNumbers

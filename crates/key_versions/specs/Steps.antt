@@ -1,14 +1,11 @@
 -- The steps that processes take from one version of a key to another, over numbers alone: versions
 -- go by number, keys by their nil versions. A step is written with its later version first.
-use Rattle.std.specs.Prelude.{◌≡◌, ◌<◌, ◌≤◌, ⊤, ℕ, suc, ◌+◌, List, [], ◌∷◌, ◌++◌, Bool, false, not, ◌&&◌, ◌==◌, if◌then◌else◌, Option, Some, None, All, fold, filter, flat_map, length, get_or}
+use Rattle.std.specs.Prelude.{◌≡◌, ◌<◌, ◌≤◌, ℕ, suc, ◌+◌, List, [], ◌∷◌, ◌++◌, Bool, true, not, ◌&&◌, ◌==◌, if◌then◌else◌, Option, Some, None, All, fold, filter, flat_map, length, get_or}
 use Rattle.std.specs.List.{list_any}
 use Rattle.std.specs.Option.{option_or}
-use Rattle.indexmap.specs.IndexMap.{IndexMap, get}
 use Rattle.key_versions.specs.declared.types.Follower.{Follower}
 use Rattle.key_versions.specs.declared.pending.Access.{Access}
-use Rattle.key_versions.specs.declared.steps.SeenKey.{SeenKey}
 use Rattle.key_versions.specs.Rows.{Accessed, Known, has_nil, lasts}
-use Rattle.key_versions.specs.SeenKeys.{same_key}
 
 -- ---- what processes saw
 
@@ -18,14 +15,16 @@ last_number nil [] = None
 last_number nil (a ∷ accesses) =
     option_or (last_number nil accesses) (if a.nil == nil then Some a.version else None)
 
--- the last version of a key that a process saw
-abbrev pub last_seen : {S : Type 0} → IndexMap SeenKey ℕ S → (process nil : ℕ) → Option ℕ
-last_seen last process nil = get same_key last (record { process = process; nil = nil })
-
 -- that of any process, once one process saw these
 abbrev pub seen_after : (one : ℕ) → List Access → (process nil : ℕ) → Option ℕ → Option ℕ
 seen_after one accesses process nil before =
     if one == process then option_or (last_number nil accesses) before else before
+
+-- that of any process, once one process saw these, as far as they are of the same keys as others
+abbrev pub seen_so_far : (one : ℕ) → (met seen : List Access) → (process nil : ℕ) → Option ℕ
+    → Option ℕ
+seen_so_far one met seen process nil before =
+    if (one == process) && has_nil nil met then last_number nil seen else before
 
 -- ---- steps
 
@@ -36,12 +35,6 @@ with_first met access = if has_nil access.nil met then met else met ++ access �
 -- the first of each key among the reads and then the installs of a transaction
 abbrev pub firsts : (reads writes : List Access) → List Access
 firsts reads writes = fold with_first (fold with_first [] reads) (lasts writes)
-
--- each of another key than those before it
-abbrev pub AreApart : (before : List Access) → List Access → Type 0
-AreApart before [] = ⊤
-AreApart before (a ∷ accesses) =
-    (has_nil a.nil before ≡ false) × AreApart (before ++ a ∷ []) accesses
 
 -- these are of the same keys
 abbrev pub AreOfSameKeys : List Access → List Access → Type 0
@@ -58,6 +51,17 @@ step_from (Some earlier) access =
 -- the steps of a process to these versions
 abbrev pub steps_to : (seen : ℕ → Option ℕ) → List Access → List (ℕ × ℕ)
 steps_to seen met = flat_map (λ (a : Access). step_from (seen a.nil) a) met
+
+-- each of these is of the same key as one of the others
+abbrev pub AreOfKeys : List Access → List Access → Type 0
+AreOfKeys accesses others = (nil : ℕ) → has_nil nil accesses ≡ true → has_nil nil others ≡ true
+
+-- what was taken and seen last before a process went on to these versions, and what is now
+pub record AreTaken (process : ℕ) (met seen : List Access) (before : List (ℕ × ℕ))
+    (last_before : ℕ → ℕ → Option ℕ) (taken : List (ℕ × ℕ)) (last : ℕ → ℕ → Option ℕ) : Type 0 where
+  pub steps : taken ≡ before ++ steps_to (last_before process) met
+  pub versions :
+      (one nil : ℕ) → last one nil ≡ seen_so_far process met seen one nil (last_before one nil)
 
 -- ---- followers by steps, which are given by the number of their later version
 

@@ -1,9 +1,10 @@
 -- The table that numbered versions and rows make.
 use Rattle.std.specs.Prelude.{◌≡◌, List, map, length, ℕ, Option}
-use Rattle.hist_types.specs.Atoms.{Atom}
+use Rattle.hist_types.specs.Atoms.{Atom, atom_eq}
 use Rattle.hist_types.specs.Transactions.{Version}
 use Rattle.hist_types.specs.declared.types.KeyOrder.{KeyOrder}
 use Rattle.hist_types.specs.declared.types.KeyOrder.TheVariants.{Basic}
+use Rattle.atom_index.specs.Numbers.{AreNumbered}
 use Rattle.key_versions.specs.Numbering.{AreInRange}
 use Rattle.key_versions.specs.Rows.{Known, Accessed}
 use Rattle.key_versions.specs.Tables.{Table}
@@ -50,10 +51,11 @@ table_of keys versions writers readers followers accesses =
       installs = map (λ (a : Accessed). a.installs) accesses;
     }
 
--- versions of numbered keys and values, and what is known of each version
+-- versions of numbered keys and values, no two keys equal, and what is known of each version
 pub record AreVersions (keys values : List Atom) (pairs : List (ℕ × Option ℕ))
     (writers : List Written) (readers : List (List ℕ))
     (followers : List (List Follower)) : Type 0 where
+  pub keys_numbered : AreNumbered atom_eq keys
   pub in_range : AreInRange keys values pairs
   pub writer_of_each : length writers ≡ length pairs
   pub readers_of_each : length readers ≡ length pairs

@@ -20,7 +20,6 @@ use hist_types::types::KeyOrder;
 use std::alloc::{AllocError, Global};
 use std::hash::BuildHasher;
 use std::marker::Model;
-use std::thread::Threads;
 use txn_pairs::types::Txn;
 
 /// The table of the transactions so far, and of versions that have numbers from the start.
@@ -122,7 +121,6 @@ impl<'a, S: BuildHasher + Copy> Building<'a, S> {
     pub fn of(
         alloc: Global,
         numbering: Numbering<'a, S>,
-        hasher: S,
         txns: &[Txn<'a>],
         keys: KeyOrder,
     ) -> Result<Self, AllocError>
@@ -132,7 +130,7 @@ impl<'a, S: BuildHasher + Copy> Building<'a, S> {
     {
         match keys {
             KeyOrder::Basic => Building::basic(alloc, numbering, txns),
-            KeyOrder::Sequential => sequential(alloc, numbering, hasher, txns),
+            KeyOrder::Sequential => sequential(alloc, numbering, txns),
         }
     }
 
@@ -144,22 +142,6 @@ impl<'a, S: BuildHasher + Copy> Building<'a, S> {
         let numbered = self.numbering.finish();
         let rows = self.rows;
         let known = rows.rows.finish(alloc)?;
-        Ok(Versions::new(keys, numbered, known, rows.accesses))
-    }
-
-    /// Puts the table together with two threads, where another can be made. The only error is out of memory.
-    pub fn finish_wide<R: Threads>(
-        self,
-        rt: &R,
-        alloc: Global,
-        keys: KeyOrder,
-    ) -> Result<Versions<'a>, AllocError>
-        requires { length self.writers ≡ length self.versions }
-        ensures { IfOk result (λ versions. versions ≡ with_order self.entry keys) }
-    {
-        let numbered = self.numbering.finish();
-        let rows = self.rows;
-        let known = rows.rows.finish_wide(rt, alloc)?;
         Ok(Versions::new(keys, numbered, known, rows.accesses))
     }
 }

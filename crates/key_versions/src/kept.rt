@@ -7,9 +7,9 @@ ghost use Rattle.hist_types.specs.Transactions.{Transaction};
 ghost use Rattle.hist_types.specs.declared.types.KeyOrder.TheVariants.{Basic, Sequential};
 ghost use Rattle.key_versions.specs.Given.{IsTableBeside};
 ghost use Rattle.key_versions.specs.Kept.{AreKept, StayBeside};
+ghost use Rattle.key_versions.specs.LastSeen.{last_seen};
 ghost use Rattle.key_versions.specs.Numbering.{versions_of};
 ghost use Rattle.key_versions.specs.Stepped.{AreStepsOf};
-ghost use Rattle.key_versions.specs.Steps.{last_seen};
 ghost use Rattle.key_versions.specs.Tables.{IsTableOf};
 ghost use Rattle.key_versions.specs.Views.{table_by};
 ghost use Rattle.txn_pairs.specs.Completions.{Completes};
@@ -34,7 +34,6 @@ use txn_pairs::types::{Status, Txn, Txns};
 /// It borrows the journal's blocks. No answer depends on the hasher. It can't be used after a call that ran out of memory.
 pub struct KeptVersions<'a, S: BuildHasher> {
     keys: KeyOrder,
-    hasher: S,
     numbering: Numbering<'a, S>,
     accesses: KeptAccesses,
     /// A buffer for those of one transaction.
@@ -46,7 +45,6 @@ impl<S: BuildHasher + Drop> Drop for KeptVersions<'_, S> {
     fn drop(self) {
         let KeptVersions {
             keys: _,
-            hasher: _,
             numbering: _,
             accesses: _,
             accessed: _,
@@ -75,7 +73,6 @@ impl<'a, S: BuildHasher + Copy> KeptVersions<'a, S> {
     {
         KeptVersions {
             keys,
-            hasher,
             numbering: Numbering::new(alloc, hasher),
             accesses: KeptAccesses::new(alloc),
             accessed: Accessed::new(alloc),
@@ -148,13 +145,13 @@ impl<'a, S: BuildHasher + Copy> KeptVersions<'a, S> {
     }
 
     /// The steps of the transactions' processes.
-    fn steps(&self, alloc: Global, txns: &[Txn<'a>]) -> Result<Steps<S>, AllocError>
+    fn steps(&self, alloc: Global, txns: &[Txn<'a>]) -> Result<Steps, AllocError>
         requires kept { AreKept txns.now self.now }
         requires keys { self.now.keys ≡ Sequential }
         ensures { IfOk result (λ steps.
             AreStepsOf self.now.versions txns.now (last_seen steps.last) steps.taken.items) }
     {
-        let mut steps = Steps::new(alloc, self.hasher);
+        let mut steps = Steps::with_capacity(alloc, txns.len())?;
         for (place, txn) in txns.iter().enumerate() {
             steps.take(
                 txn,

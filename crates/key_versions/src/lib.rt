@@ -13,6 +13,7 @@ mod building;
 mod interleaving;
 pub mod kept;
 mod kept_accesses;
+mod last_seen;
 pub mod laws;
 mod nils;
 mod numbering;
@@ -29,8 +30,7 @@ use crate::table::Versions;
 use hist_types::types::{Fault, KeyOrder};
 use journal_core::written::Written;
 use std::alloc::Global;
-use std::hash::{BuildHasher, BuildHasherDefault};
-use std::thread::Threads;
+use std::hash::BuildHasher;
 use txn_pairs::types::Txns;
 
 /// The versions that the transactions name: the nil version of each key, what is written, and what ok transactions read. What
@@ -57,17 +57,16 @@ pub fn versions<'a, S: BuildHasher + Copy>(
     ensures err { IfErr result (λ fault. fault ≡ memory_fault) }
 {
     let numbering = Numbering::with_capacity(alloc, hasher, txns.as_slice().len())?;
-    let building = Building::of(alloc, numbering, hasher, txns.as_slice(), keys)?;
+    let building = Building::of(alloc, numbering, txns.as_slice(), keys)?;
     Ok(building.finish(alloc, keys)?)
 }
 
 /// The table that `versions` makes, from the numbers that the journal gave to what it saw written. Transactions come in the order
 /// of their invocations, and so did their writes, so a write is compared with the journal's next one, and mostly nothing is
-/// looked up. Two threads put the table together, where another can be made.
+/// looked up.
 ///
 /// The only error is out of memory.
-pub fn versions_of_written_wide<'a, R: Threads>(
-    rt: &R,
+pub fn versions_of_written<'a>(
     alloc: Global,
     txns: &Txns<'a>,
     written: Written<'a>,
@@ -79,7 +78,6 @@ pub fn versions_of_written_wide<'a, R: Threads>(
     ensures err { IfErr result (λ fault. fault ≡ memory_fault) }
 {
     let numbering = numbering_of(alloc, written)?;
-    let hasher = BuildHasherDefault::new();
-    let building = Building::of(alloc, numbering, hasher, txns.as_slice(), keys)?;
-    Ok(building.finish_wide(rt, alloc, keys)?)
+    let building = Building::of(alloc, numbering, txns.as_slice(), keys)?;
+    Ok(building.finish(alloc, keys)?)
 }

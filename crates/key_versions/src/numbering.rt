@@ -317,6 +317,7 @@ impl<'a, S: BuildHasher> Numbering<'a, S> {
     pub fn numbered(&self, alloc: Global) -> Result<Numbered<'a>, AllocError>
         ensures versions { IfOk result (λ n. versions_in n.keys.items n.values.items n.pairs.items
             ≡ versions_of self.now) }
+        ensures keys { IfOk result (λ n. AreNumbered atom_eq n.keys.items) }
         ensures in_range { IfOk result
             (λ n. AreInRange n.keys.items n.values.items n.pairs.items) }
     {
@@ -337,6 +338,7 @@ impl<'a, S: BuildHasher> Numbering<'a, S> {
         S: Drop,
         ensures versions { versions_in result.keys.items result.values.items result.pairs.items
             ≡ versions_of self.entry }
+        ensures keys { AreNumbered atom_eq result.keys.items }
         ensures in_range { AreInRange result.keys.items result.values.items result.pairs.items }
     {
         Numbered {

@@ -12,7 +12,6 @@ use crate::types::{Follower, Writer};
 use flat_groups::groups::Groups;
 use std::alloc::{AllocError, Global};
 use std::marker::Model;
-use std::thread::{Threads, join_mut};
 
 /// A version that a transaction reads or writes, by number, and the nil version of its key.
 #[derive(Clone, Copy, Debug, Default, PartialEq, Eq)]
@@ -224,25 +223,6 @@ impl Pending {
             writers: self.writers,
             readers,
             followers,
-        })
-    }
-
-    /// Puts together what is known of each version: two threads group readers and followers, where another can be made.
-    pub fn finish_wide<R: Threads>(self, rt: &R, alloc: Global) -> Result<Grouped, AllocError>
-        ensures writers { IfOk result
-            (λ g. map writer_in g.writers.items ≡ map (λ (k : Known). k.writer) self) }
-        ensures readers { IfOk result (λ g. g.readers ≡ map (λ (k : Known). k.readers) self) }
-        ensures followers { IfOk result (λ g. g.followers ≡ map (λ (k : Known). k.followers) self) }
-    {
-        let (readers, followers) = join_mut(
-            rt,
-            &mut || self.group_readers(alloc),
-            &mut || self.group_followers(alloc),
-        );
-        Ok(Grouped {
-            writers: self.writers,
-            readers: readers?,
-            followers: followers?,
         })
     }
 }

@@ -5,9 +5,9 @@ ghost use Rattle.atom_index.specs.Numbers.{AreNumbered};
 ghost use Rattle.hist_types.specs.Transactions.{Transaction, Version, version_eq};
 ghost use Rattle.hist_types.specs.declared.types.KeyOrder.TheVariants.{Sequential};
 ghost use Rattle.key_versions.specs.Given.{AreNamed, IsTableBeside};
+ghost use Rattle.key_versions.specs.LastSeen.{last_seen};
 ghost use Rattle.key_versions.specs.Numbering.{versions_of};
 ghost use Rattle.key_versions.specs.Stepped.{AreStepsOf};
-ghost use Rattle.key_versions.specs.Steps.{last_seen};
 ghost use Rattle.key_versions.specs.Tables.{IsTableOf};
 ghost use Rattle.key_versions.specs.Views.{table_by};
 
@@ -24,7 +24,7 @@ use txn_pairs::types::Txn;
 /// Takes the next transaction.
 fn take<'a, S: BuildHasher + Copy>(
     building: &mut Building<'a, S>,
-    steps: &mut Steps<S>,
+    steps: &mut Steps,
     accessed: &mut Accessed,
     txn: &Txn<'a>,
 ) -> Result<(), AllocError>
@@ -53,7 +53,7 @@ fn take<'a, S: BuildHasher + Copy>(
 fn take_all<'a, S: BuildHasher + Copy>(
     alloc: Global,
     building: &mut Building<'a, S>,
-    steps: &mut Steps<S>,
+    steps: &mut Steps,
     txns: &[Txn<'a>],
 ) -> Result<(), AllocError>
     requires table { IsTableBeside building.old.versions [] building.old }
@@ -72,10 +72,10 @@ fn take_all<'a, S: BuildHasher + Copy>(
 
 /// Adds the followers by steps to the rows of n versions, once all transactions are taken: a step may lead to a version that was
 /// installed long before or is installed later.
-pub(crate) fn follow_steps<S: BuildHasher + Drop>(
+pub(crate) fn follow_steps(
     alloc: Global,
     rows: &mut Rows,
-    steps: Steps<S>,
+    steps: Steps,
     versions: usize,
 ) -> Result<(), AllocError>
     requires { (given : List Version) × (vs : List Version) × (ts : List Transaction)
@@ -99,15 +99,14 @@ pub(crate) fn follow_steps<S: BuildHasher + Drop>(
 pub(crate) fn sequential<'a, S: BuildHasher + Copy>(
     alloc: Global,
     numbering: Numbering<'a, S>,
-    hasher: S,
     txns: &[Txn<'a>],
 ) -> Result<Building<'a, S>, AllocError>
     requires distinct { AreNumbered version_eq (versions_of numbering) }
     requires named { AreNamed txns.now (versions_of numbering) }
     ensures { IfOk result (IsTableOf Sequential txns.now) }
 {
+    let mut steps = Steps::with_capacity(alloc, txns.len())?;
     let mut building = Building::with_capacity(alloc, numbering, txns.len())?;
-    let mut steps = Steps::new(alloc, hasher);
     take_all(alloc, &mut building, &mut steps, txns)?;
     let versions = building.versions();
     follow_steps(alloc, &mut building.rows, steps, versions)?;

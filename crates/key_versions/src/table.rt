@@ -1,6 +1,7 @@
 //! The finished table.
 
-ghost use Rattle.std.specs.Prelude.{◌≡◌, ◌<◌, length, Some, slice_get};
+ghost use Rattle.std.specs.Prelude.{◌≡◌, ◌<◌, length, map, IfOk, Some, slice_get};
+ghost use Rattle.key_versions.specs.KeyNumbers.{AreKeyNumbers};
 ghost use Rattle.key_versions.specs.Numbering.{versions_in};
 ghost use Rattle.key_versions.specs.Views.{AreVersions, table_of};
 
@@ -11,7 +12,17 @@ use crate::types::{Follower, VersionRef, Writer};
 use flat_groups::groups::Groups;
 use hist_types::types::KeyOrder;
 use op_view::atom::Atom;
+use std::alloc::{AllocError, Global};
 use std::marker::Model;
+
+/// The keys of a table's versions, by number.
+#[derive(Drop)]
+pub struct KeyNumbers {
+    /// How many keys there are.
+    pub count: usize,
+    /// By number of version, the number of its key.
+    pub of_versions: Vec<usize>,
+}
 
 /// The versions that a history names, with what its transactions do with each. Versions go by number, transactions by their
 /// place in the history. No call takes memory.
@@ -55,6 +66,19 @@ impl<'a> Model for Versions<'a> {
 
     ghost invariant = { λ v. AreVersions v.keys.items v.values.items v.pairs.items
         v.writers.items v.readers v.followers };
+}
+
+fn key_in(pair: &(usize, Option<usize>)) -> usize
+    ensures { result ≡ pair.now.0 }
+{
+    pair.0
+}
+
+/// The key of each pair.
+fn keys_in(alloc: Global, pairs: &[(usize, Option<usize>)]) -> Result<Vec<usize>, AllocError>
+    ensures { IfOk result (λ keys. keys.items ≡ map (λ p. p.0) pairs.now) }
+{
+    pairs.iter().map(key_in).collect(alloc)
 }
 
 impl<'a> Versions<'a> {
@@ -104,6 +128,17 @@ impl<'a> Versions<'a> {
         ensures installs { result ≡ length self.now.installs }
     {
         self.accesses.len()
+    }
+
+    /// The number of each version's key.
+    pub fn key_numbers(&self, alloc: Global) -> Result<KeyNumbers, AllocError>
+        ensures { IfOk result
+            (λ keys. AreKeyNumbers self.now.versions keys.count keys.of_versions.items) }
+    {
+        Ok(KeyNumbers {
+            count: self.keys.len(),
+            of_versions: keys_in(alloc, self.pairs.as_slice())?,
+        })
     }
 
     /// The version with this number.

@@ -5,18 +5,20 @@ use Rattle.hist_types.specs.Edges.{Edge, dependency_edges, order_edges, edges_at
 use Rattle.hist_types.specs.ThinnedOrder.{thinned_edges}
 use Rattle.hist_types.specs.Phenomena.{height, Shows, IsThere, IsShownBy, IsLowestLevel}
 use Rattle.hist_types.specs.Transactions.{Transaction, transactions_of}
-use Rattle.hist_types.specs.Witness.{Finding, IsWitness, IsFinding}
+use Rattle.hist_types.specs.Witness.{Finding, IsWitness, IsFinding, dependencies_in, HasFewest}
 use Rattle.hist_types.specs.declared.types.Level.{Level}
 use Rattle.hist_types.specs.declared.types.Level.TheVariants.{Plain, Process, Realtime}
 use Rattle.hist_types.specs.declared.types.Phenomenon.{Phenomenon}
 use Rattle.hist_types.specs.declared.types.Phenomenon.TheVariants.{G0, G1c, GSingle, G2Item}
 use Rattle.hist_types.proofs.Members.{in_from_Contains, Contains_from_in, in_front, in_back, in_append}
+use Rattle.history_laws.proofs.Fewest.{fewest_of_thinned}
 use Rattle.history_laws.proofs.OrderEdges.{thinned_edges-order}
 use Rattle.history_laws.proofs.ThinningCycles.{has_above}
 use Rattle.history_laws.proofs.ThinningWalks.{has_thinned}
 use Rattle.dep_edges.specs.Histories.{AreOfHistory}
 use Rattle.order_frontier.specs.Predecessors.{Before, AreOfEvents, IsThinnedOrder}
-use Rattle.cycle_find.specs.Tasks.{Site, site_of}
+use Rattle.cycle_find.specs.Found.{ShowsByFewest, HasFewestIfAny}
+use Rattle.cycle_find.specs.Tasks.{Site, site_of, task_of}
 use Rattle.edge_graph.specs.Parts.{Parts, IsOrderOf, IsMadeOf, edges_in}
 use Rattle.edge_graph.proofs.EdgesIn.{of_thinned}
 use Rattle.edge_graph.proofs.Orderings.{thinned_order}
@@ -114,24 +116,47 @@ absent_at g phenomenon level None thinned below none =
     ]
 absent_at g phenomenon level (Some f) thinned below none = below
 
+-- the fewest of the walks over thinned order are the fewest of all
+fewest_at :
+    (g : Parts) (phenomenon : Phenomenon) (level : Level) (walk told : List Edge)
+    → IsThinned g
+    → HasFewest phenomenon (edges_in g level) walk
+    → dependencies_in told ≤ dependencies_in walk
+    → HasFewest phenomenon (edges_at g.keys level g.txns) told
+fewest_at g phenomenon level walk told thinned fewest fewer other shows =
+    let (events, same) = thinned.events in
+    let over : HasFewest phenomenon (dependency_edges g.keys g.txns ++ thinned_edges level g.txns) walk = λ another is. fewest another (record {
+      closed = is.closed;
+      within = All-weaker (Contains (dependency_edges g.keys g.txns ++ thinned_edges level g.txns)) (Contains (edges_in g level)) (λ e c. (thinned.edges level e).1 c) another is.within;
+      kinds = is.kinds;
+    }) in
+    let of_all : HasFewest phenomenon (edges_at g.keys level (transactions_of events)) walk =
+    fewest_of_thinned g.keys phenomenon level events walk (subst (λ ts. HasFewest phenomenon (dependency_edges g.keys ts ++ thinned_edges level ts) walk) same over) in
+    let few : dependencies_in walk ≤ dependencies_in other = of_all other (subst (λ ts. Shows phenomenon (edges_at g.keys level ts) other) same shows) in
+    omega (arith, fewer, few)
+
 -- what is shown there first
 pub found_at :
     (g : Parts) (phenomenon : Phenomenon) (level : Level) (walk : List Edge) (f : Finding)
     → IsThinned g
     → IsFoundBelow (height level) g phenomenon None
-    → Shows phenomenon (edges_in g level) walk
+    → ShowsByFewest phenomenon (edges_in g level) walk
     → IsReducedTo level walk f
     → IsFinding g.keys phenomenon g.txns (Some f)
-found_at g phenomenon level walk f thinned below shows (same_level, reduced) =
+found_at g phenomenon level walk f thinned below is reduced =
     let (events, same) = thinned.events in
-    let there = shown g phenomenon level walk thinned shows in
+    let there = shown g phenomenon level walk thinned is.shows in
     let of_events : Shows phenomenon (edges_at g.keys level (transactions_of events)) walk =
     subst (λ ts. Shows phenomenon (edges_at g.keys level ts) walk) same there in
     let told : IsWitness g.keys phenomenon level g.txns f.walk =
-    subst (λ ts. IsWitness g.keys phenomenon level ts f.walk) (sym same) (reduced g.keys phenomenon level events of_events) in
+    subst (λ ts. IsWitness g.keys phenomenon level ts f.walk) (sym same) (reduced.witness g.keys phenomenon level events of_events) in
+    let fewest : HasFewest phenomenon (edges_at g.keys level g.txns) f.walk = fewest_at g phenomenon level walk f.walk thinned is.fewest reduced.fewer in
     let lowest : IsLowestLevel g.keys phenomenon g.txns (Some level) = ((walk, there), below) in (
-      subst (λ l. IsLowestLevel g.keys phenomenon g.txns (Some l)) (sym same_level) lowest,
-      subst (λ l. IsWitness g.keys phenomenon l g.txns f.walk) (sym same_level) told,
+      subst (λ l. IsLowestLevel g.keys phenomenon g.txns (Some l)) (sym reduced.level_is) lowest,
+      (
+        subst (λ l. IsWitness g.keys phenomenon l g.txns f.walk) (sym reduced.level_is) told,
+        subst (λ l. HasFewest phenomenon (edges_at g.keys l g.txns) f.walk) (sym reduced.level_is) fewest,
+      ),
     )
 
 -- the same by what a search at the level answers
@@ -142,11 +167,15 @@ pub found_next :
     → before ≡ None
     → IsFoundBelow (height site.level) g phenomenon before
     → Shows phenomenon (edges_in site.graph site.level) walk
+    → HasFewestIfAny (task_of site.graph phenomenon site.level) (Some walk)
     → IsReducedTo site.level walk f
     → IsFinding g.keys phenomenon g.txns (Some f)
-found_next g site phenomenon before walk f thinned same none below shows reduced =
+found_next g site phenomenon before walk f thinned same none below shows fewest reduced =
     found_at g phenomenon site.level walk f thinned (subst (IsFoundBelow (height site.level) g phenomenon) none below)
-    (subst (λ (p : Parts). Shows phenomenon (edges_in p site.level) walk) same shows) reduced
+    (record {
+      shows = subst (λ (p : Parts). Shows phenomenon (edges_in p site.level) walk) same shows;
+      fewest = subst (λ (p : Parts). HasFewestIfAny (task_of p phenomenon site.level) (Some walk)) same fewest (thinned.edges site.level);
+    }) reduced
 
 pub absent_next :
     (g : Parts) (site : Site) (phenomenon : Phenomenon) (before : Option Finding)

@@ -1,12 +1,12 @@
 -- The lowest level of a phenomenon, searched for in the graph of a history over its thinned order.
-use Rattle.std.specs.Prelude.{◌≡◌, ◌↔◌, ◌<◌, ℕ, List, ◌++◌, length, Contains, Option, Some, None}
+use Rattle.std.specs.Prelude.{◌≡◌, ◌↔◌, ◌<◌, ◌≤◌, ℕ, List, ◌++◌, length, Contains, Option, Some, None}
 use Rattle.hist_types.specs.Edges.{Edge, dependency_edges}
 use Rattle.hist_types.specs.ThinnedOrder.{thinned_edges}
 use Rattle.hist_types.specs.Phenomena.{height, IsThere, g1a, g1b, stray}
 use Rattle.hist_types.specs.Reports.{Findings, finding, Report, IsVerdictOf}
 use Rattle.hist_types.specs.Operations.{Operation}
 use Rattle.hist_types.specs.Transactions.{Transaction, transactions_of}
-use Rattle.hist_types.specs.Witness.{Finding, IsFinding}
+use Rattle.hist_types.specs.Witness.{Finding, IsFinding, dependencies_in}
 use Rattle.hist_types.specs.declared.types.Level.{Level}
 use Rattle.hist_types.specs.declared.types.Phenomenon.{Phenomenon}
 use Rattle.hist_types.specs.declared.types.KeyOrder.{KeyOrder}
@@ -44,9 +44,11 @@ pub record IsThinned (g : Parts) : Type 0 where
       → Contains (edges_in g level) e
       ↔ Contains (dependency_edges g.keys g.txns ++ thinned_edges level g.txns) e
 
--- the level, with a witness to which the walk is reduced
-abbrev pub IsReducedTo : Level → (walk : List Edge) → Finding → Type 0
-IsReducedTo level walk found = (found.level ≡ level) × IsWitnessOf walk found.walk
+-- the level, with a witness to which the walk is reduced, and which has no more dependency edges
+pub record IsReducedTo (level : Level) (walk : List Edge) (found : Finding) : Type 0 where
+  pub level_is : found.level ≡ level
+  pub witness : IsWitnessOf walk found.walk
+  pub fewer : dependencies_in found.walk ≤ dependencies_in walk
 
 -- the phenomenon is found at its lowest level, or is there at no level below this height
 abbrev pub IsFoundBelow : (top : ℕ) → Parts → Phenomenon → Option Finding → Type 0

@@ -1,6 +1,6 @@
 //! The verdict of a history: everything that is reported of it, and its text.
 //!
-//! Only calls whose names end in `_wide` may start threads.
+//! Of the public calls, only those whose names end in `_wide` may start threads.
 #![tactic(auto)]
 
 ghost use Rattle.std.specs.Prelude.{◌≡◌, IfSome, IfOk, IfErr, OnOk, OnErr};
@@ -9,6 +9,7 @@ ghost use Rattle.hist_types.specs.Journal.{KeepsRules};
 ghost use Rattle.hist_types.specs.Refusals.{memory_fault};
 ghost use Rattle.key_versions.specs.Tables.{IsTableOf};
 ghost use Rattle.order_frontier.specs.Predecessors.{IsThinnedOrder};
+ghost use Rattle.verdict.specs.KeyPieces.{IsNumberOfWorkers, IsMemoryOrThread};
 ghost use Rattle.verdict.specs.Lowest.{AreBadReadsOf, AreTablesOf, IsVerdictFor};
 ghost use Rattle.hist_types.specs.Pieces.{HasTaken, HasTakenInPart};
 ghost use Rattle.hist_types.specs.Reports.{AreFindings, IsVerdictOf};
@@ -22,10 +23,12 @@ mod findings;
 pub mod laws;
 pub mod tables;
 pub mod types;
+pub mod wide;
 
-use crate::findings::{findings_of, findings_of_wide};
+use crate::findings::findings_of;
 use crate::tables::{Tables, tables_of};
 use crate::types::{BadReads, Verdict};
+use crate::wide::{Gate, deps_by, findings_by};
 use dep_edges::deps::Deps;
 use dep_edges::edges;
 use hist_types::device::{Failed, Sink};
@@ -38,6 +41,7 @@ use order_frontier::types::Order;
 use report_text::report::{Findings, VerdictReport};
 use std::alloc::Global;
 use std::hash::BuildHasher;
+use std::sync::Wait;
 use std::thread::Threads;
 use txn_pairs::types::Txns;
 
@@ -116,23 +120,26 @@ pub fn verdict_from<'a>(
     verdict_by(alloc, events.len(), &tables.txns, &tables.versions, None)
 }
 
-/// As `verdict_from`, with a few threads if others can be started.
-pub fn verdict_from_wide<'a, R: Threads + Sync>(
+/// As `verdict_from`, by this many workers, as `wide::verdict_wide` says.
+pub fn verdict_from_wide<'a, R: Threads + Wait + Sync, G: Gate + Sync>(
     rt: &R,
     alloc: Global,
     events: &Events<'a>,
     tables: &Tables<'a>,
+    workers: usize,
+    gate: &G,
 ) -> Result<Verdict<'a>, Fault>
+    requires workers { IsNumberOfWorkers workers }
     requires rules { KeepsRules events.now }
     requires tables { AreTablesOf tables.now.versions.keys events.now tables.now }
     ensures ok { IfOk result (IsVerdictOf tables.now.versions.keys events.now) }
     // Where the verdict says refuted, no order explains the events; where it says open, that says nothing.
     ensures strict { IfOk result (RefutesExplanations events.now) }
-    ensures err { IfErr result (λ fault. fault ≡ memory_fault) }
+    ensures err { IfErr result IsMemoryOrThread }
 {
     let txns = &tables.txns;
-    let deps = edges(alloc, txns, &tables.versions)?;
-    let findings = findings_of_wide(rt, alloc, txns, &deps)?;
+    let deps = deps_by(rt, alloc, tables, workers, gate)?;
+    let findings = findings_by(rt, alloc, txns, &deps, workers)?;
     reported(alloc, events.len(), txns, findings, bad_reads(&deps))
 }
 

@@ -11,10 +11,9 @@ use history_laws::versions_written_once;
 use journal_core::events::Events;
 use journal_core::written::Written;
 use key_versions::table::Versions;
-use key_versions::{versions, versions_of_written_wide};
+use key_versions::{versions, versions_of_written};
 use std::alloc::Global;
 use std::hash::BuildHasher;
-use std::thread::Threads;
 use txn_pairs::pair;
 use txn_pairs::types::Txns;
 
@@ -42,9 +41,8 @@ pub fn tables_of<'a, S: BuildHasher + Copy>(
     Ok(Tables { txns, versions })
 }
 
-/// As `tables_of`, of events of which it is known what they wrote, with a few threads if others can be started.
-pub fn tables_of_wide<'a, R: Threads + Sync>(
-    rt: &R,
+/// As `tables_of`, of events of which it is known what they wrote.
+pub fn tables_of_written<'a>(
     alloc: Global,
     events: &Events<'a>,
     writes: Written<'a>,
@@ -58,6 +56,6 @@ pub fn tables_of_wide<'a, R: Threads + Sync>(
     // A law, called for its clause: the transactions write what the events do.
     versions_written_once();
     let txns = pair(alloc, events)?;
-    let versions = versions_of_written_wide(rt, alloc, &txns, writes, keys)?;
+    let versions = versions_of_written(alloc, &txns, writes, keys)?;
     Ok(Tables { txns, versions })
 }

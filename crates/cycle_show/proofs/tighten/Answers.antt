@@ -1,8 +1,7 @@
 use Rattle.std.proofs.Common.{◌∙◌, ℕ, ◌-◌, ◌<◌, ◌≤◌, List, length, slice_index, subst, sym, ap}
 use Rattle.hist_types.specs.Edges.{Edge}
 use Rattle.hist_types.specs.Transactions.{transactions_of}
-use Rattle.hist_types.specs.Witness.{IsWitness, stations}
-use Rattle.cycle_show.specs.Reductions.{dependencies}
+use Rattle.hist_types.specs.Witness.{IsWitness, stations, dependencies_in}
 use Rattle.cycle_show.specs.Paths.{short_round}
 use Rattle.cycle_show.proofs.Fewer.{fewer_turned}
 use Rattle.cycle_show.proofs.Tightening.{tightened}
@@ -23,5 +22,5 @@ returns-clause-witness c keys phenomenon level events shows =
 pub returns-clause-dependencies : goal.returns-clause-dependencies
 returns-clause-dependencies c =
     let is = c.in_ok-edges.ensures ∙ ap short_round c.edges.ensures in
-    subst (λ es. dependencies es ≤ dependencies c.args.walk.now) (sym (c.new.ensures ∙ c.rotate_left.ensures.items))
+    subst (λ es. dependencies_in es ≤ dependencies_in c.args.walk.now) (sym (c.new.ensures ∙ c.rotate_left.ensures.items))
     (fewer_turned c.args.walk.now c.in_ok-edges.edges.items c.least_place.result is)

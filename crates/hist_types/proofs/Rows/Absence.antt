@@ -7,7 +7,7 @@ use Rattle.std.proofs.lemmas.List.Sums.{sum_by-cons}
 use Rattle.hist_types.specs.Transactions.{Transaction}
 use Rattle.hist_types.specs.Edges.{Label, rw, Edge, edges_at}
 use Rattle.hist_types.specs.Phenomena.{Leads, IsClosedWalk, is_ww_label, is_wr_label, is_rw_label, is_ww, is_wr, is_rw, is_order, IsThere, height, IsLowestLevel}
-use Rattle.hist_types.specs.Witness.{IsWitness, Finding, IsFinding}
+use Rattle.hist_types.specs.Witness.{IsWitness, Finding, IsFinding, HasFewest}
 use Rattle.hist_types.specs.declared.types.Level.{Level}
 use Rattle.hist_types.specs.declared.types.Level.TheVariants.{Plain, Process, Realtime}
 use Rattle.hist_types.specs.declared.types.Phenomenon.{Phenomenon}
@@ -19,7 +19,7 @@ each_passes p [] e = tt
 each_passes p (d ∷ es) e = let parts = and_parts (p d) (list_all p es) e in (parts.0, each_passes p es parts.1)
 
 -- what each edge of a list passes, each edge of a walk over them passes
-walk_passes : (p : Edge → Bool) (es walk : List Edge) → list_all p es ≡ true → All (Contains es) walk → AllByRecursion (λ e. p e ≡ true) walk
+pub walk_passes : (p : Edge → Bool) (es walk : List Edge) → list_all p es ≡ true → All (Contains es) walk → AllByRecursion (λ e. p e ≡ true) walk
 walk_passes p es walk passes within =
     recursion_from_All (λ e. p e ≡ true) walk
     (All-weaker (Contains es) (λ e. p e ≡ true)
@@ -42,7 +42,7 @@ down_to f (e ∷ es) from to down leads =
     let same : f e.from ≡ f from = ap f leads.0 in
     omega (arith, same, down_to f es e.to to down.1 leads.1, ltb-true (f e.to) (f e.from) down.0)
 
-not_closed : (f : ℕ → ℕ) (walk : List Edge) → AllByRecursion (λ e. leads_down f e ≡ true) walk → IsClosedWalk walk → ⊥
+pub not_closed : (f : ℕ → ℕ) (walk : List Edge) → AllByRecursion (λ e. leads_down f e ≡ true) walk → IsClosedWalk walk → ⊥
 not_closed f [] down closed = closed
 not_closed f (e ∷ es) down closed =
     omega (arith, down_to f es e.to e.from down.1 closed, ltb-true (f e.to) (f e.from) down.0)
@@ -157,13 +157,14 @@ no_level phenomenon ts plain process realtime Realtime = realtime
 pub at_no_level : (phenomenon : Phenomenon) (ts : List Transaction) → ¬ IsThere Basic phenomenon Plain ts → ¬ IsThere Basic phenomenon Process ts → ¬ IsThere Basic phenomenon Realtime ts → IsFinding Basic phenomenon ts None
 at_no_level phenomenon ts plain process realtime = (no_level phenomenon ts plain process realtime, tt)
 
--- a level with a witness, and no lower one
+-- a level with a witness of the fewest dependency edges, and no lower one
 pub at_level :
     (phenomenon : Phenomenon) (ts : List Transaction) (found : Finding)
     → IsWitness Basic phenomenon found.level ts found.walk
+    → HasFewest phenomenon (edges_at Basic found.level ts) found.walk
     → ((lower : Level) → height lower < height found.level → ¬ IsThere Basic phenomenon lower ts)
     → IsFinding Basic phenomenon ts (Some found)
-at_level phenomenon ts found witness lower = (((found.walk, witness.shows), lower), witness)
+at_level phenomenon ts found witness fewest lower = (((found.walk, witness.shows), lower), (witness, fewest))
 
 -- nothing is below plain
 pub below_plain : (phenomenon : Phenomenon) (ts : List Transaction) → (lower : Level) → height lower < height Plain → ¬ IsThere Basic phenomenon lower ts

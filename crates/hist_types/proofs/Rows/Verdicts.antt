@@ -1,5 +1,5 @@
 -- Whole verdicts, with each phenomenon at its lowest level, and without those that are not there.
-use Rattle.std.proofs.Common.{◌≡◌, ℕ, suc, ◌-◌, List, [], length, ◌==◌, if◌then◌else◌, Some, None, codes, refl}
+use Rattle.std.proofs.Common.{◌≡◌, ℕ, suc, ◌-◌, List, [], length, ◌==◌, if◌then◌else◌, Some, None, codes, refl, arith}
 use Rattle.std.specs.Fmt.{digits}
 use Rattle.hist_types.specs.Operations.{Operation}
 use Rattle.hist_types.specs.Transactions.{Transaction, transactions_of}
@@ -11,6 +11,7 @@ use Rattle.hist_types.specs.declared.types.Level.TheVariants.{Plain, Process, Re
 use Rattle.hist_types.specs.declared.types.Phenomenon.TheVariants.{G0, G1c, GSingle, G2Item}
 use Rattle.hist_types.specs.declared.types.KeyOrder.TheVariants.{Basic}
 use Rattle.hist_types.proofs.Rows.Absence.{no_cycle, no_g1c_cycle, no_ww, no_wr, no_rw, no_single_rw, only_rw, at_no_level, at_level, below_plain, below_process, below_realtime}
+use Rattle.hist_types.proofs.Rows.Fewest.{fewest_of_two, fewest_of_one_single, fewest_of_one_item, fewest_with_wr_single, fewest_with_wr_item}
 use Rattle.hist_types.proofs.Rows.Cycles.{crossed_reads, crossed_reads_walk, crossed_reads-witness, updates_of_nil, updates_of_nil_walk, updates_of_nil-witness, crossed_updates, ww_walk, crossed_updates-g0, read_back_walk, crossed_updates-read_back}
 use Rattle.hist_types.proofs.Rows.Orders.{stale_read, stale_read_walk, stale_read-witness, own_stale_read, own_stale_read_walk, own_stale_read-witness, unknown_write, unknown_write_walk, unknown_write-witness}
 
@@ -18,9 +19,13 @@ use Rattle.hist_types.proofs.Rows.Orders.{stale_read, stale_read_walk, stale_rea
 abbrev seen_last : ℕ → ℕ
 seen_last n = if n == 2 then 0 else suc n
 
--- and numbers which fall along all of its edges but the rw edge
+-- numbers which fall along all of its edges but the rw edge
 abbrev forth : ℕ → ℕ
 forth n = 9 - n
+
+-- and numbers which fall along all of its edges but the wr edge
+abbrev seen_first : ℕ → ℕ
+seen_first n = if n == 0 then 0 else 9 - n
 
 -- what a verdict reports of these events that has these findings
 abbrev report_of : List Operation → Findings → Report
@@ -87,7 +92,7 @@ crossed_reads-verdict =
     verdict_by _ _
     (record { g0 = None; g1c = Some (record { level = Plain; walk = crossed_reads_walk }); single = None; item = None })
     (at_no_level G0 (transactions_of crossed_reads) (no_ww Plain (transactions_of crossed_reads) refl) (no_ww Process (transactions_of crossed_reads) refl) (no_ww Realtime (transactions_of crossed_reads) refl))
-    (at_level G1c (transactions_of crossed_reads) (record { level = Plain; walk = crossed_reads_walk }) crossed_reads-witness (below_plain G1c (transactions_of crossed_reads)))
+    (at_level G1c (transactions_of crossed_reads) (record { level = Plain; walk = crossed_reads_walk }) crossed_reads-witness (fewest_of_two G1c Plain (transactions_of crossed_reads) crossed_reads_walk refl (omega arith)) (below_plain G1c (transactions_of crossed_reads)))
     (at_no_level GSingle (transactions_of crossed_reads) (no_single_rw Plain (transactions_of crossed_reads) refl) (no_single_rw Process (transactions_of crossed_reads) refl) (no_single_rw Realtime (transactions_of crossed_reads) refl))
     (at_no_level G2Item (transactions_of crossed_reads) (no_rw Plain (transactions_of crossed_reads) refl) (no_rw Process (transactions_of crossed_reads) refl) (no_rw Realtime (transactions_of crossed_reads) refl))
     refl
@@ -101,7 +106,7 @@ updates_of_nil-verdict =
     (at_no_level G0 (transactions_of updates_of_nil) (no_ww Plain (transactions_of updates_of_nil) refl) (no_ww Process (transactions_of updates_of_nil) refl) (no_ww Realtime (transactions_of updates_of_nil) refl))
     (at_no_level G1c (transactions_of updates_of_nil) (no_wr Plain (transactions_of updates_of_nil) refl) (no_wr Process (transactions_of updates_of_nil) refl) (no_wr Realtime (transactions_of updates_of_nil) refl))
     (at_no_level GSingle (transactions_of updates_of_nil) (only_rw Plain (transactions_of updates_of_nil) refl) (only_rw Process (transactions_of updates_of_nil) refl) (only_rw Realtime (transactions_of updates_of_nil) refl))
-    (at_level G2Item (transactions_of updates_of_nil) (record { level = Plain; walk = updates_of_nil_walk }) updates_of_nil-witness (below_plain G2Item (transactions_of updates_of_nil)))
+    (at_level G2Item (transactions_of updates_of_nil) (record { level = Plain; walk = updates_of_nil_walk }) updates_of_nil-witness (fewest_of_two G2Item Plain (transactions_of updates_of_nil) updates_of_nil_walk refl (omega arith)) (below_plain G2Item (transactions_of updates_of_nil)))
     refl
 
 -- Updates that cross are a G0 and a G1c.
@@ -110,8 +115,8 @@ unfolding digits
 crossed_updates-verdict =
     verdict_by _ _
     (record { g0 = Some (record { level = Plain; walk = ww_walk }); g1c = Some (record { level = Plain; walk = read_back_walk }); single = None; item = None })
-    (at_level G0 (transactions_of crossed_updates) (record { level = Plain; walk = ww_walk }) crossed_updates-g0 (below_plain G0 (transactions_of crossed_updates)))
-    (at_level G1c (transactions_of crossed_updates) (record { level = Plain; walk = read_back_walk }) crossed_updates-read_back (below_plain G1c (transactions_of crossed_updates)))
+    (at_level G0 (transactions_of crossed_updates) (record { level = Plain; walk = ww_walk }) crossed_updates-g0 (fewest_of_two G0 Plain (transactions_of crossed_updates) ww_walk refl (omega arith)) (below_plain G0 (transactions_of crossed_updates)))
+    (at_level G1c (transactions_of crossed_updates) (record { level = Plain; walk = read_back_walk }) crossed_updates-read_back (fewest_of_two G1c Plain (transactions_of crossed_updates) read_back_walk refl (omega arith)) (below_plain G1c (transactions_of crossed_updates)))
     (at_no_level GSingle (transactions_of crossed_updates) (no_single_rw Plain (transactions_of crossed_updates) refl) (no_single_rw Process (transactions_of crossed_updates) refl) (no_single_rw Realtime (transactions_of crossed_updates) refl))
     (at_no_level G2Item (transactions_of crossed_updates) (no_rw Plain (transactions_of crossed_updates) refl) (no_rw Process (transactions_of crossed_updates) refl) (no_rw Realtime (transactions_of crossed_updates) refl))
     refl
@@ -124,8 +129,8 @@ stale_read-verdict =
     (record { g0 = None; g1c = None; single = Some (record { level = Realtime; walk = stale_read_walk }); item = Some (record { level = Realtime; walk = stale_read_walk }) })
     (at_no_level G0 (transactions_of stale_read) (no_ww Plain (transactions_of stale_read) refl) (no_ww Process (transactions_of stale_read) refl) (no_ww Realtime (transactions_of stale_read) refl))
     (at_no_level G1c (transactions_of stale_read) (no_wr Plain (transactions_of stale_read) refl) (no_wr Process (transactions_of stale_read) refl) (no_wr Realtime (transactions_of stale_read) refl))
-    (at_level GSingle (transactions_of stale_read) (record { level = Realtime; walk = stale_read_walk }) stale_read-witness.0 (below_realtime GSingle (transactions_of stale_read) (no_cycle GSingle Plain (transactions_of stale_read) (λ n. n) refl) (no_cycle GSingle Process (transactions_of stale_read) (λ n. n) refl)))
-    (at_level G2Item (transactions_of stale_read) (record { level = Realtime; walk = stale_read_walk }) stale_read-witness.1 (below_realtime G2Item (transactions_of stale_read) (no_cycle G2Item Plain (transactions_of stale_read) (λ n. n) refl) (no_cycle G2Item Process (transactions_of stale_read) (λ n. n) refl)))
+    (at_level GSingle (transactions_of stale_read) (record { level = Realtime; walk = stale_read_walk }) stale_read-witness.0 (fewest_of_one_single Realtime (transactions_of stale_read) stale_read_walk (omega arith)) (below_realtime GSingle (transactions_of stale_read) (no_cycle GSingle Plain (transactions_of stale_read) (λ n. n) refl) (no_cycle GSingle Process (transactions_of stale_read) (λ n. n) refl)))
+    (at_level G2Item (transactions_of stale_read) (record { level = Realtime; walk = stale_read_walk }) stale_read-witness.1 (fewest_of_one_item Realtime (transactions_of stale_read) stale_read_walk (omega arith)) (below_realtime G2Item (transactions_of stale_read) (no_cycle G2Item Plain (transactions_of stale_read) (λ n. n) refl) (no_cycle G2Item Process (transactions_of stale_read) (λ n. n) refl)))
     refl
 
 -- Within one process the level is process.
@@ -136,11 +141,11 @@ own_stale_read-verdict =
     (record { g0 = None; g1c = None; single = Some (record { level = Process; walk = own_stale_read_walk }); item = Some (record { level = Process; walk = own_stale_read_walk }) })
     (at_no_level G0 (transactions_of own_stale_read) (no_ww Plain (transactions_of own_stale_read) refl) (no_ww Process (transactions_of own_stale_read) refl) (no_ww Realtime (transactions_of own_stale_read) refl))
     (at_no_level G1c (transactions_of own_stale_read) (no_wr Plain (transactions_of own_stale_read) refl) (no_wr Process (transactions_of own_stale_read) refl) (no_wr Realtime (transactions_of own_stale_read) refl))
-    (at_level GSingle (transactions_of own_stale_read) (record { level = Process; walk = own_stale_read_walk }) own_stale_read-witness.0 (below_process GSingle (transactions_of own_stale_read) (no_cycle GSingle Plain (transactions_of own_stale_read) (λ n. n) refl)))
-    (at_level G2Item (transactions_of own_stale_read) (record { level = Process; walk = own_stale_read_walk }) own_stale_read-witness.1 (below_process G2Item (transactions_of own_stale_read) (no_cycle G2Item Plain (transactions_of own_stale_read) (λ n. n) refl)))
+    (at_level GSingle (transactions_of own_stale_read) (record { level = Process; walk = own_stale_read_walk }) own_stale_read-witness.0 (fewest_of_one_single Process (transactions_of own_stale_read) own_stale_read_walk (omega arith)) (below_process GSingle (transactions_of own_stale_read) (no_cycle GSingle Plain (transactions_of own_stale_read) (λ n. n) refl)))
+    (at_level G2Item (transactions_of own_stale_read) (record { level = Process; walk = own_stale_read_walk }) own_stale_read-witness.1 (fewest_of_one_item Process (transactions_of own_stale_read) own_stale_read_walk (omega arith)) (below_process G2Item (transactions_of own_stale_read) (no_cycle G2Item Plain (transactions_of own_stale_read) (λ n. n) refl)))
     refl
 
--- An unknown write that was read and then missed is alike.
+-- An unknown write that was read and then missed is alike. No closed walk goes without the wr edge.
 unknown_write-verdict : IsVerdictText Basic unknown_write (codes "prefix 6\ntxns 3\nG0 none\nG1a none\nG1b none\nG1c none\nG-single process\n  T0 -wr :x 1-> T2\n  T2 -process 1-> T4\n  T4 -rw :x nil 1-> T0\nG2-item process\n  T0 -wr :x 1-> T2\n  T2 -process 1-> T4\n  T4 -rw :x nil 1-> T0\nstray 0\nstrict refuted\n")
 unfolding digits
 unknown_write-verdict =
@@ -148,6 +153,6 @@ unknown_write-verdict =
     (record { g0 = None; g1c = None; single = Some (record { level = Process; walk = unknown_write_walk }); item = Some (record { level = Process; walk = unknown_write_walk }) })
     (at_no_level G0 (transactions_of unknown_write) (no_ww Plain (transactions_of unknown_write) refl) (no_ww Process (transactions_of unknown_write) refl) (no_ww Realtime (transactions_of unknown_write) refl))
     (at_no_level G1c (transactions_of unknown_write) (no_g1c_cycle Plain (transactions_of unknown_write) forth refl) (no_g1c_cycle Process (transactions_of unknown_write) forth refl) (no_g1c_cycle Realtime (transactions_of unknown_write) forth refl))
-    (at_level GSingle (transactions_of unknown_write) (record { level = Process; walk = unknown_write_walk }) unknown_write-witness.0 (below_process GSingle (transactions_of unknown_write) (no_cycle GSingle Plain (transactions_of unknown_write) seen_last refl)))
-    (at_level G2Item (transactions_of unknown_write) (record { level = Process; walk = unknown_write_walk }) unknown_write-witness.1 (below_process G2Item (transactions_of unknown_write) (no_cycle G2Item Plain (transactions_of unknown_write) seen_last refl)))
+    (at_level GSingle (transactions_of unknown_write) (record { level = Process; walk = unknown_write_walk }) unknown_write-witness.0 (fewest_with_wr_single Process (transactions_of unknown_write) seen_first unknown_write_walk refl (omega arith)) (below_process GSingle (transactions_of unknown_write) (no_cycle GSingle Plain (transactions_of unknown_write) seen_last refl)))
+    (at_level G2Item (transactions_of unknown_write) (record { level = Process; walk = unknown_write_walk }) unknown_write-witness.1 (fewest_with_wr_item Process (transactions_of unknown_write) seen_first unknown_write_walk refl (omega arith)) (below_process G2Item (transactions_of unknown_write) (no_cycle G2Item Plain (transactions_of unknown_write) seen_last refl)))
     refl

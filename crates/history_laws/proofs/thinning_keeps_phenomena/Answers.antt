@@ -1,4 +1,5 @@
 use Rattle.history_laws.proofs.ThinningWalks.{carried_to_thinned, carried_to_order, makes_alike, has_kept, has_thinned}
+use Rattle.history_laws.proofs.Fewest.{fewest_of_thinned}
 use Rattle.history_laws.proofs.thinning_keeps_phenomena.Goals as goal
 
 pub returns-clause-thinned : goal.returns-clause-thinned
@@ -15,3 +16,6 @@ returns-clause-nodes c phenomenon level events ns included others = has_kept phe
 
 pub returns-clause-history : goal.returns-clause-history
 returns-clause-history c = has_thinned
+
+pub returns-clause-fewest : goal.returns-clause-fewest
+returns-clause-fewest c = fewest_of_thinned

@@ -7,11 +7,9 @@ use Rattle.report_laws.proofs.ExplainedVerdicts.{verdict_refutes}
 use Rattle.verdict.specs.Lowest.{AreBadReadsOf, IsVerdictFor}
 use Rattle.verdict.proofs.verdict_from_wide.Goals as goal
 
-pub edges-requires : goal.edges-requires
-edges-requires g c = record {
-  history = (c.args.events.now, c.requires.rules, c.requires.tables.txns);
-  versions = c.requires.tables.versions;
-}
+pub deps_by-requires : goal.deps_by-requires
+deps_by-requires g c =
+    (c.type_bounds.sync-R, (c.type_bounds.sync-G, (c.requires.workers, ((c.args.events.now, c.requires.rules, c.requires.tables.txns), c.requires.tables.versions))))
 
 pub returns-clause-ok : goal.returns-clause-ok
 returns-clause-ok g c =
@@ -29,6 +27,3 @@ returns-clause-strict g c =
     IfOk-weaker _ _ _ (λ v is.
     verdict_refutes keys c.args.events.now v c.requires.rules
     (is c.args.events.now c.len.ensures.count c.requires.tables.txns)) verdict
-
-pub returns-clause-err : goal.returns-clause-err
-returns-clause-err g c = c.reported.ensures.err

@@ -14,4 +14,4 @@ returns-in_err-get_str c =
 pub returns : goal.returns
 returns c =
     let some = ap (λ r. option_and_then cells_in (option_map (λ (text : Bor (List ℕ)). text.now) r)) c.in_ok-get_str.was in
-    c.cells_in.ensures ∙ (sym some ∙ cells_found (found_of c.args.serve.now) c.get_str.result c.get_str.ensures)
+    c.number_to.ensures ∙ (sym some ∙ cells_found (found_of c.args.serve.now) c.get_str.result c.get_str.ensures)

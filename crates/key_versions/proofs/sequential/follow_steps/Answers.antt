@@ -13,12 +13,12 @@ use Rattle.key_versions.proofs.Told.{row_count}
 use Rattle.key_versions.proofs.sequential.follow_steps.Goals as goal
 
 pub earlier-requires : goal.earlier-requires
-earlier-requires g c =
+earlier-requires c =
     let (given, vs, ts, is, are, count) = c.requires in
     subst (λ n. All (IsNumbered n) c.args.steps.taken.items) (sym count) (steps_numbered vs c.args.steps.taken.items (process_pairs Sequential ts) are.steps)
 
 pub follow_steps-requires-clause-installs : goal.follow_steps-requires-clause-installs
-follow_steps-requires-clause-installs g c =
+follow_steps-requires-clause-installs c =
     let (given, vs, ts, is, are, count) = c.requires in
     let rows = c.args.rows.now.rows in
     let accesses = c.args.rows.now.accesses in
@@ -27,7 +27,7 @@ follow_steps-requires-clause-installs g c =
     subst (λ n. All (InstallsAreBelow n) accesses) (sym groups) (installs_below given ts vs rows accesses is)
 
 pub follow_steps-requires-clause-earlier : goal.follow_steps-requires-clause-earlier
-follow_steps-requires-clause-earlier g c =
+follow_steps-requires-clause-earlier c =
     let (given, vs, ts, is, are, count) = c.requires in
     let rows = c.args.rows.now.rows in
     let accesses = c.args.rows.now.accesses in
@@ -37,7 +37,7 @@ follow_steps-requires-clause-earlier g c =
     (groups_below vs taken (process_pairs Sequential ts) are.steps 0 c.args.versions))
 
 pub returns : goal.returns
-returns g c = λ given vs ts is named are count.
+returns c = λ given vs ts is named are count.
     let rows = c.args.rows.now.rows in
     let accesses = c.args.rows.now.accesses in
     let taken = c.args.steps.taken.items in

@@ -3,7 +3,7 @@ use Rattle.std.specs.Prelude.{slice_get}
 use Rattle.hist_types.specs.Transactions.{Version}
 use Rattle.hist_types.specs.declared.types.KeyOrder.TheVariants.{Sequential}
 use Rattle.key_versions.specs.Histories.{named_by}
-use Rattle.key_versions.specs.Steps.{last_seen}
+use Rattle.key_versions.specs.LastSeen.{last_seen}
 use Rattle.key_versions.specs.TxnAccesses.{AreAccessesOf, AreSeenBy}
 use Rattle.key_versions.proofs.Accessing.{versions_stay}
 use Rattle.key_versions.proofs.Stepping.{steps_of_more}

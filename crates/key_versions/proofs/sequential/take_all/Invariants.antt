@@ -2,7 +2,7 @@
 use Rattle.std.proofs.Common.{take}
 use Rattle.key_versions.specs.Given.{IsTableBeside}
 use Rattle.key_versions.specs.Stepped.{AreStepsOf}
-use Rattle.key_versions.specs.Steps.{last_seen}
+use Rattle.key_versions.specs.LastSeen.{last_seen}
 use Rattle.key_versions.proofs.sequential.take_all.Given as goal
 
 abbrev pub invariant-loop-txn : goal.invariant-loop-txn

@@ -3,7 +3,8 @@ use Rattle.std.proofs.lemmas.Bool.{OnTrue_at, OnFalse_at}
 use Rattle.hist_types.specs.Phenomena.{height}
 use Rattle.hist_types.specs.declared.types.Level.{Level}
 use Rattle.edge_graph.specs.Parts.{edges_in}
-use Rattle.cycle_find.specs.Found.{IsFound}
+use Rattle.cycle_find.specs.Found.{IsFound, HasFewestIfAny}
+use Rattle.cycle_find.specs.Tasks.{task_of}
 use Rattle.verdict.specs.Lowest.{IsReducedTo, IsFoundBelow}
 use Rattle.verdict.proofs.Searching.{found_next, absent_next, is_below}
 use Rattle.verdict.proofs.findings.find_at.Goals as goal
@@ -23,7 +24,8 @@ returns-in-Some-clause-ok c =
     let reduced : IsReducedTo site.level walk f =
     subst (λ (level : Level). IsReducedTo level walk f) c.level.ensures c.in_ok-reduced-in-Some.ensures.ok in
     found_next g site c.args.phenomenon c.args.found walk f c.requires.thinned c.requires.same (OnTrue_at c.if-not-is_open.false c.is_open.ensures.open) c.requires.below
-    (subst (IsFound c.args.phenomenon (edges_in site.graph site.level)) c.in-Some.is c.in_ok-walk.ensures.found) reduced
+    (subst (IsFound c.args.phenomenon (edges_in site.graph site.level)) c.in-Some.is c.in_ok-walk.ensures.found)
+    (subst (HasFewestIfAny (task_of site.graph c.args.phenomenon site.level)) c.in-Some.is c.in_ok-walk.ensures.fewest) reduced
 
 pub returns-clause-ok : goal.returns-clause-ok
 returns-clause-ok c =

@@ -18,7 +18,7 @@ returns-in_default-2-clause-found c =
     let g = a.graph.now in
     let kinds : c.of-kinds.result ≡ kinds_of (needed a.phenomenon) Plain = c.of-kinds.ensures ∙ ap (λ d. kinds_of d Plain) c.needed.ensures in
     let none : (e : Edge) → ¬ IsEdgeBetween g c.of-kinds.result c.args.from c.args.to e =
-    subst (IsEdgeIfAny g c.of-kinds.result c.args.from c.args.to) c.in_default-2.is c.in_ok-edge.ensures in
+    subst (IsEdgeIfAny g c.of-kinds.result c.args.from c.args.to) c.in_default-2.is c.in_ok-edge.ensures.edge in
     subst (λ (task : Task). ¬ HasReturnBetween task c.args.from c.args.to) c.self.view_is
     (λ back. none back.0.0 (subst (λ kinds. IsEdgeBetween g kinds c.args.from c.args.to back.0.0) (sym kinds) back.0.1))
 
@@ -35,10 +35,10 @@ returns-clause-found c =
     subst (λ found. IsWalkIfAny Arc c.args.to c.args.from (option_map (λ way. way.items) found)) c.in-Some.is c.in_ok-way.ensures.way in
     let kinds : c.of-kinds.result ≡ kinds_of (needed a.phenomenon) Plain = c.of-kinds.ensures ∙ ap (λ d. kinds_of d Plain) c.needed.ensures in
     let is : IsEdgeBetween g (needed_kinds task) c.args.from c.args.to edge =
-    subst (λ kinds. IsEdgeBetween g kinds c.args.from c.args.to edge) kinds (subst (IsEdgeIfAny g c.of-kinds.result c.args.from c.args.to) c.in-Some-2.is c.in_ok-edge.ensures) in
+    subst (λ kinds. IsEdgeBetween g kinds c.args.from c.args.to edge) kinds (subst (IsEdgeIfAny g c.of-kinds.result c.args.from c.args.to) c.in-Some-2.is c.in_ok-edge.ensures.edge) in
     let are : AreEdgesAlong g (back_kinds task) way rest =
     subst (λ d. AreEdgesAlong g (kinds_of d a.level) way rest) c.way_back-2.ensures
-    (subst (λ xs. AreEdgesAlong g (kinds_of c.way_back-2.result a.level) xs rest) c.deref.ensures.value c.in_ok-back.ensures) in
+    (subst (λ xs. AreEdgesAlong g (kinds_of c.way_back-2.result a.level) xs rest) c.deref.ensures.value c.in_ok-back.ensures.edges) in
     let items : c.in_ok-closing.field-0 ≡ edge ∷ rest = c.in_ok-closing.ensures in
     subst (λ (task : Task). Shows task.phenomenon (edges_in task.graph task.level) c.in_ok-closing.field-0) c.self.view_is
     (subst (Shows a.phenomenon (edges_in g a.level)) (sym items) (shows_along task c.args.from c.args.to way edge rest walk.begins walk.ends is are))

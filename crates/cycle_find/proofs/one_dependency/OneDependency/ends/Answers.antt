@@ -4,7 +4,8 @@ use Rattle.hist_types.specs.declared.types.Level.TheVariants.{Plain}
 use Rattle.edge_graph.specs.declared.types.Dependencies.TheVariants.{Rw}
 use Rattle.edge_graph.specs.Parts.{edges_in}
 use Rattle.cycle_find.specs.Dependencies.{needed}
-use Rattle.cycle_find.specs.OneDependency.{IsReadyForOne, IsThinnedAt, NeedsMoreThanOne, NoneClosing, NoneClosingBy}
+use Rattle.cycle_find.specs.Found.{IsThinnedAt, NeedsMoreThan}
+use Rattle.cycle_find.specs.OneDependency.{IsReadyForOne, NoneClosing, NoneClosingBy}
 use Rattle.cycle_find.specs.Tasks.{Task}
 use Rattle.cycle_find.proofs.Equal.{is_plain, is_rw, is_not_rw}
 use Rattle.cycle_find.proofs.OrderBack.{none_at_plain, none_directly, none_by_versions}
@@ -26,7 +27,7 @@ returns-then-eq-2 c =
     let ready : IsReadyForOne task a.needed = subst (λ task. IsReadyForOne task a.needed) c.self.view_is c.self.invariant in
     let by_rw : needed task.phenomenon ≡ Rw =
     ap (λ (t : Task). needed t.phenomenon) (sym c.self.view_is) ∙ sym c.needed.ensures ∙ is_rw c.needed.result (sym c.eq-else-eq.ensures ∙ c.if-eq-2.true) in
-    let None : Type 0 = IsThinnedAt task.graph task.level → NeedsMoreThanOne task.phenomenon (edges_in task.graph task.level) in
+    let None : Type 0 = IsThinnedAt task.graph task.level → NeedsMoreThan 1 task.phenomenon (edges_in task.graph task.level) in
     IfOk-weaker c.by_version.result _ _ (λ found. or_weaker task ((v : ℕ) → NoneClosingBy task v) None found (none_by_versions task ready.kept ready.by_versions by_rw)) c.by_version.ensures
 
 pub returns-else-eq-2 : goal.returns-else-eq-2
@@ -36,5 +37,5 @@ returns-else-eq-2 c =
     let ready : IsReadyForOne task a.needed = subst (λ task. IsReadyForOne task a.needed) c.self.view_is c.self.invariant in
     let other = λ (by_rw : needed task.phenomenon ≡ Rw).
     is_not_rw c.needed.result (sym c.eq-else-eq.ensures ∙ c.if-eq-2.false) (c.needed.ensures ∙ ap (λ (t : Task). needed t.phenomenon) c.self.view_is ∙ by_rw) in
-    let None : Type 0 = IsThinnedAt task.graph task.level → NeedsMoreThanOne task.phenomenon (edges_in task.graph task.level) in
+    let None : Type 0 = IsThinnedAt task.graph task.level → NeedsMoreThan 1 task.phenomenon (edges_in task.graph task.level) in
     or_weaker task (NoneClosing task) None c.direct.result (none_directly task ready.kept ready.by_versions other) c.direct.ensures

@@ -7,7 +7,7 @@ use Rattle.hist_types.specs.declared.types.KeyOrder.TheVariants.{Sequential}
 use Rattle.key_versions.specs.Kept.{KeptVersions, AreKept}
 use Rattle.key_versions.specs.Numbering.{versions_of}
 use Rattle.key_versions.specs.Stepped.{AreStepsOf}
-use Rattle.key_versions.specs.Steps.{last_seen}
+use Rattle.key_versions.specs.LastSeen.{last_seen}
 use Rattle.key_versions.specs.TxnAccesses.{AreSeenBy}
 use Rattle.key_versions.proofs.Keeping.{kept_by, have_count, take_next, accesses_at, seen_at}
 use Rattle.key_versions.proofs.kept.KeptVersions.steps.Goals as goal

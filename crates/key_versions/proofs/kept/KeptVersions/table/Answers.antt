@@ -19,7 +19,7 @@ new-requires g c =
     ap length c.in_ok-rows.ensures.writers ∙ length-map c.args.self.now.versions (writer_of c.args.txns.now) ∙ ap (λ (k : KeptVersions). length k.versions) (sym c.self.view_is) in
     are_versions numbered.keys.items numbered.values.items numbered.pairs.items vs rows known.writers.items known.readers known.followers
     c.in_ok-numbered.ensures.versions c.in_ok-known.ensures.writers c.in_ok-known.ensures.readers c.in_ok-known.ensures.followers
-    c.in_ok-numbered.ensures.in_range count
+    c.in_ok-numbered.ensures.keys c.in_ok-numbered.ensures.in_range count
 
 pub returns-clause-ok : goal.returns-clause-ok
 returns-clause-ok g c =

@@ -2,18 +2,19 @@ use Rattle.std.proofs.Common.{rules, ◌≡◌, ◌∙◌, ◌++◌, [], ℕ, Op
 use Rattle.hist_types.specs.Transactions.{is_ok, external_reads}
 use Rattle.hist_types.specs.Versions.{version_in}
 use Rattle.key_versions.specs.Numbering.{AreAccesses}
-use Rattle.key_versions.specs.Steps.{last_seen, seen_after, firsts, steps_to}
+use Rattle.key_versions.specs.LastSeen.{last_seen}
+use Rattle.key_versions.specs.Steps.{seen_after, firsts, steps_to}
 use Rattle.key_versions.proofs.Stepping.{stepped_ok, stepped_not}
 use Rattle.key_versions.proofs.steps.Steps.take.Goals as goal
 
 pub take_ok-requires : goal.take_ok-requires
-take_ok-requires g c =
+take_ok-requires c =
     let (versions, has) = c.requires in
     let ok : c.eq.result ≡ is_ok c.args.txn.now = search rules in
     has.of_keys refl (sym ok ∙ c.if-eq.true)
 
 pub returns-in_ok-take_ok : goal.returns-in_ok-take_ok
-returns-in_ok-take_ok g c = λ versions ts numbered old has sees.
+returns-in_ok-take_ok c = λ versions ts numbered old has sees.
     let t = c.args.txn.now in
     let last : ℕ → ℕ → Option ℕ = last_seen c.args.self.now.last in
     let before = c.args.self.now.taken.items in
@@ -32,7 +33,7 @@ returns-in_ok-take_ok g c = λ versions ts numbered old has sees.
     record { seen = done.0; steps = done.1 }
 
 pub returns-else-eq : goal.returns-else-eq
-returns-else-eq g c = λ versions ts numbered old has sees.
+returns-else-eq c = λ versions ts numbered old has sees.
     let t = c.args.txn.now in
     let ok : c.eq.result ≡ is_ok t = search rules in
     let done = stepped_not ts t versions (last_seen c.args.self.now.last) c.args.self.now.taken.items (sym ok ∙ c.if-eq.false) old.seen old.steps in

@@ -1,24 +1,26 @@
-use Rattle.std.proofs.Common.{◌≡◌, ◌∙◌, [], List, fold, sym, ap, subst}
-use Rattle.key_versions.specs.declared.pending.Access.{Access}
-use Rattle.key_versions.specs.Rows.{has_nil, lasts}
-use Rattle.key_versions.specs.Steps.{with_first, firsts, AreApart}
-use Rattle.key_versions.proofs.Seen.{firsts_apart, firsts_keys}
+use Rattle.std.proofs.Common.{◌∙◌, ℕ, Option}
+use Rattle.key_versions.specs.LastSeen.{last_seen}
+use Rattle.key_versions.specs.Steps.{firsts}
+use Rattle.key_versions.proofs.Seen.{firsts_keys, seen_all}
+use Rattle.key_versions.proofs.Taken.{of_reads, of_writes}
 use Rattle.key_versions.proofs.steps.Steps.take_ok.Goals as goal
 
-pub step_to_all-requires-clause-apart : goal.step_to_all-requires-clause-apart
-step_to_all-requires-clause-apart g c =
-    let reads = c.args.reads.now in
-    let writes = c.args.writes.now in
-    let met : c.as_slice.result.now ≡ firsts reads writes = c.as_slice.ensures ∙ c.in_ok-meet_installs.ensures
-    ∙ ap (λ (xs : List Access). fold with_first xs (lasts writes))
-    (c.in_ok-meet_reads.ensures ∙ ap (λ (xs : List Access). fold with_first xs reads) c.new-met.ensures.items) in
-    subst (AreApart []) (sym met) (firsts_apart reads writes)
+pub step_to_reads-requires : goal.step_to_reads-requires
+step_to_reads-requires c = of_reads c.args.reads.now c.args.writes.now c.args.seen.now c.requires
 
-pub step_to_all-requires-clause-keys : goal.step_to_all-requires-clause-keys
-step_to_all-requires-clause-keys g c = λ nil.
+pub step_to_installs-requires : goal.step_to_installs-requires
+step_to_installs-requires c = of_writes c.args.reads.now c.args.writes.now c.args.seen.now c.requires
+
+pub returns-clause-taken : goal.returns-clause-taken
+returns-clause-taken c =
+    (c.in_ok-step_to_installs.ensures c.args.self.now.taken.items (last_seen c.args.self.now.last) c.in_ok-step_to_reads.ensures).steps
+
+pub returns-clause-last : goal.returns-clause-last
+returns-clause-last c = λ one nil.
     let reads = c.args.reads.now in
     let writes = c.args.writes.now in
-    let met : c.as_slice.result.now ≡ firsts reads writes = c.as_slice.ensures ∙ c.in_ok-meet_installs.ensures
-    ∙ ap (λ (xs : List Access). fold with_first xs (lasts writes))
-    (c.in_ok-meet_reads.ensures ∙ ap (λ (xs : List Access). fold with_first xs reads) c.new-met.ensures.items) in
-    c.requires nil ∙ firsts_keys reads writes nil ∙ ap (has_nil nil) (sym met)
+    let seen = c.args.seen.now in
+    let before : Option ℕ = last_seen c.args.self.now.last one nil in
+    let done = c.in_ok-step_to_installs.ensures c.args.self.now.taken.items (last_seen c.args.self.now.last) c.in_ok-step_to_reads.ensures in
+    done.versions one nil
+    ∙ seen_all c.args.process (firsts reads writes) seen one nil before (λ key. c.requires key ∙ firsts_keys reads writes key)

@@ -1,0 +1,107 @@
+//! The versions of keys that processes saw last.
+
+ghost use Rattle.std.specs.Prelude.{◌≡◌, ◌<◌, ◌≤◌, ℕ, length, None, IfOk, IfSome, OnOk};
+ghost use Rattle.key_versions.specs.LastSeen.{hash_of, index_from, last_seen, seen_with};
+
+use crate::rows::number_of;
+use std::alloc::{AllocError, Global};
+use std::marker::Model;
+
+/// What a process last read or wrote of a key, which goes by its nil version.
+#[derive(Clone, Copy, Debug, PartialEq, Eq)]
+pub(crate) struct Seen {
+    process: u64,
+    nil: u32,
+    version: u32,
+    /// The place of the next older one with the same hash, from 1 on; 0 if there is none.
+    next: u32,
+}
+
+/// The version of each key that each process saw last.
+#[derive(Drop)]
+pub(crate) struct LastSeen {
+    seen: Vec<Seen>,
+    /// For each hash the place of the newest one, from 1 on; 0 if there is none.
+    newest: Vec<u32>,
+}
+
+impl Model for LastSeen {
+    ghost use Rattle.key_versions.specs.LastSeen.{linked_by, AreLinked, Linked};
+
+    ghost Value = { Linked };
+
+    ghost view = { λ l. linked_by l.seen.items l.newest.items };
+
+    ghost invariant = { λ l. AreLinked l.seen.items l.newest.items };
+}
+
+/// A hash below n of a process and a key. Near numbers have near hashes, since such processes and keys mostly come at the same
+/// time, when what belongs to them had better be near, too.
+fn hash_below(n: usize, process: u64, nil: u32) -> usize
+    requires { 0 < n }
+    ensures value { result ≡ hash_of process nil n }
+    ensures below { result < n }
+{
+    let word = u64::from(nil).wrapping_mul(32).wrapping_add(process);
+    (word ^ (word >> 17)) as usize & (n - 1)
+}
+
+impl LastSeen {
+    /// No process has seen a version. There is room for as much as n transactions mostly see.
+    pub fn with_capacity(alloc: Global, transactions: usize) -> Result<Self, AllocError>
+        ensures { IfOk result (λ last. (process nil : ℕ) → last_seen last process nil ≡ None) }
+    {
+        let hashes = transactions.max(1).min(1 << 32).next_power_of_two();
+        Ok(LastSeen {
+            seen: Vec::with_capacity(alloc, transactions / 2)?,
+            newest: vec![in alloc; 0; hashes]?,
+        })
+    }
+
+    /// The index of what a process saw of a key, among those that are linked from a place on.
+    fn find(&self, first: u32, process: u64, nil: u32) -> Option<usize>
+        requires { first ≤ length self.now.seen }
+        ensures index { result ≡ index_from first first process nil self.now.seen }
+        ensures within { IfSome result (λ index. index < length self.now.seen) }
+    {
+        let mut place = first as usize;
+        while place > 0 {
+            let seen = self.seen[place - 1];
+            if seen.process == process && seen.nil == nil {
+                return Some(place - 1);
+            }
+            place = (seen.next as usize).min(place - 1);
+        }
+        None
+    }
+
+    /// The process now saw this version of the key. Gives the one that it saw last before.
+    pub fn replace(
+        &mut self,
+        process: u64,
+        nil: u32,
+        version: u32,
+    ) -> Result<Option<u32>, AllocError>
+        ensures before { IfOk result (λ before. before ≡ last_seen self.old process nil) }
+        ensures last { OnOk result ((one key : ℕ) → last_seen self.new one key
+            ≡ seen_with process nil version one key (last_seen self.old one key)) }
+    {
+        let hash = hash_below(self.newest.len(), process, nil);
+        let next = self.newest[hash];
+        if let Some(index) = self.find(next, process, nil) {
+            let seen = &mut self.seen[index];
+            let before = seen.version;
+            seen.version = version;
+            return Ok(Some(before));
+        }
+        let place = number_of(self.seen.len() + 1)?;
+        self.seen.push(Seen {
+            process,
+            nil,
+            version,
+            next,
+        })?;
+        self.newest[hash] = place;
+        Ok(None)
+    }
+}
