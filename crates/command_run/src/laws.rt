@@ -27,8 +27,10 @@ pub fn one_answer_to_a_text()
     ensures refused { (command : Command) (text : List ℕ) (printed others : List ℕ)
         → IsAnswer command text Refused printed → IsAnswer command text Refused others
         → printed ≡ others }
-    ensures check { (workers others_workers : ℕ) (keys : KeyOrder) (text : List ℕ) (status other : Status) (printed others : List ℕ)
-        → IsReport (Check workers keys) text status printed → IsReport (Check others_workers keys) text other others
+    ensures check { (workers more : ℕ) (keys : KeyOrder) (text : List ℕ)
+        (status other : Status) (printed others : List ℕ)
+        → IsReport (Check workers keys) text status printed
+        → IsReport (Check more keys) text other others
         → DifferInWitnessesAlone printed others }
 {
     texts_have_one_reading();
