@@ -56,11 +56,16 @@ impl<'r, 'g, 'v, 'a> Finder<'r, 'g, 'v, 'a> {
         level: Level,
         rankings: Rankings<'r>,
     ) -> Self
-        requires coarse { AreCoarseRanks (task_of graph.now phenomenon level) rankings.coarse.now }
-        requires ranks { AreWholeRanks (task_of graph.now phenomenon level) rankings.coarse.now rankings.ranks.now }
-        requires back { AreBackRanks (task_of graph.now phenomenon level) rankings.coarse.now rankings.back.now }
-        requires far { AreBackRanks (task_of graph.now phenomenon level) rankings.coarse.now rankings.far.now }
-        requires near { AreBackRanks (task_of graph.now phenomenon level) rankings.coarse.now rankings.near.now }
+        requires coarse { AreCoarseRanks (task_of graph.now phenomenon level)
+            rankings.coarse.now }
+        requires ranks { AreWholeRanks (task_of graph.now phenomenon level)
+            rankings.coarse.now rankings.ranks.now }
+        requires back { AreBackRanks (task_of graph.now phenomenon level)
+            rankings.coarse.now rankings.back.now }
+        requires far { AreBackRanks (task_of graph.now phenomenon level)
+            rankings.coarse.now rankings.far.now }
+        requires near { AreBackRanks (task_of graph.now phenomenon level)
+            rankings.coarse.now rankings.near.now }
         ensures { result ≡ task_of graph.now phenomenon level }
     {
         Finder {
