@@ -1,4 +1,5 @@
 pub mod Blocks
 pub mod Texts
 pub mod Parts
+pub mod Rounds
 pub mod OneBlock

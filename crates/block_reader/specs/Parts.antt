@@ -1,5 +1,5 @@
 -- Parts of a text, each read as if nothing stood before it.
-use Rattle.std.specs.Prelude.{◌≡◌, ◌⊎◌, ◌≤◌, ℕ, List, length, Bool, true, false, Some, None, Result, Ok, Err}
+use Rattle.std.specs.Prelude.{◌≡◌, ◌⊎◌, ◌≤◌, ℕ, List, ◌++◌, length, Bool, true, false, Some, None, Result, Ok, Err}
 use Rattle.hist_types.specs.Entries.{Entry, operations_of}
 use Rattle.hist_types.specs.Operations.{Operation}
 use Rattle.hist_types.specs.Reading.{ReadsFrom}
@@ -46,12 +46,14 @@ HasReadOn text offset (Ok false) r operations = GivesFrom text offset operations
 HasReadOn text offset (Err fault) r operations =
     (fault ≡ memory_fault) ⊎ FailsFrom text offset fault
 
--- From wherever in the text the operations before the call were read, it reads on.
+-- From wherever in the text the operations before the call were read, it reads on, also where other
+-- operations were read before these.
 abbrev pub ReadsOn : List ℕ → Result Bool Fault → (r r' : Reader)
     → (operations operations' : List Operation) → Type 0
 ReadsOn text answer r r' operations operations' =
-    (offset : ℕ) → IsIn text offset → HasReadFrom text offset r operations
-    → HasReadOn text offset answer r' operations'
+    (offset : ℕ) (before : List Operation)
+    → IsIn text offset → HasReadFrom text offset r (before ++ operations)
+    → HasReadOn text offset answer r' (before ++ operations')
 
 -- What reading up to a place, or to the text's end, does.
 abbrev pub IsUpTo : List ℕ → Result Bool Fault → Reader → List Operation → Type 0

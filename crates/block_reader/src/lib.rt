@@ -5,4 +5,4 @@ mod blocks;
 pub mod one_block;
 mod parts;
 pub mod reading;
-mod starts;
+pub mod starts;

@@ -1,6 +1,6 @@
-//! Parts of a text, read by threads of their own.
+//! Parts of a text, each read as if nothing stood before it.
 
-ghost use Rattle.std.specs.Prelude.{◌≡◌, ◌<◌, length, false, All, IfOk, IfSome, OnErr};
+ghost use Rattle.std.specs.Prelude.{◌≡◌, ◌≤◌, ◌<◌, length, false, All, IfOk, IfSome, OnErr};
 ghost use Rattle.block_reader.specs.Parts.{IsIn, IsPartOf, ReadsOn};
 
 use crate::blocks::Blocks;
@@ -9,8 +9,8 @@ use edn_ops::reader::OpReader;
 use hist_types::types::Fault;
 use op_block::block::Block;
 use reading_laws::{operations_read_alone, texts_have_one_reading};
-use std::alloc::{AllocError, Global};
-use std::thread::{Threads, map_indices};
+use std::alloc::Global;
+use std::sync::atomic::{AtomicUsize, Ordering};
 
 /// The operations between two offsets of a text.
 #[derive(Drop)]
@@ -77,20 +77,30 @@ fn read_part(alloc: Global, text: &Bytes, starts: &[usize], index: usize) -> Opt
     read_from(alloc, seat, text, starts[index], stop)
 }
 
-/// The parts of the text that begin at these starts, each read by a thread of its own where one can be made.
-pub fn read_parts<R: Threads + Sync>(
-    rt: &R,
+/// Reads one part after the other, each the next that no thread has taken yet, until all before this end are taken. A part for
+/// which memory runs out is left out.
+pub fn take_parts(
     alloc: Global,
     text: &Bytes,
     starts: &[usize],
-) -> Result<Vec<Option<Part>>, AllocError>
-    requires { All (IsIn text.now) starts.now }
-    ensures { IfOk result (λ parts. All (λ part. IfSome part (IsPartOf text.now)) parts.items) }
+    next: &AtomicUsize,
+    end: usize,
+) -> Vec<Part>
+    requires starts { All (IsIn text.now) starts.now }
+    requires end { end ≤ length starts.now }
+    ensures { All (IsPartOf text.now) result.items }
 {
-    map_indices(
-        rt,
-        alloc,
-        starts.len(),
-        &|index| read_part(alloc, text, starts, index),
-    )
+    let mut parts = Vec::new(alloc);
+    for _ in 0..end {
+        let index = next.fetch_add(1, Ordering::SeqCst);
+        if index >= end {
+            break;
+        }
+        if let Some(part) = read_part(alloc, text, starts, index) {
+            if parts.push(part).is_err() {
+                break;
+            }
+        }
+    }
+    parts
 }

@@ -7,14 +7,14 @@ use memchr::{memchr, memrchr};
 use std::alloc::{AllocError, Global};
 use std::thread::{Threads, available_parallelism};
 
-/// The least number of bytes in a part.
-const PART_BYTES: usize = 1 << 20;
+/// How many bytes a part has, up to the end of a line.
+const PART_BYTES: usize = 1 << 18;
 
-/// How many parts a text of this length has: no more than there are workers and processors.
-fn parts_of<R: Threads>(rt: &R, workers: usize, len: usize) -> usize {
+/// How many threads read beside the caller's: no more than there are other workers and other processors.
+pub(crate) fn helpers_of<R: Threads>(rt: &R, workers: usize) -> usize {
     match available_parallelism(rt) {
-        Ok(processors) => processors.get().min(workers).min(len / PART_BYTES),
-        Err(_) => 1,
+        Ok(processors) => processors.get().min(workers).saturating_sub(1),
+        Err(_) => 0,
     }
 }
 
@@ -28,8 +28,8 @@ fn line_behind(text: &[u8], offset: usize) -> Option<usize>
     Some(offset + memrchr(b'}', line)? + 1)
 }
 
-/// The start of the text, and ends of lines that part it evenly among workers and processors. Where each operation has lines of
-/// its own, as Jepsen prints them, one ends there.
+/// Where the parts of a text begin, in order: at its start alone if one worker reads it, else also at ends of lines. Where each
+/// operation has lines of its own, as Jepsen prints them, one ends there.
 pub fn starts_of<R: Threads>(
     rt: &R,
     alloc: Global,
@@ -38,12 +38,20 @@ pub fn starts_of<R: Threads>(
 ) -> Result<Vec<usize>, AllocError>
     ensures { IfOk result (λ starts. All (IsIn text.now) starts.items) }
 {
-    let parts = parts_of(rt, workers, text.len());
     let mut starts = Vec::new(alloc);
     starts.push(0)?;
-    for part in 1..parts {
-        if let Some(start) = line_behind(text, text.len() / parts * part) {
-            starts.push(start)?;
+    if helpers_of(rt, workers) == 0 {
+        return Ok(starts);
+    }
+    let mut last = 0;
+    for part in 1..text.len() / PART_BYTES {
+        let offset = part * PART_BYTES;
+        // Where lines are longer than a part, none is looked at twice.
+        if offset > last {
+            if let Some(start) = line_behind(text, offset) {
+                starts.push(start)?;
+                last = start;
+            }
         }
     }
     Ok(starts)

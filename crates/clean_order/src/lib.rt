@@ -1,9 +1,8 @@
 //! An order of a history's transactions along which every edge goes forward, which rules out cycles without a graph.
 #![tactic(auto)]
 
-ghost use Rattle.std.specs.Prelude.{◌≡◌, IfOk, IfErr};
+ghost use Rattle.std.specs.Prelude.{IfOk};
 ghost use Rattle.std.specs.Bool.{OnTrue};
-ghost use Rattle.hist_types.specs.Refusals.{memory_fault};
 ghost use Rattle.hist_types.specs.Reports.{AreFindings, no_findings};
 
 mod earlier;
@@ -16,8 +15,7 @@ use crate::ends::{ends, invoked_before};
 use crate::putting::Putting;
 use crate::rising::rises;
 use dep_edges::deps::Deps;
-use hist_types::types::Fault;
-use std::alloc::Global;
+use std::alloc::{AllocError, Global};
 
 /// True only if no cycle shows any phenomenon at any level. False says nothing: the history may have one, or not.
 ///
@@ -26,11 +24,10 @@ use std::alloc::Global;
 /// true of each history whose nodes can be ordered so, thus of each one without a cycle in which no version that a transaction
 /// wrote over was read.
 ///
-/// It takes a few numbers for each transaction and each version, and linear time. Only memory can run out.
-pub fn settles(alloc: Global, deps: &Deps<'_, '_>) -> Result<bool, Fault>
-    ensures ok { IfOk result (λ settled.
+/// It takes a few numbers for each transaction and each version, and linear time.
+pub fn settles(alloc: Global, deps: &Deps<'_, '_>) -> Result<bool, AllocError>
+    ensures { IfOk result (λ settled.
         OnTrue settled (AreFindings deps.now.table.keys deps.now.txns no_findings)) }
-    ensures err { IfErr result (λ fault. fault ≡ memory_fault) }
 {
     let history = deps.history();
     let ends = ends(alloc, history)?;

@@ -1,10 +1,10 @@
 -- Whether a history has a phenomenon can be decided, and with how few dependency edges, so each phenomenon has a finding.
-use Rattle.std.proofs.Common.{◌≡◌, ◌⊎◌, inl, inr, ℕ, zero, suc, ◌+◌, ◌-◌, ◌<◌, ◌≤◌, List, [], ◌∷◌, ◌++◌, Contains, Bool, true, false, not, ◌==◌, nat_le, count_by, Option, Some, None, refl, sym, ◌∙◌, ap, subst, arith}
+use Rattle.std.proofs.Common.{◌≡◌, ◌⊎◌, inl, inr, ℕ, zero, suc, ◌+◌, ◌-◌, ◌<◌, ◌≤◌, List, [], ◌∷◌, ◌++◌, Contains, Bool, true, false, ◌==◌, nat_le, count_by, Option, Some, None, refl, sym, ◌∙◌, ap, subst, arith}
 use Rattle.std.specs.List.{AllByRecursion, list_all, filter}
 use Rattle.std.proofs.lemmas.Bool.{false≢true, and_parts, and_from, cases_lt, eqb-true, eq-eqb, leb-true, le-leb}
 use Rattle.hist_types.specs.Edges.{Edge, edges_at}
 use Rattle.hist_types.specs.Operations.{Operation}
-use Rattle.hist_types.specs.Phenomena.{Leads, Shows, IsThere, height}
+use Rattle.hist_types.specs.Phenomena.{Leads, IsThere, height}
 use Rattle.history_laws.specs.WaysBack.{is_needed, may_lead_back, LeadsBack, HasWayBackWithin}
 use Rattle.hist_types.specs.Transactions.{Transaction, transactions_of}
 use Rattle.hist_types.specs.Witness.{dependencies_in, HasFewest, Finding, IsFinding}

@@ -1,5 +1,5 @@
 pub mod Lists
-pub mod Judging
+pub mod BlockByBlock
 pub mod Deciding
 pub mod OneAnswer
 pub mod SomeAnswer

@@ -1,7 +1,7 @@
 //! The run of a command, from a source's bytes to a sink's.
 
 ghost use Rattle.std.specs.Prelude.{◌≡◌, ◌⊎◌, IfOk, IfErr};
-ghost use Rattle.hist_types.specs.Journal.{KeepsRules};
+ghost use Rattle.hist_types.specs.Refusals.{memory_fault};
 ghost use Rattle.verdict.specs.KeyPieces.{IsNumberOfWorkers, IsMemoryOrThread};
 ghost use Rattle.hist_types.specs.Pieces.{HasTaken, HasTakenInPart};
 ghost use Rattle.command_run.specs.Answers.{IsAnswer, IsRefused, Reports, keys_of};
@@ -9,18 +9,22 @@ ghost use Rattle.command_run.specs.Runs.{HasPrintedLack, HasRun};
 ghost use Rattle.command_run.specs.Statuses.{lack_line};
 
 use crate::answer::{Answer, Lack, Status, refuse};
-use crate::inputs::journal_of;
+use crate::judged::Judged;
+use crate::judging::judged_of;
 use crate::{check, edges, reads};
-use block_reader::reading::read_blocks;
+use block_reader::reading::cells_for;
+use block_reader::starts::starts_of;
+use bytes::Bytes;
 use command_line::types::{Command, MAX_WORKERS};
 use hist_types::device::{Failed, Sink, Source};
 use hist_types::types::{Fault, KeyOrder, Refusal};
 use hist_types::whole::{ReadFault, read_all, write_all};
-use journal_core::journal::Core;
+use history_laws::versions_written_once;
+use key_versions::versions_of_written;
 use std::alloc::Global;
 use std::sync::Wait;
 use std::thread::Threads;
-use verdict::tables::tables_of_written;
+use verdict::tables::Tables;
 
 /// The order of keys that the command rests on. Reads rest on none.
 fn keys_of(command: Command) -> KeyOrder
@@ -42,25 +46,29 @@ fn workers_of(command: Command) -> usize
     }
 }
 
-/// What the command prints of a journal's events.
+/// What the command prints of operations that keep the rules.
 fn report_on<R: Threads + Wait + Sync>(
     rt: &R,
     alloc: Global,
     command: Command,
-    core: Core<'_>,
+    judged: Judged<'_>,
 ) -> Result<Answer, Fault>
-    requires { KeepsRules core.events }
     ensures ok { IfOk result
-        (λ answer. Reports command core.entry.events answer.status answer.printed.items) }
+        (λ answer. Reports command judged.entry.core.events answer.status answer.printed.items) }
     ensures err { IfErr result IsMemoryOrThread }
 {
+    let Judged { core, pairing } = judged;
     let prefix = core.prefix()?;
     let events = prefix.as_events();
-    let tables = tables_of_written(alloc, events, core.into_written(), keys_of(command))?;
+    // A law, called for its clause: the transactions write what the events do.
+    versions_written_once();
+    let txns = pairing.transactions();
+    let versions = versions_of_written(alloc, &txns, core.into_written(), keys_of(command))?;
+    let tables = Tables::new(events, &txns, &versions);
     match command {
-        Command::Reads => reads::report(alloc, events, &tables),
-        Command::Edges(_) => edges::report(alloc, events, &tables),
-        Command::Check { .. } => check::report(rt, alloc, workers_of(command), events, &tables),
+        Command::Reads => reads::report(alloc, &tables),
+        Command::Edges(_) => edges::report(alloc, &tables),
+        Command::Check { .. } => check::report(rt, alloc, workers_of(command), &tables),
     }
 }
 
@@ -76,9 +84,13 @@ fn judge<R: Threads + Wait + Sync>(
     ensures err { IfErr result
         (λ fault. IsMemoryOrThread fault ⊎ IsRefused text.items fault) }
 {
-    let blocks = read_blocks(rt, alloc, workers_of(command), text)?;
-    let core = journal_of(alloc, &blocks)?;
-    report_on(rt, alloc, command, core)
+    let workers = workers_of(command);
+    let text = Bytes::from_vec(text)?;
+    let starts = starts_of(rt, alloc, workers, &text)?;
+    // The blocks are in cells, so that they stay where they are while more are read.
+    let cells = cells_for(alloc, starts.len())?;
+    let judged = judged_of(rt, alloc, workers, &text, &starts, &cells)?;
+    report_on(rt, alloc, command, judged)
 }
 
 /// The answer of a command to a text, unless the program lacks something.

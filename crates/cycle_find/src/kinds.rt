@@ -4,10 +4,7 @@ ghost use Rattle.std.specs.Prelude.{◌≡◌};
 ghost use Rattle.std.specs.Bool.{OnTrue};
 ghost use Rattle.edge_graph.specs.Kinds.{AreAmong};
 ghost use Rattle.cycle_find.specs.Dependencies as walks;
-ghost use Rattle.hist_types.specs.Phenomena.{is_order};
-ghost use Rattle.hist_types.specs.Witness.{dependencies_in};
 
-use dep_edges::types::{Edge, Label};
 use edge_graph::types::{Dependencies, Kinds};
 use hist_types::types::{Level, Phenomenon};
 
@@ -72,17 +69,4 @@ pub(crate) fn uses_only(phenomenon: Phenomenon, dependencies: Dependencies) -> b
     let used = Kinds::of(whole(phenomenon), Level::Plain);
     let given = Kinds::of(dependencies, Level::Plain);
     (given.ww || !used.ww) && (given.wr || !used.wr) && (given.rw || !used.rw)
-}
-
-pub fn is_order(edge: &Edge<'_>) -> bool
-    ensures { result ≡ is_order edge.now }
-{
-    matches!(edge.label(), Label::Process { .. } | Label::Realtime { .. })
-}
-
-/// How many of the edges are no order edges.
-pub fn dependencies_in(edges: &[Edge<'_>]) -> usize
-    ensures { result ≡ dependencies_in edges.now }
-{
-    edges.iter().filter(|edge| !is_order(edge)).count()
 }

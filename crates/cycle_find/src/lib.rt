@@ -4,7 +4,7 @@
 mod completions;
 mod fewest;
 mod finder;
-pub mod kinds;
+mod kinds;
 mod leading;
 mod one_dependency;
 pub mod ranked_graph;

@@ -1,12 +1,11 @@
 //! Graphs that are ready for searches.
 
-ghost use Rattle.std.specs.Prelude.{◌≡◌, IfOk, IfErr};
+ghost use Rattle.std.specs.Prelude.{◌≡◌, IfOk, IfSome};
 ghost use Rattle.std.specs.Bool.{OnTrue};
 ghost use Rattle.hist_types.specs.Phenomena.{IsShownBy};
-ghost use Rattle.hist_types.specs.Refusals.{memory_fault};
-ghost use Rattle.hist_types.specs.declared.types.Level.TheVariants.{Realtime};
+ghost use Rattle.hist_types.specs.declared.types.Level.TheVariants.{Plain, Realtime};
 ghost use Rattle.edge_graph.specs.Parts.{edges_in};
-ghost use Rattle.cycle_find.specs.Found.{ShowNoneOverAny, IsReadyIfAny};
+ghost use Rattle.cycle_find.specs.Found.{ShowNoneOverAny, IsReadyIfAny, ShowsByFewest};
 ghost use Rattle.cycle_find.specs.Ranked.{AreRanksAtAll};
 ghost use Rattle.cycle_find.specs.Sharing.{AreSharing};
 
@@ -15,11 +14,13 @@ use crate::ranked_level::RankedLevel;
 use crate::ranking::{ranks_over, ranks_within};
 use crate::settle::shows_none;
 use crate::sharing::Shared;
+use crate::two_dependencies::TwoDependencies;
+use crate::types::Walk;
 use edge_graph::graph::Graph;
 use edge_graph::types::Dependencies;
 use graph_search::arcs::Arcs;
 use graph_search::ranks::Ranks;
-use hist_types::types::{Fault, Level, Phenomenon};
+use hist_types::types::{Level, Phenomenon};
 use std::alloc::{AllocError, Global};
 use std::marker::Model;
 
@@ -92,10 +93,9 @@ fn acyclic(
 }
 
 impl<'r, 'g, 'v, 'a> RankedGraph<'r, 'g, 'v, 'a> {
-    /// Takes a few numbers for each vertex. Only memory can run out.
-    pub fn new(alloc: Global, graph: &'r Graph<'g, 'v, 'a>) -> Result<Self, Fault>
-        ensures ok { IfOk result (λ ranked. ranked ≡ graph.now) }
-        ensures err { IfErr result (λ fault. fault ≡ memory_fault) }
+    /// Takes a few numbers for each vertex.
+    pub fn new(alloc: Global, graph: &'r Graph<'g, 'v, 'a>) -> Result<Self, AllocError>
+        ensures { IfOk result (λ ranked. ranked ≡ graph.now) }
     {
         let ranks = ranks_at_all_levels(alloc, graph)?;
         let shared = Shared::of(alloc, &ranks)?;
@@ -119,13 +119,33 @@ impl<'r, 'g, 'v, 'a> RankedGraph<'r, 'g, 'v, 'a> {
         }
     }
 
-    /// The graph ready for searches at a level, or none where one look at each edge settles that no phenomenon is shown there. It
-    /// takes a few numbers for each vertex. Only memory can run out.
-    pub fn at(&self, level: Level) -> Result<Option<RankedLevel<'_, 'g, 'v, 'a>>, Fault>
-        ensures ok { IfOk result (IsReadyIfAny self.now level) }
-        ensures err { IfErr result (λ fault. fault ≡ memory_fault) }
+    /// The closed walk along two edges between two transactions that shows the phenomenon at the level plain, if there is one. They
+    /// go by their places, and the edge that the phenomenon needs leads from the first of them. No closed walk that shows it there
+    /// has fewer dependency edges.
+    pub fn between(
+        &self,
+        phenomenon: Phenomenon,
+        from: usize,
+        to: usize,
+    ) -> Result<Option<Walk<'a>>, AllocError>
+        ensures { IfOk result (λ found.
+            IfSome found (ShowsByFewest phenomenon (edges_in self.now Plain))) }
     {
-        let ranked = RankedLevel::new(self.alloc, self.graph, level, &self.ranks, &self.shared)?;
-        Ok(ranked)
+        let pairs = TwoDependencies::new(
+            self.alloc,
+            self.graph,
+            phenomenon,
+            &self.ranks,
+            &self.shared,
+        );
+        pairs.close(from, to)
+    }
+
+    /// The graph ready for searches at a level, or none where one look at each edge settles that no phenomenon is shown there. It
+    /// takes a few numbers for each vertex.
+    pub fn at(&self, level: Level) -> Result<Option<RankedLevel<'_, 'g, 'v, 'a>>, AllocError>
+        ensures { IfOk result (IsReadyIfAny self.now level) }
+    {
+        RankedLevel::new(self.alloc, self.graph, level, &self.ranks, &self.shared)
     }
 }

@@ -1,7 +1,6 @@
 //! Graphs that are ready for searches at one level.
 
-ghost use Rattle.std.specs.Prelude.{◌≡◌, IfOk, IfErr};
-ghost use Rattle.hist_types.specs.Refusals.{memory_fault};
+ghost use Rattle.std.specs.Prelude.{◌≡◌, IfOk};
 ghost use Rattle.edge_graph.specs.Parts.{edges_in};
 ghost use Rattle.edge_graph.specs.declared.types.Dependencies.TheVariants.{Ww};
 ghost use Rattle.hist_types.specs.declared.types.Phenomenon.TheVariants.{G0, GSingle};
@@ -24,7 +23,7 @@ use crate::types::Walk;
 use edge_graph::graph::Graph;
 use edge_graph::types::Dependencies;
 use graph_search::ranks::Ranks;
-use hist_types::types::{Fault, Level, Phenomenon};
+use hist_types::types::{Level, Phenomenon};
 use std::alloc::{AllocError, Global};
 use std::marker::Model;
 
@@ -96,12 +95,11 @@ impl<'r, 'g, 'v, 'a> RankedLevel<'r, 'g, 'v, 'a> {
     /// A closed walk that shows the phenomenon at the level, or none where the graph's edges have none. Of all such walks it has
     /// the fewest dependency edges; order edges count nothing.
     ///
-    /// Only memory can run out. It takes a few numbers for each vertex and arc, and no edges are stored but those of the walk.
-    pub fn find(&self, phenomenon: Phenomenon) -> Result<Option<Walk<'a>>, Fault>
+    /// It takes a few numbers for each vertex and arc, and no edges are stored but those of the walk.
+    pub fn find(&self, phenomenon: Phenomenon) -> Result<Option<Walk<'a>>, AllocError>
         ensures found { IfOk result (IsFound phenomenon (edges_in self.now.graph self.now.level)) }
         ensures fewest { IfOk result
             (HasFewestIfAny (task_of self.now.graph phenomenon self.now.level)) }
-        ensures err { IfErr result (λ fault. fault ≡ memory_fault) }
     {
         let found = self.find_floor(phenomenon)?;
         if found.is_some() {

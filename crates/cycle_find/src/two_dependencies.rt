@@ -466,7 +466,7 @@ impl<'r, 'g, 'v, 'a> TwoDependencies<'r, 'g, 'v, 'a> {
     }
 
     /// The closed walk along an edge from one transaction to the other, and an edge back.
-    fn close(&self, from: usize, to: usize) -> Result<Option<Walk<'a>>, AllocError>
+    pub fn close(&self, from: usize, to: usize) -> Result<Option<Walk<'a>>, AllocError>
         ensures { IfOk result (IsFewestOr self.now (¬ IsPair self.now from to)) }
     {
         if from >= self.graph.len() || to >= self.graph.len() {

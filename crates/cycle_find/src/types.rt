@@ -3,8 +3,7 @@
 ghost use Rattle.std.specs.Prelude.{◌≡◌, ◌∷◌, IfOk};
 ghost use Rattle.hist_types.specs.Witness.{dependencies_in};
 
-use crate::kinds::dependencies_in;
-use dep_edges::types::Edge;
+use dep_edges::edge::{Edge, dependencies_in};
 use std::alloc::{AllocError, Global};
 use std::marker::Model;
 

@@ -6,7 +6,8 @@ use Rattle.hist_types.specs.Edges.{Edge}
 use Rattle.hist_types.specs.Phenomena.{is_order}
 use Rattle.hist_types.specs.Witness.{ends_in_order, dependencies_in}
 use Rattle.history_laws.proofs.ThinningWalks.{count-cons, count-append, count_no}
-use Rattle.cycle_show.specs.Paths.{joined, last_joined, path_to, extended, followed, place_behind, short_round}
+use Rattle.dep_edges.specs.Labels.{joined}
+use Rattle.cycle_show.specs.Paths.{last_joined, path_to, extended, followed, place_behind, short_round}
 use Rattle.cycle_show.proofs.Shortening.{joined_is_order}
 
 abbrev is_dependency : Edge → Bool

@@ -13,7 +13,7 @@ use Rattle.hist_types.proofs.Members.{In, in_back}
 use Rattle.history_laws.proofs.ThinningPaths.{Ordered, ordered_in_time, ended_before, ordered_through, ordered_from_label, edge_between, ends_of, AreNodes, are_nodes, nodes_included}
 use Rattle.history_laws.proofs.ThinningWalks.{Uncounted, uncounted_edge, label_of_one}
 use Rattle.history_laws.proofs.ThinningWitnesses.{order_edge, order_may}
-use Rattle.cycle_show.specs.Paths.{joined_label, joined}
+use Rattle.dep_edges.specs.Labels.{joined_label, joined}
 use Rattle.cycle_show.proofs.Shortening.{JoinsTwo, joined_is_order}
 
 realtime_of :

@@ -7,7 +7,8 @@ use Rattle.hist_types.specs.Edges.{process, Edge}
 use Rattle.hist_types.specs.Phenomena.{is_order}
 use Rattle.hist_types.specs.Witness.{stations, ends_in_order}
 use Rattle.history_laws.proofs.ThinningWitnesses.{IsOff}
-use Rattle.cycle_show.specs.Paths.{joined, last_joined, path_to, HavePlaces}
+use Rattle.dep_edges.specs.Labels.{joined}
+use Rattle.cycle_show.specs.Paths.{last_joined, path_to, HavePlaces}
 
 -- ---- the last edge
 

@@ -10,7 +10,8 @@ use Rattle.hist_types.specs.Witness.{stations, alternates, ends_in_order}
 use Rattle.hist_types.proofs.Members.{In}
 use Rattle.history_laws.proofs.ThinningPaths.{leads_on, all_of_both}
 use Rattle.history_laws.proofs.ThinningWitnesses.{IsOff, IsSimple, after, ends_after, alternate_both, stations-append}
-use Rattle.cycle_show.specs.Paths.{joined_label, joined, last_joined, path_to, extended, followed}
+use Rattle.dep_edges.specs.Labels.{joined_label, joined}
+use Rattle.cycle_show.specs.Paths.{last_joined, path_to, extended, followed}
 use Rattle.cycle_show.proofs.Places.{path_to_off}
 
 -- ---- two order edges joined

@@ -5,20 +5,12 @@ use Rattle.std.specs.Prelude.{◌≡◌, ℕ, ◌+◌, ◌≤◌, List, [], ◌�
 use Rattle.std.specs.HashMap.{HashMap, get}
 use Rattle.std.specs.List.{position_from}
 use Rattle.std.specs.Option.{option_or, option_map_or}
-use Rattle.hist_types.specs.Edges.{Label, realtime, Edge}
+use Rattle.hist_types.specs.Edges.{Edge}
 use Rattle.hist_types.specs.Phenomena.{is_ww, is_wr, is_rw, is_order}
 use Rattle.hist_types.specs.Witness.{ends_in_order}
+use Rattle.dep_edges.specs.Labels.{joined}
 
 -- ---- one edge in the place of two
-
-abbrev pub joined_label : Label → Label → Label
-joined_label (realtime completion i) (realtime c invocation) = realtime completion invocation
-joined_label first second = first
-
--- the order edge between the ends of two that follow each other
-abbrev pub joined : Edge → Edge → Edge
-joined first second =
-    record { from = first.from; to = second.to; label = joined_label first.label second.label }
 
 abbrev pub last_joined : List Edge → Edge → List Edge
 last_joined [] next = []

@@ -10,7 +10,6 @@ mod kinds;
 mod path;
 pub mod types;
 
-use crate::path::{least_place, short_round};
 use crate::types::Witness;
 use cycle_find::types::Walk;
 use hist_types::types::Fault;
@@ -27,7 +26,5 @@ pub fn tighten<'a>(alloc: Global, walk: &Walk<'a>) -> Result<Witness<'a>, Fault>
     ensures dependencies { IfOk result (λ told. dependencies_in told ≤ dependencies_in walk.now) }
     ensures err { IfErr result (λ fault. fault ≡ memory_fault) }
 {
-    let mut edges = short_round(alloc, walk.edges())?;
-    edges.rotate_left(least_place(&edges));
-    Ok(Witness::new(edges))
+    Ok(Witness::of(alloc, walk)?)
 }

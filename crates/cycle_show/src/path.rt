@@ -4,9 +4,8 @@ ghost use Rattle.std.specs.Prelude.{◌≡◌, ◌-◌, ◌<◌, ◌≤◌, [], 
 ghost use Rattle.hist_types.specs.Witness.{ends_in_order, stations};
 ghost use Rattle.cycle_show.specs.Paths.{path_to, last_joined, followed, walked, KnowsPlaces, short_round, IsLeastAt};
 
-use crate::kinds::{copy, joined, needed};
-use cycle_find::kinds::is_order;
-use dep_edges::types::Edge;
+use crate::kinds::needed;
+use dep_edges::edge::Edge;
 use std::alloc::{AllocError, Global};
 use std::collections::HashMap;
 
@@ -23,7 +22,7 @@ fn ends_in_order(edges: &[Edge<'_>]) -> bool
     ensures { result ≡ ends_in_order edges.now }
 {
     match edges {
-        [.., last] => is_order(last),
+        [.., last] => last.is_order(),
         [] => false,
     }
 }
@@ -59,7 +58,7 @@ impl<'a> Path<'a> {
         ensures places { self.new.places ≡ self.old.places }
     {
         let last = self.edges.len() - 1;
-        self.edges[last] = joined(&self.edges[last], next);
+        self.edges[last] = self.edges[last].joined(next);
     }
 
     /// Follows the walk along one more edge.
@@ -69,12 +68,12 @@ impl<'a> Path<'a> {
         ensures places { OnOk result (KnowsPlaces self.new.places self.new.edges.items) }
     {
         self.go_back(next.from());
-        if is_order(next) && ends_in_order(&self.edges) {
+        if next.is_order() && ends_in_order(&self.edges) {
             self.join_last(next);
             return Ok(());
         }
         self.places.insert(next.from(), self.edges.len())?;
-        self.edges.push(copy(next))?;
+        self.edges.push(next.copy())?;
         Ok(())
     }
 

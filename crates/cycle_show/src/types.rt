@@ -1,16 +1,19 @@
 //! Witnesses.
 
-ghost use Rattle.std.specs.Prelude.{◌≡◌};
+ghost use Rattle.std.specs.Prelude.{◌≡◌, ◌≤◌, IfOk};
 ghost use Rattle.hist_types.specs.Witness.{dependencies_in};
+ghost use Rattle.cycle_show.specs.Reductions.{IsWitnessOf};
 
-use cycle_find::kinds::dependencies_in;
-use dep_edges::types::Edge;
+use crate::path::{least_place, short_round};
+use cycle_find::types::Walk;
+use dep_edges::edge::Edge;
+use std::alloc::{AllocError, Global};
 use std::marker::Model;
 
 /// A closed walk with no transaction twice and no two order edges side by side, written from its least transaction on.
 #[derive(Drop)]
 pub struct Witness<'a> {
-    edges: Vec<Edge<'a>>,
+    walk: Walk<'a>,
 }
 
 impl<'a> Model for Witness<'a> {
@@ -19,27 +22,34 @@ impl<'a> Model for Witness<'a> {
 
     ghost Value = { List AnEdge };
 
-    ghost view = { λ witness. witness.edges.items };
+    ghost view = { λ witness. witness.walk };
 }
 
 impl<'a> Witness<'a> {
-    pub(crate) fn new(edges: Vec<Edge<'a>>) -> Self
-        ensures { result ≡ edges.entry.items }
+    /// What `tighten` gives. The only error is out of memory.
+    pub fn of(alloc: Global, walk: &Walk<'a>) -> Result<Self, AllocError>
+        ensures witness { IfOk result (IsWitnessOf walk.now) }
+        ensures dependencies { IfOk result
+            (λ told. dependencies_in told ≤ dependencies_in walk.now) }
     {
-        Witness { edges }
+        let mut edges = short_round(alloc, walk.edges())?;
+        edges.rotate_left(least_place(&edges));
+        Ok(Witness {
+            walk: Walk::new(edges),
+        })
     }
 
     /// Its edges, from the least transaction on.
     pub fn edges(&self) -> &[Edge<'a>]
         ensures { result.now ≡ self.now }
     {
-        &self.edges
+        self.walk.edges()
     }
 
     /// How many of its edges are no order edges. The one that is reported of a phenomenon has the fewest that are possible.
     pub fn dependency_edges(&self) -> usize
         ensures { result ≡ dependencies_in self.now }
     {
-        dependencies_in(&self.edges)
+        self.walk.dependency_edges()
     }
 }

@@ -8,7 +8,7 @@ use Rattle.dep_edges.specs.Histories.{History}
 use Rattle.dep_edges.specs.Labels.{label_of}
 use Rattle.dep_edges.specs.OutEdges.{node_edge, reader_edges, later_edges, written_edges, read_edges, each_once, leaving}
 use Rattle.dep_edges.specs.Tables.{txn_at, version_at}
-use Rattle.dep_edges.specs.declared.types.Label.{Label}
+use Rattle.dep_edges.specs.declared.edge.Label.{Label}
 
 -- the Vec has these items after those that it had before
 abbrev pub Gains : {X A : Type 0} → (before after : Vec X A) → List X → Type 0

@@ -1,6 +1,6 @@
 //! What the transactions of a history depend on each other for.
 
-ghost use Rattle.std.specs.Prelude.{◌≡◌, ◌==◌, map, vec_len, OnOk, OnErr};
+ghost use Rattle.std.specs.Prelude.{◌≡◌, ◌==◌, map, vec_len, IfOk, OnOk, OnErr};
 ghost use Rattle.std.specs.List.{list_any};
 ghost use Rattle.hist_types.specs.Phenomena.{g1a, g1b, stray};
 ghost use Rattle.hist_types.specs.Transactions.{is_node};
@@ -8,15 +8,21 @@ ghost use Rattle.key_versions.specs.Tables.{IsTableOf};
 ghost use Rattle.dep_edges.specs.Added.{Gains, edge_at, wr_edges, ww_edges, rw_edges, edges_of_installs, edges_of_reads, edges_at};
 ghost use Rattle.dep_edges.specs.Histories.{AreOfHistory};
 ghost use Rattle.dep_edges.specs.OutEdges.{AddsEdgesFrom, Begins};
+ghost use Rattle.dep_edges.specs.Pieces.{ArePiecesOf};
 ghost use Rattle.dep_edges.specs.Possible.{RulesOutReads};
 ghost use Rattle.dep_edges.specs.Tables.{IsPlace, IsNumber, IsWritten, txn_at};
 
-use crate::bad_reads::{first_aborted, first_intermediate};
+use crate::bad_reads::{first_aborted, first_intermediate, strays};
+use crate::edge::{Edge, Label};
 use crate::history::History;
-use crate::possible::Possible;
-use crate::types::{BadRead, Edge, Label};
-use std::alloc::AllocError;
+use crate::nodes::nodes;
+use crate::pieces::{PieceDeps, whole};
+use crate::possible::{Possible, possible_in};
+use crate::types::BadRead;
+use key_versions::table::Versions;
+use std::alloc::{AllocError, Global};
 use std::marker::Model;
+use txn_pairs::types::Txns;
 
 /// The transactions of a history with the dependency edges between them. A transaction goes by its place. It borrows the
 /// transactions and the table of their versions, which contracts see.
@@ -53,25 +59,41 @@ fn is_among(numbers: &[u32], number: u32) -> bool
 }
 
 impl<'v, 'a> Deps<'v, 'a> {
-    pub(crate) fn new(
+    /// By what all pieces of the history's keys give.
+    pub(crate) fn of_pieces(
+        alloc: Global,
         history: History<'v, 'a>,
-        nodes: Vec<bool>,
-        possible: Possible,
-        strays: Vec<u32>,
-    ) -> Self
+        pieces: &[PieceDeps],
+    ) -> Result<Self, AllocError>
         requires kept { AreOfHistory history.txns }
-        requires table { IsTableOf history.table.keys history.txns history.table }
-        requires nodes { nodes.items ≡ map (is_node history.txns) history.txns }
-        requires possible { RulesOutReads history.txns possible }
-        requires strays { vec_len strays ≡ stray history.txns }
-        ensures { result ≡ history.entry }
+        requires versions { IsTableOf history.table.keys history.txns history.table }
+        requires pieces { ArePiecesOf history pieces.now }
+        ensures { IfOk result (λ deps. deps ≡ history.entry) }
     {
-        Deps {
+        let possible = possible_in(pieces);
+        let strays = strays(alloc, &history, possible)?;
+        let nodes = nodes(alloc, &history, pieces)?;
+        Ok(Deps {
             history,
             nodes,
             possible,
             strays,
-        }
+        })
+    }
+
+    /// What `edges` gives. The only error is out of memory.
+    pub fn of(
+        alloc: Global,
+        txns: &'v Txns<'a>,
+        versions: &'v Versions<'a>,
+    ) -> Result<Self, AllocError>
+        requires history { AreOfHistory txns.now }
+        requires versions { IsTableOf versions.now.keys txns.now versions.now }
+        ensures { IfOk result (λ deps. deps ≡ record { txns = txns.now; table = versions.now }) }
+    {
+        let history = History::new(txns, versions);
+        let whole = whole(alloc, &history)?;
+        Deps::of_pieces(alloc, history, &[whole])
     }
 
     /// The transactions with the table of their versions.

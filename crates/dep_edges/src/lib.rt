@@ -10,6 +10,7 @@ ghost use Rattle.dep_edges.specs.Pieces.{ArePiecesOf, IsPieceOf};
 
 mod bad_reads;
 pub mod deps;
+pub mod edge;
 pub mod history;
 pub mod laws;
 mod nodes;
@@ -19,28 +20,11 @@ pub mod types;
 
 use crate::deps::Deps;
 use crate::history::History;
-use crate::pieces::{PieceDeps, piece, whole};
-use crate::possible::possible_in;
+use crate::pieces::{PieceDeps, piece};
 use hist_types::types::Fault;
 use key_versions::table::{KeyNumbers, Versions};
 use std::alloc::{AllocError, Global};
 use txn_pairs::types::Txns;
-
-/// What is known of a history's transactions, by what all pieces of its keys give.
-fn deps_of<'v, 'a>(
-    alloc: Global,
-    history: History<'v, 'a>,
-    pieces: &[PieceDeps],
-) -> Result<Deps<'v, 'a>, AllocError>
-    requires versions { IsTableOf history.table.keys history.txns history.table }
-    requires pieces { ArePiecesOf history pieces.now }
-    ensures { IfOk result (λ deps. deps ≡ history.entry) }
-{
-    let possible = possible_in(pieces);
-    let strays = bad_reads::strays(alloc, &history, possible)?;
-    let nodes = nodes::nodes(alloc, &history, pieces)?;
-    Ok(Deps::new(history, nodes, possible, strays))
-}
 
 /// What the transactions depend on each other for. No edge is stored: the edges that leave a transaction are found from what
 /// it reads and installs, over the table of the versions, which has the order of the keys. The time is linear in the history.
@@ -56,9 +40,7 @@ pub fn edges<'v, 'a>(
     ensures ok { IfOk result (λ deps. deps ≡ record { txns = txns.now; table = versions.now }) }
     ensures err { IfErr result (λ fault. fault ≡ memory_fault) }
 {
-    let history = History::new(txns, versions);
-    let whole = whole(alloc, &history)?;
-    Ok(deps_of(alloc, history, &[whole])?)
+    Ok(Deps::of(alloc, txns, versions)?)
 }
 
 /// What one look at each version of some keys gives: of those from the number `from` up to but not including `to`. Pieces can be
@@ -104,5 +86,5 @@ pub fn join<'v, 'a>(
     ensures ok { IfOk result (λ deps. deps ≡ record { txns = txns.now; table = versions.now }) }
     ensures err { IfErr result (λ fault. fault ≡ memory_fault) }
 {
-    Ok(deps_of(alloc, History::new(txns, versions), pieces)?)
+    Ok(Deps::of_pieces(alloc, History::new(txns, versions), pieces)?)
 }

@@ -1,11 +1,10 @@
 //! The graph of a history's transactions.
 
-ghost use Rattle.std.specs.Prelude.{◌≡◌, ◌↔◌, ℕ, ◌+◌, ◌++◌, ◌==◌, ◌<◌, length, All, Contains, IfOk, IfErr, OnOk, OnErr};
+ghost use Rattle.std.specs.Prelude.{◌≡◌, ◌↔◌, ℕ, ◌+◌, ◌++◌, ◌==◌, ◌<◌, length, All, Contains, IfOk, OnOk, OnErr};
 ghost use Rattle.std.specs.Thread.{IsSync};
 ghost use Rattle.dep_edges.specs.Histories.{AreOfHistory};
 ghost use Rattle.dep_edges.specs.OutEdges.{Begins};
 ghost use Rattle.dep_edges.specs.Tables.{IsPlace, txn_at};
-ghost use Rattle.hist_types.specs.Refusals.{memory_fault};
 ghost use Rattle.hist_types.specs.declared.types.Level.TheVariants.{Plain};
 ghost use Rattle.edge_graph.specs.Costs.{IsFreeArc, IsPaidArc, AreAsCheap};
 ghost use Rattle.edge_graph.specs.Kinds.{kinds_of};
@@ -24,9 +23,9 @@ use crate::rows::VertexRows;
 use crate::threads::try_join;
 use crate::types::{Dependencies, Kinds};
 use dep_edges::deps::Deps;
+use dep_edges::edge::{Edge, Label};
 use dep_edges::history::History;
-use dep_edges::types::{Edge, Label};
-use hist_types::types::{Fault, Level};
+use hist_types::types::Level;
 use order_frontier::types::Order;
 use std::alloc::{AllocError, Global};
 use std::marker::Model;
@@ -163,10 +162,9 @@ fn rows_and_orders_wide<'v, 'a, R: Threads + Sync>(
 
 impl<'g, 'v, 'a> Graph<'g, 'v, 'a> {
     /// The graph over the history's dependency edges and an order of its transactions, with all of their pairs or thinned.
-    pub fn new(alloc: Global, deps: &'g Deps<'v, 'a>, order: &'g Order) -> Result<Self, Fault>
+    pub fn new(alloc: Global, deps: &'g Deps<'v, 'a>, order: &'g Order) -> Result<Self, AllocError>
         requires { IsOrderOf deps.now.txns order.now }
-        ensures ok { IfOk result (IsMadeOf deps.now.table.keys deps.now.txns order.now) }
-        ensures err { IfErr result (λ fault. fault ≡ memory_fault) }
+        ensures { IfOk result (IsMadeOf deps.now.table.keys deps.now.txns order.now) }
     {
         let history = deps.history();
         let rows = layout::rows(alloc, deps, history)?;
@@ -180,10 +178,9 @@ impl<'g, 'v, 'a> Graph<'g, 'v, 'a> {
         alloc: Global,
         deps: &'g Deps<'v, 'a>,
         order: &'g Order,
-    ) -> Result<Self, Fault>
+    ) -> Result<Self, AllocError>
         requires { IsOrderOf deps.now.txns order.now }
-        ensures ok { IfOk result (IsMadeOf deps.now.table.keys deps.now.txns order.now) }
-        ensures err { IfErr result (λ fault. fault ≡ memory_fault) }
+        ensures { IfOk result (IsMadeOf deps.now.table.keys deps.now.txns order.now) }
     {
         let history = deps.history();
         let (rows, orders) = rows_and_orders_wide(rt, alloc, deps, history, order)?;

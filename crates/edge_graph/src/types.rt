@@ -4,7 +4,7 @@ ghost use Rattle.std.specs.Prelude.{◌≡◌};
 ghost use Rattle.dep_edges.specs.Labels.{label_of};
 ghost use Rattle.edge_graph.specs.Kinds.{includes, kinds_of};
 
-use dep_edges::types::Label;
+use dep_edges::edge::Label;
 use hist_types::types::Level;
 
 /// Which edges: some kinds of dependencies, and the order edges of a level.

@@ -134,10 +134,10 @@ impl<'a, S: BuildHasher + Copy> Kept<'a, S> {
     }
 
     /// Whether the analysis has the verdict that one from scratch has, up to the cycles that show it, and has points just as long as
-    /// no phenomenon is found. Only basic keys have points.
+    /// no phenomenon is found.
     fn agrees(&self, alloc: Global, hasher: S, keys: KeyOrder) -> Result<bool, Fault> {
         let anew = verdict(alloc, &self.core.prefix()?, hasher, keys)?;
-        let has_points = keys == KeyOrder::Basic && anew.strict() == Strict::Open;
+        let has_points = anew.strict() == Strict::Open;
         let kept = self.analysis.verdict()?;
         Ok(said(&kept) == said(&anew) && self.analysis.has_points() == has_points)
     }

@@ -3,13 +3,14 @@
 ghost use Rattle.std.specs.Prelude.{◌≡◌, IfOk};
 ghost use Rattle.order_frontier.specs.Predecessors.{AreOfEvents};
 
-use block_reader::reading::read_blocks;
+use block_reader::one_block::block_of_text;
 use hist_types::device::Failed;
 use hist_types::limits::MAX_EVENTS;
 use hist_types::types::{Fault, OpKind, Refusal};
 use journal_core::journal::Core;
 use journal_core::prefix::Prefix;
 use op_block::block::Block;
+use op_block::stamp::Stamp;
 use order_frontier::frontier::Frontier;
 use order_frontier::types::Order;
 use order_frontier::{all_pairs, thin};
@@ -31,14 +32,12 @@ const HISTORY: &[u8] = b"[{:type :invoke, :process 0, :value [[:w :x 1] [:r :y n
  {:type :ok, :process 0, :value [[:r :z 7]]}]
 ";
 
-/// The journal of the blocks.
-fn journal_of<'a>(alloc: Global, blocks: &'a [Block]) -> Result<Core<'a>, Fault> {
+/// The journal of the block.
+fn journal_of<'a>(alloc: Global, block: &'a Block) -> Result<Core<'a>, Fault> {
     let mut core = Core::new(alloc);
-    for block in blocks {
-        core.judge(block)?;
-        core.reserve_for(block)?;
-        core.take(block);
-    }
+    core.judge(block)?;
+    core.reserve_for(block)?;
+    core.take(block);
     Ok(core)
 }
 
@@ -88,8 +87,8 @@ fn is_order_of(alloc: Global, prefix: &Prefix<'_>, order: &Order) -> Result<bool
 #[test]
 fn a_moving_frontier_gives_the_thinned_order(rt: HostRuntime) -> Result<(), Fail> {
     let alloc = rt.alloc();
-    let blocks = read_blocks(&rt, alloc, 4, Vec::from_slice(alloc, HISTORY)?)?;
-    let core = journal_of(alloc, &blocks)?;
+    let block = block_of_text(alloc, HISTORY, Stamp { seat: 0, call: 0 })?;
+    let core = journal_of(alloc, &block)?;
     let prefix = core.prefix()?;
     let txns = txns_of(alloc, &prefix)?;
     let all = all_pairs(alloc, &txns)?;
@@ -98,8 +97,7 @@ fn a_moving_frontier_gives_the_thinned_order(rt: HostRuntime) -> Result<(), Fail
     assert_eq!(rt; count_of(&thinned), 4);
     assert!(rt; is_order_of(alloc, &prefix, &thinned)?);
     assert!(rt; !is_order_of(alloc, &prefix, &all)?);
-    let first = blocks.first().expect(&rt, "a block");
-    assert!(rt; first.copy()? == *first);
+    assert!(rt; block.copy()? == block);
     Ok(())
 }
 

@@ -4,13 +4,14 @@ ghost use Rattle.std.specs.Prelude.{◌≡◌};
 ghost use Rattle.hist_types.specs.Journal.{KeepsRules};
 ghost use Rattle.hist_types.specs.Transactions.{transactions_of};
 
-use block_reader::reading::read_blocks;
+use block_reader::one_block::block_of_text;
 use clean_order::settles;
 use dep_edges::edges;
 use hist_types::types::{Fault, KeyOrder};
 use journal_core::journal::Core;
 use journal_core::prefix::Prefix;
 use key_versions::versions;
+use op_block::stamp::Stamp;
 use std::alloc::Global;
 use std::hash::{BuildHasherDefault, FoldHasher};
 use std::test::Fail;
@@ -56,20 +57,18 @@ fn do_settle<'a>(alloc: Global, prefix: &Prefix<'a>, txns: &Txns<'a>) -> Result<
         KeyOrder::Basic,
     )?;
     let deps = edges(alloc, txns, &versions)?;
-    settles(alloc, &deps)
+    Ok(settles(alloc, &deps)?)
 }
 
 #[test]
 fn clean_histories_settle(rt: HostRuntime) -> Result<(), Fail> {
     let alloc = rt.alloc();
     for (text, clean) in [(CLEAN, true), (SKEWED, false), (STALE, false)] {
-        let blocks = read_blocks(&rt, alloc, 4, Vec::from_slice(alloc, text)?)?;
+        let block = block_of_text(alloc, text, Stamp { seat: 0, call: 0 })?;
         let mut core = Core::new(alloc);
-        for block in &blocks {
-            core.judge(block)?;
-            core.reserve_for(block)?;
-            core.take(block);
-        }
+        core.judge(&block)?;
+        core.reserve_for(&block)?;
+        core.take(&block);
         let prefix = core.prefix()?;
         let txns = pair(alloc, prefix.as_events())?;
         assert_eq!(rt; do_settle(alloc, &prefix, &txns)?, clean);

@@ -137,7 +137,7 @@ nothing_new vs (w ∷ ws) has =
 
 -- ---- accesses
 
-abbrev Stay : List Version → List Version → Type 0
+abbrev pub Stay : List Version → List Version → Type 0
 Stay vs us = (n : ℕ) (v : Version) → slice_get vs n ≡ Some v → slice_get us n ≡ Some v
 
 of_stays : (vs us : List Version) → Stay vs us → (t : Transaction) (rs ws : List Access) → AreAccessesOf vs t rs ws → AreAccessesOf us t rs ws
@@ -210,7 +210,7 @@ abbrev pub kept_by : KeyOrder → List Version → List TxnAccesses → KeptVers
 kept_by keys versions accesses = record { keys = keys; versions = versions; accesses = accesses }
 
 module _ (keys : KeyOrder) (vs us : List Version) (t : Transaction) (grown : us ≡ with_versions vs (named_by t)) where
-  stays : Stay vs us
+  pub stays : Stay vs us
   stays n v h = ap (λ (xs : List Version). slice_get xs n) grown ∙ versions_stay vs (named_by t) n v h
 
   has_grown : (v : Version) → has_version us v ≡ (has_version vs v || has_version (named_by t) v)

@@ -11,7 +11,7 @@ mod Accessing
 mod Lists
 mod Unnamed
 mod Known
-mod Joined
+pub mod Joined
 mod Followed
 mod Told
 mod Given
@@ -22,9 +22,9 @@ mod Pairs
 mod LastSeen
 mod Seen
 mod Taken
-mod Stepping
+pub mod Stepping
 mod Interleaved
 mod Marked
 mod UpTo
 mod Sequenced
-mod Keeping
+pub mod Keeping

@@ -224,7 +224,7 @@ steps_more vs ps qs taken more are others =
 
 -- ---- what an ok transaction adds
 
-seen_step :
+pub seen_step :
     (b : Bool) (vs seen own : List Version) (last last' : ℕ → Option ℕ) (accs : List Access) → HasLastSeen vs seen last → AreAccesses vs own accs
     → ((nil : ℕ) → last' nil ≡ cond b (option_or (last_number nil accs) (last nil)) (last nil)) → HasLastSeen vs (seen ++ cond b own []) last'
 seen_step true vs seen own last last' accs has are now = sees_more vs seen own last last' accs has are now

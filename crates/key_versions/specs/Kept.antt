@@ -41,3 +41,10 @@ StayBeside place before after =
     → ¬ (other ≡ place)
     → slice_get after other ≡ Some a
     → slice_get before other ≡ Some a
+
+-- each version keeps its number
+abbrev pub KeepNumbers : (before after : List Version) → Type 0
+KeepNumbers before after =
+    (number : ℕ) (v : Version)
+    → slice_get before number ≡ Some v
+    → slice_get after number ≡ Some v

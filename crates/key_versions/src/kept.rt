@@ -6,7 +6,7 @@ ghost use Rattle.hist_types.specs.Refusals.{memory_fault};
 ghost use Rattle.hist_types.specs.Transactions.{Transaction};
 ghost use Rattle.hist_types.specs.declared.types.KeyOrder.TheVariants.{Basic, Sequential};
 ghost use Rattle.key_versions.specs.Given.{IsTableBeside};
-ghost use Rattle.key_versions.specs.Kept.{AreKept, StayBeside};
+ghost use Rattle.key_versions.specs.Kept.{AreKept, KeepNumbers, StayBeside};
 ghost use Rattle.key_versions.specs.LastSeen.{last_seen};
 ghost use Rattle.key_versions.specs.Numbering.{versions_of};
 ghost use Rattle.key_versions.specs.Stepped.{AreStepsOf};
@@ -86,6 +86,7 @@ impl<'a, S: BuildHasher + Copy> KeptVersions<'a, S> {
             → AreKept ts self.old → OnOk result (AreKept (ts ++ txn.now ∷ []) self.new) }
         ensures others { OnOk result
             (StayBeside (length self.old.accesses) self.old.accesses self.new.accesses) }
+        ensures numbers { OnOk result (KeepNumbers self.old.versions self.new.versions) }
         ensures keys { self.new.keys ≡ self.old.keys }
     {
         self.numbering.take(txn, self.keys, &mut self.accessed)?;
@@ -100,6 +101,7 @@ impl<'a, S: BuildHasher + Copy> KeptVersions<'a, S> {
             → AreKept ts self.old → slice_get ts place ≡ Some t → Completes t txn.now
             → OnOk result (AreKept (set ts place txn.now) self.new) }
         ensures others { OnOk result (StayBeside place self.old.accesses self.new.accesses) }
+        ensures numbers { OnOk result (KeepNumbers self.old.versions self.new.versions) }
         ensures keys { self.new.keys ≡ self.old.keys }
     {
         if txn.status() == Status::Ok {
@@ -107,6 +109,13 @@ impl<'a, S: BuildHasher + Copy> KeptVersions<'a, S> {
             self.accesses.set(place, &self.accessed)?;
         }
         Ok(())
+    }
+
+    /// How the versions of each key are ordered.
+    pub fn keys(&self) -> KeyOrder
+        ensures { result ≡ self.now.keys }
+    {
+        self.keys
     }
 
     /// What the transaction at this place reads externally, if it is ok.
@@ -123,6 +132,14 @@ impl<'a, S: BuildHasher + Copy> KeptVersions<'a, S> {
         ensures { slice_get (map (λ a. a.writes) self.now.accesses) place ≡ Some result.now }
     {
         self.accesses.writes(place)
+    }
+
+    /// What the micro-operations of the transaction at this place read and write, if it is ok and keys are sequential.
+    pub fn seen(&self, place: usize) -> &[Access]
+        requires { place < length self.now.accesses }
+        ensures { slice_get (map (λ a. a.seen) self.now.accesses) place ≡ Some result.now }
+    {
+        self.accesses.seen(place)
     }
 
     /// What is known of each version, apart from the steps of processes.

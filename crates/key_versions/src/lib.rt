@@ -18,6 +18,7 @@ pub mod laws;
 mod nils;
 mod numbering;
 mod pending;
+pub mod process_steps;
 mod rows;
 mod sequential;
 mod steps;

@@ -118,7 +118,7 @@ impl Steps {
 
     /// Takes the next ok transaction of a process: its steps lead to what the transaction first reads of each key, or installs
     /// where it doesn't read the key.
-    fn take_ok(
+    pub fn take_ok(
         &mut self,
         process: u64,
         reads: &[Access],

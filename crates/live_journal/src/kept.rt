@@ -79,12 +79,15 @@ impl<'j, S: BuildHasher + Copy> Kept<'j, S> {
         })
     }
 
-    /// The verdict of its events. The only error is out of memory.
-    pub(crate) fn verdict(&self) -> Result<Verdict<'j>, Fault>
-        ensures ok { IfOk result (IsVerdictOf self.now.keys self.now.events) }
-        ensures strict { IfOk result (RefutesExplanations self.now.events) }
+    /// The verdict of its events. The only error is out of memory. What it finds, the next one looks for first.
+    pub(crate) fn verdict(&mut self) -> Result<Verdict<'j>, Fault>
+        ensures same { self.new ≡ self.old }
+        ensures ok { IfOk result (IsVerdictOf self.old.keys self.old.events) }
+        ensures strict { IfOk result (RefutesExplanations self.old.events) }
         ensures err { IfErr result (λ fault. fault ≡ memory_fault) }
     {
-        self.analysis.verdict()
+        let verdict = self.analysis.verdict()?;
+        self.analysis.look_first(&verdict);
+        Ok(verdict)
     }
 }

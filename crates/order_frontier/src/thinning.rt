@@ -151,8 +151,8 @@ impl Thinning {
     }
 }
 
-/// The thinned order of all transactions of a history.
-pub(crate) fn thinned(alloc: Global, txns: &[Txn<'_>]) -> Result<Order, AllocError>
+/// What `thin` gives, of the transactions of a history. The only error is out of memory.
+pub fn thinned(alloc: Global, txns: &[Txn<'_>]) -> Result<Order, AllocError>
     requires { AreOfEvents txns.now }
     ensures { IfOk result (IsThinnedOrder txns.now) }
 {

@@ -5,10 +5,9 @@ ghost use Rattle.dep_edges.specs.Histories.{AreOfHistory};
 ghost use Rattle.dep_edges.specs.Tables.{IsPlace, txn_at};
 ghost use Rattle.report_text.specs.Leaving.{edges_leaving, IsContinuedByAll};
 
-use crate::edge_order::sort_edges;
 use crate::lines::append_edges;
 use dep_edges::deps::Deps;
-use dep_edges::types::Edge;
+use dep_edges::edge::{Edge, sort_edges};
 use std::alloc::{AllocError, Global};
 
 /// Makes the list that of the edges that leave the transaction at the place, in order.

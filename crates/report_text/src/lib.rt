@@ -3,7 +3,6 @@
 //! A report is a value, and its text a function of it.
 #![tactic(auto)]
 
-mod edge_order;
 mod leaving;
 mod lines;
 pub mod report;

@@ -23,7 +23,8 @@ ghost use Rattle.dep_edges.specs.Labels.{label_of};
 ghost use Rattle.report_text.specs.Lines.{version_after};
 
 use crate::report::Finding;
-use dep_edges::types::{BadRead, Edge, Label};
+use dep_edges::edge::{Edge, Label};
+use dep_edges::types::BadRead;
 use edn_ops::write::write_atom;
 use hist_types::types::{Level, Strict};
 use itoa::Buffer;

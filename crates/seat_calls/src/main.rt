@@ -1,10 +1,11 @@
-//! Makes the calls of seats, and prints what they return: with no argument, over the lines of standard input; else many, with
-//! how long they take.
+//! Makes the calls of seats, and prints what they return: with no argument, over the lines of standard input; a few, each once
+//! more if memory runs out in it; or many, with how long they take.
 #![tactic(auto)]
 
 mod four_completions;
 mod limits;
 mod lines;
+mod once_more;
 mod pair;
 mod stopped;
 mod texts;
@@ -27,8 +28,10 @@ fn main(rt: HostRuntime) -> Result<(), Stopped> {
             lines::run(&rt, alloc)?;
             two_begins::run(&rt, alloc)?;
             four_completions::run(&rt, alloc)?;
+            once_more::run(&rt, alloc)?;
             limits::run(&rt, alloc)
         }
+        [_, what] if what.as_str() == "once-more" => once_more::run(&rt, alloc),
         [_, what, seats, events] if what.as_str() == "bench" => {
             times::of_many_calls(
                 &rt,

@@ -7,7 +7,7 @@ use thiserror::Error;
 
 #[derive(Debug, Drop, Error)]
 pub enum Stopped {
-    #[error("usage: seat_calls [bench SEATS EVENTS | begins EVENTS]")]
+    #[error("usage: seat_calls [once-more | bench SEATS EVENTS | begins EVENTS]")]
     Usage,
     #[error("not an atom")]
     NotAnAtom,

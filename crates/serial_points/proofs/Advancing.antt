@@ -30,7 +30,7 @@ use Rattle.serial_points.specs.ByVersion.{IsAnother, IsAbovePredecessors, RisesI
 use Rattle.serial_points.specs.Clean.{AreUnread}
 use Rattle.serial_points.specs.CleanReads.{IsInstalled, IsCleanRead, ReadsAreClean}
 use Rattle.serial_points.specs.Falls.{HaveFallen, PassesAt, PassesUnlessOk, PassesAfter}
-use Rattle.serial_points.specs.KeptPoints.{KeptPoints, HasPoints, FallAndPass, UsersAdvance}
+use Rattle.serial_points.specs.KeptPoints.{BasicPoints, HasBasicPoints, FallAndPass, UsersAdvance}
 use Rattle.serial_points.specs.NextPoints.{HasMoved, AreNextPoints}
 use Rattle.serial_points.specs.Points.{IsNotBefore, IsNotAfter, ArePoints}
 use Rattle.serial_points.specs.Users.{updates, places_at, IsListed, AreUsers, IsAmongUsers, UsersStay}
@@ -52,8 +52,8 @@ still_among users later k reads writes stay are = record {
       (λ a listed has. stay.updaters a.version k (listed has)) reads are.updaters;
 }
 
-module _ (events : List Operation) (event : Operation) (before after : KeptVersions) (p : KeptPoints) (points : List ℕ) (users : Users) (place : ℕ) (t : Transaction)
-    (had : HasPoints events before p)
+module _ (events : List Operation) (event : Operation) (before after : KeptVersions) (p : BasicPoints) (points : List ℕ) (users : Users) (place : ℕ) (t : Transaction)
+    (had : HasBasicPoints events before p)
     (rules : KeepsRules (events ++ event ∷ []))
     (kept : AreKept (transactions_of (events ++ event ∷ [])) after)
     (others : StayBeside place before.accesses after.accesses)
@@ -202,7 +202,7 @@ module _ (events : List Operation) (event : Operation) (before after : KeptVersi
       → stray later ≡ strays
       → length points ≡ length later
       → ((point : ℕ → ℕ) × AreListed later points point × ArePoints Basic later point)
-      → HasPoints (events ++ event ∷ []) after (record { points = points; users = users; strays = strays })
+      → HasBasicPoints (events ++ event ∷ []) after (record { points = points; users = users; strays = strays })
   has_points strays bound floored clean counted count are = record { rules = rules; versions = kept; users = users_are; bounds = bound; floors = floored; clean = clean; strays = counted; count = count; are_points = are }
 
   -- ---- an ok
@@ -329,12 +329,13 @@ module _ (events : List Operation) (event : Operation) (before after : KeptVersi
     }
 
   pub points_fall :
-      is_ok t ≡ true
+      (falls : List Fall)
+      → is_ok t ≡ true
       → BoundAll after.accesses points users.bounds
       → FloorAll after.accesses points users.floors
-      → FallAndPass p.points points users later after.accesses place
+      → FallAndPass p.points points users later after.accesses falls place
       → (point : ℕ → ℕ) × AreListed later points point × ArePoints Basic later point
-  points_fall ok bound floored (falls, count, fallen, passes, lowered) =
+  points_fall falls ok bound floored (count, fallen, passes, lowered) =
       let (point, listed, are) = had.are_points in
       let (next, next_listed) = list_points (events ++ event ∷ []) points in
       (next, next_listed, points_move events event rules t point next (Contains_from_in t later is_among) changed.of are (are_next bound floored falls fallen passes point next listed next_listed ok))

@@ -3,7 +3,7 @@ pub mod ByVersion
 pub mod ByPlace
 pub mod OneEvent
 pub mod NextPoints
-pub mod Steps
+pub mod OkSteps
 pub mod Staying
 pub mod Rows
 pub mod Listed
@@ -17,3 +17,7 @@ pub mod Changed
 pub mod Installed
 pub mod Advancing
 pub mod OneMore
+pub mod OneCompletion
+pub mod RisingSteps
+pub mod KeptSteps
+pub mod SequentialPoints

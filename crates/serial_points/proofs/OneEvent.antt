@@ -55,7 +55,7 @@ earlier_from index n (event ∷ events) t at i of =
     earlier_by (is_invoke event.kind) index n event events t at i of
     (λ j. earlier_from (index + 1) n events t (omega (arith, at)) j of)
 
-earlier : (events : List Operation) (t : Transaction) → In t (transactions_of events) → ¬ IsOfEvent (length events) t
+pub earlier : (events : List Operation) (t : Transaction) → In t (transactions_of events) → ¬ IsOfEvent (length events) t
 earlier events t i of = earlier_from 0 (length events) events t (omega arith) i of
 
 -- ---- one more event

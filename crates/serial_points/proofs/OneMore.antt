@@ -29,11 +29,12 @@ use Rattle.serial_points.specs.Bounds.{AreBounds, BoundsReads, BoundAll, AreFloo
 use Rattle.serial_points.specs.ByPlace.{AreListed}
 use Rattle.serial_points.specs.Clean.{IsClean}
 use Rattle.serial_points.specs.CleanReads.{IsCleanRead}
-use Rattle.serial_points.specs.KeptPoints.{KeptPoints, HasPoints, IsNext, IsUnreadAt, IsCleanAt, AdvancesBy, HasSettled, PointsAdvance, UsersAdvance}
+use Rattle.serial_points.specs.KeptPoints.{BasicPoints, HasBasicPoints, IsBasicNext, IsUnreadAt, IsCleanAt, AdvancesBy, HasSettled, PointsAdvance, UsersAdvance}
 use Rattle.serial_points.specs.NextPoints.{WritesNothingRead}
 use Rattle.serial_points.specs.Points.{ArePoints}
 use Rattle.serial_points.specs.Strays.{unwritten, StraysAdvance}
 use Rattle.serial_points.specs.Users.{IsListed, ListVersions, ListKeys, ListUpdated, AreUsers}
+use Rattle.serial_points.specs.declared.falls.Fall.{Fall}
 use Rattle.serial_points.specs.declared.users.Users.{Users}
 use Rattle.serial_points.proofs.Accesses.{installs_writes, read_access}
 use Rattle.serial_points.proofs.Advancing.{bound_after, floor_after, clean_after, has_points, own_accesses, points_fall, points_stay, unread_by, users_are}
@@ -50,14 +51,14 @@ is_invocation kinds.Ok e = elim (false≢true e) [ ]
 is_invocation kinds.Fail e = elim (false≢true e) [ ]
 is_invocation kinds.Info e = elim (false≢true e) [ ]
 
-module _ (events : List Operation) (event : Operation) (before after : KeptVersions) (p : KeptPoints) (points : List ℕ) (users : Users) (strays : ℕ) (place : ℕ)
-    (next : IsNext events event before p (transactions_of (events ++ event ∷ [])) after place)
+module _ (events : List Operation) (event : Operation) (before after : KeptVersions) (p : BasicPoints) (points : List ℕ) (users : Users) (strays : ℕ) (falls : List Fall) (place : ℕ)
+    (next : IsBasicNext events event before p (transactions_of (events ++ event ∷ [])) after place)
     (grown : UsersAdvance p.users users after.accesses place)
     (bounds : AreBounds points users.readers p.users.bounds users.bounds)
     (floors : AreFloors points users.key_writers p.users.floors users.floors)
     (bound_own : (a : TxnAccesses) → slice_get after.accesses place ≡ Some a → BoundsReads users.bounds (slice_index points place) a.reads a.writes)
     (floor_own : IsFloored after.accesses points users.floors place)
-    (advance : PointsAdvance p.points points users (transactions_of (events ++ event ∷ [])) after.accesses place)
+    (advance : PointsAdvance p.points points users (transactions_of (events ++ event ∷ [])) after.accesses falls place)
     (counted : StraysAdvance p.strays strays users.writers after.accesses place) where
   abbrev pub ts : List Transaction
   ts = transactions_of events
@@ -66,7 +67,7 @@ module _ (events : List Operation) (event : Operation) (before after : KeptVersi
   later = transactions_of (events ++ event ∷ [])
 
   abbrev pub Has : Type 0
-  Has = HasPoints (events ++ event ∷ []) after (record { points = points; users = users; strays = strays })
+  Has = HasBasicPoints (events ++ event ∷ []) after (record { points = points; users = users; strays = strays })
 
   -- ---- stray reads
 
@@ -191,8 +192,8 @@ module _ (events : List Operation) (event : Operation) (before after : KeptVersi
         let is : w ≡ done.was = same_Some w done.was (sym at ∙ done.there) in
         subst (λ ws. has_version (map version_of (last_writes ws)) v ≡ true) (ap (λ (x : Transaction). writes_of x.mops) is ∙ sym same_writes) installed
 
-    by_status : (s : Status) → status_by event.kind ≡ s → AdvancesBy s p.points points users later after.accesses place
-    by_status s e = subst (λ s. AdvancesBy s p.points points users later after.accesses place) e (advance own changed_own.at)
+    by_status : (s : Status) → status_by event.kind ≡ s → AdvancesBy s p.points points users later after.accesses falls place
+    by_status s e = subst (λ s. AdvancesBy s p.points points users later after.accesses falls place) e (advance own changed_own.at)
 
     same_length : length later ≡ length ts
     same_length = ap length done.listed ∙ length-set ts place own
@@ -283,11 +284,11 @@ module _ (events : List Operation) (event : Operation) (before after : KeptVersi
     is_done : event.kind ≡ kinds.Ok → Has
     is_done e =
         let (clean, fall) = by_status Ok (ap status_by e) in
-        let count = fall.1 in
-        let bound = bound_by own changed_own (λ k differ within. (fall.2 k).0) in
-        let floored = floor_by own changed_own (λ k differ within. elim (fall.2 k).1 [
+        let count = fall.0 in
+        let bound = bound_by own changed_own (λ k differ within. (fall.1 k).0) in
+        let floored = floor_by own changed_own (λ k differ within. elim (fall.1 k).1 [
           | inl same ↦ inl same
-          | inr (i, below, is) ↦ inr (subst (λ n. IsFloored after.accesses points users.floors n) is (fall.4 i below))
+          | inr (i, below, is) ↦ inr (subst (λ n. IsFloored after.accesses points users.floors n) is (fall.3 i below))
         ]) in
         let (a, there) = own_there own changed_own in
         has_points events event before after p points users place own next.points next.rules next.kept next.others changed_own grown strays
@@ -299,7 +300,7 @@ module _ (events : List Operation) (event : Operation) (before after : KeptVersi
         (λ v k u at read nobody. unwritten_still v nobody))
         (strays_more (strays_counted later after users next.kept (known_users own changed_own) place own a changed_own.at there (clean a there)))
         (count ∙ next.points.count ∙ sym same_length)
-        (points_fall events event before after p points users place own next.points next.rules next.kept next.others changed_own grown (ap (λ k. is_ok_status (status_by k)) e) bound floored fall)
+        (points_fall events event before after p points users place own next.points next.rules next.kept next.others changed_own grown falls (ap (λ k. is_ok_status (status_by k)) e) bound floored fall)
 
     completes_by : (kind : OpKind) → event.kind ≡ kind → Has
     completes_by kinds.Invoke e = absurd (false≢true (sym ends ∙ ap is_invoke e))
@@ -336,27 +337,27 @@ still_advanced points before middle after accesses place grown settled = record 
 }
 
 pub points_after :
-    (events : List Operation) (event : Operation) (before after : KeptVersions) (p : KeptPoints) (points : List ℕ) (middle users : Users) (strays : ℕ) (us : List Transaction)
-    (place : ℕ)
-    → IsNext events event before p us after place
+    (events : List Operation) (event : Operation) (before after : KeptVersions) (p : BasicPoints) (points : List ℕ) (middle users : Users) (strays : ℕ) (us : List Transaction)
+    (falls : List Fall) (place : ℕ)
+    → IsBasicNext events event before p us after place
     → UsersAdvance p.users middle after.accesses place
     → middle.bounds ≡ p.users.bounds
     → middle.floors ≡ p.users.floors
     → HasSettled points middle users after.accesses place
-    → PointsAdvance p.points points users us after.accesses place
+    → PointsAdvance p.points points users us after.accesses falls place
     → StraysAdvance p.strays strays users.writers after.accesses place
-    → HasPoints (events ++ event ∷ []) after (record { points = points; users = users; strays = strays })
-points_after events event before after p points middle users strays us place next grown same level settled advance counted =
-    advanced events event before after p points users strays place (subst (λ all. IsNext events event before p all after place) next.txns next)
+    → HasBasicPoints (events ++ event ∷ []) after (record { points = points; users = users; strays = strays })
+points_after events event before after p points middle users strays us falls place next grown same level settled advance counted =
+    advanced events event before after p points users strays falls place (subst (λ all. IsBasicNext events event before p all after place) next.txns next)
     (still_advanced points p.users middle users after.accesses place grown settled)
     (subst (λ bounds. AreBounds points users.readers bounds users.bounds) same settled.bounds)
     (subst (λ floors. AreFloors points users.key_writers floors users.floors) level settled.floors)
     settled.bound settled.floored
-    (subst (λ all. PointsAdvance p.points points users all after.accesses place) next.txns advance) counted
+    (subst (λ all. PointsAdvance p.points points users all after.accesses falls place) next.txns advance) counted
 
 pub next_place :
-    (events : List Operation) (event : Operation) (before after : KeptVersions) (p : KeptPoints) (us : List Transaction) (place : ℕ)
-    → IsNext events event before p us after place
+    (events : List Operation) (event : Operation) (before after : KeptVersions) (p : BasicPoints) (us : List Transaction) (place : ℕ)
+    → IsBasicNext events event before p us after place
     → place < length us
 next_place events event before after p us place next =
     elim (begins_or_completes (length events) event place (transactions_of events) us next.change) [
@@ -375,7 +376,7 @@ no_accesses : (keys : KeyOrder) (vs : List Version) (accesses : List TxnAccesses
 no_accesses keys vs [] are = refl
 no_accesses keys vs (a ∷ accesses) are = absurd are
 
-pub points_of_none : (kept : KeptVersions) (points : List ℕ) (users : Users) → AreKept [] kept → points ≡ [] → AreUsers [] users → HasPoints [] kept (record { points = points; users = users; strays = 0 })
+pub points_of_none : (kept : KeptVersions) (points : List ℕ) (users : Users) → AreKept [] kept → points ≡ [] → AreUsers [] users → HasBasicPoints [] kept (record { points = points; users = users; strays = 0 })
 points_of_none kept points users are none used = record {
   rules = refl;
   versions = are;

@@ -22,7 +22,7 @@ use Rattle.serial_points.specs.Points.{point_at, ArePoints}
 use Rattle.serial_points.proofs.ByVersion.{node_among}
 use Rattle.serial_points.proofs.NextPoints.{ok_is_node, reader_is_ok}
 use Rattle.serial_points.proofs.OneEvent.{invoked, completes, open_not_failed}
-use Rattle.serial_points.proofs.Steps.{same_process_pairs}
+use Rattle.serial_points.proofs.OkSteps.{same_process_pairs}
 
 -- what a later transaction was before: the same, or one that hadn't failed and isn't ok now, with the same writes
 pub record Was (t later : Transaction) : Type 0 where

@@ -4,8 +4,8 @@ use Rattle.hist_types.specs.Journal.{KeepsRules}
 use Rattle.hist_types.specs.Operations.{Operation}
 use Rattle.hist_types.specs.Phenomena.{stray}
 use Rattle.hist_types.specs.Transactions.{Transaction, Status, Ok, Fail, Info, Open, transactions_of}
-use Rattle.hist_types.specs.declared.types.KeyOrder.TheVariants.{Basic}
-use Rattle.key_versions.specs.Kept.{KeptVersions, AreKept, StayBeside}
+use Rattle.hist_types.specs.declared.types.KeyOrder.TheVariants.{Basic, Sequential}
+use Rattle.key_versions.specs.Kept.{KeptVersions, AreKept, KeepNumbers, StayBeside}
 use Rattle.key_versions.specs.TxnAccesses.{TxnAccesses}
 use Rattle.txn_pairs.specs.Growth.{IsChange}
 use Rattle.serial_points.specs.Bounds.{AreBounds, AreFloors, BoundsReads, BoundAll, IsFloored, FloorAll}
@@ -13,21 +13,28 @@ use Rattle.serial_points.specs.ByPlace.{AreListed}
 use Rattle.serial_points.specs.Clean.{IsClean, AreUnread}
 use Rattle.serial_points.specs.CleanReads.{ReadsAreClean}
 use Rattle.serial_points.specs.Falls.{HaveFallen, AreFloored, PassesAfter}
+use Rattle.serial_points.specs.KeptSteps.{HasSteps}
 use Rattle.serial_points.specs.Points.{ArePoints}
 use Rattle.serial_points.specs.Users.{AreUsers, IsAmongUsers, UsersStay}
 use Rattle.serial_points.specs.declared.falls.Fall.{Fall}
+use Rattle.serial_points.specs.declared.steps.Steps.{Steps}
 use Rattle.serial_points.specs.declared.users.Users.{Users}
 
-pub record KeptPoints : Type 0 where
+-- points by dependencies that don't take the order in which a process saw versions
+pub record BasicPoints : Type 0 where
   -- by place of transaction
   pub points : List ℕ
   pub users : Users
   -- how many reads are stray
   pub strays : ℕ
 
--- The points are points of the events, which keep the rules, and no read of them is a bad one. So
--- many are stray.
-pub record HasPoints (events : List Operation) (kept : KeptVersions) (p : KeptPoints) :
+pub record KeptPoints : Type 0 where
+  pub basic : BasicPoints
+  pub steps : Steps
+
+-- The points are points of the events, as if keys were basic. The events keep the rules, and no read
+-- of them is a bad one. So many are stray.
+pub record HasBasicPoints (events : List Operation) (kept : KeptVersions) (p : BasicPoints) :
     Type 0 where
   pub rules : KeepsRules events
   pub versions : AreKept (transactions_of events) kept
@@ -42,16 +49,31 @@ pub record HasPoints (events : List Operation) (kept : KeptVersions) (p : KeptPo
       × AreListed (transactions_of events) p.points point
       × ArePoints Basic (transactions_of events) point
 
+-- The points are points of the events: they rise along steps, too, if keys are sequential.
+pub record HasPoints (events : List Operation) (kept : KeptVersions) (p : KeptPoints) :
+    Type 0 where
+  pub basic : HasBasicPoints events kept p.basic
+  pub steps :
+      kept.keys ≡ Sequential → HasSteps (transactions_of events) kept p.basic.points p.steps
+
 -- The event came after those that the points are of, and began or completed the transaction at the
 -- place; the transactions and what is kept of them are those of the events and this one.
-pub record IsNext (events : List Operation) (event : Operation) (before : KeptVersions)
-    (p : KeptPoints) (later : List Transaction) (after : KeptVersions) (place : ℕ) : Type 0 where
-  pub points : HasPoints events before p
+pub record IsBasicNext (events : List Operation) (event : Operation) (before : KeptVersions)
+    (p : BasicPoints) (later : List Transaction) (after : KeptVersions) (place : ℕ) : Type 0 where
+  pub points : HasBasicPoints events before p
   pub rules : KeepsRules (events ++ event ∷ [])
   pub txns : later ≡ transactions_of (events ++ event ∷ [])
   pub kept : AreKept later after
   pub change : IsChange (length events) event (Some place) (transactions_of events) later
   pub others : StayBeside place before.accesses after.accesses
+
+-- Versions keep their numbers, and keys are ordered as before.
+pub record IsNext (events : List Operation) (event : Operation) (before : KeptVersions)
+    (p : KeptPoints) (later : List Transaction) (after : KeptVersions) (place : ℕ) : Type 0 where
+  pub points : HasPoints events before p
+  pub basic : IsBasicNext events event before p.basic later after place
+  pub numbers : KeepNumbers before.versions after.versions
+  pub keys : after.keys ≡ before.keys
 
 -- ---- one event, by how its transaction is now
 
@@ -69,10 +91,15 @@ IsCleanAt ts users accesses place =
 
 -- points fell, and pass
 abbrev pub FallAndPass :
-    (before after : List ℕ) → Users → List Transaction → List TxnAccesses → (place : ℕ) → Type 0
-FallAndPass before after users ts accesses place =
-    (falls : List Fall)
-    × (length after ≡ length before)
+    (before after : List ℕ)
+    → Users
+    → List Transaction
+    → List TxnAccesses
+    → List Fall
+    → (place : ℕ)
+    → Type 0
+FallAndPass before after users ts accesses falls place =
+    (length after ≡ length before)
     × HaveFallen before after falls (length falls)
     × PassesAfter after users ts accesses falls place
     × AreFloored accesses after users.floors falls
@@ -83,23 +110,30 @@ abbrev pub AdvancesBy :
     → Users
     → List Transaction
     → List TxnAccesses
+    → List Fall
     → (place : ℕ)
     → Type 0
-AdvancesBy Open before after users ts accesses place =
+AdvancesBy Open before after users ts accesses falls place =
     IsUnreadAt users accesses place × ((point : ℕ) × (after ≡ before ++ point ∷ []))
-AdvancesBy Fail before after users ts accesses place =
+AdvancesBy Fail before after users ts accesses falls place =
     IsUnreadAt users accesses place × (after ≡ before)
-AdvancesBy Info before after users ts accesses place = after ≡ before
-AdvancesBy Ok before after users ts accesses place =
-    IsCleanAt ts users accesses place × FallAndPass before after users ts accesses place
+AdvancesBy Info before after users ts accesses falls place = after ≡ before
+AdvancesBy Ok before after users ts accesses falls place =
+    IsCleanAt ts users accesses place × FallAndPass before after users ts accesses falls place
 
 -- so it is by the status of the transaction at the place
 abbrev pub PointsAdvance :
-    (before after : List ℕ) → Users → List Transaction → List TxnAccesses → (place : ℕ) → Type 0
-PointsAdvance before after users ts accesses place =
+    (before after : List ℕ)
+    → Users
+    → List Transaction
+    → List TxnAccesses
+    → List Fall
+    → (place : ℕ)
+    → Type 0
+PointsAdvance before after users ts accesses falls place =
     (t : Transaction)
     → slice_get ts place ≡ Some t
-    → AdvancesBy t.status before after users ts accesses place
+    → AdvancesBy t.status before after users ts accesses falls place
 
 -- the same users are listed, and what is above their points, or below them, is so again; the
 -- transaction at the place is within it

@@ -10,3 +10,6 @@ pub mod Passing
 pub mod Falls
 pub mod Clean
 pub mod KeptPoints
+pub mod Steps
+pub mod Stepping
+pub mod KeptSteps

@@ -1,7 +1,7 @@
 -- Who reads each version and who writes it, kept by number of version while a run goes on.
 --
 -- The lists may have more places than those: it is enough that nobody is left out.
-use Rattle.std.specs.Prelude.{◌≡◌, ℕ, ◌==◌, not, List, [], Bool, false, if◌then◌else◌, fold, slice_get, slice_index_or, Some, All, Contains, IsTrue}
+use Rattle.std.specs.Prelude.{◌≡◌, ◌⊎◌, ℕ, ◌==◌, not, List, [], Bool, false, if◌then◌else◌, fold, slice_get, slice_index_or, Some, All, Contains, IsTrue}
 use Rattle.key_versions.specs.TxnAccesses.{TxnAccesses}
 use Rattle.key_versions.specs.declared.pending.Access.{Access}
 use Rattle.serial_points.specs.declared.users.Users.{Users}
@@ -17,6 +17,13 @@ IsListed lists number place = Contains (places_at lists number) place
 abbrev pub StayListed : (before after : List (List ℕ)) → Type 0
 StayListed before after =
     (number place : ℕ) → IsListed before number place → IsListed after number place
+
+-- nothing else than the place, under the number, is listed that wasn't
+abbrev pub ListOnly : (before after : List (List ℕ)) → (number place : ℕ) → Type 0
+ListOnly before after number place =
+    (n other : ℕ)
+    → IsListed after n other
+    → IsListed before n other ⊎ ((n ≡ number) × (other ≡ place))
 
 -- the place is listed under the version of each access, or under the nil version of its key
 abbrev pub ListVersions : List (List ℕ) → (place : ℕ) → List Access → Type 0

@@ -1,17 +1,16 @@
 //! One event more, for points and the users of versions.
 
-ghost use Rattle.std.specs.Prelude.{◌≡◌, ◌<◌, length, true, IfOk, OnOk};
+ghost use Rattle.std.specs.Prelude.{◌≡◌, ◌<◌, [], length, true, IfOk, OnOk};
 ghost use Rattle.hist_types.specs.Transactions.{Open, Ok as Committed, Fail, Info};
 ghost use Rattle.key_versions.specs.Kept.{AreKept};
 ghost use Rattle.serial_points.specs.KeptPoints.{IsUnreadAt, IsCleanAt, FallAndPass, AdvancesBy, HasSettled, PointsAdvance, UsersAdvance};
 
 use crate::clean::{are_clean, was_read};
-use crate::falls::{lower, passes_after};
-use crate::search::search;
+use crate::falls::{Fall, lower, passes_after};
 use crate::settling::settle;
 use crate::users::Users;
 use key_versions::kept::KeptVersions;
-use std::alloc::{AllocError, Global};
+use std::alloc::AllocError;
 use std::hash::BuildHasher;
 use txn_pairs::types::{Status, Txn};
 
@@ -78,40 +77,25 @@ fn reads_clean<'a, S: BuildHasher + Copy>(
 
 /// Lowers points, as the transaction at the place is now ok. Whether they pass.
 fn lower_for_ok<'a, S: BuildHasher + Copy>(
-    alloc: Global,
     points: &mut Vec<u64>,
     users: &mut Users,
     txns: &[Txn<'a>],
     versions: &KeptVersions<'a, S>,
+    falls: &[Fall],
     place: usize,
 ) -> Result<bool, AllocError>
     requires kept { AreKept txns.now versions.now }
     requires place { place < length txns.now }
     ensures settled { IfOk result (λ passes. passes ≡ true → HasSettled
         points.new.items users.old users.new versions.now.accesses place) }
-    ensures passed { IfOk result (λ passes. passes ≡ true → FallAndPass
-        points.old.items points.new.items users.new txns.now versions.now.accesses place) }
+    ensures passed { IfOk result (λ passes. passes ≡ true → FallAndPass points.old.items
+        points.new.items users.new txns.now versions.now.accesses falls.now place) }
 {
-    let falls = search(alloc, points.as_slice(), users, txns, versions, place)?;
-    if !lower(points.as_mut_slice(), falls.as_slice()) {
+    if !lower(points.as_mut_slice(), falls) {
         return Ok(false);
     }
-    settle(
-        users,
-        points.as_slice(),
-        txns,
-        versions,
-        falls.as_slice(),
-        place,
-    )?;
-    Ok(passes_after(
-        points.as_slice(),
-        users,
-        txns,
-        versions,
-        falls.as_slice(),
-        place,
-    ))
+    settle(users, points.as_slice(), txns, versions, falls, place)?;
+    Ok(passes_after(points.as_slice(), users, txns, versions, falls, place))
 }
 
 /// Adds a point for the transaction at the place, which begins. Whether points pass.
@@ -127,7 +111,7 @@ fn begin<'a, S: BuildHasher + Copy>(
     ensures settled { OnOk result (HasSettled
         points.new.items users.old users.new versions.now.accesses place) }
     ensures begun { IfOk result (λ passes. passes ≡ true → AdvancesBy Open
-        points.old.items points.new.items users.new txns.now versions.now.accesses place) }
+        points.old.items points.new.items users.new txns.now versions.now.accesses [] place) }
 {
     points.push(u64::MAX)?;
     settle(users, points.as_slice(), txns, versions, &[], place)?;
@@ -147,7 +131,7 @@ fn fail<'a, S: BuildHasher + Copy>(
     ensures settled { OnOk result (HasSettled
         points.now users.old users.new versions.now.accesses place) }
     ensures failed { IfOk result (λ passes. passes ≡ true → AdvancesBy Fail
-        points.now points.now users.new txns.now versions.now.accesses place) }
+        points.now points.now users.new txns.now versions.now.accesses [] place) }
 {
     settle(users, points, txns, versions, &[], place)?;
     Ok(is_unread(users, txns, versions, place))
@@ -166,7 +150,7 @@ fn inform<'a, S: BuildHasher + Copy>(
     ensures settled { OnOk result (HasSettled
         points.now users.old users.new versions.now.accesses place) }
     ensures informed { IfOk result (λ passes. passes ≡ true → AdvancesBy Info
-        points.now points.now users.new txns.now versions.now.accesses place) }
+        points.now points.now users.new txns.now versions.now.accesses [] place) }
 {
     settle(users, points, txns, versions, &[], place)?;
     Ok(true)
@@ -174,45 +158,45 @@ fn inform<'a, S: BuildHasher + Copy>(
 
 /// Lowers points, as the transaction at the place is now ok, if what it reads is clean. Whether they pass.
 fn complete<'a, S: BuildHasher + Copy>(
-    alloc: Global,
     points: &mut Vec<u64>,
     users: &mut Users,
     txns: &[Txn<'a>],
     versions: &KeptVersions<'a, S>,
+    falls: &[Fall],
     place: usize,
 ) -> Result<bool, AllocError>
     requires kept { AreKept txns.now versions.now }
     requires place { place < length txns.now }
     ensures settled { IfOk result (λ passes. passes ≡ true → HasSettled
         points.new.items users.old users.new versions.now.accesses place) }
-    ensures completed { IfOk result (λ passes. passes ≡ true → AdvancesBy Committed
-        points.old.items points.new.items users.new txns.now versions.now.accesses place) }
+    ensures completed { IfOk result (λ passes. passes ≡ true → AdvancesBy Committed points.old.items
+        points.new.items users.new txns.now versions.now.accesses falls.now place) }
 {
-    if !lower_for_ok(alloc, points, users, txns, versions, place)? {
+    if !lower_for_ok(points, users, txns, versions, falls, place)? {
         return Ok(false);
     }
     Ok(reads_clean(users, txns, versions, place))
 }
 
-/// Whether there are points after the event that began or completed the transaction at the place.
+/// Whether there are points after the event that began or completed the transaction at the place, where these fall if it is ok.
 pub(crate) fn advance<'a, S: BuildHasher + Copy>(
-    alloc: Global,
     points: &mut Vec<u64>,
     users: &mut Users,
     txns: &[Txn<'a>],
     versions: &KeptVersions<'a, S>,
+    falls: &[Fall],
     place: usize,
 ) -> Result<bool, AllocError>
     requires kept { AreKept txns.now versions.now }
     requires place { place < length txns.now }
     ensures settled { IfOk result (λ passes. passes ≡ true → HasSettled
         points.new.items users.old users.new versions.now.accesses place) }
-    ensures advanced { IfOk result (λ passes. passes ≡ true → PointsAdvance
-        points.old.items points.new.items users.new txns.now versions.now.accesses place) }
+    ensures advanced { IfOk result (λ passes. passes ≡ true → PointsAdvance points.old.items
+        points.new.items users.new txns.now versions.now.accesses falls.now place) }
 {
     match txns[place].status() {
         Status::Open => begin(points, users, txns, versions, place),
-        Status::Ok => complete(alloc, points, users, txns, versions, place),
+        Status::Ok => complete(points, users, txns, versions, falls, place),
         Status::Fail => fail(points.as_slice(), users, txns, versions, place),
         Status::Info => inform(points.as_slice(), users, txns, versions, place),
     }

@@ -4,15 +4,18 @@ ghost use Rattle.std.specs.Prelude.{◌≡◌, ◌++◌, ◌∷◌, [], List, If
 ghost use Rattle.hist_types.specs.Operations.{Operation};
 ghost use Rattle.hist_types.specs.Phenomena.{stray};
 ghost use Rattle.hist_types.specs.Transactions.{transactions_of};
-ghost use Rattle.hist_types.specs.declared.types.KeyOrder.TheVariants.{Basic};
 ghost use Rattle.hist_types.specs.Reports.{AreFindings, no_findings};
 ghost use Rattle.key_versions.specs.Kept.{KeptVersions as Kept, AreKept};
 ghost use Rattle.serial_points.specs.CleanReads.{HasNoBadRead};
 ghost use Rattle.serial_points.specs.KeptPoints.{HasPoints, IsNext};
 
 use crate::advance::{add_users, advance};
+use crate::search::search;
+use crate::stepping::steps_pass;
+use crate::steps::Steps;
 use crate::strays::strays_after;
 use crate::users::Users;
+use hist_types::types::KeyOrder;
 use key_versions::kept::KeptVersions;
 use std::alloc::{AllocError, Global};
 use std::hash::BuildHasher;
@@ -27,6 +30,7 @@ pub struct Points {
     alloc: Global,
     points: Vec<u64>,
     users: Users,
+    steps: Steps,
     strays: u64,
 }
 
@@ -36,23 +40,23 @@ impl Model for Points {
     ghost Value = { KeptPoints };
 
     ghost view = { λ p. record {
-      points = p.points.items;
-      users = p.users;
-      strays = p.strays;
+      basic = record { points = p.points.items; users = p.users; strays = p.strays };
+      steps = p.steps;
     } };
 }
 
 impl Points {
-    /// The points of no events.
-    pub fn new(alloc: Global) -> Self
-        ensures { (kept : Kept) → AreKept [] kept → HasPoints [] kept result }
+    /// The points of no events, for such keys. The only error is out of memory.
+    pub fn new(alloc: Global, keys: KeyOrder) -> Result<Self, AllocError>
+        ensures { (kept : Kept) → AreKept [] kept → IfOk result (HasPoints [] kept) }
     {
-        Points {
+        Ok(Points {
             alloc,
             points: Vec::new(alloc),
             users: Users::new(alloc),
+            steps: Steps::new(alloc, keys)?,
             strays: 0,
-        }
+        })
     }
 
     /// Points of one event more, which began or completed the transaction at the place. None if they are given up: then there may be
@@ -73,10 +77,34 @@ impl Points {
             alloc,
             mut points,
             mut users,
+            steps,
             strays,
         } = self;
         add_users(&mut users, txns, versions, place)?;
-        if !advance(alloc, &mut points, &mut users, txns, versions, place)? {
+        let steps = steps.after(txns, versions, place)?;
+        let falls = search(
+            alloc,
+            points.as_slice(),
+            &users,
+            &steps.lists,
+            txns,
+            versions,
+            place,
+        )?;
+        let falls = falls.as_slice();
+        if !advance(&mut points, &mut users, txns, versions, falls, place)? {
+            return Ok(None);
+        }
+        let points_now = points.as_slice();
+        if !steps_pass(
+            points_now,
+            &users,
+            &steps.lists,
+            txns,
+            versions,
+            falls,
+            place,
+        ) {
             return Ok(None);
         }
         let Some(strays) = strays_after(strays, &users.writers, txns, versions, place) else {
@@ -86,13 +114,14 @@ impl Points {
             alloc,
             points,
             users,
+            steps,
             strays,
         }))
     }
 
     /// How many reads are stray.
     pub fn strays(&self) -> u64
-        ensures { result ≡ self.now.strays }
+        ensures { result ≡ self.now.basic.strays }
     {
         self.strays
     }
@@ -101,11 +130,11 @@ impl Points {
     pub fn find_nothing(&self)
         ensures findings { (events : List Operation) (kept : Kept)
             → HasPoints events kept self.now
-            → AreFindings Basic (transactions_of events) no_findings }
+            → AreFindings kept.keys (transactions_of events) no_findings }
         ensures reads { (events : List Operation) (kept : Kept)
             → HasPoints events kept self.now → HasNoBadRead (transactions_of events) }
         ensures stray { (events : List Operation) (kept : Kept)
             → HasPoints events kept self.now
-            → stray (transactions_of events) ≡ self.now.strays }
+            → stray (transactions_of events) ≡ self.now.basic.strays }
     {}
 }

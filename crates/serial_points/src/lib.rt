@@ -24,6 +24,8 @@ mod passing;
 mod places;
 mod search;
 mod settling;
+mod stepping;
+mod steps;
 mod strays;
 mod users;
 

@@ -21,7 +21,7 @@ fn is_lower_if_other(points: &[u64], place: usize, other: usize) -> bool
     }
 }
 
-fn are_all_lower(points: &[u64], places: &[u32], place: usize) -> bool
+pub(crate) fn are_all_lower(points: &[u64], places: &[u32], place: usize) -> bool
     ensures { result ≡ true → AllLower points.now places.now place }
 {
     for other in places {
@@ -32,7 +32,7 @@ fn are_all_lower(points: &[u64], places: &[u32], place: usize) -> bool
     true
 }
 
-fn are_all_higher(points: &[u64], places: &[u32], place: usize) -> bool
+pub(crate) fn are_all_higher(points: &[u64], places: &[u32], place: usize) -> bool
     ensures { result ≡ true → AllHigher points.now places.now place }
 {
     for other in places {

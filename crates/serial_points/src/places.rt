@@ -1,7 +1,7 @@
-//! Places of transactions, listed by number.
+//! Numbers, such as places of transactions, listed by number.
 
 ghost use Rattle.std.specs.Prelude.{◌≡◌, ◌≤◌, [], length, OnOk};
-ghost use Rattle.serial_points.specs.Users.{places_at, IsListed, StayListed};
+ghost use Rattle.serial_points.specs.Users.{places_at, IsListed, StayListed, ListOnly};
 
 use smallvec::SmallVec;
 use std::alloc::{AllocError, Global};
@@ -45,6 +45,7 @@ impl Places {
     fn grow(&mut self, numbers: usize) -> Result<(), AllocError>
         ensures enough { OnOk result (numbers ≤ length self.new) }
         ensures stay { OnOk result (StayListed self.old self.new) }
+        ensures only { OnOk result (StayListed self.new self.old) }
     {
         while self.lists.len() < numbers {
             self.lists.push(SmallVec::new(self.alloc))?;
@@ -56,6 +57,7 @@ impl Places {
     pub fn add(&mut self, number: u32, place: u32) -> Result<(), AllocError>
         ensures added { OnOk result (IsListed self.new number place) }
         ensures stay { OnOk result (StayListed self.old self.new) }
+        ensures only { OnOk result (ListOnly self.old self.new number place) }
     {
         self.grow(number as usize + 1)?;
         self.lists[number as usize].push(place)?;

@@ -4,11 +4,12 @@ ghost use Rattle.std.specs.Prelude.{◌≡◌};
 ghost use Rattle.key_versions.specs.Kept.{AreKept};
 
 use crate::falls::{Fall, POINTS};
+use crate::steps::StepLists;
 use crate::users::{Users, has_key, updates};
 use key_versions::kept::{Access, KeptVersions};
 use std::alloc::{AllocError, Global};
 use std::hash::BuildHasher;
-use txn_pairs::types::Txn;
+use txn_pairs::types::{Status, Txn};
 
 /// How many falls one event may have. With more, the search ends, and its points won't pass.
 const MOST_FALLS: usize = 4096;
@@ -47,10 +48,28 @@ fn least_follower(points: &[u64], users: &Users, place: usize, nil: u32, writes:
     least(points, users.key_writers.at(nil), place)
 }
 
+/// The least point of the others that write a version to which a process went from one of these.
+fn least_later(
+    points: &[u64],
+    users: &Users,
+    lists: &StepLists,
+    place: usize,
+    accesses: &[Access],
+) -> u64 {
+    let mut above = u64::MAX;
+    for access in accesses {
+        for later in lists.later.at(access.version) {
+            above = above.min(least(points, users.writers.at(*later), place));
+        }
+    }
+    above
+}
+
 /// The highest point that the transaction at the place, which is now ok and reads and writes this, may have.
 fn highest(
     points: &[u64],
     users: &Users,
+    lists: &StepLists,
     txn: &Txn<'_>,
     place: usize,
     reads: &[Access],
@@ -66,6 +85,9 @@ fn highest(
             above = above.min(least_follower(points, users, place, read.nil, writes));
         }
     }
+    above = above
+        .min(least_later(points, users, lists, place, reads))
+        .min(least_later(points, users, lists, place, writes));
     let own = match points.get(place) {
         Some(point) => *point,
         None => 0,
@@ -92,10 +114,29 @@ fn push_below(
     Ok(())
 }
 
+/// Makes those fall that read or write a version from which a process went to one that the transaction at the place writes.
+fn push_steps_below(
+    points: &[u64],
+    users: &Users,
+    lists: &StepLists,
+    falls: &mut Vec<Fall>,
+    place: u32,
+    writes: &[Access],
+) -> Result<(), AllocError> {
+    for write in writes {
+        for earlier in lists.earlier.at(write.version) {
+            push_below(points, falls, users.readers.at(*earlier), place)?;
+            push_below(points, falls, users.writers.at(*earlier), place)?;
+        }
+    }
+    Ok(())
+}
+
 /// Makes those fall that the transaction at the place, which reads and writes this, depends on.
 fn push_all_below(
     points: &[u64],
     users: &Users,
+    lists: &StepLists,
     falls: &mut Vec<Fall>,
     place: u32,
     reads: &[Access],
@@ -111,14 +152,31 @@ fn push_all_below(
         let point = point_at(points, falls.as_slice(), place);
         push_below(points, falls, users.nil_readers(write.nil, point), place)?;
     }
+    push_steps_below(points, users, lists, falls, place, writes)
+}
+
+/// Makes those fall that read or write the earlier version of a fresh step, where they aren't below who writes the later one.
+fn push_fresh_below(
+    points: &[u64],
+    users: &Users,
+    lists: &StepLists,
+    falls: &mut Vec<Fall>,
+) -> Result<(), AllocError> {
+    for (later, earlier) in lists.fresh.as_slice() {
+        for writer in users.writers.at(*later) {
+            push_below(points, falls, users.readers.at(*earlier), *writer)?;
+            push_below(points, falls, users.writers.at(*earlier), *writer)?;
+        }
+    }
     Ok(())
 }
 
-/// Points that fall as the transaction at the place is now ok.
+/// Points that fall if the transaction at the place is now ok.
 pub(crate) fn search<'a, S: BuildHasher + Copy>(
     alloc: Global,
     points: &[u64],
     users: &Users,
+    lists: &StepLists,
     txns: &[Txn<'a>],
     versions: &KeptVersions<'a, S>,
     place: usize,
@@ -126,12 +184,13 @@ pub(crate) fn search<'a, S: BuildHasher + Copy>(
     requires { AreKept txns.now versions.now }
 {
     let mut falls = Vec::new(alloc);
-    if place >= txns.len() {
+    if place >= txns.len() || txns[place].status() != Status::Ok {
         return Ok(falls);
     }
     let point = highest(
         points,
         users,
+        lists,
         &txns[place],
         place,
         versions.reads(place),
@@ -139,6 +198,7 @@ pub(crate) fn search<'a, S: BuildHasher + Copy>(
     );
     let place = u32::try_from(place).map_err(|_| AllocError)?;
     falls.push(Fall { place, point })?;
+    push_fresh_below(points, users, lists, &mut falls)?;
     for i in 0..MOST_FALLS {
         if i >= falls.len() {
             break;
@@ -149,7 +209,7 @@ pub(crate) fn search<'a, S: BuildHasher + Copy>(
         }
         let reads = versions.reads(place as usize);
         let writes = versions.writes(place as usize);
-        push_all_below(points, users, &mut falls, place, reads, writes)?;
+        push_all_below(points, users, lists, &mut falls, place, reads, writes)?;
     }
     Ok(falls)
 }

@@ -21,13 +21,19 @@ use Rattle.op_block.specs.Contents.{Contents, operations_of}
 use Rattle.txn_pairs.specs.Growth.{TakesEvent, IsChange}
 use Rattle.serial_points.specs.ByPlace.{AreListed}
 use Rattle.serial_points.specs.CleanReads.{ReadsAreClean}
-use Rattle.serial_points.specs.KeptPoints.{KeptPoints}
+use Rattle.serial_points.specs.KeptPoints.{KeptPoints, HasPoints}
+use Rattle.serial_points.specs.KeptSteps.{HasSteps}
 use Rattle.serial_points.specs.Points.{ArePoints}
-use Rattle.verdict.specs.Analysed.{AreTablesSoFar, AreBehind, ArePointsOf, ChangesOne, events_of_blocks}
+use Rattle.verdict.specs.Analysed.{AreTablesSoFar, AreBehind, ChangesOne, events_of_blocks}
+use Rattle.hist_types.specs.declared.types.KeyOrder.{KeyOrder}
 use Rattle.key_versions.specs.Kept.{KeptVersions, AreKept}
+use Rattle.key_versions.specs.Tables.{IsTableOf}
+use Rattle.order_frontier.specs.Predecessors.{IsThinnedOrder}
 use Rattle.order_frontier.specs.Thinnings.{IsThinningOf}
 use Rattle.order_frontier.proofs.Thinnings.{thinning_idle}
+use Rattle.verdict.specs.Tables.{AreTablesOf}
 use Rattle.verdict.specs.declared.analysis.TablesSoFar.{TablesSoFar}
+use Rattle.verdict.specs.declared.tables.Tables.{Tables}
 
 -- ---- blocks
 
@@ -106,8 +112,8 @@ behind events o old new place found so_far kept is takes change within count ver
       versions = subst (AreKept (transactions_of events)) (sym versions) (subst (λ (ts : List Transaction). AreKept ts old.versions) so_far.txns so_far.versions);
       order = subst (IsThinningOf events) (sym order) so_far.order;
       points =
-          subst (λ (ps : Option KeptPoints). IfSome ps (ArePointsOf events new.versions)) (sym points)
-          (subst (λ (kept : KeptVersions). IfSome old.points (ArePointsOf events kept)) (sym versions) so_far.points);
+          subst (λ (ps : Option KeptPoints). IfSome ps (HasPoints events new.versions)) (sym points)
+          (subst (λ (kept : KeptVersions). IfSome old.points (HasPoints events kept)) (sym versions) so_far.points);
     }
 
 -- the event changed what is now at the place
@@ -128,24 +134,23 @@ pub points_idle :
     → KeepsRules events
     → KeepsRulesAfter events (o ∷ [])
     → transactions_of (events ++ o ∷ []) ≡ transactions_of events
-    → IfSome points (ArePointsOf events kept)
-    → IfSome points (ArePointsOf (events ++ o ∷ []) kept)
+    → IfSome points (HasPoints events kept)
+    → IfSome points (HasPoints (events ++ o ∷ []) kept)
 points_idle events o kept None rules next same are = tt
 points_idle events o kept (Some p) rules next same are =
-    let has = are.points in
     record {
-      keys = are.keys;
-      points = record {
+      basic = record {
         rules = kept_more events o rules next;
-        versions = subst (λ (ts : List Transaction). AreKept ts kept) (sym same) has.versions;
-        users = has.users;
-        bounds = has.bounds;
-        floors = has.floors;
-        strays = ap stray same ∙ has.strays;
-        clean = subst ReadsAreClean (sym same) has.clean;
-        count = has.count ∙ ap length (sym same);
-        are_points = subst (λ (ts : List Transaction). (point : ℕ → ℕ) × AreListed ts p.points point × ArePoints Basic ts point) (sym same) has.are_points;
+        versions = subst (λ (ts : List Transaction). AreKept ts kept) (sym same) are.basic.versions;
+        users = are.basic.users;
+        bounds = are.basic.bounds;
+        floors = are.basic.floors;
+        strays = ap stray same ∙ are.basic.strays;
+        clean = subst ReadsAreClean (sym same) are.basic.clean;
+        count = are.basic.count ∙ ap length (sym same);
+        are_points = subst (λ (ts : List Transaction). (point : ℕ → ℕ) × AreListed ts p.basic.points point × ArePoints Basic ts point) (sym same) are.basic.are_points;
       };
+      steps = λ sequential. subst (λ (ts : List Transaction). HasSteps ts kept p.basic.points p.steps) (sym same) (are.steps sequential);
     }
 
 -- where an event changes no transaction, the tables stay
@@ -171,7 +176,30 @@ so_far_idle events o old new so_far kept takes same count versions order points 
       versions = subst (AreKept new.pairing) (sym versions) (subst (λ (ts : List Transaction). AreKept ts old.versions) (sym same) so_far.versions);
       order = subst (IsThinningOf (events ++ o ∷ [])) (sym order) (thinning_idle events o old.order so_far.order still);
       points =
-          subst (λ (ps : Option KeptPoints). IfSome ps (ArePointsOf (events ++ o ∷ []) new.versions)) (sym points)
-          (subst (λ (kept : KeptVersions). IfSome old.points (ArePointsOf (events ++ o ∷ []) kept)) (sym versions)
+          subst (λ (ps : Option KeptPoints). IfSome ps (HasPoints (events ++ o ∷ []) new.versions)) (sym points)
+          (subst (λ (kept : KeptVersions). IfSome old.points (HasPoints (events ++ o ∷ []) kept)) (sym versions)
           (points_idle events o old.versions old.points so_far.rules kept still so_far.points));
+    }
+
+-- ---- a verdict
+
+-- what is kept of the events is what a verdict of them is made from, once the table of the versions
+-- is put together
+pub tables_of_kept :
+    {S H : Type 0} (events : List Operation) (kept : TablesSoFar S H) (tables : Tables)
+    → AreTablesSoFar events kept
+    → tables.events ≡ kept.events
+    → tables.txns.now ≡ kept.pairing
+    → IsTableOf kept.versions.keys tables.txns.now tables.versions.now
+    → tables.versions.now.keys ≡ kept.versions.keys
+    → IfSome tables.thinned (λ order. IsThinnedOrder (transactions_of events) order.now)
+    → AreTablesOf events tables
+tables_of_kept events kept tables so_far count txns versions keys thinned =
+    let same : tables.txns.now ≡ transactions_of events = txns ∙ so_far.txns in
+    record {
+      rules = so_far.rules;
+      count = count ∙ so_far.number;
+      txns = same;
+      versions = subst (λ (keys : KeyOrder). IsTableOf keys tables.txns.now tables.versions.now) (sym keys) versions;
+      thinned = subst (λ (ts : List Transaction). IfSome tables.thinned (λ order. IsThinnedOrder ts order.now)) (sym same) thinned;
     }

@@ -8,11 +8,10 @@ use Rattle.hist_types.specs.Operations.{Operation}
 use Rattle.hist_types.specs.Transactions.{Transaction, Status, Open, Ok, is_ok_status, status_by, transaction_by, transactions_of}
 use Rattle.hist_types.specs.declared.types.OpKind.{OpKind}
 use Rattle.hist_types.specs.declared.types.OpKind.TheVariants as kinds
-use Rattle.hist_types.specs.declared.types.KeyOrder.TheVariants.{Basic}
 use Rattle.hist_types.proofs.Members.{Contains_from_in}
 use Rattle.history_laws.proofs.Blocks.{kept_by_both}
 use Rattle.dep_edges.proofs.Writers.{in_at}
-use Rattle.key_versions.specs.Kept.{KeptVersions, AreKept, StayBeside}
+use Rattle.key_versions.specs.Kept.{KeptVersions, AreKept, KeepNumbers, StayBeside}
 use Rattle.order_frontier.specs.Thinnings.{IsBegunBy, IsCompletedBy}
 use Rattle.serial_points.specs.KeptPoints.{KeptPoints, HasPoints}
 use Rattle.serial_points.proofs.Changed.{begins_or_completes, changed_by_begin, changed_by_end}
@@ -22,7 +21,7 @@ use Rattle.txn_pairs.specs.Places.{completed}
 use Rattle.txn_pairs.specs.Statuses.{status_of}
 use Rattle.txn_pairs.specs.declared.types.Status.{Status as CodeStatus}
 use Rattle.txn_pairs.specs.declared.types.Status.TheVariants as codes
-use Rattle.verdict.specs.Analysed.{ArePointsOf, AwaitsEvent, ChangesOne}
+use Rattle.verdict.specs.Analysed.{AwaitsEvent, ChangesOne}
 
 -- where no transaction is named, none changes
 pub stays_where_none :
@@ -140,27 +139,21 @@ pub await :
     → ChangesOne events event later place t
     → AreKept later after
     → StayBeside place before.accesses after.accesses
+    → KeepNumbers before.versions after.versions
     → after.keys ≡ before.keys
-    → IfSome points (ArePointsOf events before)
+    → IfSome points (HasPoints events before)
     → IfSome points (AwaitsEvent events event before after later place)
-await events event later place t before after None changes kept others keys are = tt
-await events event later place t before after (Some p) changes kept others keys are = record {
-  keys = keys ∙ are.keys;
-  next = record {
-    points = are.points;
+await events event later place t before after None changes kept others numbers keys has = tt
+await events event later place t before after (Some p) changes kept others numbers keys has = record {
+  points = has;
+  basic = record {
+    points = has.basic;
     rules = changes.rules;
     txns = changes.txns;
     kept = kept;
     change = changes.change;
     others = others;
   };
+  numbers = numbers;
+  keys = keys;
 }
-
--- the keys are basic still
-pub with_basic :
-    (events : List Operation) (kept : KeptVersions) (points : Option KeptPoints)
-    → kept.keys ≡ Basic
-    → IfSome points (HasPoints events kept)
-    → IfSome points (ArePointsOf events kept)
-with_basic events kept None keys has = tt
-with_basic events kept (Some p) keys has = record { keys = keys; points = has }

@@ -13,7 +13,8 @@ use Rattle.dep_edges.proofs.Lists.{all_in}
 use Rattle.dep_edges.proofs.Marks.{place_in}
 use Rattle.dep_edges.proofs.Writers.{in_at}
 use Rattle.key_versions.specs.declared.table.KeyNumbers.{KeyNumbers}
-use Rattle.verdict.specs.KeyPieces.{IsNumberOfWorkers, AreOfOneHistory, IsFoundBy, EachFinds, first_key, history_of}
+use Rattle.verdict.specs.KeyPieces.{IsNumberOfWorkers, AreOfOneHistory, IsFoundBy, EachFinds, first_key}
+use Rattle.verdict.specs.Tables.{history_of}
 use Rattle.verdict.specs.declared.tables.Tables.{Tables}
 
 -- what lies between the first of some numbers and the last one lies between one of them and the next one

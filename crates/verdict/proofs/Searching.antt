@@ -19,9 +19,8 @@ use Rattle.dep_edges.specs.Histories.{AreOfHistory}
 use Rattle.order_frontier.specs.Predecessors.{Before, AreOfEvents, IsThinnedOrder}
 use Rattle.cycle_find.specs.Found.{ShowsByFewest, HasFewestIfAny}
 use Rattle.cycle_find.specs.Tasks.{Site, site_of, task_of}
-use Rattle.edge_graph.specs.Parts.{Parts, IsOrderOf, IsMadeOf, edges_in}
+use Rattle.edge_graph.specs.Parts.{Parts, IsMadeOf, edges_in}
 use Rattle.edge_graph.proofs.EdgesIn.{of_thinned}
-use Rattle.edge_graph.proofs.Orderings.{thinned_order}
 use Rattle.hist_types.specs.Reports.{Findings, AreFindings}
 use Rattle.verdict.specs.Lowest.{IsThinned, IsReducedTo, IsFoundBelow, AreFoundBelow}
 use Rattle.hist_types.specs.declared.types.KeyOrder.{KeyOrder}
@@ -254,29 +253,18 @@ is_finding g phenomenon (Some f) below = below
 
 -- ---- the graph
 
--- a thinned order is an order of the transactions
-pub order_of :
-    (us ts : List Transaction) (order : List Before)
-    → us ≡ ts
-    → IsThinnedOrder ts order
-    → IsOrderOf us order
-order_of us ts order same is = subst (λ vs. IsOrderOf vs order) (sym same) (thinned_order ts order is.0 is.1 is.2)
-
--- the graph that is made over it
+-- the graph that is made over a thinned order
 pub thinned_graph :
-    (keys : KeyOrder) (us ts : List Transaction) (order : List Before) (g : Parts)
-    → us ≡ ts
+    (keys : KeyOrder) (ts : List Transaction) (order : List Before) (g : Parts)
     → AreOfHistory ts
     → IsThinnedOrder ts order
-    → IsMadeOf keys us order g
+    → IsMadeOf keys ts order g
     → IsThinned g
-thinned_graph keys us ts order g same history is over =
-    let made : IsMadeOf keys ts order g = subst (λ vs. IsMadeOf keys vs order g) same over in
-    record {
-      events = subst AreOfEvents (sym made.txns) (history.0, history.2);
-      edges =
-          λ level e.
-          subst (λ ks. Contains (edges_in g level) e ↔ Contains (dependency_edges ks g.txns ++ thinned_edges level g.txns) e) (sym made.keys_are)
-          (subst (λ vs. Contains (edges_in g level) e ↔ Contains (dependency_edges keys vs ++ thinned_edges level vs) e) (sym made.txns)
-          (of_thinned keys ts history level e order g made is.0));
-    }
+thinned_graph keys ts order g history is made = record {
+  events = subst AreOfEvents (sym made.txns) (history.0, history.2);
+  edges =
+      λ level e.
+      subst (λ ks. Contains (edges_in g level) e ↔ Contains (dependency_edges ks g.txns ++ thinned_edges level g.txns) e) (sym made.keys_are)
+      (subst (λ vs. Contains (edges_in g level) e ↔ Contains (dependency_edges keys vs ++ thinned_edges level vs) e) (sym made.txns)
+      (of_thinned keys ts history level e order g made is.0));
+}

@@ -5,7 +5,6 @@ use Rattle.hist_types.specs.Journal.{KeepsRules}
 use Rattle.hist_types.specs.Operations.{Operation}
 use Rattle.hist_types.specs.Transactions.{Transaction, transactions_of}
 use Rattle.hist_types.specs.declared.types.KeyOrder.{KeyOrder}
-use Rattle.hist_types.specs.declared.types.KeyOrder.TheVariants.{Basic}
 use Rattle.journal_core.specs.Blocks.{operations_in}
 use Rattle.op_block.specs.Contents.{Contents}
 use Rattle.key_versions.specs.Kept.{KeptVersions, AreKept}
@@ -24,12 +23,6 @@ pub record Analysed : Type 0 where
 abbrev pub events_of_blocks : List (Bor Contents) → List Operation
 events_of_blocks blocks = operations_in (map (λ (b : Bor Contents). b.now) blocks)
 
--- The points are points of the events, whose keys are basic.
-pub record ArePointsOf (events : List Operation) (kept : KeptVersions) (p : KeptPoints) :
-    Type 0 where
-  pub keys : kept.keys ≡ Basic
-  pub points : HasPoints events kept p
-
 -- The tables are those of these events, which keep the rules. Where there are points, they are
 -- points of the events.
 pub record AreTablesSoFar {S H : Type 0}
@@ -39,7 +32,7 @@ pub record AreTablesSoFar {S H : Type 0}
   pub txns : tables.pairing ≡ transactions_of events
   pub versions : AreKept tables.pairing tables.versions
   pub order : IsThinningOf events tables.order
-  pub points : IfSome tables.points (ArePointsOf events tables.versions)
+  pub points : IfSome tables.points (HasPoints events tables.versions)
 
 -- ---- one event
 
@@ -64,10 +57,16 @@ pub record AreBehind {S H : Type 0} (events : List Operation) (event : Operation
       → ChangesOne events event tables.pairing place t
   pub versions : AreKept (transactions_of events) tables.versions
   pub order : IsThinningOf events tables.order
-  pub points : IfSome tables.points (ArePointsOf events tables.versions)
+  pub points : IfSome tables.points (HasPoints events tables.versions)
 
--- the points are points of the events, whose keys are basic, and this event is the next one
-pub record AwaitsEvent (events : List Operation) (event : Operation) (before after : KeptVersions)
-    (later : List Transaction) (place : ℕ) (p : KeptPoints) : Type 0 where
-  pub keys : after.keys ≡ Basic
-  pub next : IsNext events event before p later after place
+-- the points are points of the events, and this event is the next one
+abbrev pub AwaitsEvent :
+    List Operation
+    → Operation
+    → (before after : KeptVersions)
+    → (later : List Transaction)
+    → (place : ℕ)
+    → KeptPoints
+    → Type 0
+AwaitsEvent events event before after later place p =
+    IsNext events event before p later after place

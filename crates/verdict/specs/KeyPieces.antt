@@ -7,10 +7,9 @@ use Rattle.hist_types.specs.declared.limits.TheConstants.{MAX_WORKERS}
 use Rattle.hist_types.specs.declared.types.Fault.{Fault}
 use Rattle.hist_types.specs.declared.types.Refusal.TheVariants.{NoThread}
 use Rattle.key_versions.specs.KeyNumbers.{AreKeyNumbers}
-use Rattle.key_versions.specs.Tables.{IsTableOf}
 use Rattle.key_versions.specs.declared.table.KeyNumbers.{KeyNumbers}
-use Rattle.dep_edges.specs.Histories.{History, AreOfHistory}
 use Rattle.dep_edges.specs.Pieces.{Piece, IsPieceOf}
+use Rattle.verdict.specs.Tables.{AreTables, history_of}
 use Rattle.verdict.specs.declared.tables.Tables.{Tables}
 
 -- from 1 to the limit
@@ -25,14 +24,10 @@ IsWorker workers worker = (worker < workers) × (workers ≤ MAX_WORKERS)
 abbrev pub first_key : (count workers worker : ℕ) → ℕ
 first_key count workers worker = worker * count / workers
 
-abbrev pub history_of : Tables → History
-history_of tables = record { txns = tables.txns; table = tables.versions }
-
--- the tables of a history, and the numbers of its keys
+-- what a verdict is made from, and the numbers of its keys
 pub record AreOfOneHistory (tables : Tables) (keys : KeyNumbers) : Type 0 where
-  pub history : AreOfHistory tables.txns
-  pub versions : IsTableOf tables.versions.keys tables.txns tables.versions
-  pub numbers : AreKeyNumbers tables.versions.versions keys.count keys.of_versions.items
+  pub history : AreTables tables
+  pub numbers : AreKeyNumbers tables.versions.now.versions keys.count keys.of_versions.items
 
 -- what a worker finds at its piece of the keys
 abbrev pub IsFoundBy : Tables → KeyNumbers → (workers worker : ℕ) → Piece → Type 0

@@ -1,3 +1,4 @@
+pub mod Tables
 pub mod Lowest
 pub mod Analysed
 pub mod KeyPieces

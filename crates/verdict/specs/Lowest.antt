@@ -1,39 +1,15 @@
 -- The lowest level of a phenomenon, searched for in the graph of a history over its thinned order.
-use Rattle.std.specs.Prelude.{◌≡◌, ◌↔◌, ◌<◌, ◌≤◌, ℕ, List, ◌++◌, length, Contains, Option, Some, None}
+use Rattle.std.specs.Prelude.{◌≡◌, ◌↔◌, ◌<◌, ◌≤◌, ℕ, List, ◌++◌, Contains, Option, Some, None}
 use Rattle.hist_types.specs.Edges.{Edge, dependency_edges}
 use Rattle.hist_types.specs.ThinnedOrder.{thinned_edges}
-use Rattle.hist_types.specs.Phenomena.{height, IsThere, g1a, g1b, stray}
-use Rattle.hist_types.specs.Reports.{Findings, finding, Report, IsVerdictOf}
-use Rattle.hist_types.specs.Operations.{Operation}
-use Rattle.hist_types.specs.Transactions.{Transaction, transactions_of}
+use Rattle.hist_types.specs.Phenomena.{height, IsThere}
+use Rattle.hist_types.specs.Reports.{Findings, finding}
 use Rattle.hist_types.specs.Witness.{Finding, IsFinding, dependencies_in}
 use Rattle.hist_types.specs.declared.types.Level.{Level}
 use Rattle.hist_types.specs.declared.types.Phenomenon.{Phenomenon}
-use Rattle.hist_types.specs.declared.types.KeyOrder.{KeyOrder}
-use Rattle.key_versions.specs.Tables.{IsTableOf}
 use Rattle.order_frontier.specs.Predecessors.{AreOfEvents}
 use Rattle.edge_graph.specs.Parts.{Parts, edges_in}
 use Rattle.cycle_show.specs.Reductions.{IsWitnessOf}
-use Rattle.verdict.specs.declared.tables.Tables.{Tables}
-use Rattle.verdict.specs.declared.types.BadReads.{BadReads}
-
--- what a verdict of the events is made from
-pub record AreTablesOf (keys : KeyOrder) (events : List Operation) (tables : Tables) : Type 0 where
-  pub txns : tables.txns ≡ transactions_of events
-  pub versions : IsTableOf keys tables.txns tables.versions
-  pub keys_are : tables.versions.keys ≡ keys
-
--- the verdict of whichever events are this many and make these transactions
-abbrev pub IsVerdictFor : KeyOrder → (count : ℕ) → List Transaction → Report → Type 0
-IsVerdictFor keys count ts report =
-    (events : List Operation) → count ≡ length events → ts ≡ transactions_of events
-    → IsVerdictOf keys events report
-
--- what a verdict reports of these transactions' bad reads
-pub record AreBadReadsOf (ts : List Transaction) (reads : BadReads) : Type 0 where
-  pub g1a : reads.g1a ≡ g1a ts
-  pub g1b : reads.g1b ≡ g1b ts
-  pub stray : reads.stray ≡ stray ts
 
 -- the graph of some events' transactions, with their dependency edges and at each level the thinned
 -- order edges

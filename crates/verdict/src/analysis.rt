@@ -7,14 +7,16 @@ ghost use Rattle.hist_types.specs.Operations.{Operation};
 ghost use Rattle.hist_types.specs.Refusals.{memory_fault};
 ghost use Rattle.hist_types.specs.Reports.{AreFindings, IsVerdictOf, no_findings};
 ghost use Rattle.hist_types.specs.Transactions.{transactions_of};
-ghost use Rattle.hist_types.specs.declared.types.KeyOrder.TheVariants.{Basic};
 ghost use Rattle.op_block.specs.Contents.{operations_of};
 ghost use Rattle.report_laws.specs.Explained.{RefutesExplanations};
-ghost use Rattle.verdict.specs.Analysed.{AreBehind, ArePointsOf, AreTablesSoFar};
+ghost use Rattle.serial_points.specs.KeptPoints.{HasPoints};
+ghost use Rattle.verdict.specs.Analysed.{AreBehind, AreTablesSoFar};
 
 use crate::changes::{first_points, points_after, update_order, update_versions};
+use crate::pairs::Pairs;
+use crate::tables::Tables;
 use crate::types::{BadReads, Verdict};
-use crate::{reported, verdict_by};
+use crate::{reported, verdict_from};
 use hist_types::types::{Fault, KeyOrder};
 use key_versions::kept::KeptVersions;
 use op_block::block::Block;
@@ -35,8 +37,10 @@ struct TablesSoFar<'a, S: BuildHasher> {
     pairing: Pairing<'a>,
     versions: KeptVersions<'a, S>,
     order: Thinning,
-    /// Where there are some, nothing is to be found. They are for basic keys alone.
+    /// Where there are some, nothing is to be found.
     points: Option<Points>,
+    /// Where the last verdict had cycles.
+    pairs: Pairs,
 }
 
 impl<'a, S: BuildHasher + Copy> TablesSoFar<'a, S> {
@@ -51,6 +55,7 @@ impl<'a, S: BuildHasher + Copy> TablesSoFar<'a, S> {
             versions: KeptVersions::new(alloc, hasher, keys),
             order: Thinning::new(alloc),
             points: first_points(alloc, keys),
+            pairs: Pairs::none(),
         }
     }
 
@@ -90,11 +95,10 @@ impl<'a, S: BuildHasher + Copy> TablesSoFar<'a, S> {
     }
 
     /// The verdict where these are points of the events: nothing is put together, and nothing is searched for.
-    fn verdict_by_points(&self, alloc: Global, points: &Points) -> Result<Verdict<'a>, Fault>
-        ensures ok { (events : List Operation)
-            → AreTablesSoFar events self.now → ArePointsOf events self.now.versions points.now
-            → IfOk result (IsVerdictOf Basic events) }
-        ensures err { IfErr result (λ fault. fault ≡ memory_fault) }
+    fn verdict_by_points(&self, alloc: Global, points: &Points) -> Result<Verdict<'a>, AllocError>
+        ensures { (events : List Operation)
+            → AreTablesSoFar events self.now → HasPoints events self.now.versions points.now
+            → IfOk result (IsVerdictOf self.now.versions.keys events) }
     {
         // Called for its clauses, which the proof cites.
         points.find_nothing();
@@ -113,8 +117,14 @@ impl<'a, S: BuildHasher + Copy> TablesSoFar<'a, S> {
     {
         let txns = self.pairing.txns();
         let versions = self.versions.finish(alloc, txns)?;
-        let thinned = Some(self.order.order());
-        verdict_by(alloc, self.events, txns, &versions, thinned)
+        let tables = Tables {
+            events: self.events,
+            txns,
+            versions: &versions,
+            thinned: Some(self.order.order()),
+            pairs: self.pairs,
+        };
+        Ok(verdict_from(alloc, &tables)?)
     }
 
     /// The verdict of the events.
@@ -126,7 +136,7 @@ impl<'a, S: BuildHasher + Copy> TablesSoFar<'a, S> {
         ensures err { IfErr result (λ fault. fault ≡ memory_fault) }
     {
         match &self.points {
-            Some(points) => self.verdict_by_points(alloc, points),
+            Some(points) => Ok(self.verdict_by_points(alloc, points)?),
             None => self.verdict_by_search(alloc),
         }
     }
@@ -196,6 +206,15 @@ impl<'a, S: BuildHasher + Copy> Analysis<'a, S> {
             }
             None => false,
         }
+    }
+
+    /// Has a later verdict look first where this one, which is of these events or of fewer, has cycles. A cycle of two transactions
+    /// at the level plain is then looked up, and no other one searched for, as long as neither of them fails.
+    pub fn look_first(&mut self, verdict: &Verdict<'_>)
+        ensures { self.new ≡ self.old }
+    {
+        let txns = self.tables.pairing.txns().as_slice();
+        self.tables.pairs = Pairs::of(txns, verdict);
     }
 
     /// The verdict of the events, as `verdict` computes it from scratch. The analysis stays as it is, and no event is taken again.

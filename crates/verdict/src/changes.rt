@@ -3,9 +3,10 @@
 ghost use Rattle.std.specs.Prelude.{◌≡◌, ℕ, List, [], ◌∷◌, ◌++◌, IfSome, IfOk, OnOk};
 ghost use Rattle.hist_types.specs.Operations.{Operation};
 ghost use Rattle.hist_types.specs.Transactions.{Transaction, transactions_of};
-ghost use Rattle.key_versions.specs.Kept.{KeptVersions as Kept, AreKept, StayBeside};
+ghost use Rattle.key_versions.specs.Kept.{KeptVersions as Kept, AreKept, KeepNumbers, StayBeside};
 ghost use Rattle.order_frontier.specs.Thinnings.{IsThinningOf};
-ghost use Rattle.verdict.specs.Analysed.{ArePointsOf, AwaitsEvent, ChangesOne};
+ghost use Rattle.serial_points.specs.KeptPoints.{HasPoints};
+ghost use Rattle.verdict.specs.Analysed.{AwaitsEvent, ChangesOne};
 
 use hist_types::types::KeyOrder;
 use key_versions::kept::KeptVersions;
@@ -44,6 +45,7 @@ pub fn update_versions<'a, S: BuildHasher + Copy>(
         → OnOk result (AreKept later versions.new) }
     ensures others { OnOk result
         (StayBeside place versions.old.accesses versions.new.accesses) }
+    ensures numbers { OnOk result (KeepNumbers versions.old.versions versions.new.versions) }
     ensures keys { versions.new.keys ≡ versions.old.keys }
 {
     match txn.status() {
@@ -52,14 +54,13 @@ pub fn update_versions<'a, S: BuildHasher + Copy>(
     }
 }
 
-/// The points of no events, if they can be kept for such keys.
+/// The points of no events, if there is memory for them.
 pub fn first_points(alloc: Global, keys: KeyOrder) -> Option<Points>
-    ensures { (kept : Kept) → AreKept [] kept → kept.keys ≡ keys
-        → IfSome result (ArePointsOf [] kept) }
+    ensures { (kept : Kept) → AreKept [] kept → IfSome result (HasPoints [] kept) }
 {
-    match keys {
-        KeyOrder::Basic => Some(Points::new(alloc)),
-        KeyOrder::Sequential => None,
+    match Points::new(alloc, keys) {
+        Ok(points) => Some(points),
+        Err(_) => None,
     }
 }
 
@@ -74,7 +75,7 @@ pub fn points_after<'a, S: BuildHasher + Copy>(
         × IfSome points (AwaitsEvent events event before versions.now txns.now place) }
     ensures { (events : List Operation) (event : Operation) (before : Kept)
         → IfSome points (AwaitsEvent events event before versions.now txns.now place)
-        → IfOk result (λ next. IfSome next (ArePointsOf (events ++ event ∷ []) versions.now)) }
+        → IfOk result (λ next. IfSome next (HasPoints (events ++ event ∷ []) versions.now)) }
 {
     match points {
         Some(points) => points.after(txns, versions, place),

@@ -1,36 +1,37 @@
 //! Searches for the lowest level of each phenomenon that cycles show.
 
-ghost use Rattle.std.specs.Prelude.{◌≡◌, ◌+◌, ℕ, None, IfSome, IfOk, IfErr};
+ghost use Rattle.std.specs.Prelude.{◌≡◌, ◌+◌, ℕ, None, IfOk};
 ghost use Rattle.std.specs.Bool.{OnTrue, OnFalse};
 ghost use Rattle.dep_edges.specs.Histories.{AreOfHistory};
 ghost use Rattle.hist_types.specs.Phenomena.{height};
-ghost use Rattle.hist_types.specs.Refusals.{memory_fault};
+ghost use Rattle.hist_types.specs.declared.types.Level.TheVariants.{Plain};
 ghost use Rattle.hist_types.specs.Reports.{AreFindings};
 ghost use Rattle.hist_types.specs.Witness.{IsFinding};
 ghost use Rattle.order_frontier.specs.Predecessors.{IsThinnedOrder};
 ghost use Rattle.verdict.specs.Lowest.{IsThinned, IsReducedTo, IsFoundBelow, AreFoundBelow};
+ghost use Rattle.verdict.specs.Tables.{AreTables, history_of};
 
+use crate::pairs::{Pair, Pairs};
+use crate::tables::Tables;
 use clean_order::settles;
 use cycle_find::ranked_graph::RankedGraph;
 use cycle_find::ranked_level::RankedLevel;
 use cycle_find::types::Walk;
-use cycle_show::tighten;
+use cycle_show::types::Witness;
 use dep_edges::deps::Deps;
 use edge_graph::graph::Graph;
-use hist_types::types::{Fault, Level, Phenomenon};
-use order_frontier::thin;
+use hist_types::types::{Level, Phenomenon};
+use order_frontier::thinning::thinned;
 use order_frontier::types::Order;
 use report_text::report::{Finding, Findings};
-use std::alloc::Global;
+use std::alloc::{AllocError, Global};
 use std::thread::Threads;
-use txn_pairs::types::Txns;
 
 /// A closed walk that shows a phenomenon at a level, reduced to a witness.
-fn reduced<'a>(alloc: Global, level: Level, walk: &Walk<'a>) -> Result<Finding<'a>, Fault>
-    ensures ok { IfOk result (IsReducedTo level walk.now) }
-    ensures err { IfErr result (λ fault. fault ≡ memory_fault) }
+fn reduced<'a>(alloc: Global, level: Level, walk: &Walk<'a>) -> Result<Finding<'a>, AllocError>
+    ensures { IfOk result (IsReducedTo level walk.now) }
 {
-    let witness = tighten(alloc, walk)?;
+    let witness = Witness::of(alloc, walk)?;
     Ok(Finding { level, witness })
 }
 
@@ -55,12 +56,11 @@ fn find_at<'a>(
     ranked: &RankedLevel<'_, '_, '_, 'a>,
     phenomenon: Phenomenon,
     found: Option<Finding<'a>>,
-) -> Result<Option<Finding<'a>>, Fault>
+) -> Result<Option<Finding<'a>>, AllocError>
     requires thinned { IsThinned graph.now }
     requires same { ranked.now.graph ≡ graph.now }
     requires below { IsFoundBelow (height ranked.now.level) graph.now phenomenon found }
-    ensures ok { IfOk result (IsFoundBelow (height ranked.now.level + 1) graph.now phenomenon) }
-    ensures err { IfErr result (λ fault. fault ≡ memory_fault) }
+    ensures { IfOk result (IsFoundBelow (height ranked.now.level + 1) graph.now phenomenon) }
 {
     if !is_open(graph, phenomenon, &found) {
         return Ok(found);
@@ -95,11 +95,10 @@ fn find_up_to<'a>(
     graph: &RankedGraph<'_, '_, '_, 'a>,
     level: Level,
     found: Findings<'a>,
-) -> Result<Findings<'a>, Fault>
+) -> Result<Findings<'a>, AllocError>
     requires thinned { IsThinned graph.now }
     requires below { AreFoundBelow (height level) graph.now found }
-    ensures ok { IfOk result (AreFoundBelow (height level + 1) graph.now) }
-    ensures err { IfErr result (λ fault. fault ≡ memory_fault) }
+    ensures { IfOk result (AreFoundBelow (height level + 1) graph.now) }
 {
     if !is_one_open(graph, &found) {
         return Ok(found);
@@ -115,91 +114,153 @@ fn find_up_to<'a>(
     })
 }
 
-/// What is found of each phenomenon, at its lowest level.
-fn find_each<'a>(alloc: Global, graph: &Graph<'_, '_, 'a>) -> Result<Findings<'a>, Fault>
+/// What is found of a phenomenon at the level plain between two transactions, by their places.
+fn find_between<'a>(
+    alloc: Global,
+    graph: &RankedGraph<'_, '_, '_, 'a>,
+    phenomenon: Phenomenon,
+    from: usize,
+    to: usize,
+) -> Result<Option<Finding<'a>>, AllocError>
     requires { IsThinned graph.now }
-    ensures ok { IfOk result (AreFindings graph.now.keys graph.now.txns) }
-    ensures err { IfErr result (λ fault. fault ≡ memory_fault) }
+    ensures { IfOk result (IsFoundBelow (height Plain) graph.now phenomenon) }
+{
+    match graph.between(phenomenon, from, to)? {
+        Some(walk) => Ok(Some(reduced(alloc, Level::Plain, &walk)?)),
+        None => Ok(None),
+    }
+}
+
+/// What is found of a phenomenon at the level plain where it is looked for first.
+fn find_first<'a>(
+    alloc: Global,
+    graph: &RankedGraph<'_, '_, '_, 'a>,
+    pairs: &Pairs,
+    phenomenon: Phenomenon,
+) -> Result<Option<Finding<'a>>, AllocError>
+    requires { IsThinned graph.now }
+    ensures { IfOk result (IsFoundBelow (height Plain) graph.now phenomenon) }
+{
+    let Some(Pair { one, other }) = pairs.get(phenomenon) else {
+        return Ok(None);
+    };
+    let found = find_between(alloc, graph, phenomenon, one, other)?;
+    if found.is_some() {
+        return Ok(found);
+    }
+    find_between(alloc, graph, phenomenon, other, one)
+}
+
+/// What is found of each phenomenon at the level plain where it is looked for first.
+fn find_each_first<'a>(
+    alloc: Global,
+    graph: &RankedGraph<'_, '_, '_, 'a>,
+    pairs: &Pairs,
+) -> Result<Findings<'a>, AllocError>
+    requires { IsThinned graph.now }
+    ensures { IfOk result (AreFoundBelow (height Plain) graph.now) }
+{
+    Ok(Findings {
+        g0: find_first(alloc, graph, pairs, Phenomenon::G0)?,
+        g1c: find_first(alloc, graph, pairs, Phenomenon::G1c)?,
+        single: find_first(alloc, graph, pairs, Phenomenon::GSingle)?,
+        item: find_first(alloc, graph, pairs, Phenomenon::G2Item)?,
+    })
+}
+
+/// What is found of each phenomenon, at its lowest level.
+fn find_each<'a>(
+    alloc: Global,
+    graph: &Graph<'_, '_, 'a>,
+    pairs: &Pairs,
+) -> Result<Findings<'a>, AllocError>
+    requires { IsThinned graph.now }
+    ensures { IfOk result (AreFindings graph.now.keys graph.now.txns) }
 {
     let graph = RankedGraph::new(alloc, graph)?;
-    let at_plain = find_up_to(alloc, &graph, Level::Plain, Findings::none())?;
+    let first = find_each_first(alloc, &graph, pairs)?;
+    let at_plain = find_up_to(alloc, &graph, Level::Plain, first)?;
     let at_process = find_up_to(alloc, &graph, Level::Process, at_plain)?;
     find_up_to(alloc, &graph, Level::Realtime, at_process)
 }
 
-/// The graph of a history over its thinned order, and what is found in it.
+/// What is found in the graph of a history over its thinned order.
 fn findings_in_graph<'a>(
     alloc: Global,
-    txns: &Txns<'a>,
     deps: &Deps<'_, 'a>,
     order: &Order,
-) -> Result<Findings<'a>, Fault>
-    requires history { AreOfHistory txns.now }
-    requires deps { deps.now.txns ≡ txns.now }
-    requires order { IsThinnedOrder txns.now order.now }
-    ensures ok { IfOk result (AreFindings deps.now.table.keys txns.now) }
-    ensures err { IfErr result (λ fault. fault ≡ memory_fault) }
+    pairs: &Pairs,
+) -> Result<Findings<'a>, AllocError>
+    requires history { AreOfHistory deps.now.txns }
+    requires order { IsThinnedOrder deps.now.txns order.now }
+    ensures { IfOk result (AreFindings deps.now.table.keys deps.now.txns) }
 {
     let graph = Graph::new(alloc, deps, order)?;
-    find_each(alloc, &graph)
+    find_each(alloc, &graph, pairs)
 }
 
 /// As `findings_in_graph`, with a few threads if others can be started.
 fn findings_in_graph_wide<'a, R: Threads + Sync>(
     rt: &R,
     alloc: Global,
-    txns: &Txns<'a>,
     deps: &Deps<'_, 'a>,
     order: &Order,
-) -> Result<Findings<'a>, Fault>
-    requires history { AreOfHistory txns.now }
-    requires deps { deps.now.txns ≡ txns.now }
-    requires order { IsThinnedOrder txns.now order.now }
-    ensures ok { IfOk result (AreFindings deps.now.table.keys txns.now) }
-    ensures err { IfErr result (λ fault. fault ≡ memory_fault) }
+    pairs: &Pairs,
+) -> Result<Findings<'a>, AllocError>
+    requires history { AreOfHistory deps.now.txns }
+    requires order { IsThinnedOrder deps.now.txns order.now }
+    ensures { IfOk result (AreFindings deps.now.table.keys deps.now.txns) }
 {
     let graph = Graph::new_wide(rt, alloc, deps, order)?;
-    find_each(alloc, &graph)
+    find_each(alloc, &graph, pairs)
 }
 
-/// What is found of the phenomena that cycles show, by the thinned order, if it was kept. Where the history settles, no order is
-/// thinned and no graph is made.
+/// What is found of the phenomena that cycles show. Where the history settles, no order is thinned and no graph is made.
 pub fn findings_of<'a>(
     alloc: Global,
-    txns: &Txns<'a>,
+    tables: &Tables<'_, 'a>,
     deps: &Deps<'_, 'a>,
-    thinned: Option<&Order>,
-) -> Result<Findings<'a>, Fault>
-    requires history { AreOfHistory txns.now }
-    requires deps { deps.now.txns ≡ txns.now }
-    requires thinned { IfSome thinned (λ order. IsThinnedOrder txns.now order.now) }
-    ensures ok { IfOk result (AreFindings deps.now.table.keys txns.now) }
-    ensures err { IfErr result (λ fault. fault ≡ memory_fault) }
+) -> Result<Findings<'a>, AllocError>
+    requires tables { AreTables tables.now }
+    requires deps { deps.now ≡ history_of tables.now }
+    ensures { IfOk result (AreFindings deps.now.table.keys deps.now.txns) }
 {
     if settles(alloc, deps)? {
         return Ok(Findings::none());
     }
-    match thinned {
-        Some(order) => findings_in_graph(alloc, txns, deps, order),
-        None => findings_in_graph(alloc, txns, deps, &thin(alloc, txns)?),
+    match tables.thinned {
+        Some(order) => findings_in_graph(alloc, deps, order, &tables.pairs),
+        None => findings_in_graph(
+            alloc,
+            deps,
+            &thinned(alloc, tables.txns.as_slice())?,
+            &tables.pairs,
+        ),
     }
 }
 
-/// As `findings_of` where no order was kept, with a few threads if others can be started.
+/// As `findings_of`, with a few threads if others can be started.
 pub fn findings_of_wide<'a, R: Threads + Sync>(
     rt: &R,
     alloc: Global,
-    txns: &Txns<'a>,
+    tables: &Tables<'_, 'a>,
     deps: &Deps<'_, 'a>,
-) -> Result<Findings<'a>, Fault>
-    requires history { AreOfHistory txns.now }
-    requires deps { deps.now.txns ≡ txns.now }
-    ensures ok { IfOk result (AreFindings deps.now.table.keys txns.now) }
-    ensures err { IfErr result (λ fault. fault ≡ memory_fault) }
+) -> Result<Findings<'a>, AllocError>
+    requires tables { AreTables tables.now }
+    requires deps { deps.now ≡ history_of tables.now }
+    ensures { IfOk result (AreFindings deps.now.table.keys deps.now.txns) }
 {
     if settles(alloc, deps)? {
         return Ok(Findings::none());
     }
-    let order = thin(alloc, txns)?;
-    findings_in_graph_wide(rt, alloc, txns, deps, &order)
+    match tables.thinned {
+        Some(order) => findings_in_graph_wide(rt, alloc, deps, order, &tables.pairs),
+        None => findings_in_graph_wide(
+            rt,
+            alloc,
+            deps,
+            &thinned(alloc, tables.txns.as_slice())?,
+            &tables.pairs,
+        ),
+    }
 }

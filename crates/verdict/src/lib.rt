@@ -3,14 +3,10 @@
 //! Of the public calls, only those whose names end in `_wide` may start threads.
 #![tactic(auto)]
 
-ghost use Rattle.std.specs.Prelude.{◌≡◌, IfSome, IfOk, IfErr, OnOk, OnErr};
-ghost use Rattle.dep_edges.specs.Histories.{AreOfHistory};
-ghost use Rattle.hist_types.specs.Journal.{KeepsRules};
+ghost use Rattle.std.specs.Prelude.{◌≡◌, List, IfOk, IfErr, OnOk, OnErr};
+ghost use Rattle.hist_types.specs.Operations.{Operation};
 ghost use Rattle.hist_types.specs.Refusals.{memory_fault};
-ghost use Rattle.key_versions.specs.Tables.{IsTableOf};
-ghost use Rattle.order_frontier.specs.Predecessors.{IsThinnedOrder};
-ghost use Rattle.verdict.specs.KeyPieces.{IsNumberOfWorkers, IsMemoryOrThread};
-ghost use Rattle.verdict.specs.Lowest.{AreBadReadsOf, AreTablesOf, IsVerdictFor};
+ghost use Rattle.verdict.specs.Tables.{AreBadReadsOf, AreTables, AreTablesOf, IsVerdictFor, keys_in};
 ghost use Rattle.hist_types.specs.Pieces.{HasTaken, HasTakenInPart};
 ghost use Rattle.hist_types.specs.Reports.{AreFindings, IsVerdictOf};
 ghost use Rattle.hist_types.specs.Texts.{verdict_text};
@@ -21,28 +17,24 @@ pub mod analysis;
 mod changes;
 mod findings;
 pub mod laws;
+mod pairs;
 pub mod tables;
 pub mod types;
 pub mod wide;
 
 use crate::findings::findings_of;
-use crate::tables::{Tables, tables_of};
+use crate::tables::Tables;
 use crate::types::{BadReads, Verdict};
-use crate::wide::{Gate, deps_by, findings_by};
 use dep_edges::deps::Deps;
-use dep_edges::edges;
 use hist_types::device::{Failed, Sink};
 use hist_types::types::{Fault, KeyOrder};
 use hist_types::whole::write_all;
-use journal_core::events::Events;
 use journal_core::prefix::Prefix;
-use key_versions::table::Versions;
-use order_frontier::types::Order;
+use key_versions::versions;
 use report_text::report::{Findings, VerdictReport};
-use std::alloc::Global;
+use std::alloc::{AllocError, Global};
 use std::hash::BuildHasher;
-use std::sync::Wait;
-use std::thread::Threads;
+use txn_pairs::pair;
 use txn_pairs::types::Txns;
 
 /// What is known of bad reads.
@@ -63,11 +55,10 @@ fn reported<'a>(
     txns: &Txns<'a>,
     findings: Findings<'a>,
     reads: BadReads<'a>,
-) -> Result<Verdict<'a>, Fault>
-    ensures ok { (keys : KeyOrder)
+) -> Result<Verdict<'a>, AllocError>
+    ensures { (keys : KeyOrder)
         → AreFindings keys txns.now findings.entry → AreBadReadsOf txns.now reads.entry
         → IfOk result (IsVerdictFor keys events txns.now) }
-    ensures err { IfErr result (λ fault. fault ≡ memory_fault) }
 {
     let BadReads { g1a, g1b, stray } = reads;
     let report = VerdictReport {
@@ -78,69 +69,24 @@ fn reported<'a>(
         g1b,
         stray,
     };
-    Ok(Verdict::new(alloc, report)?)
+    Verdict::new(alloc, report)
 }
 
-/// The verdict of this many events, from their transactions, the versions that these name, and the thinned order if it was kept.
-///
-/// Only memory can run out.
-fn verdict_by<'a>(
-    alloc: Global,
-    events: u64,
-    txns: &Txns<'a>,
-    versions: &Versions<'a>,
-    thinned: Option<&Order>,
-) -> Result<Verdict<'a>, Fault>
-    requires history { AreOfHistory txns.now }
-    requires versions { IsTableOf versions.now.keys txns.now versions.now }
-    requires thinned { IfSome thinned (λ order. IsThinnedOrder txns.now order.now) }
-    ensures ok { IfOk result (IsVerdictFor versions.now.keys events txns.now) }
-    ensures err { IfErr result (λ fault. fault ≡ memory_fault) }
+/// The verdict of the events that the tables are of. It borrows the journal's blocks.
+fn verdict_from<'a>(alloc: Global, tables: &Tables<'_, 'a>) -> Result<Verdict<'a>, AllocError>
+    requires { AreTables tables.now }
+    ensures { (events : List Operation) → AreTablesOf events tables.now
+        → IfOk result (IsVerdictOf (keys_in tables.now) events) }
 {
-    let deps = edges(alloc, txns, versions)?;
-    let findings = findings_of(alloc, txns, &deps, thinned)?;
-    reported(alloc, events, txns, findings, bad_reads(&deps))
-}
-
-/// The verdict of events that keep the rules, from what was made of them. It borrows the journal's blocks.
-///
-/// Only memory can run out.
-pub fn verdict_from<'a>(
-    alloc: Global,
-    events: &Events<'a>,
-    tables: &Tables<'a>,
-) -> Result<Verdict<'a>, Fault>
-    requires rules { KeepsRules events.now }
-    requires tables { AreTablesOf tables.now.versions.keys events.now tables.now }
-    ensures ok { IfOk result (IsVerdictOf tables.now.versions.keys events.now) }
-    // Where the verdict says refuted, no order explains the events; where it says open, that says nothing.
-    ensures strict { IfOk result (RefutesExplanations events.now) }
-    ensures err { IfErr result (λ fault. fault ≡ memory_fault) }
-{
-    verdict_by(alloc, events.len(), &tables.txns, &tables.versions, None)
-}
-
-/// As `verdict_from`, by this many workers, as `wide::verdict_wide` says.
-pub fn verdict_from_wide<'a, R: Threads + Wait + Sync, G: Gate + Sync>(
-    rt: &R,
-    alloc: Global,
-    events: &Events<'a>,
-    tables: &Tables<'a>,
-    workers: usize,
-    gate: &G,
-) -> Result<Verdict<'a>, Fault>
-    requires workers { IsNumberOfWorkers workers }
-    requires rules { KeepsRules events.now }
-    requires tables { AreTablesOf tables.now.versions.keys events.now tables.now }
-    ensures ok { IfOk result (IsVerdictOf tables.now.versions.keys events.now) }
-    // Where the verdict says refuted, no order explains the events; where it says open, that says nothing.
-    ensures strict { IfOk result (RefutesExplanations events.now) }
-    ensures err { IfErr result IsMemoryOrThread }
-{
-    let txns = &tables.txns;
-    let deps = deps_by(rt, alloc, tables, workers, gate)?;
-    let findings = findings_by(rt, alloc, txns, &deps, workers)?;
-    reported(alloc, events.len(), txns, findings, bad_reads(&deps))
+    let deps = Deps::of(alloc, tables.txns, tables.versions)?;
+    let findings = findings_of(alloc, tables, &deps)?;
+    reported(
+        alloc,
+        tables.events,
+        tables.txns,
+        findings,
+        bad_reads(&deps),
+    )
 }
 
 /// The verdict of the events. It borrows the journal's blocks, and not the prefix. It doesn't depend on the hasher.
@@ -160,8 +106,9 @@ pub fn verdict<'a, S: BuildHasher + Copy>(
     let events = prefix.as_events();
     // Called for its clause that the events keep the rules, which the proof cites.
     let _rules = prefix.events();
-    let tables = tables_of(alloc, events, hasher, keys)?;
-    verdict_from(alloc, events, &tables)
+    let txns = pair(alloc, events)?;
+    let versions = versions(alloc, &txns, hasher, keys)?;
+    Ok(verdict_from(alloc, &Tables::new(events, &txns, &versions))?)
 }
 
 /// Hands the verdict's text to a sink, or a beginning of it where the sink fails. It takes no memory.

@@ -1,61 +1,46 @@
 //! What verdicts are made from.
 
-ghost use Rattle.std.specs.Prelude.{◌≡◌, IfOk, IfErr};
-ghost use Rattle.hist_types.specs.Journal.{written, KeepsRules};
-ghost use Rattle.hist_types.specs.Refusals.{memory_fault};
-ghost use Rattle.journal_core.specs.Writes.{AreSameWrites};
-ghost use Rattle.verdict.specs.Lowest.{AreTablesOf};
+ghost use Rattle.std.specs.Prelude.{◌≡◌};
+ghost use Rattle.hist_types.specs.Journal.{KeepsRules};
+ghost use Rattle.hist_types.specs.Transactions.{transactions_of};
+ghost use Rattle.key_versions.specs.Tables.{IsTableOf};
+ghost use Rattle.verdict.specs.Tables.{AreTablesOf, keys_in};
 
-use hist_types::types::{Fault, KeyOrder};
-use history_laws::versions_written_once;
+use crate::pairs::Pairs;
 use journal_core::events::Events;
-use journal_core::written::Written;
 use key_versions::table::Versions;
-use key_versions::{versions, versions_of_written};
-use std::alloc::Global;
-use std::hash::BuildHasher;
-use txn_pairs::pair;
+use order_frontier::types::Order;
 use txn_pairs::types::Txns;
 
-/// The transactions of some events, and the versions that they name.
+/// What a verdict of some events is made from.
 #[derive(Drop)]
-pub struct Tables<'a> {
-    pub txns: Txns<'a>,
-    pub versions: Versions<'a>,
+pub struct Tables<'t, 'a> {
+    /// How many events there are.
+    pub events: u64,
+    pub txns: &'t Txns<'a>,
+    /// The versions that the transactions name.
+    pub versions: &'t Versions<'a>,
+    /// The thinned order, if it was kept. Else it is thinned where a search needs it.
+    pub thinned: Option<&'t Order>,
+    /// Where cycles are looked for first.
+    pub pairs: Pairs,
 }
 
-/// What a verdict of the events is made from, whether or not they keep the rules. It doesn't depend on the hasher.
-///
-/// Only memory can run out.
-pub fn tables_of<'a, S: BuildHasher + Copy>(
-    alloc: Global,
-    events: &Events<'a>,
-    hasher: S,
-    keys: KeyOrder,
-) -> Result<Tables<'a>, Fault>
-    ensures ok { IfOk result (AreTablesOf keys events.now) }
-    ensures err { IfErr result (λ fault. fault ≡ memory_fault) }
-{
-    let txns = pair(alloc, events)?;
-    let versions = versions(alloc, &txns, hasher, keys)?;
-    Ok(Tables { txns, versions })
-}
-
-/// As `tables_of`, of events of which it is known what they wrote.
-pub fn tables_of_written<'a>(
-    alloc: Global,
-    events: &Events<'a>,
-    writes: Written<'a>,
-    keys: KeyOrder,
-) -> Result<Tables<'a>, Fault>
-    requires rules { KeepsRules events.now }
-    requires written { AreSameWrites writes.items (written events.now) }
-    ensures ok { IfOk result (AreTablesOf keys events.now) }
-    ensures err { IfErr result (λ fault. fault ≡ memory_fault) }
-{
-    // A law, called for its clause: the transactions write what the events do.
-    versions_written_once();
-    let txns = pair(alloc, events)?;
-    let versions = versions_of_written(alloc, &txns, writes, keys)?;
-    Ok(Tables { txns, versions })
+impl<'t, 'a> Tables<'t, 'a> {
+    /// By the events' transactions, and the versions that these name.
+    pub fn new(events: &Events<'a>, txns: &'t Txns<'a>, versions: &'t Versions<'a>) -> Self
+        requires rules { KeepsRules events.now }
+        requires txns { txns.now ≡ transactions_of events.now }
+        requires versions { IsTableOf versions.now.keys txns.now versions.now }
+        ensures tables { AreTablesOf events.now result }
+        ensures keys { keys_in result ≡ versions.now.keys }
+    {
+        Tables {
+            events: events.len(),
+            txns,
+            versions,
+            thinned: None,
+            pairs: Pairs::none(),
+        }
+    }
 }

@@ -1,31 +1,31 @@
 //! Verdicts by several workers, each of which looks at a piece of the keys.
 
-ghost use Rattle.std.specs.Prelude.{◌≡◌, ◌<◌, ℕ, vec_len, IfSome, IfOk, IfErr};
-ghost use Rattle.dep_edges.specs.Histories.{AreOfHistory};
+ghost use Rattle.std.specs.Prelude.{◌≡◌, ◌<◌, ℕ, List, vec_len, IfSome, IfOk, IfErr};
 ghost use Rattle.dep_edges.specs.Pieces.{Piece, ArePiecesOf};
-ghost use Rattle.hist_types.specs.Refusals.{memory_fault};
+ghost use Rattle.hist_types.specs.Operations.{Operation};
 ghost use Rattle.hist_types.specs.Reports.{AreFindings, IsVerdictOf};
-ghost use Rattle.key_versions.specs.Tables.{IsTableOf};
 ghost use Rattle.report_laws.specs.Explained.{RefutesExplanations};
-ghost use Rattle.verdict.specs.KeyPieces.{IsNumberOfWorkers, IsWorker, IsMemoryOrThread, AreOfOneHistory, IsFoundBy, EachFinds, first_key, history_of};
+ghost use Rattle.verdict.specs.KeyPieces.{IsNumberOfWorkers, IsWorker, IsMemoryOrThread, AreOfOneHistory, IsFoundBy, EachFinds, first_key};
+ghost use Rattle.verdict.specs.Tables.{AreTables, AreTablesOf, history_of, keys_in};
 
 use crate::findings::{findings_of, findings_of_wide};
-use crate::tables::{Tables, tables_of};
+use crate::tables::Tables;
 use crate::types::Verdict;
-use crate::verdict_from_wide;
+use crate::{bad_reads, reported, verdict_from};
 use dep_edges::deps::Deps;
 use dep_edges::pieces::PieceDeps;
-use dep_edges::{edges, edges_piece, join};
+use dep_edges::{edges_piece, join};
 use hist_types::types::{At, Fault, KeyOrder, Refusal};
 use journal_core::prefix::Prefix;
 use key_versions::table::KeyNumbers;
+use key_versions::versions;
 use report_text::report::Findings;
 use std::alloc::{AllocError, Global};
 use std::hash::BuildHasher;
 use std::sync::Wait;
 use std::thread;
 use std::thread::{Promise, Threads};
-use txn_pairs::types::Txns;
+use txn_pairs::pair;
 
 /// With so many workers the graph is put together by several threads too, of which there are up to four.
 const WORKERS_FOR_GRAPHS: usize = 4;
@@ -60,8 +60,8 @@ trait Pieces: Sync {
 
 /// Of n keys, the worker i has those from `i * n / workers` up to but not including `(i + 1) * n / workers`.
 #[derive(Drop)]
-struct KeyPieces<'t, 'a> {
-    tables: &'t Tables<'a>,
+struct KeyPieces<'p, 't, 'a> {
+    tables: &'p Tables<'t, 'a>,
     keys: KeyNumbers,
     workers: usize,
 }
@@ -74,7 +74,7 @@ fn first_key(count: usize, workers: usize, worker: usize) -> Option<usize>
     Some(worker.checked_mul(count)? / workers)
 }
 
-impl Pieces for KeyPieces<'_, '_> {
+impl Pieces for KeyPieces<'_, '_, '_> {
     ghost has = { λ p worker. IsWorker p.workers worker × AreOfOneHistory p.tables.now p.keys };
 
     ghost finds = { λ p worker. IsFoundBy p.tables.now p.keys p.workers worker };
@@ -83,8 +83,8 @@ impl Pieces for KeyPieces<'_, '_> {
         let count = self.keys.count;
         edges_piece(
             alloc,
-            &self.tables.txns,
-            &self.tables.versions,
+            self.tables.txns,
+            self.tables.versions,
             &self.keys,
             first_key(count, self.workers, worker).ok_or(AllocError)?,
             first_key(count, self.workers, worker + 1).ok_or(AllocError)?,
@@ -155,7 +155,7 @@ fn look_at_all<R: Threads + Wait + Sync, P: Pieces, G: Gate + Sync>(
 fn all_pieces<R: Threads + Wait + Sync, G: Gate + Sync>(
     rt: &R,
     alloc: Global,
-    pieces: &KeyPieces<'_, '_>,
+    pieces: &KeyPieces<'_, '_, '_>,
     gate: &G,
 ) -> Result<Vec<PieceDeps>, Fault>
     requires workers { IsNumberOfWorkers pieces.now.workers }
@@ -172,50 +172,68 @@ fn all_pieces<R: Threads + Wait + Sync, G: Gate + Sync>(
     Ok(all)
 }
 
-/// What the transactions depend on each other for. A single worker is the caller's own thread.
-pub(crate) fn deps_by<'t, 'a, R: Threads + Wait + Sync, G: Gate + Sync>(
+/// What the transactions depend on each other for.
+fn deps_by<'t, 'a, R: Threads + Wait + Sync, G: Gate + Sync>(
     rt: &R,
     alloc: Global,
-    tables: &'t Tables<'a>,
+    tables: &Tables<'t, 'a>,
     workers: usize,
     gate: &G,
 ) -> Result<Deps<'t, 'a>, Fault>
     requires workers { IsNumberOfWorkers workers }
-    requires history { AreOfHistory tables.now.txns }
-    requires versions { IsTableOf tables.now.versions.keys tables.now.txns tables.now.versions }
+    requires tables { AreTables tables.now }
     ensures ok { IfOk result (λ deps. deps ≡ history_of tables.now) }
     ensures err { IfErr result IsMemoryOrThread }
 {
-    if workers == 1 {
-        gate.enter(0);
-        return edges(alloc, &tables.txns, &tables.versions);
-    }
     let pieces = KeyPieces {
         tables,
         keys: tables.versions.key_numbers(alloc)?,
         workers,
     };
     let found = all_pieces(rt, alloc, &pieces, gate)?;
-    join(alloc, &tables.txns, &tables.versions, found.as_slice())
+    join(alloc, tables.txns, tables.versions, found.as_slice())
 }
 
 /// What is found of the phenomena that cycles show, with no more threads than workers.
-pub(crate) fn findings_by<'a, R: Threads + Sync>(
+fn findings_by<'a, R: Threads + Sync>(
     rt: &R,
     alloc: Global,
-    txns: &Txns<'a>,
+    tables: &Tables<'_, 'a>,
     deps: &Deps<'_, 'a>,
     workers: usize,
-) -> Result<Findings<'a>, Fault>
-    requires history { AreOfHistory txns.now }
-    requires deps { deps.now.txns ≡ txns.now }
-    ensures ok { IfOk result (AreFindings deps.now.table.keys txns.now) }
-    ensures err { IfErr result (λ fault. fault ≡ memory_fault) }
+) -> Result<Findings<'a>, AllocError>
+    requires tables { AreTables tables.now }
+    requires deps { deps.now ≡ history_of tables.now }
+    ensures { IfOk result (AreFindings deps.now.table.keys deps.now.txns) }
 {
     if workers < WORKERS_FOR_GRAPHS {
-        return findings_of(alloc, txns, deps, None);
+        return findings_of(alloc, tables, deps);
     }
-    findings_of_wide(rt, alloc, txns, deps)
+    findings_of_wide(rt, alloc, tables, deps)
+}
+
+/// The verdict of the events that the tables are of, by this many workers, as `verdict_wide` says.
+pub fn verdict_from_wide<'a, R: Threads + Wait + Sync, G: Gate + Sync>(
+    rt: &R,
+    alloc: Global,
+    tables: &Tables<'_, 'a>,
+    workers: usize,
+    gate: &G,
+) -> Result<Verdict<'a>, Fault>
+    requires workers { IsNumberOfWorkers workers }
+    requires tables { AreTables tables.now }
+    ensures ok { (events : List Operation) → AreTablesOf events tables.now
+        → IfOk result (IsVerdictOf (keys_in tables.now) events) }
+    ensures err { IfErr result IsMemoryOrThread }
+{
+    if workers == 1 {
+        gate.enter(0);
+        return Ok(verdict_from(alloc, tables)?);
+    }
+    let deps = deps_by(rt, alloc, tables, workers, gate)?;
+    let findings = findings_by(rt, alloc, tables, &deps, workers)?;
+    let reads = bad_reads(&deps);
+    Ok(reported(alloc, tables.events, tables.txns, findings, reads)?)
 }
 
 /// What `verdict` gives, by this many workers. The transactions are paired and their versions numbered first, in the caller's
@@ -243,6 +261,13 @@ pub fn verdict_wide<'a, R: Threads + Wait + Sync, S: BuildHasher + Copy, G: Gate
     let events = prefix.as_events();
     // Called for its clause that the events keep the rules, which the proof cites.
     let _rules = prefix.events();
-    let tables = tables_of(alloc, events, hasher, keys)?;
-    verdict_from_wide(rt, alloc, events, &tables, workers, gate)
+    let txns = pair(alloc, events)?;
+    let versions = versions(alloc, &txns, hasher, keys)?;
+    verdict_from_wide(
+        rt,
+        alloc,
+        &Tables::new(events, &txns, &versions),
+        workers,
+        gate,
+    )
 }

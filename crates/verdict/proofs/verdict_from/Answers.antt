@@ -1,21 +1,17 @@
 use Rattle.std.proofs.lemmas.Result.{IfOk-weaker}
-use Rattle.report_laws.proofs.ExplainedVerdicts.{verdict_refutes}
-use Rattle.verdict.specs.Lowest.{IsVerdictFor}
+use Rattle.hist_types.specs.Reports.{IsVerdictOf}
+use Rattle.verdict.specs.Tables.{IsVerdictFor, keys_in}
+use Rattle.verdict.proofs.Reports.{found_in, bad_reads_in}
 use Rattle.verdict.proofs.verdict_from.Goals as goal
 
-pub verdict_by-requires : goal.verdict_by-requires
-verdict_by-requires c = record {
-  history = (c.args.events.now, c.requires.rules, c.requires.tables.txns);
-  versions = c.requires.tables.versions;
-  thinned = tt;
-}
+pub of-requires : goal.of-requires
+of-requires c = (let (events, of) = c.requires in record { history = (events, of.rules, of.txns); versions = of.versions })
 
-pub returns-clause-ok : goal.returns-clause-ok
-returns-clause-ok c =
-    IfOk-weaker _ (IsVerdictFor c.args.tables.now.versions.keys c.len.result c.args.tables.now.txns) _ (λ v is. is c.args.events.now c.len.ensures.count c.requires.tables.txns) c.verdict_by.ensures.ok
-
-pub returns-clause-strict : goal.returns-clause-strict
-returns-clause-strict c =
-    IfOk-weaker _ _ _ (λ v is.
-    verdict_refutes c.args.tables.now.versions.keys c.args.events.now v c.requires.rules
-    (is c.args.events.now c.len.ensures.count c.requires.tables.txns)) c.verdict_by.ensures.ok
+pub returns : goal.returns
+returns c = λ events of.
+    let tables = c.args.tables.now in
+    let deps = c.in_ok-deps.deps in
+    IfOk-weaker c.reported.result (IsVerdictFor (keys_in tables) tables.events tables.txns.now) (IsVerdictOf (keys_in tables) events)
+    (λ v is. is events of.count of.txns)
+    (c.reported.ensures (keys_in tables) (found_in deps tables c.in_ok-deps.ensures c.in_ok-findings.findings c.in_ok-findings.ensures)
+    (bad_reads_in deps tables c.in_ok-deps.ensures c.bad_reads.result c.bad_reads.ensures))

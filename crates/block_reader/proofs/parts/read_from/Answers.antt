@@ -1,4 +1,4 @@
-use Rattle.std.proofs.Common.{rules, ◌≡◌, ◌∙◌, sym, subst}
+use Rattle.std.proofs.Common.{rules, [], ◌≡◌, ◌∙◌, sym, subst}
 use Rattle.std.proofs.lemmas.Grind.{common_steps}
 use Rattle.block_reader.specs.Parts.{IsIn, HasReadFrom}
 use Rattle.block_reader.proofs.Readings.{none_read, none_between, read_between}
@@ -18,6 +18,6 @@ loop-preserved c =
     let same : c.loop.blocks.text ≡ text = c.loop.invariant.2 in
     let before : HasReadFrom c.loop.blocks.text start c.loop.reader c.loop.blocks.operations = subst (λ t. HasReadFrom t start c.loop.reader c.loop.blocks.operations) (sym same) c.loop.invariant.0 in
     let in_text : IsIn c.loop.blocks.text start = subst (λ t. IsIn t start) (sym same) c.requires in
-    let on : HasReadFrom c.loop.blocks.text start reader operations = rw c.in-Ok-true.field-0-test at (c.in-Ok-true.ensures.on start in_text before) in
+    let on : HasReadFrom c.loop.blocks.text start reader operations = rw c.in-Ok-true.field-0-test at (c.in-Ok-true.ensures.on start [] in_text before) in
     let read : HasReadFrom text start reader operations = subst (λ t. HasReadFrom t start reader operations) same on in
     (read, read_between text start c.in_ok-end-in-Ok-true.end reader operations read c.in_ok-end-in-Ok-true.ensures, c.in-Ok-true.ensures.same_text ∙ same)

@@ -1,35 +1,39 @@
-use Rattle.std.proofs.Common.{◌≡◌, ◌⊎◌, ◌∙◌}
+use Rattle.std.proofs.Common.{◌≡◌, ◌⊎◌, ◌∙◌, [], ◌∷◌, ◌++◌, append_assoc, subst}
 use Rattle.std.proofs.lemmas.Result.{err_from_is_err_and}
 use Rattle.hist_types.specs.Refusals.{memory_fault}
+use Rattle.hist_types.specs.Entries.{operation_of}
 use Rattle.edn_ops.specs.Reader.{HasRead, HasEnded}
-use Rattle.block_reader.specs.Parts.{FailsFrom}
+use Rattle.block_reader.specs.Parts.{FailsFrom, HasReadFrom}
 use Rattle.block_reader.proofs.Readings.{one_more, is_read, all_given, next_refused}
 use Rattle.block_reader.proofs.parts.read_op.Goals as goal
 
 pub returns-in_err-shape-clause-on : goal.returns-in_err-shape-clause-on
 returns-in_err-shape-clause-on c =
-    λ offset low h.
+    λ offset before low h.
     let text = c.args.blocks.now.text in
     let fault = c.in_err-shape.field-0.0 in
     let given : (fault ≡ memory_fault) ⊎ FailsFrom text offset fault =
-    next_refused text offset c.args.reader.now c.next_op.new.self c.args.blocks.now.operations fault h (c.in_err-shape.ensures.next h.going) in
+    next_refused text offset c.args.reader.now c.next_op.new.self (before ++ c.args.blocks.now.operations) fault h (c.in_err-shape.ensures.next h.going) in
     let left = err_from_is_err_and c.from_residual.result c.from_residual.ensures.1 in
     rw left.1 (rw left.2 given)
 
 pub returns-in_default-clause-on : goal.returns-in_default-clause-on
 returns-in_default-clause-on c =
-    λ offset low h.
+    λ offset before low h.
     let ended : HasEnded c.args.reader.now c.next_op.new.self = rw c.in_default.is at (c.in_ok-shape.ensures.next h.going) in
-    all_given c.args.blocks.now.text offset c.args.reader.now c.next_op.new.self c.args.blocks.now.operations h ended
+    all_given c.args.blocks.now.text offset c.args.reader.now c.next_op.new.self (before ++ c.args.blocks.now.operations) h ended
 
 pub returns-clause-on : goal.returns-clause-on
 returns-clause-on c =
-    λ offset low h.
+    λ offset before low h.
     let text = c.args.blocks.now.text in
+    let operations = c.args.blocks.now.operations in
     let old = c.args.reader.now in
     let new = c.next_op.new.self in
     let shape = c.in-Some.shape in
     let read : HasRead old shape new = rw c.in-Some.is at (c.in_ok-shape.ensures.next h.going) in
     let same = c.in_ok-shape.ensures.text ∙ c.requires in
-    let is_in = is_read text offset old new shape c.args.blocks.now.operations h read same low c.operations_read_alone.ensures in
-    rw (c.in_ok-push.ensures.ok read.read is_in read.shape_of) (one_more text offset old new shape c.args.blocks.now.operations h read same)
+    let is_in = is_read text offset old new shape (before ++ operations) h read same low c.operations_read_alone.ensures in
+    let more = one_more text offset old new shape (before ++ operations) h read same in
+    rw (c.in_ok-push.ensures.ok read.read is_in read.shape_of)
+    (subst (λ os. HasReadFrom text offset new os) (append_assoc before operations (operation_of read.read ∷ [])) more)

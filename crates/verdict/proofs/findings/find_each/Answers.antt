@@ -8,12 +8,12 @@ use Rattle.verdict.specs.Lowest.{IsFoundBelow, AreFoundBelow}
 use Rattle.verdict.proofs.Searching.{is_finding}
 use Rattle.verdict.proofs.findings.find_each.Goals as goal
 
-pub returns-clause-ok : goal.returns-clause-ok
-returns-clause-ok c =
+pub returns : goal.returns
+returns c =
     let g = c.args.graph.now in
     let top = height Realtime + 1 in
     IfOk-weaker c.find_up_to-3.result (AreFoundBelow top c.in_ok-graph.graph) (AreFindings g.keys g.txns)
     (λ found below phenomenon.
     is_finding g phenomenon (finding found phenomenon)
-    (subst (λ (p : Parts). IsFoundBelow top p phenomenon (finding found phenomenon)) c.in_ok-graph.ensures.ok (below phenomenon)))
-    c.find_up_to-3.ensures.ok
+    (subst (λ (p : Parts). IsFoundBelow top p phenomenon (finding found phenomenon)) c.in_ok-graph.ensures (below phenomenon)))
+    c.find_up_to-3.ensures

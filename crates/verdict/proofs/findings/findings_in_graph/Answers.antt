@@ -1,9 +1,10 @@
-use Rattle.verdict.proofs.Searching.{order_of, thinned_graph}
+use Rattle.edge_graph.proofs.Orderings.{thinned_order}
+use Rattle.verdict.proofs.Searching.{thinned_graph}
 use Rattle.verdict.proofs.findings.findings_in_graph.Goals as goal
 
 pub new-requires : goal.new-requires
-new-requires c = order_of c.args.deps.now.txns c.args.txns.now c.args.order.now c.requires.deps c.requires.order
+new-requires c = thinned_order c.args.deps.now.txns c.args.order.now c.requires.order.0 c.requires.order.1 c.requires.order.2
 
 pub find_each-requires : goal.find_each-requires
 find_each-requires c =
-    thinned_graph c.args.deps.now.table.keys c.args.deps.now.txns c.args.txns.now c.args.order.now c.in_ok-graph.graph c.requires.deps c.requires.history c.requires.order c.in_ok-graph.ensures.ok
+    thinned_graph c.args.deps.now.table.keys c.args.deps.now.txns c.args.order.now c.in_ok-graph.graph c.requires.history c.requires.order c.in_ok-graph.ensures

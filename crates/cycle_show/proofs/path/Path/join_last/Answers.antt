@@ -1,6 +1,6 @@
 use Rattle.std.proofs.Common.{◌≡◌, ◌∙◌, ◌-◌, length, get_or, ap}
 use Rattle.std.specs.List.{slice_set}
-use Rattle.cycle_show.specs.Paths.{joined}
+use Rattle.dep_edges.specs.Labels.{joined}
 use Rattle.cycle_show.proofs.Places.{last_joined_as_set}
 use Rattle.cycle_show.proofs.path.Path.join_last.Goals as goal
 

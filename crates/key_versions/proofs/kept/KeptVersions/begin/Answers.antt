@@ -1,8 +1,8 @@
 use Rattle.std.proofs.Common.{◌++◌, ◌∷◌, [], length, sym, subst}
-use Rattle.key_versions.specs.Kept.{KeptVersions, AreKept, StayBeside}
+use Rattle.key_versions.specs.Kept.{KeptVersions, AreKept, KeepNumbers, StayBeside}
 use Rattle.key_versions.specs.Numbering.{versions_of}
 use Rattle.key_versions.specs.TxnAccesses.{accesses_of}
-use Rattle.key_versions.proofs.Keeping.{beside_push, kept_by, kept_more}
+use Rattle.key_versions.proofs.Keeping.{beside_push, kept_by, kept_more, stays}
 use Rattle.key_versions.proofs.kept.KeptVersions.begin.Goals as goal
 
 pub take-requires : goal.take-requires
@@ -28,3 +28,9 @@ returns-clause-others g c =
     let a = accesses_of c.take.new.accessed in
     rw c.in_ok-push.ensures
     (subst (λ (k : KeptVersions). StayBeside (length k.accesses) k.accesses (accesses ++ a ∷ [])) c.self.view_is (beside_push accesses a))
+
+pub returns-clause-numbers : goal.returns-clause-numbers
+returns-clause-numbers g c =
+    let vs = versions_of c.self.inside.numbering in
+    let us = versions_of c.take.new.self in
+    subst (λ (k : KeptVersions). KeepNumbers k.versions us) c.self.view_is (stays c.self.inside.keys vs us c.args.txn.now c.in_ok-take.ensures.versions)

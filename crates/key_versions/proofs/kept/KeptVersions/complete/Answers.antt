@@ -1,9 +1,9 @@
 use Rattle.std.proofs.Common.{rules, ◌≡◌, ◌∙◌, ◌<◌, set, sym, subst}
 use Rattle.hist_types.specs.Transactions.{is_ok}
-use Rattle.key_versions.specs.Kept.{KeptVersions, AreKept, StayBeside}
+use Rattle.key_versions.specs.Kept.{KeptVersions, AreKept, KeepNumbers, StayBeside}
 use Rattle.key_versions.specs.Numbering.{versions_of}
 use Rattle.key_versions.specs.TxnAccesses.{accesses_of}
-use Rattle.key_versions.proofs.Keeping.{beside_set, kept_by, have_count, kept_completed, kept_not_ok}
+use Rattle.key_versions.proofs.Keeping.{beside_set, kept_by, have_count, kept_completed, kept_not_ok, stays}
 use Rattle.key_versions.proofs.kept.KeptVersions.complete.Goals as goal
 
 pub set-requires : goal.set-requires
@@ -42,3 +42,9 @@ returns-in_ok-set-clause-others g c =
     let a = accesses_of c.take.new.accessed in
     rw c.in_ok-set.ensures
     (subst (λ (k : KeptVersions). StayBeside c.args.place k.accesses (set accesses c.args.place a)) c.self.view_is (beside_set accesses c.args.place a))
+
+pub returns-in_ok-set-clause-numbers : goal.returns-in_ok-set-clause-numbers
+returns-in_ok-set-clause-numbers g c =
+    let vs = versions_of c.self.inside.numbering in
+    let us = versions_of c.take.new.self in
+    subst (λ (k : KeptVersions). KeepNumbers k.versions us) c.self.view_is (stays c.self.inside.keys vs us c.args.txn.now c.in_ok-take.ensures.versions)

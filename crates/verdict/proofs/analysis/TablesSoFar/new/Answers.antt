@@ -10,5 +10,5 @@ returns-clause-tables g c = record {
   txns = c.new.ensures;
   versions = subst (λ (ts : List Transaction). AreKept ts c.new-2.result) (sym c.new.ensures) c.new-2.ensures.kept;
   order = c.new-3.ensures;
-  points = c.first_points.ensures c.new-2.result c.new-2.ensures.kept c.new-2.ensures.keys;
+  points = c.first_points.ensures c.new-2.result c.new-2.ensures.kept;
 }

@@ -1,0 +1,13 @@
+use Rattle.std.proofs.Common.{rules}
+use Rattle.std.proofs.lemmas.List.Elements.{All-more}
+use Rattle.serial_points.specs.Stepping.{AboveUsers}
+use Rattle.serial_points.proofs.Listed.{all_gone}
+use Rattle.serial_points.proofs.stepping.is_above_all_users.Goals as goal
+
+pub loop-version-preserved : goal.loop-version-preserved
+loop-version-preserved c =
+    All-more (AboveUsers c.args.points.now c.args.users.now c.args.place) c.args.versions.now c.loop-version.version-index 0 c.loop-version-test.true c.loop-version.invariant
+    (c.is_above_users.ensures (search rules))
+
+pub returns : goal.returns
+returns c = λ _. all_gone (AboveUsers c.args.points.now c.args.users.now c.args.place) c.args.versions.now c.loop-version.version-index c.loop-version-test.false c.loop-version.invariant
