@@ -12,10 +12,17 @@ use key_versions::kept::{Access, KeptVersions};
 use std::hash::BuildHasher;
 use txn_pairs::types::Txn;
 
-/// Whether the point at the place is above those of all others that read or write the version.
+/// Points are given up where more transactions read a version that a process went on from: a look at each of them, for each process
+/// that goes on, would take time for all pairs.
+const MOST_READERS: usize = 4096;
+
+/// Whether the point at the place is above those of all others that read or write the version, and these readers are not too many.
 fn is_above_users(points: &[u64], users: &Users, place: usize, version: u32) -> bool
     ensures { result ≡ true → AboveUsers points.now users.now place version }
 {
+    if users.readers.at(version).len() > MOST_READERS {
+        return false;
+    }
     are_all_lower(points, users.readers.at(version), place)
         && are_all_lower(points, users.writers.at(version), place)
 }
