@@ -18,7 +18,7 @@ use Rattle.key_versions.specs.declared.types.Writer.{Writer}
 use Rattle.dep_edges.specs.Histories.{History}
 use Rattle.dep_edges.specs.Pieces.{Piece, ArePiecesOf, Sees, possible_in, read_writer, unfailed_place}
 use Rattle.dep_edges.specs.Possible.{RulesOut, RulesOutReads, either}
-use Rattle.dep_edges.specs.Tables.{IsNumber, version_at}
+use Rattle.dep_edges.specs.Tables.{version_at}
 use Rattle.dep_edges.specs.declared.possible.Possible.{Possible}
 use Rattle.dep_edges.proofs.Lists.{within_at}
 use Rattle.dep_edges.proofs.Marks.{place_in, to_some_place, has_one, in_if, version_is}
@@ -120,7 +120,7 @@ pub sees_unread : (h : History) (piece : Piece) (number : ℕ) → (length (read
 sees_unread h piece number none =
     let v = version_at h.table number in
     record {
-      of = λ of. of;
+      by = λ place there. inl there;
       kept = λ w seen. seen;
       seen = record {
         possible = λ t there seen. elim (false≢true (sym (ap not none) ∙ read_by_some h.txns t v there seen)) [ ];
@@ -131,18 +131,17 @@ sees_unread h piece number none =
 -- what reads of it may be is added, and the place of the transaction that wrote it
 pub sees_read :
     (h : History) (before after : Piece) (number : ℕ) (q : Possible)
-    → IsNumber h.table number
     → after.possible ≡ either before.possible q
     → RulesOut h.txns (version_at h.table number) q
     → after.writers ≡ before.writers ++ option_to_list (read_writer h.txns (version_at h.table number))
     → Sees h before after number
-sees_read h before after number q within possible out writers =
+sees_read h before after number q possible out writers =
     let v = version_at h.table number in
     let place = read_writer h.txns v in
     record {
-      of = λ of p has. elim (Contains-append_cases before.writers (option_to_list place) p (subst (λ ps. Contains ps p) writers has)) [
-        | inl old ↦ of p old
-        | inr new ↦ (number, within, only place p (in_from_Contains p (option_to_list place) new))
+      by = λ p has. elim (Contains-append_cases before.writers (option_to_list place) p (subst (λ ps. Contains ps p) writers has)) [
+        | inl old ↦ inl old
+        | inr new ↦ inr (only place p (in_from_Contains p (option_to_list place) new))
       ];
       kept = λ w seen. record {
         possible = λ t there reads. subst (RulesOut h.txns w) (sym possible) (out_before h.txns w before.possible q (seen.possible t there reads));

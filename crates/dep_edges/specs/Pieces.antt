@@ -1,5 +1,5 @@
 -- What looks at the versions of some keys give, and what the looks at all versions give together.
-use Rattle.std.specs.Prelude.{◌≡◌, ◌<◌, ◌≤◌, ℕ, List, Bool, true, false, not, ◌&&◌, ◌==◌, if◌then◌else◌, Option, Some, None, slice_get, slice_set, length, fold, Contains, All}
+use Rattle.std.specs.Prelude.{◌≡◌, ◌⊎◌, ◌<◌, ◌≤◌, ℕ, List, Bool, true, false, not, ◌&&◌, ◌==◌, if◌then◌else◌, Option, Some, None, slice_get, slice_set, length, fold, Contains, All}
 use Rattle.hist_types.specs.Transactions.{Transaction, Version, is_failed}
 use Rattle.key_versions.specs.Histories.{writer_of, readers_of}
 use Rattle.key_versions.specs.declared.types.Writer.{Writer}
@@ -38,15 +38,27 @@ IsOf h piece =
     × IsNumber h.table number
     × (read_writer h.txns (version_at h.table number) ≡ Some place)
 
--- The versions of the keys from one number up to but not including another one were looked at. The
--- number of each version's key is given.
+-- The version is of one of the keys from one number up to but not including another one. The number
+-- of each version's key is given.
+abbrev pub IsOfKeys : (keys : List ℕ) → (from to number : ℕ) → Type 0
+IsOfKeys keys from to number =
+    (key : ℕ) × (slice_get keys number ≡ Some key) × (from ≤ key) × (key < to)
+
+-- what is known comes from versions of these keys
+abbrev pub IsByKeys : History → (keys : List ℕ) → (from to : ℕ) → Piece → Type 0
+IsByKeys h keys from to piece =
+    (place : ℕ)
+    → Contains piece.writers place
+    → (number : ℕ)
+    × IsOfKeys keys from to number
+    × (read_writer h.txns (version_at h.table number) ≡ Some place)
+
+-- the versions of these keys were looked at, and no others
 pub record IsPieceOf (h : History) (keys : List ℕ) (from to : ℕ) (piece : Piece) : Type 0 where
-  pub of : IsOf h piece
+  pub by : IsByKeys h keys from to piece
   pub seen :
-      (number key : ℕ)
-      → slice_get keys number ≡ Some key
-      → from ≤ key
-      → key < to
+      (number : ℕ)
+      → IsOfKeys keys from to number
       → IsSeen h.txns piece (version_at h.table number)
 
 -- each version was looked at in one of the pieces
@@ -59,7 +71,11 @@ pub record ArePiecesOf (h : History) (pieces : List Piece) : Type 0 where
 
 -- one version more was looked at
 pub record Sees (h : History) (before after : Piece) (number : ℕ) : Type 0 where
-  pub of : IsOf h before → IsOf h after
+  pub by :
+      (place : ℕ)
+      → Contains after.writers place
+      → Contains before.writers place
+      ⊎ (read_writer h.txns (version_at h.table number) ≡ Some place)
   pub kept : (v : Version) → IsSeen h.txns before v → IsSeen h.txns after v
   pub seen : IsSeen h.txns after (version_at h.table number)
 

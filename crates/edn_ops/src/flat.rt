@@ -5,7 +5,7 @@ ghost use Rattle.std.specs.Prelude.{◌≡◌, ◌≤◌, ◌+◌, [], List, len
 ghost use Rattle.hist_types.specs.Entries.{is_named, is_write_of};
 ghost use Rattle.hist_types.specs.Forms.{plain};
 ghost use Rattle.hist_types.specs.Tokens.{Keyword};
-ghost use Rattle.edn_lex.specs.Ahead.{IsGap, IsWord, IsLoneAt, GivesLone};
+ghost use Rattle.edn_lex.specs.Ahead.{IsGap, IsWord, IsLoneAt};
 ghost use Rattle.edn_lex.specs.Kinds.{item_of};
 ghost use Rattle.edn_ops.specs.declared.flat.TheConstants.{VALUE_LEVELS};
 ghost use Rattle.edn_ops.specs.Outlines.{outline_of, IsTokenIn, IsOutlineIn};
@@ -204,7 +204,23 @@ fn mop_name(text: &[u8], start: usize) -> Option<(bool, Token)>
     Some((false, token))
 }
 
-/// The token that begins here, if it is an atom; often it is a number of few digits.
+/// The token that begins here, if it is an integer of so few digits that it is an atom.
+#[inline(always)]
+fn short_number_at(text: &[u8], start: usize) -> Option<Token>
+    requires { start ≤ length text.now }
+    ensures lone { IfSome result (IsLoneAt text.now start) }
+    ensures atom { IfSome result (λ token. IsMopValue true (plain (item_of text.now token))) }
+    ensures fits { IfSome result (λ token. token.end ≤ length text.now) }
+{
+    let number = number_at(text, start)?;
+    if bytes_of(text, number).len() < LONG_INTEGER {
+        Some(number)
+    } else {
+        None
+    }
+}
+
+/// The token that begins here, if it is an atom; often it is an integer of few digits.
 #[inline(always)]
 fn atom_at(text: &[u8], start: usize) -> Option<Token>
     requires { start ≤ length text.now }
@@ -212,10 +228,11 @@ fn atom_at(text: &[u8], start: usize) -> Option<Token>
     ensures atom { IfSome result (λ token. IsMopValue true (plain (item_of text.now token))) }
     ensures fits { IfSome result (λ token. token.end ≤ length text.now) }
 {
-    match number_at(text, start) {
-        Some(number) if bytes_of(text, number).len() < LONG_INTEGER => Some(number),
-        _ => any_atom_at(text, start),
+    if let Some(number) = short_number_at(text, start) {
+        return Some(number);
     }
+    let token = any_atom_at(text, start)?;
+    Some(token)
 }
 
 /// The token that begins here, if it is an atom, however it is spelled.
@@ -234,20 +251,24 @@ fn any_atom_at(text: &[u8], start: usize) -> Option<Token>
     }
 }
 
-/// The next token, if it is an atom, or `nil` that was read.
+/// The token that begins here, if it is an atom, or `nil` that was read.
 #[inline(always)]
-fn mop_value(text: &[u8], offset: usize, is_write: bool) -> Option<Token>
-    requires { offset ≤ length text.now }
-    ensures gives { IfSome result (GivesLone text.now offset) }
+fn value_at(text: &[u8], start: usize, is_write: bool) -> Option<Token>
+    requires { start ≤ length text.now }
+    ensures lone { IfSome result (IsLoneAt text.now start) }
     ensures value { IfSome result (λ token. IsMopValue is_write (plain (item_of text.now token))) }
     ensures fits { IfSome result (λ token. token.end ≤ length text.now) }
 {
-    let start = behind_blanks(text, offset);
-    match word_at(text, start, b"nil", TokenKind::Nil) {
-        Some(_) if is_write => None,
-        Some(token) => Some(token),
-        None => atom_at(text, start),
+    if let Some(number) = short_number_at(text, start) {
+        return Some(number);
     }
+    if !is_write {
+        if let Some(token) = word_at(text, start, b"nil", TokenKind::Nil) {
+            return Some(token);
+        }
+    }
+    let token = any_atom_at(text, start)?;
+    Some(token)
 }
 
 /// Whether the micro-operation that the next five tokens are is a write, where its key and value are and where it ends, if they
@@ -260,7 +281,7 @@ fn next_mop(text: &[u8], offset: usize) -> Option<(bool, Span, Span, usize)>
     let opener = vector_opener(text, offset)?;
     let (is_write, name) = mop_name(text, opener.end)?;
     let key = atom_at(text, behind_blanks(text, name.end + 1))?;
-    let value = mop_value(text, key.end, is_write)?;
+    let value = value_at(text, behind_blanks(text, key.end), is_write)?;
     let closer = vector_closer(text, value.end)?;
     Some((is_write, span(key), span(value), closer.end))
 }
@@ -289,6 +310,7 @@ fn flat_mop(text: &[u8], offset: usize, mops: &mut Mops) -> Result<Option<usize>
 }
 
 /// Reads a transaction into the empty list, up to the end that is given, if all its members can be read so.
+#[inline(never)]
 fn flat_transaction(text: &[u8], offset: usize, mops: &mut Mops) -> Result<Option<usize>, Fault>
     requires offset { offset ≤ length text.now }
     requires empty { mops.old.items ≡ [] }
@@ -373,7 +395,8 @@ fn other_field(text: &[u8], start: usize) -> Option<usize>
     passed_value(text, key.end)
 }
 
-/// Reads the field that begins here, up to the end that is given, if it can be read so.
+/// Reads the field that begins here, up to the end that is given, if it can be read so. The letter after its key's colon tells which
+/// name the key may be.
 #[inline(always)]
 fn flat_field(
     text: &[u8],
@@ -385,23 +408,32 @@ fn flat_field(
     requires none { fields.old.has_value ≡ false → mops.old.items ≡ [] }
     ensures { ReadsFlatField text.now start fields.old mops.old.items result fields.new mops.new.items }
 {
-    if let Some(key) = key_at(text, start, b":type") {
-        return Ok(fields.read_kind(text, key.end));
+    match text.get(start + 1) {
+        Some(b't') => {
+            if let Some(key) = key_at(text, start, b":type") {
+                return Ok(fields.read_kind(text, key.end));
+            }
+        }
+        Some(b'p') => {
+            if let Some(key) = key_at(text, start, b":process") {
+                return Ok(fields.read_owner(text, key.end));
+            }
+        }
+        Some(b'v') => {
+            if let Some(key) = key_at(text, start, b":value") {
+                if !fields.may_have_mops() {
+                    return Ok(passed_value(text, key.end));
+                }
+                if fields.has_value {
+                    return Ok(None);
+                }
+                fields.has_value = true;
+                return flat_transaction(text, key.end, mops);
+            }
+        }
+        _ => {}
     }
-    if let Some(key) = key_at(text, start, b":process") {
-        return Ok(fields.read_owner(text, key.end));
-    }
-    let Some(key) = key_at(text, start, b":value") else {
-        return Ok(other_field(text, start));
-    };
-    if !fields.may_have_mops() {
-        return Ok(passed_value(text, key.end));
-    }
-    if fields.has_value {
-        return Ok(None);
-    }
-    fields.has_value = true;
-    flat_transaction(text, key.end, mops)
+    Ok(other_field(text, start))
 }
 
 /// Reads the fields of a map, up to the end that is given, if all can be read so.

@@ -38,6 +38,22 @@ const STALE_READ: &str = "{:type :invoke, :process 0, :value [[:w :x 1]]}
 {:type :fail, :process 0}
 ";
 
+/// A process reads what an unknown transaction wrote, and then no longer.
+const UNKNOWN_WRITE: &str = "{:type :invoke, :process 0, :value [[:w :x 1]]}
+{:type :info, :process 0}
+{:type :invoke, :process 1, :value [[:r :x nil]]}
+{:type :ok, :process 1, :value [[:r :x 1]]}
+{:type :invoke, :process 1, :value [[:r :x nil]]}
+{:type :ok, :process 1, :value [[:r :x nil]]}
+";
+
+/// A read of what was written over before it began.
+const OVERWRITTEN: &str = "{:type :invoke, :process 0, :value [[:w :x 1] [:w :x 2]]}
+{:type :ok, :process 0, :value [[:w :x 1] [:w :x 2]]}
+{:type :invoke, :process 1, :value [[:r :x nil]]}
+{:type :ok, :process 1, :value [[:r :x 1]]}
+";
+
 /// A read of what a failed transaction wrote, and one of what was written over.
 const BAD_READS: &str = "{:type :invoke, :process 0, :value [[:w :x 1]]}
 {:type :fail, :process 0}
@@ -170,18 +186,27 @@ fn blocks_of(alloc: Global, text: &str) -> Result<Vec<Block>, Fault> {
     Ok(blocks)
 }
 
-/// Whether a kept analysis agrees with one from scratch after each event.
-fn agree(alloc: Global, text: &str, keys: KeyOrder) -> Result<bool, Fault> {
+/// After how many events a kept analysis has points. None if after one of them it doesn't agree with an analysis from scratch.
+pub fn count_points(alloc: Global, text: &str, keys: KeyOrder) -> Result<Option<u64>, Fault> {
     let hasher = BuildHasherDefault::<FoldHasher>::new();
     let blocks = blocks_of(alloc, text)?;
     let mut kept = Kept::new(alloc, hasher, keys);
+    let mut points = 0u64;
     for block in &blocks {
         kept = kept.extend(block)?;
         if !kept.agrees(alloc, hasher, keys)? {
-            return Ok(false);
+            return Ok(None);
+        }
+        if kept.analysis.has_points() {
+            points = points.saturating_add(1);
         }
     }
-    Ok(true)
+    Ok(Some(points))
+}
+
+/// Whether a kept analysis agrees with one from scratch after each event.
+fn agree(alloc: Global, text: &str, keys: KeyOrder) -> Result<bool, Fault> {
+    Ok(count_points(alloc, text, keys)?.is_some())
 }
 
 /// How many hashers a kept analysis builds that is asked for a verdict after each event.
@@ -198,6 +223,18 @@ fn hashers_built(alloc: Global, text: &str) -> Result<u64, Fault> {
         kept.analysis.verdict()?;
     }
     Ok(built.load(Ordering::SeqCst))
+}
+
+/// A stale read, and between it and the write another transaction, which ends so.
+fn stale_after(alloc: Global, end: &str) -> Result<String, AllocError> {
+    format!(in alloc;
+        "{{:type :invoke, :process 0, :value [[:w :x 1]]}}
+{{:type :ok, :process 0, :value [[:w :x 1]]}}
+{{:type :invoke, :process 1, :value [[:w :y 1]]}}
+{end}{{:type :invoke, :process 2, :value [[:r :x nil]]}}
+{{:type :ok, :process 2, :value [[:r :x nil]]}}
+"
+    )
 }
 
 /// What a read returns in a round: the value that the round writes, or that of the round before, which is nil in the first one.
@@ -288,6 +325,8 @@ fn kept_analyses_agree_with_new_ones(rt: HostRuntime) -> Result<(), Fail> {
     for text in [
         CLEAN,
         STALE_READ,
+        UNKNOWN_WRITE,
+        OVERWRITTEN,
         OLD_READ,
         BAD_READS,
         WRITE_SKEW,
@@ -295,6 +334,19 @@ fn kept_analyses_agree_with_new_ones(rt: HostRuntime) -> Result<(), Fail> {
     ] {
         for keys in [KeyOrder::Basic, KeyOrder::Sequential] {
             assert!(rt; agree(alloc, text, keys)?, "{keys:?} keys of {text}");
+        }
+    }
+    Ok(())
+}
+
+#[test]
+fn a_stale_read_is_found_whatever_comes_between(rt: HostRuntime) -> Result<(), Fail> {
+    let alloc = rt.alloc();
+    let ok = "{:type :ok, :process 1, :value [[:w :y 1]]}\n";
+    for end in [ok, "{:type :fail, :process 1}\n", ""] {
+        let text = stale_after(alloc, end)?;
+        for keys in [KeyOrder::Basic, KeyOrder::Sequential] {
+            assert!(rt; agree(alloc, &text, keys)?, "{keys:?} keys of {text}");
         }
     }
     Ok(())

@@ -10,6 +10,8 @@ mod graphs;
 #[cfg(test)]
 mod layers;
 #[cfg(test)]
+mod random_histories;
+#[cfg(test)]
 mod rows;
 #[cfg(test)]
 mod runs;

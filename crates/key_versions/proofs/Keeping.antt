@@ -297,6 +297,12 @@ part_at :
     → slice_get (map f accesses) place ≡ Some xs → f a ≡ xs
 part_at f accesses place a xs at there = same_item (f a) xs (sym (slice_get-map f accesses place ∙ ap (option_map f) at) ∙ there)
 
+-- a place of a transaction is one of accesses
+pub accesses_within : (ts : List Transaction) (kept now : KeptVersions) (place : ℕ) → kept ≡ now → AreKept ts now → place < length ts → place < length kept.accesses
+accesses_within ts kept now place same is below =
+    let old : AreKept ts kept = subst (AreKept ts) (sym same) is in
+    subst (λ n. place < n) (sym (have_count kept.keys kept.versions ts kept.accesses old.accesses)) below
+
 module _ (ts : List Transaction) (kept : KeptVersions) (is : AreKept ts kept) where
   pub transaction_at : (place : ℕ) → place < length kept.accesses → (t : Transaction) × (slice_get ts place ≡ Some t)
   transaction_at place below = is_at ts place (subst (λ n. place < n) (have_count kept.keys kept.versions ts kept.accesses is.accesses) below)

@@ -81,7 +81,7 @@ impl<'a, S: BuildHasher + Copy> Building<'a, S> {
         ensures seen { OnOk result (AreSeenBy keys self.new.versions txn.now
             accessed.new.reads.items accessed.new.writes.items accessed.new.seen.items) }
     {
-        self.numbering.take(txn, keys, accessed)?;
+        self.numbering.take(txn, keys, &[], accessed)?;
         self.rows.take(
             self.numbering.len(),
             accessed.reads.as_slice(),

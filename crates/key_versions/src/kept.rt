@@ -1,8 +1,7 @@
 //! What transactions read and write, kept by number while their run goes on.
 
-ghost use Rattle.std.specs.Prelude.{◌≡◌, ◌<◌, ◌++◌, ◌∷◌, [], List, length, map, set, slice_get, Some, IfOk, IfErr, OnOk};
+ghost use Rattle.std.specs.Prelude.{◌≡◌, ◌<◌, ◌++◌, ◌∷◌, [], List, length, map, set, slice_get, Some, IfOk, OnOk};
 ghost use Rattle.atom_index.specs.Numbers.{AreNumbered};
-ghost use Rattle.hist_types.specs.Refusals.{memory_fault};
 ghost use Rattle.hist_types.specs.Transactions.{Transaction};
 ghost use Rattle.hist_types.specs.declared.types.KeyOrder.TheVariants.{Basic, Sequential};
 ghost use Rattle.key_versions.specs.Given.{IsTableBeside};
@@ -22,7 +21,7 @@ use crate::rows::Rows;
 use crate::sequential::follow_steps;
 use crate::steps::Steps;
 use crate::table::Versions;
-use hist_types::types::{Fault, KeyOrder};
+use hist_types::types::KeyOrder;
 use std::alloc::{AllocError, Global};
 use std::hash::BuildHasher;
 use std::marker::Model;
@@ -89,7 +88,8 @@ impl<'a, S: BuildHasher + Copy> KeptVersions<'a, S> {
         ensures numbers { OnOk result (KeepNumbers self.old.versions self.new.versions) }
         ensures keys { self.new.keys ≡ self.old.keys }
     {
-        self.numbering.take(txn, self.keys, &mut self.accessed)?;
+        self.numbering
+            .take(txn, self.keys, &[], &mut self.accessed)?;
         self.accesses.push(&self.accessed)?;
         Ok(())
     }
@@ -105,7 +105,9 @@ impl<'a, S: BuildHasher + Copy> KeptVersions<'a, S> {
         ensures keys { self.new.keys ≡ self.old.keys }
     {
         if txn.status() == Status::Ok {
-            self.numbering.take(txn, self.keys, &mut self.accessed)?;
+            let invoked = self.accesses.writes(place);
+            self.numbering
+                .take(txn, self.keys, invoked, &mut self.accessed)?;
             self.accesses.set(place, &self.accessed)?;
         }
         Ok(())
@@ -197,25 +199,15 @@ impl<'a, S: BuildHasher + Copy> KeptVersions<'a, S> {
         }
     }
 
-    /// Puts the table of the transactions together.
-    fn table(&self, alloc: Global, txns: &[Txn<'a>]) -> Result<Versions<'a>, AllocError>
+    /// The table of the transactions, as `versions` makes it.
+    pub fn finish(&self, alloc: Global, txns: &Txns<'a>) -> Result<Versions<'a>, AllocError>
         requires { AreKept txns.now self.now }
         ensures ok { IfOk result (IsTableOf self.now.keys txns.now) }
         ensures keys { IfOk result (λ versions. versions.keys ≡ self.now.keys) }
     {
-        let rows = self.known(alloc, txns)?;
+        let rows = self.known(alloc, txns.as_slice())?;
         let numbered = self.numbering.numbered(alloc)?;
         let known = rows.rows.finish(alloc)?;
         Ok(Versions::new(self.keys, numbered, known, rows.accesses))
-    }
-
-    /// The table of the transactions, as `versions` makes it. The only error is out of memory.
-    pub fn finish(&self, alloc: Global, txns: &Txns<'a>) -> Result<Versions<'a>, Fault>
-        requires { AreKept txns.now self.now }
-        ensures ok { IfOk result (IsTableOf self.now.keys txns.now) }
-        ensures keys { IfOk result (λ versions. versions.keys ≡ self.now.keys) }
-        ensures err { IfErr result (λ fault. fault ≡ memory_fault) }
-    {
-        Ok(self.table(alloc, txns.as_slice())?)
     }
 }

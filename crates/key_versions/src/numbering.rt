@@ -232,38 +232,56 @@ impl<'a, S: BuildHasher> Numbering<'a, S> {
         }
     }
 
-    /// The version with this key and value, if it is the next of those that the journal numbered.
-    fn next_written(
+    /// The number that the next write most likely has: the one that it had when its transaction was invoked, or else the next of
+    /// those that the journal gave.
+    fn expected(&mut self, invoked: Option<&Access>) -> Option<usize>
+        ensures { self.new ≡ self.old }
+    {
+        if let Some(access) = invoked {
+            return Some(access.version as usize);
+        }
+        let next = self.compared;
+        if next >= self.written {
+            return None;
+        }
+        self.compared = next + 1;
+        Some(next)
+    }
+
+    /// The version with this key and value, if it has the number that is expected.
+    fn expected_version(
         &mut self,
         key: &Atom<'a>,
         value: &Option<Atom<'a>>,
+        invoked: Option<&Access>,
     ) -> Result<Option<Access>, AllocError>
+        requires { AreNumbered version_eq (versions_of self.old) }
         ensures { IfOk result (IsAccessIfAny (versions_of self.old) (versions_of self.new)
             (version_with key.now value.now)) }
     {
-        let next = self.compared;
-        if next >= self.written {
+        let Some(number) = self.expected(invoked) else {
             return Ok(None);
-        }
-        self.compared = next + 1;
-        let Some(key) = self.key_of_version(next, key, value) else {
+        };
+        let Some(key) = self.key_of_version(number, key, value) else {
             return Ok(None);
         };
         let nil = self.nil(key)?;
         Ok(Some(Access {
             nil: number_of(nil)?,
-            version: number_of(next)?,
+            version: number_of(number)?,
         }))
     }
 
-    /// The version that a micro-operation names, where None is nil. Writes mostly come in the order in which the journal numbered
-    /// them, so a write is compared with the next of these before it is looked up.
+    /// The version that a micro-operation names, where None is nil. Most writes have the number that is expected, so a write is
+    /// compared with that version before it is looked up.
     fn access(
         &mut self,
         key: Atom<'a>,
         value: Option<Atom<'a>>,
         is_write: bool,
+        invoked: Option<&Access>,
     ) -> Result<Access, AllocError>
+        requires { AreNumbered version_eq (versions_of self.old) }
         ensures versions { OnOk result
             (versions_of self.new
             ≡ with_versions (versions_of self.old)
@@ -274,18 +292,20 @@ impl<'a, S: BuildHasher> Numbering<'a, S> {
         if !is_write {
             return self.insert(key, value);
         }
-        if let Some(access) = self.next_written(&key, &value)? {
+        if let Some(access) = self.expected_version(&key, &value, invoked)? {
             return Ok(access);
         }
         self.insert(key, value)
     }
 
     /// Numbers the versions that a transaction names, and notes which it reads and writes in place of what was noted. Of a read of
-    /// one that is not ok, the nil version of the key is numbered alone.
+    /// one that is not ok, the nil version of the key is numbered alone. The writes that a completed transaction was invoked with,
+    /// if they are given, are not looked up again.
     pub fn take(
         &mut self,
         txn: &Txn<'a>,
         keys: KeyOrder,
+        invoked: &[Access],
         accessed: &mut Accessed,
     ) -> Result<(), AllocError>
         requires { AreNumbered version_eq (versions_of self.old) }
@@ -303,7 +323,8 @@ impl<'a, S: BuildHasher> Numbering<'a, S> {
             let is_write = mop.is_write();
             let is_known = is_ok || is_write;
             if is_known {
-                let access = self.access(mop.key(), mop.value(), is_write)?;
+                let before = invoked.get(accessed.writes.len());
+                let access = self.access(mop.key(), mop.value(), is_write, before)?;
                 accessed.add(access, is_write, keeps_seen)?;
             } else {
                 let key = self.key(mop.key())?;

@@ -158,13 +158,13 @@ module _ (events : List Operation) (event : Operation) (before after : KeptVersi
         let within = slice_get_within before.accesses k a before_it in
         let count = kept_count ts before had.versions in
         let fell = lower k differ (omega (arith, within, count)) in
-        all_in (λ (x : Access). x.version ≡ x.nil → IsFalse (updates a.writes x) → slice_index points k ≤ slice_index users.bounds x.nil) a.reads (λ x i nil other.
-        let was = All-contains (λ (x : Access). x.version ≡ x.nil → IsFalse (updates a.writes x) → slice_index p.points k ≤ slice_index p.users.bounds x.nil) a.reads x (had.bounds k a before_it) (Contains_from_in x a.reads i) nil other in
-        elim (bounds x.nil) [
+        all_in (λ (x : Access). IsFalse (updates a.writes x) → slice_index points k ≤ slice_index users.bounds x.version) a.reads (λ x i other.
+        let was = All-contains (λ (x : Access). IsFalse (updates a.writes x) → slice_index p.points k ≤ slice_index p.users.bounds x.version) a.reads x (had.bounds k a before_it) (Contains_from_in x a.reads i) other in
+        elim (bounds x.version) [
           | inl raised ↦ omega (arith, was, fell, raised)
           | inr at_most ↦
-              All-contains (λ other. slice_index points other ≤ slice_index users.bounds x.nil) (places_at users.readers x.nil) k at_most
-              (subst (λ n. IsListed users.readers n k) nil (All-contains (λ (y : Access). IsListed users.readers y.version k) a.reads x (users_are k a there).readers (Contains_from_in x a.reads i)))
+              All-contains (λ other. slice_index points other ≤ slice_index users.bounds x.version) (places_at users.readers x.version) k at_most
+              (All-contains (λ (y : Access). IsListed users.readers y.version k) a.reads x (users_are k a there).readers (Contains_from_in x a.reads i))
         ]))
   ]
 

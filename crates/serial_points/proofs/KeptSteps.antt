@@ -23,6 +23,7 @@ use Rattle.key_versions.proofs.Stepping.{last_stays, met_are, own_of, seen_step,
 use Rattle.txn_pairs.specs.Growth.{IsChange}
 use Rattle.txn_pairs.specs.Places.{completed}
 use Rattle.dep_edges.proofs.Writers.{in_at}
+use Rattle.serial_points.specs.Bounds.{BoundAll}
 use Rattle.serial_points.specs.KeptPoints.{KeptPoints, HasBasicPoints, HasPoints, IsNext, HasSettled, PointsAdvance, UsersAdvance}
 use Rattle.serial_points.specs.KeptSteps.{HasPair, HasSteps}
 use Rattle.serial_points.specs.Stepping.{StepsPass, AllStepsRise}
@@ -103,7 +104,7 @@ pair_stays vs us stay s p is =
 
 module _ (events : List Operation) (event : Operation) (before after : KeptVersions) (p : KeptPoints) (points : List ℕ) (users : Users) (steps : Steps) (falls : List Fall) (place : ℕ)
     (next : IsNext events event before p (transactions_of (events ++ event ∷ [])) after place)
-    (used : AreUsers after.accesses users)
+    (used : AreUsers after.accesses users) (bound : BoundAll after.accesses points users.bounds)
     (advance : PointsAdvance p.basic.points points users (transactions_of (events ++ event ∷ [])) after.accesses falls place)
     (stepped : StepsAdvance p.steps steps (transactions_of (events ++ event ∷ [])) after.accesses place)
     (passes : StepsPass points users steps.lists after.accesses falls place)
@@ -186,7 +187,7 @@ module _ (events : List Operation) (event : Operation) (before after : KeptVersi
 
     rise_now : AllStepsRise after.accesses points steps.lists
     rise_now =
-        still_rise before.accesses after.accesses p.basic.points points users p.steps.lists steps.lists falls place used next.basic.others
+        still_rise before.accesses after.accesses p.basic.points points users p.steps.lists steps.lists falls place used bound next.basic.others
         (kept_count ts before next.basic.points.versions ∙ sym next.basic.points.count)
         (fall_beside p.basic.points points users later after.accesses falls place t changed.at advance)
         (still_twice p.steps steps later after.accesses place t a changed.at there stepped had.twice)
@@ -234,7 +235,7 @@ all_after events event before after p points middle users steps strays later fal
     record {
       basic = basic;
       steps = λ sequential.
-          has_steps events event before after p points users steps falls place (subst (λ us. IsNext events event before p us after place) is next) basic.users
+          has_steps events event before after p points users steps falls place (subst (λ us. IsNext events event before p us after place) is next) basic.users basic.bounds
           (subst (λ us. PointsAdvance p.basic.points points users us after.accesses falls place) is advance)
           (subst (λ us. StepsAdvance p.steps steps us after.accesses place) is (stepped sequential)) passes sequential;
     }

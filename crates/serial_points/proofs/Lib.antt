@@ -8,6 +8,7 @@ pub mod Staying
 pub mod Rows
 pub mod Listed
 pub mod Accesses
+pub mod Unbounded
 pub mod Passed
 pub mod CleanReads
 pub mod Bounded

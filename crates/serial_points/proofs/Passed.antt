@@ -1,7 +1,6 @@
 -- Points that pass by the lists of users are above what a transaction depends on, and below what depends on it.
-use Rattle.std.proofs.Common.{◌≡◌, inl, inr, ℕ, ◌+◌, ◌≤◌, List, [], ◌∷◌, true, if◌then◌else◌, Some, Contains, IsTrue, IsFalse, slice_index, refl, sym, ◌∙◌, ap, subst, arith}
+use Rattle.std.proofs.Common.{◌≡◌, inl, inr, ℕ, ◌+◌, ◌≤◌, List, [], ◌∷◌, true, if◌then◌else◌, Some, Contains, IsTrue, slice_index, refl, sym, ◌∙◌, ap, subst, arith}
 use Rattle.std.specs.Prelude.{slice_get}
-use Rattle.std.proofs.lemmas.Bool.{cases_Bool}
 use Rattle.std.proofs.lemmas.List.Elements.{All-contains}
 use Rattle.std.proofs.lemmas.Option.{same_Some}
 use Rattle.hist_types.specs.Transactions.{Transaction, Version, installs, is_known_to_read, writes, nodes}
@@ -20,13 +19,14 @@ use Rattle.dep_edges.proofs.Writers.{writer_wrote}
 use Rattle.serial_points.specs.Bounds.{BoundAll, FloorAll}
 use Rattle.serial_points.specs.ByPlace.{AreListed, IsAboveWriter, IsAboveReaders}
 use Rattle.serial_points.specs.ByVersion.{Follows, IsBelow, IsBelowSuccessors}
-use Rattle.serial_points.specs.Passing.{AllLower, AllHigher, HasNilReaders, HasNilFollowers, PassesInto, PassesOutOf}
+use Rattle.serial_points.specs.Passing.{AllLower, AllHigher, IsAboveReadersOf, HasNilFollowers, PassesInto, PassesOutOf}
 use Rattle.clean_order.specs.Ranked.{IsLowerIfOther}
 use Rattle.serial_points.specs.Users.{updates, places_at, IsListed, AreUsers}
 use Rattle.serial_points.specs.declared.users.Users.{Users}
 use Rattle.serial_points.proofs.Accesses.{has_accesses, installs_writes, read_access, same_number, write_access}
 use Rattle.serial_points.proofs.ByVersion.{node_among}
 use Rattle.serial_points.proofs.Installed.{installer_updates}
+use Rattle.serial_points.proofs.Unbounded.{reader_lower}
 
 reader_at : (ts : List Transaction) (v : Version) (place : ℕ) → In place (readers_of ts v) → (t : Transaction) × (slice_get ts place ≡ Some t) × (is_known_to_read t v ≡ true)
 reader_at ts v place i =
@@ -107,13 +107,17 @@ module _ (ts : List Transaction) (kept : KeptVersions) (users : Users) (are : Ar
   module _ (points : List ℕ) (place : ℕ) (t : Transaction) (a : TxnAccesses) (at : slice_get ts place ≡ Some t) (there : slice_get kept.accesses place ≡ Some a) where
     readers_lower :
         (v : Version) (n : ℕ)
+        → BoundAll kept.accesses points users.bounds
         → slice_get kept.versions n ≡ Some v
-        → AllLower points (places_at users.readers n) place
+        → IsAboveReadersOf points users place n
         → IsAboveReaders ts points place v
-    readers_lower v n number lower =
+    readers_lower v n bound number above =
         all_in (λ reader. IsLowerIfOther points reader place) (readers_of ts v) (λ r i.
         let (u, get, read) = reader_at ts v r i in
-        All-contains (λ other. IsLowerIfOther points other place) (places_at users.readers n) r lower (reader_listed n r u v get read number))
+        let (b, here) = has_accesses ts kept r u are get in
+        let (x, j, numbers) = read_access ts kept are r u b get here v read in
+        reader_lower kept.accesses points users place r n b x used bound above here (Contains_from_in x b.reads j)
+        (same_number kept.versions x.version n v are.distinct numbers.1 number))
 
     module _ (passes : PassesInto points users place a.reads a.writes) where
       pub above_writers : (v : Version) → IsTrue (is_known_to_read t v) → IsAboveWriter ts points place v
@@ -125,49 +129,16 @@ module _ (ts : List Transaction) (kept : KeptVersions) (users : Users) (are : Ar
           (writer_listed x.version w.txn (txn_at ts w.txn) v wrote.place wrote.wrote number.1)
 
       module _ (bound : BoundAll kept.accesses points users.bounds) where
-        -- a reader of nil is among those that are lower, or the bound of its point is
-        nil_reader_lower :
-            (v : Version) (x : Access) (r : ℕ) (u : Transaction)
-            → In x a.writes
-            → slice_get kept.versions x.nil ≡ Some v
-            → v ≡ nil_of v.key
-            → slice_get ts r ≡ Some u
-            → is_known_to_read u v ≡ true
-            → IsLowerIfOther points r place
-        nil_reader_lower v x r u i number is get read =
-            let (places, has, lower) = All-contains (λ (y : Access). (places : List ℕ) × HasNilReaders users y.nil (slice_index points place) places × AllLower points places place) a.writes x passes.nil_readers (Contains_from_in x a.writes i) in
-            elim has [
-              | inl all ↦
-                  All-contains (λ other. IsLowerIfOther points other place) places r lower
-                  (subst (λ ps. Contains ps r) (sym all) (reader_listed x.nil r u v get read number))
-              | inr (less, these) ↦ (
-                  let (b, here) = has_accesses ts kept r u are get in
-                  let (y, j, numbers) = read_access ts kept are r u b get here v read in
-                  let version : y.version ≡ x.nil = same_number kept.versions y.version x.nil v are.distinct numbers.1 number in
-                  let nil : y.nil ≡ x.nil = same_number kept.versions y.nil x.nil (nil_of v.key) are.distinct numbers.0 (number ∙ ap Some is) in
-                  elim (cases_Bool (updates b.writes y)) [
-                    | inl both ↦ (
-                        let listed = All-contains (λ (z : Access). IsTrue (updates b.writes z) → IsListed users.updaters z.version r) b.reads y (used r b here).updaters (Contains_from_in y b.reads j) both in
-                        All-contains (λ other. IsLowerIfOther points other place) places r lower
-                        (subst (λ ps. Contains ps r) (sym these) (subst (λ n. IsListed users.updaters n r) version listed)))
-                    | inr other ↦ (λ apart.
-                        let at_most = All-contains (λ (z : Access). z.version ≡ z.nil → IsFalse (updates b.writes z) → slice_index points r ≤ slice_index users.bounds z.nil) b.reads y (bound r b here) (Contains_from_in y b.reads j) (version ∙ sym nil) other in
-                        let same = ap (slice_index users.bounds) nil in
-                        omega (arith, at_most, less, same))
-                  ])
-            ]
-
         pub above_readers : (v : Version) → Follows t v → IsAboveReaders ts points place v
         above_readers v (w, installed, key, inl nil) =
             let (x, i, number) = write_access ts kept are place t a at there w (installs_writes t w installed) in
             let is : v ≡ nil_of w.key = same_version v (nil_of w.key) key nil in
-            all_in (λ reader. IsLowerIfOther points reader place) (readers_of ts v) (λ r j.
-            let (u, get, read) = reader_at ts v r j in
-            nil_reader_lower v x r u i (number.0 ∙ ap Some (sym is)) (same_version v (nil_of v.key) refl nil) get read)
+            readers_lower v x.nil bound (number.0 ∙ ap Some (sym is))
+            (All-contains (λ (y : Access). IsAboveReadersOf points users place y.nil) a.writes x passes.nil_readers (Contains_from_in x a.writes i))
         above_readers v (w, installed, key, inr (read, differ)) =
             let (x, i, number, has) = updated place t a at there v w read installed key differ in
-            readers_lower v x.version number
-            (All-contains (λ (y : Access). IsTrue (updates a.writes y) → AllLower points (places_at users.readers y.version) place) a.reads x passes.readers (Contains_from_in x a.reads i) has)
+            readers_lower v x.version bound number
+            (All-contains (λ (y : Access). IsTrue (updates a.writes y) → IsAboveReadersOf points users place y.version) a.reads x passes.readers (Contains_from_in x a.reads i) has)
 
     module _ (point : ℕ → ℕ) (listed : AreListed ts points point) (floored : FloorAll kept.accesses points users.floors) (passes : PassesOutOf points users place a.reads a.writes) where
       below_at : (u : Transaction) (k : ℕ) → slice_get ts k ≡ Some u → IsLowerIfOther points place k → IsBelow point t u

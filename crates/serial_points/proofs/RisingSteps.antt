@@ -10,6 +10,7 @@ use Rattle.key_versions.specs.Kept.{StayBeside}
 use Rattle.key_versions.specs.TxnAccesses.{TxnAccesses}
 use Rattle.key_versions.specs.declared.pending.Access.{Access}
 use Rattle.clean_order.specs.Ranked.{IsLowerIfOther}
+use Rattle.serial_points.specs.Bounds.{BoundAll}
 use Rattle.serial_points.specs.Falls.{IsAmong}
 use Rattle.serial_points.specs.KeptPoints.{AdvancesBy, PointsAdvance}
 use Rattle.serial_points.specs.Stepping.{AboveUsers, AboveSteps, BelowWriters, BelowSteps, StepRises, StepsPass, HasAccess, AllStepsRise}
@@ -20,10 +21,11 @@ use Rattle.serial_points.specs.declared.steps.StepLists.{StepLists}
 use Rattle.serial_points.specs.declared.steps.Steps.{Steps}
 use Rattle.serial_points.specs.declared.users.Users.{Users}
 use Rattle.serial_points.proofs.Changed.{same_or_not}
+use Rattle.serial_points.proofs.Unbounded.{reader_lower}
 
 -- ---- users
 
-module _ (accesses : List TxnAccesses) (points : List ℕ) (users : Users) (used : AreUsers accesses users) where
+module _ (accesses : List TxnAccesses) (points : List ℕ) (users : Users) (used : AreUsers accesses users) (bound : BoundAll accesses points users.bounds) where
   writer_there :
       (version k : ℕ) (b : TxnAccesses)
       → slice_get accesses k ≡ Some b
@@ -39,9 +41,7 @@ module _ (accesses : List TxnAccesses) (points : List ℕ) (users : Users) (used
       → slice_get accesses first ≡ Some a
       → HasAccess a.reads version ⊎ HasAccess a.writes version
       → IsLowerIfOther points first k
-  lower_user version k first a above there (inl (x, i, is)) =
-      All-contains (λ other. IsLowerIfOther points other k) (places_at users.readers version) first above.readers
-      (subst (λ n. IsListed users.readers n first) is (All-contains (λ (y : Access). IsListed users.readers y.version first) a.reads x (used first a there).readers i))
+  lower_user version k first a above there (inl (x, i, is)) = reader_lower accesses points users k first version a x used bound above.readers there i is
   lower_user version k first a above there (inr wrote) =
       All-contains (λ other. IsLowerIfOther points other k) (places_at users.writers version) first above.writers (writer_there version first a there wrote)
 
@@ -134,6 +134,7 @@ module _ (before after : Steps) (ts : List Transaction) (accesses : List TxnAcce
 pub still_rise :
     (before after : List TxnAccesses) (was points : List ℕ) (users : Users) (old new : StepLists) (falls : List Fall) (place : ℕ)
     → AreUsers after users
+    → BoundAll after points users.bounds
     → StayBeside place before after
     → length before ≡ length was
     → FallBeside was points falls
@@ -142,12 +143,12 @@ pub still_rise :
     → StepsPass points users new after falls place
     → AllStepsRise before was old
     → AllStepsRise after points new
-still_rise before after was points users old new falls place used others count fall twice only passes rise later earlier first second a b step at uses there wrote =
+still_rise before after was points users old new falls place used bound others count fall twice only passes rise later earlier first second a b step at uses there wrote =
     elim (same_or_not second place) [
       | inl here ↦ lower_to_own here
       | inr differ ↦ elim (fall second (within second b differ there)).1 [
         | inr (i, below, is) ↦
-            lower_by_step after points users used new later earlier step second first a b.writes
+            lower_by_step after points users used bound new later earlier step second first a b.writes
             (subst (λ n. AboveSteps points users new n b.writes) is (passes.fallen i below b (subst (λ n. slice_get after n ≡ Some b) (sym is) there)))
             wrote at uses
         | inl same ↦ elim (same_or_not first place) [
@@ -158,10 +159,10 @@ still_rise before after was points users old new falls place used others count f
                 let fell = (fall first (within first a other at)).0 in
                 omega (arith, less, fell, same))
             | inr (fresh, listed) ↦
-                lower_user after points users used earlier second first a
+                lower_user after points users used bound earlier second first a
                 (All-contains (λ writer. AboveUsers points users writer earlier) (places_at users.writers later) second
                 (All-contains (StepRises points users) new.fresh.items (later, earlier) passes.fresh fresh)
-                (writer_there after points users used later second b there wrote))
+                (writer_there after points users used bound later second b there wrote))
                 at uses
           ]
         ]
@@ -173,7 +174,7 @@ still_rise before after was points users old new falls place used others count f
 
     lower_to_own : second ≡ place → IsLowerIfOther points first second
     lower_to_own here =
-        lower_by_step after points users used new later earlier step second first a b.writes
+        lower_by_step after points users used bound new later earlier step second first a b.writes
         (subst (λ n. AboveSteps points users new n b.writes) (sym here) (passes.own b (subst (λ n. slice_get after n ≡ Some b) here there)))
         wrote at uses
 
@@ -182,6 +183,6 @@ still_rise before after was points users old new falls place used others count f
         let here : slice_get after place ≡ Some a = subst (λ n. slice_get after n ≡ Some a) own at in
         subst (λ n. IsLowerIfOther points n second) (sym own)
         (elim uses [
-          | inl read ↦ higher_by_step after points users used new later earlier step place second b a.reads (passes.reads a here) read (twice later earlier step) there wrote
-          | inr own_write ↦ higher_by_step after points users used new later earlier step place second b a.writes (passes.writes a here) own_write (twice later earlier step) there wrote
+          | inl read ↦ higher_by_step after points users used bound new later earlier step place second b a.reads (passes.reads a here) read (twice later earlier step) there wrote
+          | inr own_write ↦ higher_by_step after points users used bound new later earlier step place second b a.writes (passes.writes a here) own_write (twice later earlier step) there wrote
         ])

@@ -1,6 +1,7 @@
--- Bounds of points, by number of nil version: a bound is not below the points of those that read nil
--- of a key that they don't write, and a floor not above the points of those that write the key.
--- Points fall as a run goes on: a bound remains one, and a floor is lowered.
+-- Bounds of points. By number of version, a bound is not below the points of those that read the
+-- version and install no other one of its key. By number of nil version, a floor is not above the
+-- points of those that write the key. Points fall as a run goes on: a bound remains one, and a floor
+-- is lowered.
 use Rattle.std.specs.Prelude.{◌≡◌, ◌⊎◌, ◌≤◌, ℕ, List, slice_index, slice_get, Some, All, IsFalse}
 use Rattle.key_versions.specs.TxnAccesses.{TxnAccesses}
 use Rattle.key_versions.specs.declared.pending.Access.{Access}
@@ -26,8 +27,7 @@ AreBounds points readers before after =
 abbrev pub BoundsReads : (bounds : List ℕ) → (point : ℕ) → (reads writes : List Access) → Type 0
 BoundsReads bounds point reads writes =
     All
-    (λ (a : Access).
-    a.version ≡ a.nil → IsFalse (updates writes a) → point ≤ slice_index bounds a.nil)
+    (λ (a : Access). IsFalse (updates writes a) → point ≤ slice_index bounds a.version)
     reads
 
 -- so is that of each transaction

@@ -20,36 +20,38 @@ abbrev pub AboveWriters : (points : List ℕ) → List (List ℕ) → (place : �
 AboveWriters points writers place reads =
     All (λ (a : Access). AllLower points (places_at writers a.version) place) reads
 
+-- those who read the version; or those of them who update it, where the bound of the others' points
+-- is below this one
+abbrev pub AreUnboundedReaders : Users → (version point : ℕ) → (places : List ℕ) → Type 0
+AreUnboundedReaders users version point places =
+    (places ≡ places_at users.readers version)
+    ⊎ ((slice_index users.bounds version < point) × (places ≡ places_at users.updaters version))
+
+-- the point at the place is above those of all others that read the version
+abbrev pub IsAboveReadersOf :
+    (points : List ℕ) → Users → (place version : ℕ) → Type 0
+IsAboveReadersOf points users place version =
+    (places : List ℕ)
+    × AreUnboundedReaders users version (slice_index points place) places
+    × AllLower points places place
+
 -- who reads what is updated
 abbrev pub AboveReaders :
-    (points : List ℕ) → List (List ℕ) → (place : ℕ) → (reads writes : List Access) → Type 0
-AboveReaders points readers place reads writes =
+    (points : List ℕ) → Users → (place : ℕ) → (reads writes : List Access) → Type 0
+AboveReaders points users place reads writes =
     All
-    (λ (a : Access).
-    IsTrue (updates writes a) → AllLower points (places_at readers a.version) place)
+    (λ (a : Access). IsTrue (updates writes a) → IsAboveReadersOf points users place a.version)
     reads
-
--- those who read the nil version; or those of them who write the key too, where the bound of the
--- others' points is below this one
-abbrev pub HasNilReaders : Users → (nil point : ℕ) → (places : List ℕ) → Type 0
-HasNilReaders users nil point places =
-    (places ≡ places_at users.readers nil)
-    ⊎ ((slice_index users.bounds nil < point) × (places ≡ places_at users.updaters nil))
 
 -- who reads nil of a key that is written
 abbrev pub AboveNilReaders : (points : List ℕ) → Users → (place : ℕ) → List Access → Type 0
 AboveNilReaders points users place writes =
-    All
-    (λ (a : Access).
-    (places : List ℕ)
-    × HasNilReaders users a.nil (slice_index points place) places
-    × AllLower points places place)
-    writes
+    All (λ (a : Access). IsAboveReadersOf points users place a.nil) writes
 
 pub record PassesInto (points : List ℕ) (users : Users) (place : ℕ) (reads writes : List Access) :
     Type 0 where
   pub writers : AboveWriters points users.writers place reads
-  pub readers : AboveReaders points users.readers place reads writes
+  pub readers : AboveReaders points users place reads writes
   pub nil_readers : AboveNilReaders points users place writes
 
 -- ---- what depends on a transaction

@@ -5,7 +5,7 @@ use Rattle.key_versions.specs.TxnAccesses.{TxnAccesses}
 use Rattle.key_versions.specs.declared.pending.Access.{Access}
 use Rattle.clean_order.specs.Ranked.{IsLowerIfOther}
 use Rattle.serial_points.specs.Falls.{fall_at}
-use Rattle.serial_points.specs.Passing.{AllLower, AllHigher}
+use Rattle.serial_points.specs.Passing.{AllLower, AllHigher, IsAboveReadersOf}
 use Rattle.serial_points.specs.Steps.{HasStep}
 use Rattle.serial_points.specs.Users.{places_at}
 use Rattle.serial_points.specs.declared.falls.Fall.{Fall}
@@ -14,7 +14,7 @@ use Rattle.serial_points.specs.declared.users.Users.{Users}
 
 -- the point at the place is above those of all others that read or write the version
 pub record AboveUsers (points : List ℕ) (users : Users) (place version : ℕ) : Type 0 where
-  pub readers : AllLower points (places_at users.readers version) place
+  pub readers : IsAboveReadersOf points users place version
   pub writers : AllLower points (places_at users.writers version) place
 
 -- so it is for each version from which a process went to one that is written

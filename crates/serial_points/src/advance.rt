@@ -8,6 +8,7 @@ ghost use Rattle.serial_points.specs.KeptPoints.{IsUnreadAt, IsCleanAt, FallAndP
 use crate::clean::{are_clean, was_read};
 use crate::falls::{Fall, lower, passes_after};
 use crate::settling::settle;
+use crate::steps::StepLists;
 use crate::users::Users;
 use key_versions::kept::KeptVersions;
 use std::alloc::AllocError;
@@ -79,6 +80,7 @@ fn reads_clean<'a, S: BuildHasher + Copy>(
 fn lower_for_ok<'a, S: BuildHasher + Copy>(
     points: &mut Vec<u64>,
     users: &mut Users,
+    lists: &StepLists,
     txns: &[Txn<'a>],
     versions: &KeptVersions<'a, S>,
     falls: &[Fall],
@@ -94,7 +96,15 @@ fn lower_for_ok<'a, S: BuildHasher + Copy>(
     if !lower(points.as_mut_slice(), falls) {
         return Ok(false);
     }
-    settle(users, points.as_slice(), txns, versions, falls, place)?;
+    settle(
+        users,
+        points.as_slice(),
+        lists,
+        txns,
+        versions,
+        falls,
+        place,
+    )?;
     Ok(passes_after(points.as_slice(), users, txns, versions, falls, place))
 }
 
@@ -102,6 +112,7 @@ fn lower_for_ok<'a, S: BuildHasher + Copy>(
 fn begin<'a, S: BuildHasher + Copy>(
     points: &mut Vec<u64>,
     users: &mut Users,
+    lists: &StepLists,
     txns: &[Txn<'a>],
     versions: &KeptVersions<'a, S>,
     place: usize,
@@ -114,7 +125,7 @@ fn begin<'a, S: BuildHasher + Copy>(
         points.old.items points.new.items users.new txns.now versions.now.accesses [] place) }
 {
     points.push(u64::MAX)?;
-    settle(users, points.as_slice(), txns, versions, &[], place)?;
+    settle(users, points.as_slice(), lists, txns, versions, &[], place)?;
     Ok(is_unread(users, txns, versions, place))
 }
 
@@ -122,6 +133,7 @@ fn begin<'a, S: BuildHasher + Copy>(
 fn fail<'a, S: BuildHasher + Copy>(
     points: &[u64],
     users: &mut Users,
+    lists: &StepLists,
     txns: &[Txn<'a>],
     versions: &KeptVersions<'a, S>,
     place: usize,
@@ -133,7 +145,7 @@ fn fail<'a, S: BuildHasher + Copy>(
     ensures failed { IfOk result (λ passes. passes ≡ true → AdvancesBy Fail
         points.now points.now users.new txns.now versions.now.accesses [] place) }
 {
-    settle(users, points, txns, versions, &[], place)?;
+    settle(users, points, lists, txns, versions, &[], place)?;
     Ok(is_unread(users, txns, versions, place))
 }
 
@@ -141,6 +153,7 @@ fn fail<'a, S: BuildHasher + Copy>(
 fn inform<'a, S: BuildHasher + Copy>(
     points: &[u64],
     users: &mut Users,
+    lists: &StepLists,
     txns: &[Txn<'a>],
     versions: &KeptVersions<'a, S>,
     place: usize,
@@ -152,7 +165,7 @@ fn inform<'a, S: BuildHasher + Copy>(
     ensures informed { IfOk result (λ passes. passes ≡ true → AdvancesBy Info
         points.now points.now users.new txns.now versions.now.accesses [] place) }
 {
-    settle(users, points, txns, versions, &[], place)?;
+    settle(users, points, lists, txns, versions, &[], place)?;
     Ok(true)
 }
 
@@ -160,6 +173,7 @@ fn inform<'a, S: BuildHasher + Copy>(
 fn complete<'a, S: BuildHasher + Copy>(
     points: &mut Vec<u64>,
     users: &mut Users,
+    lists: &StepLists,
     txns: &[Txn<'a>],
     versions: &KeptVersions<'a, S>,
     falls: &[Fall],
@@ -172,7 +186,7 @@ fn complete<'a, S: BuildHasher + Copy>(
     ensures completed { IfOk result (λ passes. passes ≡ true → AdvancesBy Committed points.old.items
         points.new.items users.new txns.now versions.now.accesses falls.now place) }
 {
-    if !lower_for_ok(points, users, txns, versions, falls, place)? {
+    if !lower_for_ok(points, users, lists, txns, versions, falls, place)? {
         return Ok(false);
     }
     Ok(reads_clean(users, txns, versions, place))
@@ -182,6 +196,7 @@ fn complete<'a, S: BuildHasher + Copy>(
 pub(crate) fn advance<'a, S: BuildHasher + Copy>(
     points: &mut Vec<u64>,
     users: &mut Users,
+    lists: &StepLists,
     txns: &[Txn<'a>],
     versions: &KeptVersions<'a, S>,
     falls: &[Fall],
@@ -195,9 +210,9 @@ pub(crate) fn advance<'a, S: BuildHasher + Copy>(
         points.new.items users.new txns.now versions.now.accesses falls.now place) }
 {
     match txns[place].status() {
-        Status::Open => begin(points, users, txns, versions, place),
-        Status::Ok => complete(points, users, txns, versions, falls, place),
-        Status::Fail => fail(points.as_slice(), users, txns, versions, place),
-        Status::Info => inform(points.as_slice(), users, txns, versions, place),
+        Status::Open => begin(points, users, lists, txns, versions, place),
+        Status::Ok => complete(points, users, lists, txns, versions, falls, place),
+        Status::Fail => fail(points.as_slice(), users, lists, txns, versions, place),
+        Status::Info => inform(points.as_slice(), users, lists, txns, versions, place),
     }
 }

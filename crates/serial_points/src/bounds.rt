@@ -97,8 +97,8 @@ pub(crate) fn raise_for(
     ensures higher { OnOk result (AreHigher bounds.old bounds.new) }
 {
     for read in reads {
-        if read.version == read.nil && !updates(writes, *read) {
-            bounds.raise(read.nil, point)?;
+        if !updates(writes, *read) {
+            bounds.raise(read.version, point)?;
         }
     }
     Ok(())
@@ -157,6 +157,39 @@ pub(crate) fn tighten_for(
 {
     for write in writes {
         tighten(bounds, points, readers, write.nil, point)?;
+    }
+    Ok(())
+}
+
+/// Does so for each of the versions.
+pub(crate) fn tighten_at(
+    bounds: &mut Bounds,
+    points: &[u64],
+    readers: &Places,
+    point: u64,
+    versions: &[u32],
+) -> Result<(), AllocError>
+    ensures { OnOk result (AreBounds points.now readers.now bounds.old bounds.new) }
+{
+    for version in versions {
+        tighten(bounds, points, readers, *version, point)?;
+    }
+    Ok(())
+}
+
+/// Does so for the earlier version of each step, whose later one is first, and the points of those that write the later one.
+pub(crate) fn tighten_steps(
+    bounds: &mut Bounds,
+    points: &[u64],
+    readers: &Places,
+    writers: &Places,
+    steps: &[(u32, u32)],
+) -> Result<(), AllocError>
+    ensures { OnOk result (AreBounds points.now readers.now bounds.old bounds.new) }
+{
+    for step in steps {
+        let point = least_at(points, writers.at(step.0));
+        tighten(bounds, points, readers, step.1, point)?;
     }
     Ok(())
 }

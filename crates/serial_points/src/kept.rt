@@ -92,7 +92,15 @@ impl Points {
             place,
         )?;
         let falls = falls.as_slice();
-        if !advance(&mut points, &mut users, txns, versions, falls, place)? {
+        if !advance(
+            &mut points,
+            &mut users,
+            &steps.lists,
+            txns,
+            versions,
+            falls,
+            place,
+        )? {
             return Ok(None);
         }
         let points_now = points.as_slice();

@@ -1,7 +1,7 @@
 //! Looks at points that may be next, at one transaction.
 
 ghost use Rattle.std.specs.Prelude.{◌≡◌, true};
-ghost use Rattle.serial_points.specs.Passing.{AllLower, AllHigher, AboveWriters, AboveReaders, AboveNilReaders, PassesInto, BelowReaders, BelowUpdaters, BelowKeyWriters, PassesOutOf};
+ghost use Rattle.serial_points.specs.Passing.{AllLower, AllHigher, IsAboveReadersOf, AboveWriters, AboveReaders, AboveNilReaders, PassesInto, BelowReaders, BelowUpdaters, BelowKeyWriters, PassesOutOf};
 ghost use Rattle.clean_order.specs.Ranked.{IsLowerIfOther};
 
 use crate::bounds::point_of;
@@ -54,17 +54,25 @@ fn is_above_writers(points: &[u64], writers: &Places, place: usize, reads: &[Acc
     true
 }
 
+/// Whether the point at the place is above those of all others that read the version.
+pub(crate) fn is_above_readers_of(points: &[u64], users: &Users, place: usize, version: u32) -> bool
+    ensures { result ≡ true → IsAboveReadersOf points.now users.now place version }
+{
+    let point = point_of(points, place);
+    are_all_lower(points, users.unbounded_readers(version, point), place)
+}
+
 fn is_above_readers(
     points: &[u64],
-    readers: &Places,
+    users: &Users,
     place: usize,
     reads: &[Access],
     writes: &[Access],
 ) -> bool
-    ensures { result ≡ true → AboveReaders points.now readers.now place reads.now writes.now }
+    ensures { result ≡ true → AboveReaders points.now users.now place reads.now writes.now }
 {
     for read in reads {
-        if updates(writes, *read) && !are_all_lower(points, readers.at(read.version), place) {
+        if updates(writes, *read) && !is_above_readers_of(points, users, place, read.version) {
             return false;
         }
     }
@@ -74,9 +82,8 @@ fn is_above_readers(
 fn is_above_nil_readers(points: &[u64], users: &Users, place: usize, writes: &[Access]) -> bool
     ensures { result ≡ true → AboveNilReaders points.now users.now place writes.now }
 {
-    let point = point_of(points, place);
     for write in writes {
-        if !are_all_lower(points, users.nil_readers(write.nil, point), place) {
+        if !is_above_readers_of(points, users, place, write.nil) {
             return false;
         }
     }
@@ -94,7 +101,7 @@ pub(crate) fn passes_into(
     ensures { result ≡ true → PassesInto points.now users.now place reads.now writes.now }
 {
     is_above_writers(points, &users.writers, place, reads)
-        && is_above_readers(points, &users.readers, place, reads, writes)
+        && is_above_readers(points, users, place, reads, writes)
         && is_above_nil_readers(points, users, place, writes)
 }
 

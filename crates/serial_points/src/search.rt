@@ -114,6 +114,35 @@ fn push_below(
     Ok(())
 }
 
+/// Makes those fall that read the version, where they are not below the point at this place.
+fn push_readers_below(
+    points: &[u64],
+    users: &Users,
+    falls: &mut Vec<Fall>,
+    place: u32,
+    version: u32,
+) -> Result<(), AllocError> {
+    let point = point_at(points, falls.as_slice(), place);
+    push_below(
+        points,
+        falls,
+        users.unbounded_readers(version, point),
+        place,
+    )
+}
+
+/// Makes those fall that read or write the version, where they are not below the point at this place.
+fn push_users_below(
+    points: &[u64],
+    users: &Users,
+    falls: &mut Vec<Fall>,
+    place: u32,
+    version: u32,
+) -> Result<(), AllocError> {
+    push_readers_below(points, users, falls, place, version)?;
+    push_below(points, falls, users.writers.at(version), place)
+}
+
 /// Makes those fall that read or write a version from which a process went to one that the transaction at the place writes.
 fn push_steps_below(
     points: &[u64],
@@ -125,8 +154,7 @@ fn push_steps_below(
 ) -> Result<(), AllocError> {
     for write in writes {
         for earlier in lists.earlier.at(write.version) {
-            push_below(points, falls, users.readers.at(*earlier), place)?;
-            push_below(points, falls, users.writers.at(*earlier), place)?;
+            push_users_below(points, users, falls, place, *earlier)?;
         }
     }
     Ok(())
@@ -145,12 +173,11 @@ fn push_all_below(
     for read in reads {
         push_below(points, falls, users.writers.at(read.version), place)?;
         if updates(writes, *read) {
-            push_below(points, falls, users.readers.at(read.version), place)?;
+            push_readers_below(points, users, falls, place, read.version)?;
         }
     }
     for write in writes {
-        let point = point_at(points, falls.as_slice(), place);
-        push_below(points, falls, users.nil_readers(write.nil, point), place)?;
+        push_readers_below(points, users, falls, place, write.nil)?;
     }
     push_steps_below(points, users, lists, falls, place, writes)
 }
@@ -164,8 +191,7 @@ fn push_fresh_below(
 ) -> Result<(), AllocError> {
     for (later, earlier) in lists.fresh.as_slice() {
         for writer in users.writers.at(*later) {
-            push_below(points, falls, users.readers.at(*earlier), *writer)?;
-            push_below(points, falls, users.writers.at(*earlier), *writer)?;
+            push_users_below(points, users, falls, *writer, *earlier)?;
         }
     }
     Ok(())

@@ -6,20 +6,43 @@ ghost use Rattle.serial_points.specs.Bounds.{AreBounds, AreHigher, IsFloored};
 ghost use Rattle.serial_points.specs.Falls.{AreFloored};
 ghost use Rattle.serial_points.specs.KeptPoints.{HasSettled};
 
-use crate::bounds::{Bounds, lift_for, lower_for, point_of, raise_for, tighten_for};
+use crate::bounds::{
+    Bounds, lift_for, lower_for, point_of, raise_for, tighten_at, tighten_for, tighten_steps,
+};
 use crate::falls::Fall;
 use crate::places::Places;
+use crate::steps::StepLists;
 use crate::users::Users;
-use key_versions::kept::KeptVersions;
+use key_versions::kept::{Access, KeptVersions};
 use std::alloc::AllocError;
 use std::hash::BuildHasher;
 use txn_pairs::types::Txn;
 
-/// Lowers the bounds of what those at the places of the falls write, where they aren't below the points.
+/// Lowers the bounds of the versions that a transaction with this point follows, by nil or by a step, where they aren't below it.
+fn tighten_before(
+    bounds: &mut Bounds,
+    points: &[u64],
+    readers: &Places,
+    lists: &StepLists,
+    point: u64,
+    writes: &[Access],
+) -> Result<(), AllocError>
+    ensures { OnOk result (AreBounds points.now readers.now bounds.old bounds.new) }
+{
+    tighten_for(bounds, points, readers, point, writes)?;
+    for write in writes {
+        let earlier = lists.earlier.at(write.version);
+        tighten_at(bounds, points, readers, point, earlier)?;
+    }
+    Ok(())
+}
+
+/// Lowers the bounds of what those at the places of the falls follow, where they aren't below the points.
 fn tighten_falls<'a, S: BuildHasher + Copy>(
     bounds: &mut Bounds,
     points: &[u64],
     readers: &Places,
+    lists: &StepLists,
     txns: &[Txn<'a>],
     versions: &KeptVersions<'a, S>,
     falls: &[Fall],
@@ -31,7 +54,14 @@ fn tighten_falls<'a, S: BuildHasher + Copy>(
         let place = fall.place as usize;
         if place < txns.len() {
             let point = point_of(points, place);
-            tighten_for(bounds, points, readers, point, versions.writes(place))?;
+            tighten_before(
+                bounds,
+                points,
+                readers,
+                lists,
+                point,
+                versions.writes(place),
+            )?;
         }
     }
     Ok(())
@@ -80,6 +110,7 @@ fn lower_falls<'a, S: BuildHasher + Copy>(
 pub(crate) fn settle<'a, S: BuildHasher + Copy>(
     users: &mut Users,
     points: &[u64],
+    lists: &StepLists,
     txns: &[Txn<'a>],
     versions: &KeptVersions<'a, S>,
     falls: &[Fall],
@@ -98,9 +129,17 @@ pub(crate) fn settle<'a, S: BuildHasher + Copy>(
         &mut users.bounds,
         points,
         &users.readers,
+        lists,
         txns,
         versions,
         falls,
+    )?;
+    tighten_steps(
+        &mut users.bounds,
+        points,
+        &users.readers,
+        &users.writers,
+        lists.fresh.as_slice(),
     )?;
     raise_for(&mut users.bounds, point, reads, versions.writes(place))?;
     lift_for(&mut users.floors, points, &users.key_writers, point, reads)?;

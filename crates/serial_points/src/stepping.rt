@@ -5,25 +5,22 @@ ghost use Rattle.key_versions.specs.Kept.{AreKept};
 ghost use Rattle.serial_points.specs.Stepping.{AboveUsers, AboveSteps, BelowWriters, BelowSteps, AboveStepsAt, FallsAboveSteps, StepRises, StepsPass};
 
 use crate::falls::Fall;
-use crate::passing::{are_all_higher, are_all_lower};
+use crate::passing::{are_all_higher, are_all_lower, is_above_readers_of};
 use crate::steps::StepLists;
 use crate::users::Users;
 use key_versions::kept::{Access, KeptVersions};
 use std::hash::BuildHasher;
 use txn_pairs::types::Txn;
 
-/// Points are given up where more transactions read a version that a process went on from: a look at each of them, for each process
-/// that goes on, would take time for all pairs.
-const MOST_READERS: usize = 4096;
+/// Points are given up where processes went on from a version to more others than these, and it is read again: a look at who writes
+/// each of them, for each such read, would take time for all pairs.
+const MOST_LATER: usize = 4096;
 
-/// Whether the point at the place is above those of all others that read or write the version, and these readers are not too many.
+/// Whether the point at the place is above those of all others that read or write the version.
 fn is_above_users(points: &[u64], users: &Users, place: usize, version: u32) -> bool
     ensures { result ≡ true → AboveUsers points.now users.now place version }
 {
-    if users.readers.at(version).len() > MOST_READERS {
-        return false;
-    }
-    are_all_lower(points, users.readers.at(version), place)
+    is_above_readers_of(points, users, place, version)
         && are_all_lower(points, users.writers.at(version), place)
 }
 
@@ -59,6 +56,9 @@ fn is_above_steps(
 fn is_below_writers(points: &[u64], users: &Users, place: usize, versions: &[u32]) -> bool
     ensures { result ≡ true → All (BelowWriters points.now users.now place) versions.now }
 {
+    if versions.len() > MOST_LATER {
+        return false;
+    }
     for version in versions {
         if !are_all_higher(points, users.writers.at(*version), place) {
             return false;

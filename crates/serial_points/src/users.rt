@@ -3,7 +3,7 @@
 ghost use Rattle.std.specs.Prelude.{◌≡◌, [], OnOk};
 ghost use Rattle.key_versions.specs.Rows.{has_nil};
 ghost use Rattle.serial_points.specs.Users.{StayListed, updates, ListVersions, ListKeys, ListUpdated, IsAmongUsers, UsersStay, AreUsers};
-ghost use Rattle.serial_points.specs.Passing.{HasNilReaders, HasNilFollowers};
+ghost use Rattle.serial_points.specs.Passing.{AreUnboundedReaders, HasNilFollowers};
 
 use crate::bounds::Bounds;
 use crate::places::Places;
@@ -21,7 +21,7 @@ pub(crate) struct Users {
     pub key_writers: Places,
     /// Those that read the version and install another one of its key.
     pub updaters: Places,
-    /// By nil version, a bound of the points of those that read it and don't write its key.
+    /// A bound of the points of those that read the version and don't install another one of its key.
     pub bounds: Bounds,
     /// By nil version, a bound below the points of those that write its key.
     pub floors: Bounds,
@@ -112,14 +112,14 @@ impl Users {
         add_updated(&mut self.updaters, place, reads, writes)
     }
 
-    /// Who reads this nil version, apart from those that don't write the key where the bound of their points is below this one.
-    pub fn nil_readers(&self, nil: u32, point: u64) -> &[u32]
-        ensures { HasNilReaders self.now nil point result.now }
+    /// Who reads this version, without those that a bound shows to have lower points than this one.
+    pub fn unbounded_readers(&self, version: u32, point: u64) -> &[u32]
+        ensures { AreUnboundedReaders self.now version point result.now }
     {
-        if self.bounds.at(nil) < point {
-            self.updaters.at(nil)
+        if self.bounds.at(version) < point {
+            self.updaters.at(version)
         } else {
-            self.readers.at(nil)
+            self.readers.at(version)
         }
     }
 

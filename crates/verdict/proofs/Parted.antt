@@ -46,7 +46,11 @@ module _ (tables : Tables) (keys : KeyNumbers) (workers : ℕ) (found : List (Re
       let h = history_of tables in
       let numbers : List ℕ = keys.of_versions.items in
       record {
-        of = all_in (IsOf h) pieces (λ piece i. let (worker, at) = place_in pieces piece i in (found_at worker piece at).of);
+        of = all_in (IsOf h) pieces
+            (λ piece i place there.
+            let (worker, at) = place_in pieces piece i in
+            let (n, (key, is, from, to), by) = (found_at worker piece at).by place there in
+            (n, subst (λ m. n < m) history.numbers.each (slice_get_within numbers n key is), by));
         seen = λ n within.
             let there : n < length numbers = subst (λ m. n < m) (sym history.numbers.each) within in
             let key : ℕ = get_or numbers n 0 in
@@ -55,7 +59,7 @@ module _ (tables : Tables) (keys : KeyNumbers) (workers : ℕ) (found : List (Re
             let (piece, at) = item_at pieces worker (subst (λ m. worker < m) (sym as_many) below) in (
               piece,
               Contains_from_in piece pieces (in_at pieces worker piece at),
-              (found_at worker piece at).seen n key (slice_get-get_or numbers n 0 there) from to,
+              (found_at worker piece at).seen n (key, slice_get-get_or numbers n 0 there, from, to),
             );
       }
     where

@@ -108,12 +108,11 @@ impl<'a, S: BuildHasher + Copy> TablesSoFar<'a, S> {
     }
 
     /// The verdict by the tables, put together, and a search.
-    fn verdict_by_search(&self, alloc: Global) -> Result<Verdict<'a>, Fault>
+    fn verdict_by_search(&self, alloc: Global) -> Result<Verdict<'a>, AllocError>
         requires { (events : List Operation) × AreTablesSoFar events self.now }
-        ensures ok { (events : List Operation)
+        ensures { (events : List Operation)
             → AreTablesSoFar events self.now
             → IfOk result (IsVerdictOf self.now.versions.keys events) }
-        ensures err { IfErr result (λ fault. fault ≡ memory_fault) }
     {
         let txns = self.pairing.txns();
         let versions = self.versions.finish(alloc, txns)?;
@@ -124,19 +123,18 @@ impl<'a, S: BuildHasher + Copy> TablesSoFar<'a, S> {
             thinned: Some(self.order.order()),
             pairs: self.pairs,
         };
-        Ok(verdict_from(alloc, &tables)?)
+        verdict_from(alloc, &tables)
     }
 
     /// The verdict of the events.
-    fn verdict(&self, alloc: Global) -> Result<Verdict<'a>, Fault>
+    fn verdict(&self, alloc: Global) -> Result<Verdict<'a>, AllocError>
         requires { (events : List Operation) × AreTablesSoFar events self.now }
-        ensures ok { (events : List Operation)
+        ensures { (events : List Operation)
             → AreTablesSoFar events self.now
             → IfOk result (IsVerdictOf self.now.versions.keys events) }
-        ensures err { IfErr result (λ fault. fault ≡ memory_fault) }
     {
         match &self.points {
-            Some(points) => Ok(self.verdict_by_points(alloc, points)?),
+            Some(points) => self.verdict_by_points(alloc, points),
             None => self.verdict_by_search(alloc),
         }
     }
@@ -228,6 +226,6 @@ impl<'a, S: BuildHasher + Copy> Analysis<'a, S> {
         ensures strict { IfOk result (RefutesExplanations self.now.events) }
         ensures err { IfErr result (λ fault. fault ≡ memory_fault) }
     {
-        self.tables.verdict(self.alloc)
+        Ok(self.tables.verdict(self.alloc)?)
     }
 }

@@ -11,7 +11,10 @@ loop-number-preserved c =
     let h = c.args.history.now in
     let sees : Sees h c.loop-number.piece c.see.new.self c.loop-number.number = c.in_ok-see.ensures in
     let (of, seen) = c.loop-number.invariant in (
-      sees.of of,
+      λ place there. elim (sees.by place there) [
+        | inl before ↦ of place before
+        | inr here ↦ (c.loop-number.number, omega (arith, c.loop-number-test.true, c.versions-number-end.ensures.value), here)
+      ],
       one_further (λ n. IsSeen h.txns c.see.new.self (version_at h.table n)) c.loop-number.number (λ n below. sees.kept (version_at h.table n) (seen n below)) sees.seen,
     )
 

@@ -25,8 +25,8 @@ returns-then-not-may_have_mops c =
     value_passed c.args.text.now c.args.start key.key c.args.fields.now c.args.mops.now.items c.passed_value.result key.ensures.lone (value_type k key.ensures.named) (value_process k key.ensures.named)
     (λ may. absurd (true≢false (sym may ∙ never))) c.passed_value.ensures
 
-pub returns : goal.returns
-returns c =
+pub returns-in-Some-key_at-2 : goal.returns-in-Some-key_at-2
+returns-in-Some-key_at-2 c =
     let key = c.in-Some-key_at-2 in
     value_ahead c.args.text.now c.args.start key.key c.args.fields.now c.args.mops.now.items c.flat_transaction.new.mops.items c.flat_transaction.result key.ensures.lone key.ensures.named
     (sym c.may_have_mops.ensures ∙ c.if-not-may_have_mops.false) c.if-fields.false c.flat_transaction.ensures

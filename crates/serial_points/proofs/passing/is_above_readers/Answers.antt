@@ -1,21 +1,21 @@
-use Rattle.std.proofs.Common.{rules, sym, subst, ◌∙◌}
+use Rattle.std.proofs.Common.{rules, sym, ◌∙◌}
 use Rattle.std.proofs.lemmas.Bool.{false≢true}
 use Rattle.std.proofs.lemmas.List.Elements.{All-more}
 use Rattle.key_versions.specs.declared.pending.Access.{Access}
 use Rattle.std.specs.Bool.{IsTrue}
-use Rattle.serial_points.specs.Passing.{AllLower}
-use Rattle.serial_points.specs.Users.{updates, places_at}
+use Rattle.serial_points.specs.Passing.{IsAboveReadersOf}
+use Rattle.serial_points.specs.Users.{updates}
 use Rattle.serial_points.proofs.Listed.{all_gone}
-use Rattle.serial_points.proofs.passing.is_above_readers.Goals.{else-updates-via-then-updates+else-not-are_all_lower, else-updates-via-else-updates}
+use Rattle.serial_points.proofs.passing.is_above_readers.Goals.{else-updates-via-then-updates+else-not-is_above_readers_of, else-updates-via-else-updates}
 use Rattle.serial_points.proofs.passing.is_above_readers.Goals as goal
 
 pub loop-read-preserved : goal.loop-read-preserved
 loop-read-preserved c =
-    All-more (λ (a : Access). IsTrue (updates c.args.writes.now a) → AllLower c.args.points.now (places_at c.args.readers.now a.version) c.args.place) c.args.reads.now c.loop-read.read-index (record { nil = 0; version = 0 }) c.loop-read-test.true c.loop-read.invariant
+    All-more (λ (a : Access). IsTrue (updates c.args.writes.now a) → IsAboveReadersOf c.args.points.now c.args.users.now c.args.place a.version) c.args.reads.now c.loop-read.read-index (record { nil = 0; version = 0 }) c.loop-read-test.true c.loop-read.invariant
     (λ has. elim c.else-updates.branch [
-      | else-updates-via-then-updates+else-not-are_all_lower w ↦ subst (λ places. AllLower c.args.points.now places c.args.place) w.at.ensures (w.are_all_lower.ensures (search rules))
+      | else-updates-via-then-updates+else-not-is_above_readers_of w ↦ w.is_above_readers_of.ensures (search rules)
       | else-updates-via-else-updates w ↦ absurd (false≢true (sym w.if-updates.false ∙ c.updates.ensures ∙ has))
     ])
 
 pub returns : goal.returns
-returns c = λ _. all_gone (λ (a : Access). IsTrue (updates c.args.writes.now a) → AllLower c.args.points.now (places_at c.args.readers.now a.version) c.args.place) c.args.reads.now c.loop-read.read-index c.loop-read-test.false c.loop-read.invariant
+returns c = λ _. all_gone (λ (a : Access). IsTrue (updates c.args.writes.now a) → IsAboveReadersOf c.args.points.now c.args.users.now c.args.place a.version) c.args.reads.now c.loop-read.read-index c.loop-read-test.false c.loop-read.invariant

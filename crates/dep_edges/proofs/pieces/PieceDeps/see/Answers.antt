@@ -12,7 +12,7 @@ returns-then-is_empty c =
 pub returns-in_ok-push : goal.returns-in_ok-push
 returns-in_ok-push c =
     let front : List ℕ = c.args.self.now.writers in
-    sees_read c.args.history.now c.args.self.now _ c.args.number c.by_reads_of.result c.requires
+    sees_read c.args.history.now c.args.self.now _ c.args.number c.by_reads_of.result
     (c.or-self-inside.ensures ∙ ap (λ (p : Piece). either p.possible c.by_reads_of.result) c.self.view_is)
     c.by_reads_of.ensures
     (c.in_ok-push.ensures.items
@@ -22,7 +22,7 @@ returns-in_ok-push c =
 pub returns-in_default : goal.returns-in_default
 returns-in_default c =
     let front : List ℕ = c.args.self.now.writers in
-    sees_read c.args.history.now c.args.self.now _ c.args.number c.by_reads_of.result c.requires
+    sees_read c.args.history.now c.args.self.now _ c.args.number c.by_reads_of.result
     (c.or-self-inside.ensures ∙ ap (λ (p : Piece). either p.possible c.by_reads_of.result) c.self.view_is)
     c.by_reads_of.ensures
     (ap (λ (p : Piece). p.writers) c.self.view_is

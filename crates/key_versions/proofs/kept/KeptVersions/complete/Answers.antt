@@ -1,19 +1,20 @@
-use Rattle.std.proofs.Common.{rules, ◌≡◌, ◌∙◌, ◌<◌, set, sym, subst}
+use Rattle.std.proofs.Common.{rules, ◌≡◌, ◌∙◌, set, sym, subst}
 use Rattle.hist_types.specs.Transactions.{is_ok}
 use Rattle.key_versions.specs.Kept.{KeptVersions, AreKept, KeepNumbers, StayBeside}
 use Rattle.key_versions.specs.Numbering.{versions_of}
 use Rattle.key_versions.specs.TxnAccesses.{accesses_of}
-use Rattle.key_versions.proofs.Keeping.{beside_set, kept_by, have_count, kept_completed, kept_not_ok, stays}
+use Rattle.key_versions.proofs.Keeping.{accesses_within, beside_set, kept_by, kept_completed, kept_not_ok, stays}
 use Rattle.key_versions.proofs.kept.KeptVersions.complete.Goals as goal
+
+pub writes-invoked-requires : goal.writes-invoked-requires
+writes-invoked-requires g c =
+    let (ts, is, below) = c.requires in
+    accesses_within ts (kept_by c.self.inside.keys (versions_of c.self.inside.numbering) c.self.inside.accesses) c.args.self.now c.args.place c.self.view_is is below
 
 pub set-requires : goal.set-requires
 set-requires g c =
     let (ts, is, below) = c.requires in
-    let keys = c.self.inside.keys in
-    let vs = versions_of c.self.inside.numbering in
-    let accesses = c.self.inside.accesses in
-    let old : AreKept ts (kept_by keys vs accesses) = subst (AreKept ts) (sym c.self.view_is) is in
-    subst (λ n. c.args.place < n) (sym (have_count keys vs ts accesses old.accesses)) below
+    accesses_within ts (kept_by c.self.inside.keys (versions_of c.self.inside.numbering) c.self.inside.accesses) c.args.self.now c.args.place c.self.view_is is below
 
 pub returns-in_ok-set-clause-kept : goal.returns-in_ok-set-clause-kept
 returns-in_ok-set-clause-kept g c = λ ts t is at done.

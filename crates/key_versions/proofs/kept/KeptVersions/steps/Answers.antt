@@ -1,4 +1,4 @@
-use Rattle.std.proofs.Common.{◌≡◌, ◌∙◌, ◌<◌, ◌+◌, ◌++◌, ◌∷◌, [], ℕ, List, Some, length, take, refl, sym, ap, subst}
+use Rattle.std.proofs.Common.{◌≡◌, ◌∙◌, ◌+◌, ◌++◌, ◌∷◌, [], List, Some, length, take, refl, sym, ap, subst}
 use Rattle.std.specs.Prelude.{slice_get}
 use Rattle.std.proofs.lemmas.Option.{slice_get_read}
 use Rattle.hist_types.specs.Transactions.{Transaction}
@@ -9,27 +9,20 @@ use Rattle.key_versions.specs.Numbering.{versions_of}
 use Rattle.key_versions.specs.Stepped.{AreStepsOf}
 use Rattle.key_versions.specs.LastSeen.{last_seen}
 use Rattle.key_versions.specs.TxnAccesses.{AreSeenBy}
-use Rattle.key_versions.proofs.Keeping.{kept_by, have_count, take_next, accesses_at, seen_at}
+use Rattle.key_versions.proofs.Keeping.{kept_by, accesses_within, take_next, accesses_at, seen_at}
 use Rattle.key_versions.proofs.kept.KeptVersions.steps.Goals as goal
-
--- the place has accesses
-within :
-    (ts : List Transaction) (kept now : KeptVersions) (place : ℕ) → kept ≡ now → AreKept ts now → place < length ts → place < length kept.accesses
-within ts kept now place same is below =
-    let old : AreKept ts kept = subst (AreKept ts) (sym same) is in
-    subst (λ n. place < n) (sym (have_count kept.keys kept.versions ts kept.accesses old.accesses)) below
 
 pub reads-requires : goal.reads-requires
 reads-requires g c =
-    within c.args.txns.now (kept_by c.self.inside.keys (versions_of c.self.inside.numbering) c.self.inside.accesses) c.args.self.now c.loop-place.place c.self.view_is c.requires.kept c.loop-place-test.true
+    accesses_within c.args.txns.now (kept_by c.self.inside.keys (versions_of c.self.inside.numbering) c.self.inside.accesses) c.args.self.now c.loop-place.place c.self.view_is c.requires.kept c.loop-place-test.true
 
 pub writes-requires : goal.writes-requires
 writes-requires g c =
-    within c.args.txns.now (kept_by c.self.inside.keys (versions_of c.self.inside.numbering) c.self.inside.accesses) c.args.self.now c.loop-place.place c.self.view_is c.requires.kept c.loop-place-test.true
+    accesses_within c.args.txns.now (kept_by c.self.inside.keys (versions_of c.self.inside.numbering) c.self.inside.accesses) c.args.self.now c.loop-place.place c.self.view_is c.requires.kept c.loop-place-test.true
 
 pub seen-requires : goal.seen-requires
 seen-requires g c =
-    within c.args.txns.now (kept_by c.self.inside.keys (versions_of c.self.inside.numbering) c.self.inside.accesses) c.args.self.now c.loop-place.place c.self.view_is c.requires.kept c.loop-place-test.true
+    accesses_within c.args.txns.now (kept_by c.self.inside.keys (versions_of c.self.inside.numbering) c.self.inside.accesses) c.args.self.now c.loop-place.place c.self.view_is c.requires.kept c.loop-place-test.true
 
 pub take-requires : goal.take-requires
 take-requires g c =
@@ -39,7 +32,7 @@ take-requires g c =
     let place = c.loop-place.place in
     let t = c.index-txns-place.result in
     let old : AreKept ts kept = subst (AreKept ts) (sym c.self.view_is) c.requires.kept in
-    let below = within ts kept c.args.self.now place c.self.view_is c.requires.kept c.loop-place-test.true in
+    let below = accesses_within ts kept c.args.self.now place c.self.view_is c.requires.kept c.loop-place-test.true in
     let at : slice_get ts place ≡ Some t = slice_get_read ts (length ts) place t refl c.loop-place-test.true c.index-txns-place.is in
     let keys : c.self.inside.keys ≡ Sequential = ap (λ (k : KeptVersions). k.keys) c.self.view_is ∙ c.requires.keys in (
       vs,
@@ -55,7 +48,7 @@ loop-place-preserved g c =
     let place = c.loop-place.place in
     let t = c.index-txns-place.result in
     let old : AreKept ts kept = subst (AreKept ts) (sym c.self.view_is) c.requires.kept in
-    let below = within ts kept c.args.self.now place c.self.view_is c.requires.kept c.loop-place-test.true in
+    let below = accesses_within ts kept c.args.self.now place c.self.view_is c.requires.kept c.loop-place-test.true in
     let at : slice_get ts place ≡ Some t = slice_get_read ts (length ts) place t refl c.loop-place-test.true c.index-txns-place.is in
     let keys : c.self.inside.keys ≡ Sequential = ap (λ (k : KeptVersions). k.keys) c.self.view_is ∙ c.requires.keys in
     let so_far : AreStepsOf vs (take place ts) (last_seen c.loop-place.steps.last) c.loop-place.steps.taken.items =

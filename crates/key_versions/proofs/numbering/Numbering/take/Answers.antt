@@ -1,4 +1,4 @@
-use Rattle.std.proofs.Common.{◌≡◌, ◌∙◌, ◌++◌, ◌∷◌, [], List, None, map, true, false, sym, ap}
+use Rattle.std.proofs.Common.{◌≡◌, ◌∙◌, ◌++◌, ◌∷◌, [], List, None, map, true, false, sym, ap, subst}
 use Rattle.std.specs.Prelude.{◌||◌}
 use Rattle.std.proofs.lemmas.Bool.{or_right, true≢false}
 use Rattle.std.proofs.lemmas.List.{append_assoc}
@@ -8,12 +8,17 @@ use Rattle.hist_types.specs.Versions.{nil_of, version_in}
 use Rattle.atom_index.specs.Numbers.{AreNumbered, with_item}
 use Rattle.edn_ops.specs.Shapes.{is_write}
 use Rattle.op_view.specs.Mops.{key_of}
+use Rattle.key_versions.specs.Histories.{named_in}
 use Rattle.key_versions.specs.Numbering.{versions_of, version_with}
 use Rattle.key_versions.proofs.Numbered.{key_is}
-use Rattle.key_versions.proofs.Accessing.{accessed_by, taken_added, taken_unknown, accessed_stay, seen_added, seen_unknown}
+use Rattle.key_versions.proofs.Accessing.{accessed_by, taken_added, taken_unknown, accessed_stay, seen_added, seen_unknown, versions_numbered}
 use Rattle.key_versions.proofs.Seen.{keys_added}
 use Rattle.key_versions.proofs.numbering.Numbering.take.Goals.{then-is_ok, else-is_ok, then-is_ok-2, else-is_ok-2}
 use Rattle.key_versions.proofs.numbering.Numbering.take.Goals as goal
+
+pub access-requires : goal.access-requires
+access-requires g c =
+    subst (AreNumbered version_eq) (sym c.loop-mop.invariant.1.versions) (versions_numbered (versions_of c.args.self.now) c.requires (named_in c.eq-is_ok.result c.loop-mop.yielded))
 
 pub loop-mop-preserved-in-Continue-branch-2 : goal.loop-mop-preserved-in-Continue-branch-2
 loop-mop-preserved-in-Continue-branch-2 g c =

@@ -1,5 +1,4 @@
 use Rattle.std.proofs.Common.{subst}
-use Rattle.std.proofs.lemmas.Result.{IfOk-weaker}
 use Rattle.hist_types.specs.Reports.{IsVerdictOf}
 use Rattle.report_laws.specs.Explained.{RefutesExplanations}
 use Rattle.report_laws.proofs.ExplainedVerdicts.{verdict_refutes}
@@ -11,13 +10,11 @@ verdict-requires g c = (events_of_blocks c.self.inside.blocks.items, c.self.inva
 
 pub returns-clause-ok : goal.returns-clause-ok
 returns-clause-ok g c =
-    IfOk-weaker _ _ _ (λ v is. subst (λ (a : Analysed). IsVerdictOf a.keys a.events v) c.self.view_is is)
-    (c.verdict.ensures.ok (events_of_blocks c.self.inside.blocks.items) c.self.invariant)
+    subst (λ (a : Analysed). IsVerdictOf a.keys a.events c.in_ok-verdict.field-0) c.self.view_is
+    (c.in_ok-verdict.ensures (events_of_blocks c.self.inside.blocks.items) c.self.invariant)
 
 pub returns-clause-strict : goal.returns-clause-strict
 returns-clause-strict g c =
     let events = events_of_blocks c.self.inside.blocks.items in
-    IfOk-weaker _ _ _ (λ v is.
-    subst (λ (a : Analysed). RefutesExplanations a.events v) c.self.view_is
-    (verdict_refutes c.self.inside.tables.versions.keys events v c.self.invariant.rules is))
-    (c.verdict.ensures.ok events c.self.invariant)
+    subst (λ (a : Analysed). RefutesExplanations a.events c.in_ok-verdict.field-0) c.self.view_is
+    (verdict_refutes c.self.inside.tables.versions.keys events c.in_ok-verdict.field-0 c.self.invariant.rules (c.in_ok-verdict.ensures events c.self.invariant))

@@ -1,4 +1,5 @@
 use Rattle.std.proofs.Common.{List, refl, sym, subst}
+use Rattle.std.proofs.lemmas.Result.{IfOk-weaker}
 use Rattle.hist_types.specs.Reports.{IsVerdictOf}
 use Rattle.hist_types.specs.Transactions.{Transaction}
 use Rattle.hist_types.specs.declared.types.KeyOrder.{KeyOrder}
@@ -15,7 +16,7 @@ verdict_from-requires g c =
     let (events, so_far) = c.requires in
     (events, tables_of_kept events c.args.self.now _ so_far refl c.txns-txns.ensures c.in_ok-versions.ensures.ok c.in_ok-versions.ensures.keys (c.order.ensures events so_far.order))
 
-pub returns-clause-ok : goal.returns-clause-ok
-returns-clause-ok g c = λ events so_far.
-    subst (λ (keys : KeyOrder). IsVerdictOf keys events c.in_ok-verdict_from.field-0) c.in_ok-versions.ensures.keys
-    (c.in_ok-verdict_from.ensures events (tables_of_kept events c.args.self.now _ so_far refl c.txns-txns.ensures c.in_ok-versions.ensures.ok c.in_ok-versions.ensures.keys (c.order.ensures events so_far.order)))
+pub returns : goal.returns
+returns g c = λ events so_far.
+    IfOk-weaker _ _ _ (λ v is. subst (λ (keys : KeyOrder). IsVerdictOf keys events v) c.in_ok-versions.ensures.keys is)
+    (c.verdict_from.ensures events (tables_of_kept events c.args.self.now _ so_far refl c.txns-txns.ensures c.in_ok-versions.ensures.ok c.in_ok-versions.ensures.keys (c.order.ensures events so_far.order)))
