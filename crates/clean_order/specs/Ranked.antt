@@ -5,7 +5,8 @@ use Rattle.hist_types.specs.Transactions.{Transaction, Version, is_ok, is_node}
 use Rattle.hist_types.specs.declared.types.KeyOrder.{KeyOrder}
 use Rattle.key_versions.specs.Histories.{writer_of, readers_of, followers_of}
 use Rattle.key_versions.specs.declared.types.Writer.{Writer}
-use Rattle.dep_edges.specs.Tables.{IsPlace, txn_at}
+use Rattle.dep_edges.specs.Histories.{History}
+use Rattle.dep_edges.specs.Tables.{IsPlace, IsNumber, txn_at, version_at}
 
 -- the transaction at the one place has a lower rank than the one at the other
 abbrev pub IsLower : (ranks : List ℕ) → (place other : ℕ) → Type 0
@@ -42,6 +43,13 @@ pub record RisesAtVersion (keys : KeyOrder) (ts : List Transaction) (ranks : Lis
       All
       (λ (p : ℕ × Version). RisesToNode ts ranks (users (writer_of ts v) (readers_of ts v)) p.0)
       (followers_of keys ts v)
+
+-- so they do at each version that the history's table has
+abbrev pub RisesAtEach : History → (ranks : List ℕ) → Type 0
+RisesAtEach h ranks =
+    (number : ℕ)
+    → IsNumber h.table number
+    → RisesAtVersion h.table.keys h.txns ranks (version_at h.table number)
 
 -- ---- time
 

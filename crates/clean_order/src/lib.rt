@@ -11,11 +11,12 @@ pub mod laws;
 mod putting;
 mod rising;
 
-use crate::ends::{ends, invoked_before};
-use crate::putting::Putting;
-use crate::rising::rises;
+use crate::ends::ends;
+use crate::putting::ranks;
+use crate::rising::{rises, rises_wide};
 use dep_edges::deps::Deps;
 use std::alloc::{AllocError, Global};
+use std::thread::Threads;
 
 /// True only if no cycle shows any phenomenon at any level. False says nothing: the history may have one, or not.
 ///
@@ -31,10 +32,25 @@ pub fn settles(alloc: Global, deps: &Deps<'_, '_>) -> Result<bool, AllocError>
 {
     let history = deps.history();
     let ends = ends(alloc, history)?;
-    let invoked = invoked_before(alloc, history.txns().len(), &ends)?;
-    let mut putting = Putting::new(alloc, history, &invoked)?;
-    if !putting.put_each(&ends)? {
-        return Ok(false);
+    match ranks(alloc, history, &ends)? {
+        None => Ok(false),
+        Some(ranks) => Ok(rises(deps, history, ranks.as_slice(), &ends)),
     }
-    Ok(rises(deps, history, putting.ranks(), &ends))
+}
+
+/// As `settles`, with two threads if another can be started.
+pub fn settles_wide<R: Threads>(
+    rt: &R,
+    alloc: Global,
+    deps: &Deps<'_, '_>,
+) -> Result<bool, AllocError>
+    ensures { IfOk result (λ settled.
+        OnTrue settled (AreFindings deps.now.table.keys deps.now.txns no_findings)) }
+{
+    let history = deps.history();
+    let ends = ends(alloc, history)?;
+    match ranks(alloc, history, &ends)? {
+        None => Ok(false),
+        Some(ranks) => Ok(rises_wide(rt, deps, history, ranks.as_slice(), &ends)),
+    }
 }

@@ -1,6 +1,7 @@
 //! Ranks for transactions, one after the other. Nothing is claimed of them here: that they rise is looked at afterwards.
 
 use crate::earlier::Earlier;
+use crate::ends::invoked_before;
 use crate::rising::rank_at;
 use dep_edges::history::History;
 use std::alloc::{AllocError, Global};
@@ -28,7 +29,7 @@ impl Frame {
 
 /// The transactions that were put so far. Transactions go by place, versions by number.
 #[derive(Drop)]
-pub struct Putting<'h, 'v, 'a> {
+struct Putting<'h, 'v, 'a> {
     history: &'h History<'v, 'a>,
     /// Which one it was that was put, from 1 on. 0 is one that wasn't put.
     ranks: Vec<u32>,
@@ -44,7 +45,7 @@ pub struct Putting<'h, 'v, 'a> {
 
 impl<'h, 'v, 'a> Putting<'h, 'v, 'a> {
     /// Nothing was put yet. It is given how many transactions were invoked before each one completed.
-    pub fn new(
+    fn new(
         alloc: Global,
         history: &'h History<'v, 'a>,
         invoked: &[u32],
@@ -62,8 +63,17 @@ impl<'h, 'v, 'a> Putting<'h, 'v, 'a> {
     }
 
     /// The ranks of the transactions, from 1 on.
-    pub fn ranks(&self) -> &[u32] {
-        &self.ranks
+    fn into_ranks(self) -> Vec<u32> {
+        let Putting {
+            history: _,
+            ranks,
+            put: _,
+            begun: _,
+            waiting: _,
+            earlier: _,
+            looked: _,
+        } = self;
+        ranks
     }
 
     fn is_put(&self, place: u32) -> bool {
@@ -71,7 +81,7 @@ impl<'h, 'v, 'a> Putting<'h, 'v, 'a> {
     }
 
     /// Puts each of the transactions, and whatever has to come before. It is false if one can't be put.
-    pub fn put_each(&mut self, places: &[u32]) -> Result<bool, AllocError> {
+    fn put_each(&mut self, places: &[u32]) -> Result<bool, AllocError> {
         for place in places {
             if (*place as usize) < self.ranks.len() && !self.put(*place)? {
                 return Ok(false);
@@ -219,4 +229,18 @@ impl<'h, 'v, 'a> Putting<'h, 'v, 'a> {
         }
         found
     }
+}
+
+/// Ranks for the transactions of a history, by who completed when, if each can be put after what has to come before it.
+pub fn ranks(
+    alloc: Global,
+    history: &History<'_, '_>,
+    ends: &[u32],
+) -> Result<Option<Vec<u32>>, AllocError> {
+    let invoked = invoked_before(alloc, history.txns().len(), ends)?;
+    let mut putting = Putting::new(alloc, history, &invoked)?;
+    if !putting.put_each(ends)? {
+        return Ok(None);
+    }
+    Ok(Some(putting.into_ranks()))
 }

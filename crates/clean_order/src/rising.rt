@@ -7,12 +7,13 @@ ghost use Rattle.hist_types.specs.Reports.{AreFindings, no_findings};
 ghost use Rattle.key_versions.specs.Tables.{IsTableOf};
 ghost use Rattle.dep_edges.specs.Histories.{AreOfHistory};
 ghost use Rattle.dep_edges.specs.Tables.{IsPlace, IsNumber, txn_at, version_at};
-ghost use Rattle.clean_order.specs.Ranked.{IsLowerIfOther, users, RisesToReaders, RisesAtVersion, RisesInTime, IsListed, AreAtMost};
+ghost use Rattle.clean_order.specs.Ranked.{IsLowerIfOther, users, RisesToReaders, RisesAtVersion, RisesAtEach, RisesInTime, IsListed, AreAtMost};
 ghost use Rattle.clean_order.specs.Highest.{IsCounted, AreCounted, RisesAbove};
 
 use dep_edges::deps::Deps;
 use dep_edges::history::History;
 use key_versions::types::{Follower, Writer};
+use std::thread::{Threads, join_mut};
 use txn_pairs::types::{Status, Txn};
 
 /// The rank of the transaction at the place.
@@ -156,9 +157,7 @@ fn rises_at(deps: &Deps<'_, '_>, history: &History<'_, '_>, ranks: &[u32], numbe
 /// Whether they do at each version.
 fn rises_at_each(deps: &Deps<'_, '_>, history: &History<'_, '_>, ranks: &[u32]) -> bool
     requires { deps.now ≡ history.now }
-    ensures { OnTrue result ((number : ℕ) → IsNumber history.now.table number
-        → RisesAtVersion history.now.table.keys history.now.txns ranks.now
-        (version_at history.now.table number)) }
+    ensures { OnTrue result (RisesAtEach history.now ranks.now) }
 {
     for number in 0..history.versions() {
         if !rises_at(deps, history, ranks, number) {
@@ -232,6 +231,25 @@ fn rises_in_time(
     true
 }
 
+/// What `rises_at_each` and `rises_in_time` return, by two threads if another can be started.
+fn both_wide<R: Threads>(
+    rt: &R,
+    deps: &Deps<'_, '_>,
+    history: &History<'_, '_>,
+    ranks: &[u32],
+    ends: &[u32],
+) -> (bool, bool)
+    requires { deps.now ≡ history.now }
+    ensures each { OnTrue result.0 (RisesAtEach history.now ranks.now) }
+    ensures time { OnTrue result.1 (RisesInTime history.now.txns ranks.now) }
+{
+    join_mut(
+        rt,
+        &mut || rises_at_each(deps, history, ranks),
+        &mut || rises_in_time(deps, history, ranks, ends),
+    )
+}
+
 /// Whether ranks rise along all edges of the history.
 pub fn rises(deps: &Deps<'_, '_>, history: &History<'_, '_>, ranks: &[u32], ends: &[u32]) -> bool
     requires history { deps.now ≡ history.now }
@@ -240,4 +258,21 @@ pub fn rises(deps: &Deps<'_, '_>, history: &History<'_, '_>, ranks: &[u32], ends
     ensures { OnTrue result (AreFindings deps.now.table.keys deps.now.txns no_findings) }
 {
     rises_at_each(deps, history, ranks) && rises_in_time(deps, history, ranks, ends)
+}
+
+/// As `rises`, with two threads if another can be started.
+pub fn rises_wide<R: Threads>(
+    rt: &R,
+    deps: &Deps<'_, '_>,
+    history: &History<'_, '_>,
+    ranks: &[u32],
+    ends: &[u32],
+) -> bool
+    requires history { deps.now ≡ history.now }
+    requires kept { AreOfHistory history.now.txns }
+    requires table { IsTableOf history.now.table.keys history.now.txns history.now.table }
+    ensures { OnTrue result (AreFindings deps.now.table.keys deps.now.txns no_findings) }
+{
+    let (at_each, in_time) = both_wide(rt, deps, history, ranks, ends);
+    at_each && in_time
 }

@@ -2,5 +2,6 @@ pub mod Answers
 pub mod SameAnswers
 pub mod Refuted
 pub mod Judged
+pub mod Numbering
 pub mod Statuses
 pub mod Runs

@@ -11,6 +11,7 @@ ghost use Rattle.command_run.specs.Statuses.{lack_line};
 use crate::answer::{Answer, Lack, Status, refuse};
 use crate::judged::Judged;
 use crate::judging::judged_of;
+use crate::numbering::versions_and_order;
 use crate::{check, edges, reads};
 use block_reader::reading::cells_for;
 use block_reader::starts::starts_of;
@@ -20,7 +21,6 @@ use hist_types::device::{Failed, Sink, Source};
 use hist_types::types::{Fault, KeyOrder, Refusal};
 use hist_types::whole::{ReadFault, read_all, write_all};
 use history_laws::versions_written_once;
-use key_versions::versions_of_written;
 use std::alloc::Global;
 use std::sync::Wait;
 use std::thread::Threads;
@@ -63,12 +63,21 @@ fn report_on<R: Threads + Wait + Sync>(
     // A law, called for its clause: the transactions write what the events do.
     versions_written_once();
     let txns = pairing.transactions();
-    let versions = versions_of_written(alloc, &txns, core.into_written(), keys_of(command))?;
-    let tables = Tables::new(events, &txns, &versions);
+    let workers = workers_of(command);
+    let keys = keys_of(command);
+    let (versions, order) = versions_and_order(
+        rt,
+        alloc,
+        workers,
+        &txns,
+        core.into_written(),
+        keys,
+    )?;
+    let tables = Tables::with_order(events, &txns, &versions, order.as_ref());
     match command {
         Command::Reads => reads::report(alloc, &tables),
         Command::Edges(_) => edges::report(alloc, &tables),
-        Command::Check { .. } => check::report(rt, alloc, workers_of(command), &tables),
+        Command::Check { .. } => check::report(rt, alloc, workers, &tables),
     }
 }
 

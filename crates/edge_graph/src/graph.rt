@@ -1,7 +1,6 @@
 //! The graph of a history's transactions.
 
 ghost use Rattle.std.specs.Prelude.{◌≡◌, ◌↔◌, ℕ, ◌+◌, ◌++◌, ◌==◌, ◌<◌, length, All, Contains, IfOk, OnOk, OnErr};
-ghost use Rattle.std.specs.Thread.{IsSync};
 ghost use Rattle.dep_edges.specs.Histories.{AreOfHistory};
 ghost use Rattle.dep_edges.specs.OutEdges.{Begins};
 ghost use Rattle.dep_edges.specs.Tables.{IsPlace, txn_at};
@@ -138,8 +137,8 @@ fn add_order_edges<'a>(
     Ok(())
 }
 
-/// The rows of the arcs of dependencies, and the order as successors, each made by threads of its own if others can be started.
-fn rows_and_orders_wide<'v, 'a, R: Threads + Sync>(
+/// The rows of the arcs of dependencies, and the order as successors, made by two threads if another can be started.
+fn rows_and_orders_wide<'v, 'a, R: Threads>(
     rt: &R,
     alloc: Global,
     deps: &Deps<'v, 'a>,
@@ -153,10 +152,8 @@ fn rows_and_orders_wide<'v, 'a, R: Threads + Sync>(
 {
     try_join(
         rt,
-        &mut || layout::rows_wide(rt, alloc, deps, history),
-        &mut || -> Result<Orders, AllocError>
-            requires { IsSync R.row × IsOrderOf deps.now.txns order.now }
-        { Orders::new_wide(rt, alloc, deps, order) },
+        &mut || layout::rows(alloc, deps, history),
+        &mut || Orders::new(alloc, deps, order),
     )
 }
 
@@ -172,8 +169,8 @@ impl<'g, 'v, 'a> Graph<'g, 'v, 'a> {
         Ok(Graph::of(alloc, deps, history, order, rows, orders))
     }
 
-    /// As `new`, with a few threads if others can be started.
-    pub fn new_wide<R: Threads + Sync>(
+    /// As `new`, with two threads if another can be started.
+    pub fn new_wide<R: Threads>(
         rt: &R,
         alloc: Global,
         deps: &'g Deps<'v, 'a>,

@@ -5,11 +5,9 @@ ghost use Rattle.dep_edges.specs.Tables.{IsPlace, IsNumber};
 ghost use Rattle.edge_graph.specs.LaidOut.{others, nodes_of, readers_behind, writers_behind, AreRows, AddsReads, AddsTxnRow, AddsVersionRow, AreTxnRows, AreVersionRows};
 
 use crate::rows::{Rows, Span, VertexRows, number};
-use crate::threads::try_join;
 use dep_edges::deps::Deps;
 use dep_edges::history::History;
 use std::alloc::{AllocError, Global};
-use std::thread::Threads;
 
 /// A history and what its transactions depend on each other for.
 #[derive(Drop)]
@@ -151,18 +149,6 @@ impl<'g, 'v, 'a> Layout<'g, 'v, 'a> {
         Ok(Rows::new(spans, items))
     }
 
-    /// The rows of the transactions and those of the versions, made by two threads if another can be started.
-    fn both_wide<R: Threads>(&self, rt: &R, alloc: Global) -> Result<(Rows, Rows), AllocError>
-        ensures txns { IfOk result (λ made. AreTxnRows self.now.history.now made.0) }
-        ensures versions { IfOk result (λ made. AreVersionRows self.now.history.now made.1) }
-    {
-        try_join(
-            rt,
-            &mut || self.txn_rows(alloc),
-            &mut || self.version_rows(alloc),
-        )
-    }
-
     /// The rows of the transactions, and after them those of the versions.
     fn joined(&self, txns: Rows, versions: Rows) -> Result<VertexRows, AllocError>
         requires txns { AreTxnRows self.now.history.now txns }
@@ -185,20 +171,5 @@ pub fn rows<'v, 'a>(
     let layout = Layout { deps, history };
     let txns = layout.txn_rows(alloc)?;
     let versions = layout.version_rows(alloc)?;
-    layout.joined(txns, versions)
-}
-
-/// As `rows`, with two threads if another can be started.
-pub fn rows_wide<'v, 'a, R: Threads>(
-    rt: &R,
-    alloc: Global,
-    deps: &Deps<'v, 'a>,
-    history: &History<'v, 'a>,
-) -> Result<VertexRows, AllocError>
-    requires { history.now.txns ≡ deps.now.txns }
-    ensures { IfOk result (AreRows history.now.txns history.now.table) }
-{
-    let layout = Layout { deps, history };
-    let (txns, versions) = layout.both_wide(rt, alloc)?;
     layout.joined(txns, versions)
 }

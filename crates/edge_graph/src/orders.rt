@@ -11,13 +11,11 @@ ghost use Rattle.edge_graph.specs.Successors.{ArePlaces, predecessors_at, HavePl
 
 use crate::rows::number;
 use crate::runs::{Run, extended};
-use crate::threads::try_join;
 use dep_edges::deps::Deps;
 use hist_types::types::Level;
 use order_frontier::types::{Order, Predecessor};
 use std::alloc::{AllocError, Global};
 use std::marker::Model;
-use std::thread::Threads;
 use txn_pairs::types::Txn;
 
 /// For each transaction the places of the nodes that it comes before. In thinned order these are next to each other among all
@@ -150,27 +148,6 @@ fn turned(
     Ok(LaterNodes { nodes, runs })
 }
 
-/// The order as successors at the two levels, made by two threads if another can be started.
-fn turned_wide<R: Threads + Sync>(
-    rt: &R,
-    alloc: Global,
-    deps: &Deps<'_, '_>,
-    order: &Order,
-    places: &[u32],
-) -> Result<(LaterNodes, LaterNodes), AllocError>
-    requires kept { AreOfHistory deps.now.txns }
-    requires order { IsOrderOf deps.now.txns order.now }
-    requires places { ArePlaces deps.now.txns places.now }
-    ensures process { IfOk result (λ made. AreSuccessors deps.now.txns order.now Process made.0) }
-    ensures realtime { IfOk result (λ made. AreSuccessors deps.now.txns order.now Realtime made.1) }
-{
-    try_join(
-        rt,
-        &mut || turned(alloc, deps, order, places, Level::Process),
-        &mut || turned(alloc, deps, order, places, Level::Realtime),
-    )
-}
-
 /// For each transaction the nodes that it comes before, within its process and in real time.
 #[derive(Drop)]
 pub(crate) struct Orders {
@@ -199,32 +176,11 @@ impl Orders {
         let places = places_of(alloc, deps)?;
         let in_process = turned(alloc, deps, order, &places, Level::Process)?;
         let in_realtime = turned(alloc, deps, order, &places, Level::Realtime)?;
-        Ok(Orders::of(alloc, in_process, in_realtime))
-    }
-
-    /// As `new`, with two threads if another can be started.
-    pub fn new_wide<R: Threads + Sync>(
-        rt: &R,
-        alloc: Global,
-        deps: &Deps<'_, '_>,
-        order: &Order,
-    ) -> Result<Self, AllocError>
-        requires { IsOrderOf deps.now.txns order.now }
-        ensures { IfOk result (AreTurned deps.now.txns order.now) }
-    {
-        let places = places_of(alloc, deps)?;
-        let (in_process, in_realtime) = turned_wide(rt, alloc, deps, order, &places)?;
-        Ok(Orders::of(alloc, in_process, in_realtime))
-    }
-
-    fn of(alloc: Global, in_process: LaterNodes, in_realtime: LaterNodes) -> Self
-        ensures { result ≡ record { in_process = in_process; in_realtime = in_realtime } }
-    {
-        Orders {
+        Ok(Orders {
             in_plain: LaterNodes::empty(alloc),
             in_process,
             in_realtime,
-        }
+        })
     }
 
     /// The level's order as successors, in place of predecessors.

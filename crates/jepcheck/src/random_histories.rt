@@ -50,13 +50,15 @@ struct Begun {
 }
 
 /// A history in the making, of a store that runs one transaction after the other: each takes effect when it is invoked or when it
-/// completes. Now and then a read returns any value at all.
+/// completes. Now and then a read returns any value at all, also one of a key that its transaction wrote before.
 #[derive(Drop)]
 struct Making {
     alloc: Global,
     dice: Dice,
     /// One read in so many is wrong.
     wrong: u64,
+    /// Of a key that its transaction wrote before, one in so many is.
+    wrong_of_own: u64,
     /// The value of each key, or 0 for nil.
     store: Vec<u64>,
     /// How many values were written.
@@ -106,6 +108,7 @@ impl Making {
             2 => 40,
             _ => 0,
         };
+        let wrong_of_own = dice.roll(4);
         let mut store = Vec::new(alloc);
         for _ in 0..dice.roll(4).saturating_add(1) {
             store.push(0)?;
@@ -119,6 +122,7 @@ impl Making {
             alloc,
             dice,
             wrong,
+            wrong_of_own,
             store,
             values: 0,
             idle,
@@ -154,14 +158,19 @@ impl Making {
         }
     }
 
-    /// Whether a read is a wrong one.
-    fn is_wrong(&mut self) -> bool {
-        self.wrong > 0 && self.dice.roll(self.wrong) == 0
+    /// Whether a read of the key is a wrong one, after these accesses of its transaction.
+    fn is_wrong(&mut self, key: u64, before: &[Access]) -> bool {
+        let wrong = if has_write(before, key) {
+            self.wrong_of_own
+        } else {
+            self.wrong
+        };
+        wrong > 0 && self.dice.roll(wrong) == 0
     }
 
-    /// What a read of the key returns after these accesses of its transaction. A value that the transaction wrote is never missed.
+    /// What a read of the key returns after these accesses of its transaction.
     fn read(&mut self, key: u64, before: &[Access]) -> u64 {
-        if !has_write(before, key) && self.is_wrong() {
+        if self.is_wrong(key, before) {
             self.dice.roll(self.values.saturating_add(2))
         } else {
             self.value_of(key)

@@ -1,7 +1,7 @@
 //! The versions of keys that processes saw last.
 
 ghost use Rattle.std.specs.Prelude.{◌≡◌, ◌<◌, ◌≤◌, ℕ, length, None, IfOk, IfSome, OnOk};
-ghost use Rattle.key_versions.specs.LastSeen.{hash_of, index_from, last_seen, seen_with};
+ghost use Rattle.key_versions.specs.LastSeen.{hash_of, index_from, index_of, last_seen, seen_with};
 
 use crate::rows::number_of;
 use std::alloc::{AllocError, Global};
@@ -20,6 +20,7 @@ pub(crate) struct Seen {
 /// The version of each key that each process saw last.
 #[derive(Drop)]
 pub(crate) struct LastSeen {
+    alloc: Global,
     seen: Vec<Seen>,
     /// For each hash the place of the newest one, from 1 on; 0 if there is none.
     newest: Vec<u32>,
@@ -52,17 +53,25 @@ impl LastSeen {
         ensures { IfOk result (λ last. (process nil : ℕ) → last_seen last process nil ≡ None) }
     {
         let hashes = transactions.max(1).min(1 << 32).next_power_of_two();
+        LastSeen::with_hashes(alloc, hashes, transactions / 2)
+    }
+
+    /// No process has seen a version. The table has this many hashes, and there is room for this many versions.
+    fn with_hashes(alloc: Global, hashes: usize, versions: usize) -> Result<Self, AllocError>
+        requires { 0 < hashes }
+        ensures { IfOk result (λ last. (process nil : ℕ) → last_seen last process nil ≡ None) }
+    {
         Ok(LastSeen {
-            seen: Vec::with_capacity(alloc, transactions / 2)?,
+            alloc,
+            seen: Vec::with_capacity(alloc, versions)?,
             newest: vec![in alloc; 0; hashes]?,
         })
     }
 
     /// The index of what a process saw of a key, among those that are linked from a place on.
-    fn find(&self, first: u32, process: u64, nil: u32) -> Option<usize>
+    fn find_from(&self, first: u32, process: u64, nil: u32) -> Option<usize>
         requires { first ≤ length self.now.seen }
-        ensures index { result ≡ index_from first first process nil self.now.seen }
-        ensures within { IfSome result (λ index. index < length self.now.seen) }
+        ensures { result ≡ index_from first first process nil self.now.seen }
     {
         let mut place = first as usize;
         while place > 0 {
@@ -73,6 +82,58 @@ impl LastSeen {
             place = (seen.next as usize).min(place - 1);
         }
         None
+    }
+
+    /// The index of what a process saw of a key.
+    fn find(&self, process: u64, nil: u32) -> Option<usize>
+        ensures index { result ≡ index_of self.now process nil }
+        ensures within { IfSome result (λ index. index < length self.now.seen) }
+    {
+        let hash = hash_below(self.newest.len(), process, nil);
+        self.find_from(self.newest[hash], process, nil)
+    }
+
+    /// Adds what a process saw of a key of which it saw no version before.
+    fn add(&mut self, process: u64, nil: u32, version: u32) -> Result<(), AllocError>
+        requires { last_seen self.old process nil ≡ None }
+        ensures { OnOk result ((one key : ℕ) → last_seen self.new one key
+            ≡ seen_with process nil version one key (last_seen self.old one key)) }
+    {
+        let place = number_of(self.seen.len() + 1)?;
+        let hash = hash_below(self.newest.len(), process, nil);
+        self.seen.push(Seen {
+            process,
+            nil,
+            version,
+            next: self.newest[hash],
+        })?;
+        self.newest[hash] = place;
+        Ok(())
+    }
+
+    /// What was seen, in a table with twice as many hashes.
+    fn grown(&self) -> Result<Self, AllocError>
+        ensures { IfOk result (λ grown. (process nil : ℕ) → last_seen grown process nil
+            ≡ last_seen self.now process nil) }
+    {
+        let hashes = self.newest.len().saturating_mul(2);
+        let versions = self.seen.len().saturating_mul(2);
+        let mut grown = LastSeen::with_hashes(self.alloc, hashes, versions)?;
+        for seen in &self.seen {
+            grown.add(seen.process, seen.nil, seen.version)?;
+        }
+        Ok(grown)
+    }
+
+    /// Doubles the table if there are twice as many versions as hashes, so that few versions have the same hash.
+    fn make_room(&mut self) -> Result<(), AllocError>
+        ensures { OnOk result ((process nil : ℕ) → last_seen self.new process nil
+            ≡ last_seen self.old process nil) }
+    {
+        if self.seen.len() / 2 >= self.newest.len() {
+            *self = self.grown()?;
+        }
+        Ok(())
     }
 
     /// The process now saw this version of the key. Gives the one that it saw last before.
@@ -86,22 +147,14 @@ impl LastSeen {
         ensures last { OnOk result ((one key : ℕ) → last_seen self.new one key
             ≡ seen_with process nil version one key (last_seen self.old one key)) }
     {
-        let hash = hash_below(self.newest.len(), process, nil);
-        let next = self.newest[hash];
-        if let Some(index) = self.find(next, process, nil) {
+        if let Some(index) = self.find(process, nil) {
             let seen = &mut self.seen[index];
             let before = seen.version;
             seen.version = version;
             return Ok(Some(before));
         }
-        let place = number_of(self.seen.len() + 1)?;
-        self.seen.push(Seen {
-            process,
-            nil,
-            version,
-            next,
-        })?;
-        self.newest[hash] = place;
+        self.make_room()?;
+        self.add(process, nil, version)?;
         Ok(None)
     }
 }

@@ -26,7 +26,8 @@ impl Model for ProcessSteps {
 }
 
 impl ProcessSteps {
-    /// No process has seen a version. There is room for as much as n transactions mostly see; with many more, look-ups take longer.
+    /// No process has seen a version. There is room for as much as n transactions mostly see; what comes beyond that makes the table
+    /// grow.
     pub fn with_capacity(alloc: Global, transactions: usize) -> Result<Self, AllocError>
         ensures { IfOk result (λ steps. (process nil : ℕ) → last_seen steps process nil ≡ None) }
     {

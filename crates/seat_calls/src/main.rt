@@ -1,7 +1,8 @@
 //! Makes the calls of seats, and prints what they return: with no argument, over the lines of standard input; a few, each once
-//! more if memory runs out in it; or many, with how long they take.
+//! more if memory runs out in it; those of eight seats that contend for cells; or many, with how long they take.
 #![tactic(auto)]
 
+mod contended;
 mod four_completions;
 mod limits;
 mod lines;
@@ -32,6 +33,7 @@ fn main(rt: HostRuntime) -> Result<(), Stopped> {
             limits::run(&rt, alloc)
         }
         [_, what] if what.as_str() == "once-more" => once_more::run(&rt, alloc),
+        [_, what] if what.as_str() == "contended" => contended::run(&rt, alloc),
         [_, what, seats, events] if what.as_str() == "bench" => {
             times::of_many_calls(
                 &rt,

@@ -7,10 +7,12 @@ use thiserror::Error;
 
 #[derive(Debug, Drop, Error)]
 pub enum Stopped {
-    #[error("usage: seat_calls [once-more | bench SEATS EVENTS | begins EVENTS]")]
+    #[error("usage: seat_calls [once-more | contended | bench SEATS EVENTS | begins EVENTS]")]
     Usage,
     #[error("not an atom")]
     NotAnAtom,
+    #[error("a wrong answer")]
+    WrongAnswer,
     #[error("{0}")]
     Refused(Fault),
     #[error("{0}")]

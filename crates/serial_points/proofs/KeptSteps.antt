@@ -37,7 +37,7 @@ use Rattle.serial_points.proofs.Accesses.{has_accesses, kept_count}
 use Rattle.serial_points.proofs.Changed.{IsChanged, begins_or_completes, changed_by_begin, changed_by_end}
 use Rattle.serial_points.proofs.OneCompletion.{IsLastOk, is_last_ok}
 use Rattle.serial_points.proofs.OneEvent.{completes, invoked}
-use Rattle.serial_points.proofs.OneMore.{points_after}
+use Rattle.serial_points.proofs.OneMore.{points_after, still_advanced}
 use Rattle.serial_points.proofs.RisingSteps.{fall_beside, still_rise, still_steps, still_twice, there_or_fresh}
 use Rattle.serial_points.proofs.OkSteps.{same_process_pairs, same_seen}
 
@@ -104,10 +104,10 @@ pair_stays vs us stay s p is =
 
 module _ (events : List Operation) (event : Operation) (before after : KeptVersions) (p : KeptPoints) (points : List ℕ) (users : Users) (steps : Steps) (falls : List Fall) (place : ℕ)
     (next : IsNext events event before p (transactions_of (events ++ event ∷ [])) after place)
-    (used : AreUsers after.accesses users) (bound : BoundAll after.accesses points users.bounds)
+    (used : AreUsers after.accesses users) (grown : UsersAdvance p.basic.users users after.accesses place) (bound : BoundAll after.accesses points users.bounds)
     (advance : PointsAdvance p.basic.points points users (transactions_of (events ++ event ∷ [])) after.accesses falls place)
     (stepped : StepsAdvance p.steps steps (transactions_of (events ++ event ∷ [])) after.accesses place)
-    (passes : StepsPass points users steps.lists after.accesses falls place)
+    (passes : StepsPass points users steps.lists (transactions_of (events ++ event ∷ [])) after.accesses falls place)
     (sequential : after.keys ≡ Sequential) where
   abbrev ts : List Transaction
   ts = transactions_of events
@@ -118,7 +118,7 @@ module _ (events : List Operation) (event : Operation) (before after : KeptVersi
   abbrev vs : List Version
   vs = after.versions
 
-  had : HasSteps ts before p.basic.points p.steps
+  had : HasSteps ts before p.basic.points p.basic.users p.steps
   had = next.points.steps (sym next.keys ∙ sequential)
 
   -- what a process saw, by the numbers of now
@@ -185,16 +185,17 @@ module _ (events : List Operation) (event : Operation) (before after : KeptVersi
         | inr own ↦ own_pair q own
       ]
 
-    rise_now : AllStepsRise after.accesses points steps.lists
+    rise_now : AllStepsRise later after.accesses points users steps.lists
     rise_now =
-        still_rise before.accesses after.accesses p.basic.points points users p.steps.lists steps.lists falls place used bound next.basic.others
+        still_rise ts later before.accesses after.accesses p.basic.points points p.basic.users users p.steps.lists steps.lists falls place a there used bound (grown.only a there) changed.other
+        next.basic.others passes
         (kept_count ts before next.basic.points.versions ∙ sym next.basic.points.count)
         (fall_beside p.basic.points points users later after.accesses falls place t changed.at advance)
         (still_twice p.steps steps later after.accesses place t a changed.at there stepped had.twice)
         (there_or_fresh p.steps steps later after.accesses place t a changed.at there stepped)
-        passes had.rise
+        had.rise
 
-    steps_by : IsOkNow ts later t → HasSteps later after points steps
+    steps_by : IsOkNow ts later t → HasSteps later after points users steps
     steps_by (inl (not_ok, same)) = record {
       seen = seen_not_ok not_ok same;
       there = pair_not_ok not_ok same;
@@ -208,7 +209,7 @@ module _ (events : List Operation) (event : Operation) (before after : KeptVersi
       rise = rise_now;
     }
 
-  pub has_steps : HasSteps later after points steps
+  pub has_steps : HasSteps later after points users steps
   has_steps =
       let (t, changed, now) = changes_it events event place next.basic.change in
       let (a, there) = has_accesses later after place t next.basic.kept changed.at in
@@ -227,7 +228,7 @@ pub all_after :
     → PointsAdvance p.basic.points points users later after.accesses falls place
     → StraysAdvance p.basic.strays strays users.writers after.accesses place
     → (after.keys ≡ Sequential → StepsAdvance p.steps steps later after.accesses place)
-    → StepsPass points users steps.lists after.accesses falls place
+    → StepsPass points users steps.lists later after.accesses falls place
     → HasPoints (events ++ event ∷ []) after (record { basic = record { points = points; users = users; strays = strays }; steps = steps })
 all_after events event before after p points middle users steps strays later falls place next grown same level settled advance counted stepped passes =
     let basic = points_after events event before after p.basic points middle users strays later falls place next.basic grown same level settled advance counted in
@@ -235,9 +236,11 @@ all_after events event before after p points middle users steps strays later fal
     record {
       basic = basic;
       steps = λ sequential.
-          has_steps events event before after p points users steps falls place (subst (λ us. IsNext events event before p us after place) is next) basic.users basic.bounds
+          has_steps events event before after p points users steps falls place (subst (λ us. IsNext events event before p us after place) is next) basic.users
+          (still_advanced points p.basic.users middle users after.accesses place grown settled) basic.bounds
           (subst (λ us. PointsAdvance p.basic.points points users us after.accesses falls place) is advance)
-          (subst (λ us. StepsAdvance p.steps steps us after.accesses place) is (stepped sequential)) passes sequential;
+          (subst (λ us. StepsAdvance p.steps steps us after.accesses place) is (stepped sequential))
+          (subst (λ us. StepsPass points users steps.lists us after.accesses falls place) is passes) sequential;
     }
 
 pub all_of_none :
@@ -252,6 +255,6 @@ all_of_none kept p are basic none = record {
     seen = λ process. ([], tt, λ nil. none.seen process nil);
     there = λ q c. absurd (in_from_Contains q (process_pairs Sequential []) c);
     twice = λ later earlier has. absurd (none.none (later, earlier) has);
-    rise = λ later earlier first second a b has. absurd (none.none (later, earlier) has);
+    rise = λ later earlier first second t a b has. absurd (none.none (later, earlier) has);
   };
 }

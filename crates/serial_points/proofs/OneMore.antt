@@ -315,7 +315,7 @@ module _ (events : List Operation) (event : Operation) (before after : KeptVersi
   ]
 
 -- the users after their bounds have changed
-still_advanced :
+pub still_advanced :
     (points : List ℕ) (before middle after : Users) (accesses : List TxnAccesses) (place : ℕ)
     → UsersAdvance before middle accesses place
     → HasSettled points middle after accesses place
@@ -334,6 +334,7 @@ still_advanced points before middle after accesses place grown settled = record 
         key_writers = subst (λ lists. ListKeys lists place a.writes) (sym settled.key_writers) are.key_writers;
         updaters = subst (λ lists. ListUpdated lists place a.reads a.writes) (sym settled.updaters) are.updaters;
       };
+  only = λ a there number other listed. grown.only a there number other (subst (λ lists. IsListed lists number other) settled.readers listed);
 }
 
 pub points_after :

@@ -1,11 +1,13 @@
 -- Points that rise along the steps of processes, over numbers alone, after one more event.
-use Rattle.std.proofs.Common.{◌≡◌, ◌⊎◌, inl, inr, ℕ, ◌<◌, ◌≤◌, List, ◌∷◌, [], length, Some, All, Contains, slice_index, arith, sym, ◌∙◌, ap, subst}
+use Rattle.std.proofs.Common.{◌≡◌, ◌⊎◌, inl, inr, ℕ, ◌<◌, ◌≤◌, ◌==◌, ◌&&◌, not, List, ◌∷◌, [], length, true, false, Some, All, Contains, slice_index, arith, sym, ◌∙◌, ap, subst}
 use Rattle.std.specs.Prelude.{slice_get}
-use Rattle.std.proofs.lemmas.Bool.{cases_Bool}
+use Rattle.std.proofs.lemmas.Bool.{and_parts, cases_Bool, eqb-false, eqb-true, false≢true, not-true}
 use Rattle.std.proofs.lemmas.List.{get_or_append_left}
 use Rattle.std.proofs.lemmas.List.Elements.{All-contains}
 use Rattle.std.proofs.lemmas.Option.{slice_get_within}
 use Rattle.hist_types.specs.Transactions.{Transaction, Status, Ok, Fail, Info, Open, is_ok}
+use Rattle.hist_types.proofs.Members.{in_from_Contains, Contains_from_in}
+use Rattle.history_laws.proofs.ThinningPaths.{some_passes}
 use Rattle.key_versions.specs.Kept.{StayBeside}
 use Rattle.key_versions.specs.TxnAccesses.{TxnAccesses}
 use Rattle.key_versions.specs.declared.pending.Access.{Access}
@@ -13,9 +15,9 @@ use Rattle.clean_order.specs.Ranked.{IsLowerIfOther}
 use Rattle.serial_points.specs.Bounds.{BoundAll}
 use Rattle.serial_points.specs.Falls.{IsAmong}
 use Rattle.serial_points.specs.KeptPoints.{AdvancesBy, PointsAdvance}
-use Rattle.serial_points.specs.Stepping.{AboveUsers, AboveSteps, BelowWriters, BelowSteps, StepRises, StepsPass, HasAccess, AllStepsRise}
+use Rattle.serial_points.specs.Stepping.{has_install, IsNoNode, IsLowerUnlessLeftOut, AboveUsers, IsAboveStepsTo, AboveSteps, IsHigherUnlessLeftOut, BelowInstallers, BelowReadSteps, IsBelowStepsFrom, BelowOwnSteps, IsBelowUnlessOk, WritersPassSteps, IsAboveStep, StepRises, StepsPass, HasReader, Uses, AllStepsRise}
 use Rattle.serial_points.specs.Steps.{HasStep, AreListedTwice, StepsAdvance}
-use Rattle.serial_points.specs.Users.{places_at, IsListed, AreUsers}
+use Rattle.serial_points.specs.Users.{updates, places_at, IsListed, HasAccess, ListOnlyVersions, AreUsers}
 use Rattle.serial_points.specs.declared.falls.Fall.{Fall}
 use Rattle.serial_points.specs.declared.steps.StepLists.{StepLists}
 use Rattle.serial_points.specs.declared.steps.Steps.{Steps}
@@ -25,52 +27,91 @@ use Rattle.serial_points.proofs.Unbounded.{reader_lower}
 
 -- ---- users
 
-module _ (accesses : List TxnAccesses) (points : List ℕ) (users : Users) (used : AreUsers accesses users) (bound : BoundAll accesses points users.bounds) where
+install_access :
+    (version : ℕ) (writes : List Access)
+    → has_install version writes ≡ true
+    → (x : Access) × Contains writes x × (x.version ≡ version) × (updates writes x ≡ false)
+install_access version writes has =
+    let (x, i, both) = some_passes (λ (write : Access). write.version == version && not (updates writes write)) writes has in
+    let (same, last) = and_parts (x.version == version) (not (updates writes x)) both in
+    (x, Contains_from_in x writes i, eqb-true x.version version same, not-true (updates writes x) last)
+
+module _ (ts : List Transaction) (accesses : List TxnAccesses) (points : List ℕ) (users : Users) (used : AreUsers accesses users) (bound : BoundAll accesses points users.bounds) where
   writer_there :
       (version k : ℕ) (b : TxnAccesses)
       → slice_get accesses k ≡ Some b
-      → HasAccess b.writes version
+      → has_install version b.writes ≡ true
       → IsListed users.writers version k
-  writer_there version k b there (x, i, is) =
+  writer_there version k b there has =
+      let (x, i, is, last) = install_access version b.writes has in
       subst (λ n. IsListed users.writers n k) is (All-contains (λ (y : Access). IsListed users.writers y.version k) b.writes x (used k b there).writers i)
 
-  -- whoever reads or writes the version has a lower point
+  not_both :
+      (k : ℕ) (t : Transaction) (a : TxnAccesses)
+      → slice_get ts k ≡ Some t
+      → slice_get accesses k ≡ Some a
+      → IsNoNode users ts accesses k
+      → (is_ok t ≡ true) ⊎ HasReader users.readers a.writes
+      → ⊥
+  not_both k t a at there outside (inl ok) = false≢true (sym (outside.not_ok t at) ∙ ok)
+  not_both k t a at there outside (inr (x, reader, i, listed)) =
+      let none = All-contains (λ (y : Access). places_at users.readers y.version ≡ []) a.writes x (outside.unread a there) i in
+      in_from_Contains reader [] (subst (λ places. Contains places reader) none listed)
+
+  -- a node that reads or installs the version has a lower point
   lower_user :
-      (version k first : ℕ) (a : TxnAccesses)
-      → AboveUsers points users k version
+      (version k first : ℕ) (t : Transaction) (a : TxnAccesses)
+      → AboveUsers points users ts accesses k version
+      → slice_get ts first ≡ Some t
       → slice_get accesses first ≡ Some a
-      → HasAccess a.reads version ⊎ HasAccess a.writes version
+      → Uses users t a version
       → IsLowerIfOther points first k
-  lower_user version k first a above there (inl (x, i, is)) = reader_lower accesses points users k first version a x used bound above.readers there i is
-  lower_user version k first a above there (inr wrote) =
-      All-contains (λ other. IsLowerIfOther points other k) (places_at users.writers version) first above.writers (writer_there version first a there wrote)
+  lower_user version k first t a above at there (inl (x, i, is)) = reader_lower accesses points users k first version a x used bound above.readers there i is
+  lower_user version k first t a above at there (inr (installed, node)) =
+      elim (All-contains (IsLowerUnlessLeftOut points users ts accesses k version) (places_at users.writers version) first above.installers (writer_there version first a there installed)) [
+        | inl lower ↦ lower
+        | inr (inl none) ↦ absurd (false≢true (sym (none a there) ∙ installed))
+        | inr (inr outside) ↦ absurd (not_both first t a at there outside node)
+      ]
 
-  module _ (lists : StepLists) (later earlier : ℕ) (step : HasStep lists (later, earlier)) where
+  module _ (lists : StepLists) (later earlier : ℕ) where
     lower_by_step :
-        (k first : ℕ) (a : TxnAccesses) (writes : List Access)
-        → AboveSteps points users lists k writes
-        → HasAccess writes later
+        (k first : ℕ) (t : Transaction) (a : TxnAccesses) (writes : List Access)
+        → HasStep lists (later, earlier)
+        → AboveSteps points users lists ts accesses k writes
+        → has_install later writes ≡ true
+        → slice_get ts first ≡ Some t
         → slice_get accesses first ≡ Some a
-        → HasAccess a.reads earlier ⊎ HasAccess a.writes earlier
+        → Uses users t a earlier
         → IsLowerIfOther points first k
-    lower_by_step k first a writes above (x, i, is) there uses =
-        let all = All-contains (λ (y : Access). All (AboveUsers points users k) (places_at lists.earlier y.version)) writes x above i in
-        lower_user earlier k first a
-        (All-contains (AboveUsers points users k) (places_at lists.earlier x.version) earlier all (subst (λ n. IsListed lists.earlier n earlier) (sym is) step))
-        there uses
+    lower_by_step k first t a writes step above has at there uses =
+        let (x, i, is, last) = install_access later writes has in
+        let all = All-contains (IsAboveStepsTo points users lists ts accesses k writes) writes x above i last in
+        lower_user earlier k first t a
+        (All-contains (AboveUsers points users ts accesses k) (places_at lists.earlier x.version) earlier all (subst (λ n. IsListed lists.earlier n earlier) (sym is) step))
+        at there uses
 
-    higher_by_step :
-        (k second : ℕ) (b : TxnAccesses) (own : List Access)
-        → BelowSteps points users lists k own
-        → HasAccess own earlier
-        → IsListed lists.later earlier later
-        → slice_get accesses second ≡ Some b
-        → HasAccess b.writes later
-        → IsLowerIfOther points k second
-    higher_by_step k second b own below (x, i, is) twice there wrote =
-        let all = All-contains (λ (y : Access). All (BelowWriters points users k) (places_at lists.later y.version)) own x below i in
-        let one = All-contains (BelowWriters points users k) (places_at lists.later x.version) later all (subst (λ n. IsListed lists.later n later) (sym is) twice) in
-        All-contains (λ other. IsLowerIfOther points k other) (places_at users.writers later) second one (writer_there later second b there wrote)
+    module _ (twice : IsListed lists.later earlier later) (k second : ℕ) (b : TxnAccesses) (there : slice_get accesses second ≡ Some b) (installed : has_install later b.writes ≡ true) where
+      higher_by_step : All (BelowInstallers points users accesses k) (places_at lists.later earlier) → IsLowerIfOther points k second
+      higher_by_step all =
+          let one = All-contains (BelowInstallers points users accesses k) (places_at lists.later earlier) later all twice in
+          elim (All-contains (IsHigherUnlessLeftOut points accesses k later) (places_at users.writers later) second one (writer_there later second b there installed)) [
+            | inl lower ↦ lower
+            | inr none ↦ absurd (false≢true (sym (none b there) ∙ installed))
+          ]
+
+      higher_by_read : (reads : List Access) → BelowReadSteps points users lists accesses k reads → HasAccess reads earlier → IsLowerIfOther points k second
+      higher_by_read reads below (x, i, is) =
+          higher_by_step
+          (subst (λ n. All (BelowInstallers points users accesses k) (places_at lists.later n)) is
+          (All-contains (λ (y : Access). All (BelowInstallers points users accesses k) (places_at lists.later y.version)) reads x below i))
+
+      higher_by_install : (writes : List Access) → BelowOwnSteps points users lists accesses k writes → has_install earlier writes ≡ true → IsLowerIfOther points k second
+      higher_by_install writes below has =
+          let (x, i, is, last) = install_access earlier writes has in
+          higher_by_step
+          (subst (λ n. All (BelowInstallers points users accesses k) (places_at lists.later n)) is
+          (All-contains (IsBelowStepsFrom points users lists accesses k writes) writes x below i last))
 
 -- ---- points that fell
 
@@ -131,58 +172,98 @@ module _ (before after : Steps) (ts : List Transaction) (accesses : List TxnAcce
 
 -- ---- points rise along them
 
-pub still_rise :
-    (before after : List TxnAccesses) (was points : List ℕ) (users : Users) (old new : StepLists) (falls : List Fall) (place : ℕ)
-    → AreUsers after users
-    → BoundAll after points users.bounds
-    → StayBeside place before after
-    → length before ≡ length was
-    → FallBeside was points falls
-    → AreListedTwice new
-    → ((s : ℕ × ℕ) → HasStep new s → HasStep old s ⊎ (Contains new.fresh.items s × IsListed new.later s.1 s.0))
-    → StepsPass points users new after falls place
-    → AllStepsRise before was old
-    → AllStepsRise after points new
-still_rise before after was points users old new falls place used bound others count fall twice only passes rise later earlier first second a b step at uses there wrote =
-    elim (same_or_not second place) [
-      | inl here ↦ lower_to_own here
-      | inr differ ↦ elim (fall second (within second b differ there)).1 [
-        | inr (i, below, is) ↦
-            lower_by_step after points users used bound new later earlier step second first a b.writes
-            (subst (λ n. AboveSteps points users new n b.writes) is (passes.fallen i below b (subst (λ n. slice_get after n ≡ Some b) (sym is) there)))
-            wrote at uses
-        | inl same ↦ elim (same_or_not first place) [
-          | inl own ↦ higher_than_own own
-          | inr other ↦ elim (only (later, earlier) step) [
-            | inl there_before ↦ (λ apart.
-                let less = rise later earlier first second a b there_before (others first a other at) uses (others second b differ there) wrote apart in
-                let fell = (fall first (within first a other at)).0 in
-                omega (arith, less, fell, same))
-            | inr (fresh, listed) ↦
-                lower_user after points users used bound earlier second first a
-                (All-contains (λ writer. AboveUsers points users writer earlier) (places_at users.writers later) second
-                (All-contains (StepRises points users) new.fresh.items (later, earlier) passes.fresh fresh)
-                (writer_there after points users used bound later second b there wrote))
-                at uses
+module _ (ts now : List Transaction) (before after : List TxnAccesses) (was points : List ℕ) (had users : Users) (old new : StepLists) (falls : List Fall) (place : ℕ) (own : TxnAccesses)
+    (here : slice_get after place ≡ Some own)
+    (used : AreUsers after users) (bound : BoundAll after points users.bounds)
+    (only_readers : ListOnlyVersions had.readers users.readers place own.reads)
+    (stay : (k : ℕ) (u : Transaction) → ¬ (k ≡ place) → slice_get now k ≡ Some u → slice_get ts k ≡ Some u)
+    (others : StayBeside place before after)
+    (passes : StepsPass points users new now after falls place) where
+  -- whoever uses the version did so before, or the event made it a node, which is below its own steps
+  used_before :
+      (version first : ℕ) (t : Transaction) (a : TxnAccesses)
+      → ¬ (first ≡ place)
+      → slice_get now first ≡ Some t
+      → slice_get after first ≡ Some a
+      → Uses users t a version
+      → Uses had t a version ⊎ ((has_install version a.writes ≡ true) × BelowOwnSteps points users new after first a.writes)
+  used_before version first t a other at there (inl read) = inl (inl read)
+  used_before version first t a other at there (inr (installed, inl ok)) = inl (inr (installed, inl ok))
+  used_before version first t a other at there (inr (installed, inr (x, reader, i, listed))) = elim (only_readers x.version reader listed) [
+    | inl there_before ↦ inl (inr (installed, inr (x, reader, i, there_before)))
+    | inr (is, (r, j, same)) ↦
+        elim (All-contains (λ (y : Access). WritersPassSteps points users new now after place y.version) own.reads r (passes.new_nodes own here) j) [
+          | inl has ↦ (
+              let (another, listed_too, differ) = some_passes (λ other. not (other == place)) (places_at users.readers r.version) has in
+              elim (only_readers r.version another (Contains_from_in another (places_at users.readers r.version) listed_too)) [
+                | inl there_before ↦ inl (inr (installed, inr (x, another, i, subst (λ n. IsListed had.readers n another) same there_before)))
+                | inr (is_own, among) ↦ absurd (eqb-false another place (not-true (another == place) differ) is_own)
+              ])
+          | inr all ↦ (
+              let wrote : IsListed users.writers x.version first = All-contains (λ (y : Access). IsListed users.writers y.version first) a.writes x (used first a there).writers i in
+              elim (All-contains (IsBelowUnlessOk points users new now after) (places_at users.writers r.version) first all (subst (λ n. IsListed users.writers n first) (sym same) wrote)) [
+                | inl ok ↦ inl (inr (installed, inl (ok t at)))
+                | inr below ↦ inr (installed, below a there)
+              ])
+        ]
+  ]
+
+  pub still_rise :
+      length before ≡ length was
+      → FallBeside was points falls
+      → AreListedTwice new
+      → ((s : ℕ × ℕ) → HasStep new s → HasStep old s ⊎ (Contains new.fresh.items s × IsListed new.later s.1 s.0))
+      → AllStepsRise ts before was had old
+      → AllStepsRise now after points users new
+  still_rise count fall twice only rise later earlier first second t a b step at there uses there_second installed =
+      elim (same_or_not second place) [
+        | inl own_second ↦
+            lower_by_step now after points users used bound new later earlier second first t a b.writes step
+            (subst (λ n. AboveSteps points users new now after n b.writes) (sym own_second) (passes.own b (subst (λ n. slice_get after n ≡ Some b) own_second there_second)))
+            installed at there uses
+        | inr differ ↦ elim (fall second (within second b differ there_second)).1 [
+          | inr (i, below, is) ↦
+              lower_by_step now after points users used bound new later earlier second first t a b.writes step
+              (subst (λ n. AboveSteps points users new now after n b.writes) is (passes.fallen i below b (subst (λ n. slice_get after n ≡ Some b) (sym is) there_second)))
+              installed at there uses
+          | inl same ↦ elim (same_or_not first place) [
+            | inl own_first ↦ of_own own_first
+            | inr other ↦ elim (used_before earlier first t a other at there uses) [
+              | inr (installs_it, below) ↦
+                  higher_by_install now after points users used bound new later earlier (twice later earlier step) first second b there_second installed a.writes below installs_it
+              | inl used_it ↦ elim (only (later, earlier) step) [
+                | inl there_before ↦ (λ apart.
+                    let less = rise later earlier first second t a b there_before (stay first t other at) (others first a other there) used_it (others second b differ there_second) installed apart in
+                    let fell = (fall first (within first a other there)).0 in
+                    omega (arith, less, fell, same))
+                | inr (fresh, listed) ↦
+                    elim (All-contains (IsAboveStep points users now after (later, earlier)) (places_at users.writers later) second
+                    (All-contains (StepRises points users now after) new.fresh.items (later, earlier) passes.fresh fresh)
+                    (writer_there now after points users used bound later second b there_second installed)) [
+                      | inl above ↦ lower_user now after points users used bound earlier second first t a above at there uses
+                      | inr none ↦ absurd (false≢true (sym (none b there_second) ∙ installed))
+                    ]
+              ]
+            ]
           ]
         ]
       ]
-    ]
-  where
-    within : (k : ℕ) (c : TxnAccesses) → ¬ (k ≡ place) → slice_get after k ≡ Some c → k < length was
-    within k c differ at = let here = slice_get_within before k c (others k c differ at) in omega (arith, here, count)
+    where
+      within : (k : ℕ) (c : TxnAccesses) → ¬ (k ≡ place) → slice_get after k ≡ Some c → k < length was
+      within k c differ get = let inside = slice_get_within before k c (others k c differ get) in omega (arith, inside, count)
 
-    lower_to_own : second ≡ place → IsLowerIfOther points first second
-    lower_to_own here =
-        lower_by_step after points users used bound new later earlier step second first a b.writes
-        (subst (λ n. AboveSteps points users new n b.writes) (sym here) (passes.own b (subst (λ n. slice_get after n ≡ Some b) here there)))
-        wrote at uses
-
-    higher_than_own : first ≡ place → IsLowerIfOther points first second
-    higher_than_own own =
-        let here : slice_get after place ≡ Some a = subst (λ n. slice_get after n ≡ Some a) own at in
-        subst (λ n. IsLowerIfOther points n second) (sym own)
-        (elim uses [
-          | inl read ↦ higher_by_step after points users used bound new later earlier step place second b a.reads (passes.reads a here) read (twice later earlier step) there wrote
-          | inr own_write ↦ higher_by_step after points users used bound new later earlier step place second b a.writes (passes.writes a here) own_write (twice later earlier step) there wrote
-        ])
+      of_own : first ≡ place → IsLowerIfOther points first second
+      of_own own_first =
+          let its : slice_get after place ≡ Some a = subst (λ n. slice_get after n ≡ Some a) own_first there in
+          elim uses [
+            | inl read ↦
+                higher_by_read now after points users used bound new later earlier (twice later earlier step) first second b there_second installed a.reads
+                (subst (λ n. BelowReadSteps points users new after n a.reads) (sym own_first) (passes.reads a its)) read
+            | inr (installs_it, node) ↦
+                elim passes.writes [
+                  | inl outside ↦ absurd (not_both now after points users used bound first t a at there (subst (IsNoNode users now after) (sym own_first) outside) node)
+                  | inr below ↦
+                      higher_by_install now after points users used bound new later earlier (twice later earlier step) first second b there_second installed a.writes
+                      (subst (λ n. BelowOwnSteps points users new after n a.writes) (sym own_first) (below a its)) installs_it
+                ]
+          ]

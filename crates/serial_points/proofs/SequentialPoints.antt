@@ -1,17 +1,21 @@
 -- Points that rise along what basic keys order and along the steps of processes are points where keys are sequential.
-use Rattle.std.proofs.Common.{◌≡◌, ◌⊎◌, inl, inr, ℕ, ◌<◌, List, Some, Option, Contains, IsTrue, arith, refl, sym, ◌∙◌, ap, subst}
+use Rattle.std.proofs.Common.{◌≡◌, ◌⊎◌, inl, inr, ℕ, ◌<◌, ◌&&◌, not, List, Some, Option, Contains, IsTrue, true, map, arith, refl, sym, ◌∙◌, ap, subst}
 use Rattle.std.specs.Prelude.{slice_get}
+use Rattle.std.specs.List.{list_any}
+use Rattle.std.proofs.lemmas.Bool.{and_parts, or_cases}
 use Rattle.std.proofs.lemmas.Option.{same_Some}
 use Rattle.hist_types.specs.Edges.{Label, ww, wr, rw, process, realtime, Edge}
 use Rattle.hist_types.specs.Operations.{Operation}
-use Rattle.hist_types.specs.Transactions.{Transaction, Version, transactions_of, nodes, installs, is_known_to_read}
+use Rattle.hist_types.specs.Journal.{Write, writes_of}
+use Rattle.hist_types.specs.Transactions.{Transaction, Version, version_of, transactions_of, is_ok, is_failed, was_read, is_node, nodes, installs, is_known_to_read}
 use Rattle.hist_types.specs.Versions.{pair, process_pairs}
 use Rattle.hist_types.specs.declared.types.KeyOrder.{KeyOrder}
 use Rattle.hist_types.specs.declared.types.KeyOrder.TheVariants.{Basic, Sequential}
-use Rattle.hist_types.proofs.Members.{Contains_from_in}
+use Rattle.hist_types.proofs.Members.{Contains_from_in, in_from_Contains, in_mapped, passes_filter}
 use Rattle.history_laws.specs.Dependencies.{Depends}
 use Rattle.history_laws.proofs.DependencyEdges.{edges_by_versions}
-use Rattle.history_laws.proofs.VersionMembers.{pairs_by_membership}
+use Rattle.history_laws.proofs.ThinningPaths.{some_passes}
+use Rattle.history_laws.proofs.VersionMembers.{has_from_in, pairs_by_membership}
 use Rattle.key_versions.specs.Kept.{KeptVersions, AreKept}
 use Rattle.key_versions.specs.TxnAccesses.{TxnAccesses}
 use Rattle.dep_edges.proofs.Marks.{place_in}
@@ -21,13 +25,17 @@ use Rattle.serial_points.specs.ByVersion.{IsAnother}
 use Rattle.serial_points.specs.KeptPoints.{KeptPoints, HasPoints}
 use Rattle.serial_points.specs.KeptSteps.{HasSteps}
 use Rattle.serial_points.specs.Points.{ArePoints}
-use Rattle.serial_points.specs.Stepping.{HasAccess}
+use Rattle.serial_points.specs.Stepping.{has_install, HasReader, Uses}
+use Rattle.serial_points.specs.Users.{HasAccess, AreUsers}
 use Rattle.serial_points.specs.declared.steps.Steps.{Steps}
-use Rattle.serial_points.proofs.Accesses.{has_accesses, installs_writes, read_access, same_number, write_access}
+use Rattle.serial_points.specs.declared.users.Users.{Users}
+use Rattle.serial_points.proofs.Accesses.{has_accesses, read_access, same_number, write_access}
 use Rattle.serial_points.proofs.ByVersion.{node_among, rises_between}
+use Rattle.serial_points.proofs.Installed.{installer_has}
+use Rattle.serial_points.proofs.Passed.{reader_listed}
 
-module _ (ts : List Transaction) (kept : KeptVersions) (points : List ℕ) (steps : Steps) (point : ℕ → ℕ)
-    (are : AreKept ts kept) (listed : AreListed ts points point) (has : HasSteps ts kept points steps) (basic : ArePoints Basic ts point) where
+module _ (ts : List Transaction) (kept : KeptVersions) (points : List ℕ) (users : Users) (steps : Steps) (point : ℕ → ℕ)
+    (are : AreKept ts kept) (used : AreUsers kept.accesses users) (listed : AreListed ts points point) (has : HasSteps ts kept points users steps) (basic : ArePoints Basic ts point) where
   -- the access of what a transaction reads or installs
   has_read :
       (number k : ℕ) (t : Transaction) (v : Version) (a : TxnAccesses)
@@ -40,16 +48,32 @@ module _ (ts : List Transaction) (kept : KeptVersions) (points : List ℕ) (step
       let (x, i, numbers) = read_access ts kept are k t a at there v read in
       (x, Contains_from_in x a.reads i, same_number kept.versions x.version number v are.distinct numbers.1 is)
 
-  has_written :
+  has_installed :
       (number k : ℕ) (t : Transaction) (v : Version) (a : TxnAccesses)
       → slice_get ts k ≡ Some t
       → slice_get kept.accesses k ≡ Some a
       → slice_get kept.versions number ≡ Some v
       → IsTrue (installs t v)
-      → HasAccess a.writes number
-  has_written number k t v a at there is installed =
-      let (x, i, numbers) = write_access ts kept are k t a at there v (installs_writes t v installed) in
-      (x, Contains_from_in x a.writes i, same_number kept.versions x.version number v are.distinct numbers.1 is)
+      → IsTrue (has_install number a.writes)
+  has_installed number k t v a at there is installed = installer_has ts kept k t a number v are at there is installed
+
+  -- a node is ok, or somebody is listed as a reader of what it writes
+  ok_or_read :
+      (k : ℕ) (t : Transaction) (a : TxnAccesses)
+      → slice_get ts k ≡ Some t
+      → slice_get kept.accesses k ≡ Some a
+      → is_node ts t ≡ true
+      → (is_ok t ≡ true) ⊎ HasReader users.readers a.writes
+  ok_or_read k t a at there node = elim (or_cases (is_ok t) (not (is_failed t) && was_read ts t) node) [
+    | inl ok ↦ inl ok
+    | inr unfailed_read ↦ (
+        let was = (and_parts (not (is_failed t)) (was_read ts t) unfailed_read).1 in
+        let (w, wrote, some) = some_passes (λ (w : Write). list_any (λ reader. is_known_to_read reader (version_of w)) ts) (writes_of t.mops) was in
+        let (reader, among, known) = some_passes (λ reader. is_known_to_read reader (version_of w)) ts some in
+        let (j, found) = place_in ts reader among in
+        let (x, i, is) = write_access ts kept are k t a at there (version_of w) (has_from_in (version_of w) (map version_of (writes_of t.mops)) (in_mapped version_of w (writes_of t.mops) wrote)) in
+        inr (x, j, Contains_from_in x a.writes i, reader_listed ts kept users are used x.version j reader (version_of w) found known is.1))
+  ]
 
   rises_by_step :
       (t u : Transaction) (v w : Version)
@@ -68,12 +92,12 @@ module _ (ts : List Transaction) (kept : KeptVersions) (points : List ℕ) (step
       let (l, get) = place_in ts u (node_among ts u j) in
       let (a, first) = has_accesses ts kept k t are at in
       let (b, second) = has_accesses ts kept l u are get in
-      let access : HasAccess a.reads step.1 ⊎ HasAccess a.writes step.1 = elim uses [
-        | inl installed ↦ inr (has_written step.1 k t v a at first of_earlier installed)
+      let access : Uses users t a step.1 = elim uses [
+        | inl installed ↦ inr (has_installed step.1 k t v a at first of_earlier installed, ok_or_read k t a at first (passes_filter (is_node ts) t ts (in_from_Contains t (nodes ts) i)))
         | inr read ↦ inl (has_read step.1 k t v a at first of_earlier read)
       ] in
       let apart : ¬ (k ≡ l) = λ e. other (ap (λ (x : Transaction). x.invocation) (same_Some t u (sym at ∙ ap (slice_get ts) e ∙ get))) in
-      let less = has.rise step.0 step.1 k l a b there first access second (has_written step.0 l u w b get second of_later later) apart in
+      let less = has.rise step.0 step.1 k l t a b there at first access second (has_installed step.0 l u w b get second of_later later) apart in
       let here = listed k t at in
       let further = listed l u get in
       omega (arith, less, here, further)
@@ -124,4 +148,4 @@ points_by_keys events kept p has = by kept.keys refl
     by Basic is = let (point, listed, are) = has.basic.are_points in (point, are)
     by Sequential is =
         let (point, listed, are) = has.basic.are_points in
-        (point, sequential_points (transactions_of events) kept p.basic.points p.steps point has.basic.versions listed (has.steps is) are)
+        (point, sequential_points (transactions_of events) kept p.basic.points p.basic.users p.steps point has.basic.versions has.basic.users listed (has.steps is) are)

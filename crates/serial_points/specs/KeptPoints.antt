@@ -15,7 +15,7 @@ use Rattle.serial_points.specs.CleanReads.{ReadsAreClean}
 use Rattle.serial_points.specs.Falls.{HaveFallen, AreFloored, PassesAfter}
 use Rattle.serial_points.specs.KeptSteps.{HasSteps}
 use Rattle.serial_points.specs.Points.{ArePoints}
-use Rattle.serial_points.specs.Users.{AreUsers, IsAmongUsers, UsersStay}
+use Rattle.serial_points.specs.Users.{AreUsers, IsAmongUsers, UsersStay, ListOnlyVersions}
 use Rattle.serial_points.specs.declared.falls.Fall.{Fall}
 use Rattle.serial_points.specs.declared.steps.Steps.{Steps}
 use Rattle.serial_points.specs.declared.users.Users.{Users}
@@ -54,7 +54,8 @@ pub record HasPoints (events : List Operation) (kept : KeptVersions) (p : KeptPo
     Type 0 where
   pub basic : HasBasicPoints events kept p.basic
   pub steps :
-      kept.keys ≡ Sequential → HasSteps (transactions_of events) kept p.basic.points p.steps
+      kept.keys ≡ Sequential
+      → HasSteps (transactions_of events) kept p.basic.points p.basic.users p.steps
 
 -- The event came after those that the points are of, and began or completed the transaction at the
 -- place; the transactions and what is kept of them are those of the events and this one.
@@ -151,7 +152,8 @@ pub record HasSettled (points : List ℕ) (before after : Users) (accesses : Lis
       → BoundsReads after.bounds (slice_index points place) a.reads a.writes
   pub floored : IsFloored accesses points after.floors place
 
--- the transaction at the place is among the users, and no other one is left out
+-- the transaction at the place is among the users, no other one is left out, and no other one is
+-- listed as a reader that wasn't
 pub record UsersAdvance (before after : Users) (accesses : List TxnAccesses) (place : ℕ) :
     Type 0 where
   pub stay : UsersStay before after
@@ -159,3 +161,7 @@ pub record UsersAdvance (before after : Users) (accesses : List TxnAccesses) (pl
       (a : TxnAccesses)
       → slice_get accesses place ≡ Some a
       → IsAmongUsers after place a.reads a.writes
+  pub only :
+      (a : TxnAccesses)
+      → slice_get accesses place ≡ Some a
+      → ListOnlyVersions before.readers after.readers place a.reads

@@ -10,6 +10,7 @@ use Rattle.serial_points.specs.Stepping.{AllStepsRise}
 use Rattle.serial_points.specs.Steps.{HasStep, AreListedTwice}
 use Rattle.serial_points.specs.declared.steps.StepLists.{StepLists}
 use Rattle.serial_points.specs.declared.steps.Steps.{Steps}
+use Rattle.serial_points.specs.declared.users.Users.{Users}
 
 -- one of the steps is between the versions of the pair
 abbrev pub HasPair : List Version → StepLists → VersionPair → Type 0
@@ -18,7 +19,7 @@ HasPair versions lists p =
 
 -- It is known what each process saw last of each key, each pair of versions that a process orders is
 -- among the steps, and points rise along these.
-pub record HasSteps (ts : List Transaction) (kept : KeptVersions) (points : List ℕ)
+pub record HasSteps (ts : List Transaction) (kept : KeptVersions) (points : List ℕ) (users : Users)
     (steps : Steps) : Type 0 where
   pub seen :
       (process : ℕ)
@@ -28,4 +29,4 @@ pub record HasSteps (ts : List Transaction) (kept : KeptVersions) (points : List
       → Contains (process_pairs Sequential ts) p
       → HasPair kept.versions steps.lists p
   pub twice : AreListedTwice steps.lists
-  pub rise : AllStepsRise kept.accesses points steps.lists
+  pub rise : AllStepsRise ts kept.accesses points users steps.lists

@@ -25,6 +25,18 @@ ListOnly before after number place =
     → IsListed after n other
     → IsListed before n other ⊎ ((n ≡ number) × (other ≡ place))
 
+-- one of the accesses is of the version
+abbrev pub HasAccess : List Access → (version : ℕ) → Type 0
+HasAccess accesses version = (x : Access) × Contains accesses x × (x.version ≡ version)
+
+-- nothing else than the place, under the versions of the accesses, is listed that wasn't
+abbrev pub ListOnlyVersions :
+    (before after : List (List ℕ)) → (place : ℕ) → List Access → Type 0
+ListOnlyVersions before after place accesses =
+    (number other : ℕ)
+    → IsListed after number other
+    → IsListed before number other ⊎ ((other ≡ place) × HasAccess accesses number)
+
 -- the place is listed under the version of each access, or under the nil version of its key
 abbrev pub ListVersions : List (List ℕ) → (place : ℕ) → List Access → Type 0
 ListVersions lists place accesses = All (λ (a : Access). IsListed lists a.version place) accesses

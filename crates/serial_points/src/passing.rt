@@ -9,7 +9,8 @@ use crate::places::Places;
 use crate::users::{Users, updates};
 use key_versions::kept::Access;
 
-fn is_lower_if_other(points: &[u64], place: usize, other: usize) -> bool
+/// Whether the first one has a lower point than the second one, if they are two.
+pub(crate) fn is_lower_if_other(points: &[u64], place: usize, other: usize) -> bool
     ensures { result ≡ true → IsLowerIfOther points.now place other }
 {
     if place == other {
@@ -21,7 +22,7 @@ fn is_lower_if_other(points: &[u64], place: usize, other: usize) -> bool
     }
 }
 
-pub(crate) fn are_all_lower(points: &[u64], places: &[u32], place: usize) -> bool
+fn are_all_lower(points: &[u64], places: &[u32], place: usize) -> bool
     ensures { result ≡ true → AllLower points.now places.now place }
 {
     for other in places {
@@ -32,7 +33,7 @@ pub(crate) fn are_all_lower(points: &[u64], places: &[u32], place: usize) -> boo
     true
 }
 
-pub(crate) fn are_all_higher(points: &[u64], places: &[u32], place: usize) -> bool
+fn are_all_higher(points: &[u64], places: &[u32], place: usize) -> bool
     ensures { result ≡ true → AllHigher points.now places.now place }
 {
     for other in places {

@@ -2,7 +2,7 @@
 
 ghost use Rattle.std.specs.Prelude.{◌≡◌, [], OnOk};
 ghost use Rattle.key_versions.specs.Rows.{has_nil};
-ghost use Rattle.serial_points.specs.Users.{StayListed, updates, ListVersions, ListKeys, ListUpdated, IsAmongUsers, UsersStay, AreUsers};
+ghost use Rattle.serial_points.specs.Users.{StayListed, updates, ListVersions, ListOnlyVersions, ListKeys, ListUpdated, IsAmongUsers, UsersStay, AreUsers};
 ghost use Rattle.serial_points.specs.Passing.{AreUnboundedReaders, HasNilFollowers};
 
 use crate::bounds::Bounds;
@@ -50,6 +50,7 @@ pub(crate) fn updates(writes: &[Access], read: Access) -> bool
 fn add_versions(lists: &mut Places, place: u32, accesses: &[Access]) -> Result<(), AllocError>
     ensures added { OnOk result (ListVersions lists.new place accesses.now) }
     ensures stay { OnOk result (StayListed lists.old lists.new) }
+    ensures only { OnOk result (ListOnlyVersions lists.old lists.new place accesses.now) }
 {
     for access in accesses {
         lists.add(access.version, place)?;
@@ -103,6 +104,8 @@ impl Users {
     pub fn add(&mut self, place: u32, reads: &[Access], writes: &[Access]) -> Result<(), AllocError>
         ensures added { OnOk result (IsAmongUsers self.new place reads.now writes.now) }
         ensures stay { OnOk result (UsersStay self.old self.new) }
+        ensures only { OnOk result
+            (ListOnlyVersions self.old.readers self.new.readers place reads.now) }
         ensures bounds { OnOk result (self.new.bounds ≡ self.old.bounds) }
         ensures floors { OnOk result (self.new.floors ≡ self.old.floors) }
     {

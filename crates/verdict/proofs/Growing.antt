@@ -150,7 +150,7 @@ points_idle events o kept (Some p) rules next same are =
         count = are.basic.count ∙ ap length (sym same);
         are_points = subst (λ (ts : List Transaction). (point : ℕ → ℕ) × AreListed ts p.basic.points point × ArePoints Basic ts point) (sym same) are.basic.are_points;
       };
-      steps = λ sequential. subst (λ (ts : List Transaction). HasSteps ts kept p.basic.points p.steps) (sym same) (are.steps sequential);
+      steps = λ sequential. subst (λ (ts : List Transaction). HasSteps ts kept p.basic.points p.basic.users p.steps) (sym same) (are.steps sequential);
     }
 
 -- where an event changes no transaction, the tables stay

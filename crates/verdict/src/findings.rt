@@ -13,7 +13,7 @@ ghost use Rattle.verdict.specs.Tables.{AreTables, history_of};
 
 use crate::pairs::{Pair, Pairs};
 use crate::tables::Tables;
-use clean_order::settles;
+use clean_order::{settles, settles_wide};
 use cycle_find::ranked_graph::RankedGraph;
 use cycle_find::ranked_level::RankedLevel;
 use cycle_find::types::Walk;
@@ -199,8 +199,8 @@ fn findings_in_graph<'a>(
     find_each(alloc, &graph, pairs)
 }
 
-/// As `findings_in_graph`, with a few threads if others can be started.
-fn findings_in_graph_wide<'a, R: Threads + Sync>(
+/// As `findings_in_graph`, with two threads if another can be started.
+fn findings_in_graph_wide<'a, R: Threads>(
     rt: &R,
     alloc: Global,
     deps: &Deps<'_, 'a>,
@@ -239,8 +239,8 @@ pub fn findings_of<'a>(
     }
 }
 
-/// As `findings_of`, with a few threads if others can be started.
-pub fn findings_of_wide<'a, R: Threads + Sync>(
+/// As `findings_of`, with two threads if another can be started.
+pub fn findings_of_wide<'a, R: Threads>(
     rt: &R,
     alloc: Global,
     tables: &Tables<'_, 'a>,
@@ -250,7 +250,7 @@ pub fn findings_of_wide<'a, R: Threads + Sync>(
     requires deps { deps.now ≡ history_of tables.now }
     ensures { IfOk result (AreFindings deps.now.table.keys deps.now.txns) }
 {
-    if settles(alloc, deps)? {
+    if settles_wide(rt, alloc, deps)? {
         return Ok(Findings::none());
     }
     match tables.thinned {

@@ -3,12 +3,12 @@
 ghost use Rattle.std.specs.Prelude.{◌≡◌, ◌<◌, ℕ, List, vec_len, IfSome, IfOk, IfErr};
 ghost use Rattle.dep_edges.specs.Pieces.{Piece, ArePiecesOf};
 ghost use Rattle.hist_types.specs.Operations.{Operation};
-ghost use Rattle.hist_types.specs.Reports.{AreFindings, IsVerdictOf};
+ghost use Rattle.hist_types.specs.Reports.{IsVerdictOf};
 ghost use Rattle.report_laws.specs.Explained.{RefutesExplanations};
 ghost use Rattle.verdict.specs.KeyPieces.{IsNumberOfWorkers, IsWorker, IsMemoryOrThread, AreOfOneHistory, IsFoundBy, EachFinds, first_key};
 ghost use Rattle.verdict.specs.Tables.{AreTables, AreTablesOf, history_of, keys_in};
 
-use crate::findings::{findings_of, findings_of_wide};
+use crate::findings::findings_of_wide;
 use crate::tables::Tables;
 use crate::types::Verdict;
 use crate::{bad_reads, reported, verdict_from};
@@ -19,16 +19,12 @@ use hist_types::types::{At, Fault, KeyOrder, Refusal};
 use journal_core::prefix::Prefix;
 use key_versions::table::KeyNumbers;
 use key_versions::versions;
-use report_text::report::Findings;
 use std::alloc::{AllocError, Global};
 use std::hash::BuildHasher;
 use std::sync::Wait;
 use std::thread;
 use std::thread::{Promise, Threads};
 use txn_pairs::pair;
-
-/// With so many workers the graph is put together by several threads too, of which there are up to four.
-const WORKERS_FOR_GRAPHS: usize = 4;
 
 /// What each worker enters, once, before it looks at its piece of the keys.
 pub trait Gate {
@@ -194,24 +190,6 @@ fn deps_by<'t, 'a, R: Threads + Wait + Sync, G: Gate + Sync>(
     join(alloc, tables.txns, tables.versions, found.as_slice())
 }
 
-/// What is found of the phenomena that cycles show, with no more threads than workers.
-fn findings_by<'a, R: Threads + Sync>(
-    rt: &R,
-    alloc: Global,
-    tables: &Tables<'_, 'a>,
-    deps: &Deps<'_, 'a>,
-    workers: usize,
-) -> Result<Findings<'a>, AllocError>
-    requires tables { AreTables tables.now }
-    requires deps { deps.now ≡ history_of tables.now }
-    ensures { IfOk result (AreFindings deps.now.table.keys deps.now.txns) }
-{
-    if workers < WORKERS_FOR_GRAPHS {
-        return findings_of(alloc, tables, deps);
-    }
-    findings_of_wide(rt, alloc, tables, deps)
-}
-
 /// The verdict of the events that the tables are of, by this many workers, as `verdict_wide` says.
 pub fn verdict_from_wide<'a, R: Threads + Wait + Sync, G: Gate + Sync>(
     rt: &R,
@@ -231,7 +209,7 @@ pub fn verdict_from_wide<'a, R: Threads + Wait + Sync, G: Gate + Sync>(
         return Ok(verdict_from(alloc, tables)?);
     }
     let deps = deps_by(rt, alloc, tables, workers, gate)?;
-    let findings = findings_by(rt, alloc, tables, &deps, workers)?;
+    let findings = findings_of_wide(rt, alloc, tables, &deps)?;
     let reads = bad_reads(&deps);
     Ok(reported(alloc, tables.events, tables.txns, findings, reads)?)
 }

@@ -1,4 +1,4 @@
-use Rattle.std.proofs.Common.{ℕ, List, slice_index, subst, sym}
+use Rattle.std.proofs.Common.{slice_index, subst, sym}
 use Rattle.std.proofs.lemmas.List.Elements.{All-cons, All-weaker}
 use Rattle.clean_order.specs.Highest.{IsCounted, AreCounted}
 use Rattle.clean_order.specs.Ranked.{users}

@@ -1,7 +1,7 @@
-use Rattle.std.proofs.Common.{◌≡◌, ℕ, List, All, ap, subst}
+use Rattle.std.proofs.Common.{◌≡◌, ℕ, All, subst}
 use Rattle.std.proofs.lemmas.Bool.{OnTrue_at, OnTrue_from}
 use Rattle.std.proofs.lemmas.List.Elements.{All-map, All-weaker}
-use Rattle.hist_types.specs.Transactions.{Transaction, Version}
+use Rattle.hist_types.specs.Transactions.{Version}
 use Rattle.key_versions.specs.Histories.{writer_of, readers_of}
 use Rattle.key_versions.specs.declared.types.Follower.{Follower}
 use Rattle.dep_edges.specs.Histories.{History}

@@ -10,8 +10,8 @@ use Rattle.command_line.specs.declared.types.Command.TheVariants.{Edges, Check}
 use Rattle.command_run.specs.Answers.{Reports, IsVerdict, keys_of}
 use Rattle.command_run.proofs.run.report_on.Goals as goal
 
-pub versions_of_written-requires : goal.versions_of_written-requires
-versions_of_written-requires g c w =
+pub versions_and_order-requires-clause-written : goal.versions_and_order-requires-clause-written
+versions_and_order-requires-clause-written g c w =
     let judged = c.args.judged in
     let same : writes_of_all c.transactions-txns.result ≡ written judged.core.events =
     ap writes_of_all (c.transactions-txns.ensures ∙ judged.paired) ∙ c.versions_written_once.ensures.invoked judged.core.events judged.kept in
@@ -22,7 +22,7 @@ returns-in-Reads-clause-ok g c =
     let events : c.as_events-events.result.now ≡ c.args.judged.core.events = c.as_events-events.ensures ∙ c.in_ok-prefix.ensures.ok in
     rw c.in-Reads.is
     (c.report.ensures.ok c.args.judged.core.events
-    (subst (λ (es : List Operation). AreTablesOf es c.new-tables.result) events c.new-tables.ensures.tables))
+    (subst (λ (es : List Operation). AreTablesOf es c.with_order-tables.result) events c.with_order-tables.ensures.tables))
 
 pub returns-in-Reads-clause-err : goal.returns-in-Reads-clause-err
 returns-in-Reads-clause-err g c = IfErr-weaker c.report.result _ _ (λ fault is. inl is) c.report.ensures.err
@@ -30,11 +30,11 @@ returns-in-Reads-clause-err g c = IfErr-weaker c.report.result _ _ (λ fault is.
 pub returns-in-Edges-clause-ok : goal.returns-in-Edges-clause-ok
 returns-in-Edges-clause-ok g c =
     let events : c.as_events-events.result.now ≡ c.args.judged.core.events = c.as_events-events.ensures ∙ c.in_ok-prefix.ensures.ok in
-    let keys : keys_in c.new-tables.result ≡ c.in-Edges.field-0 = c.new-tables.ensures.keys ∙ (c.in_ok-versions.ensures.keys ∙ (c.keys_of.ensures ∙ ap keys_of c.in-Edges.is)) in
+    let keys : keys_in c.with_order-tables.result ≡ c.in-Edges.field-0 = c.with_order-tables.ensures.keys ∙ (c.in_ok-versions.ensures.keys ∙ (c.keys_of-keys.ensures ∙ ap keys_of c.in-Edges.is)) in
     rw c.in-Edges.is
     (subst (λ (k : KeyOrder). IfOk c.report-in-Edges.result (λ answer. Reports (Edges k) c.args.judged.core.events answer.status answer.printed.items)) keys
     (c.report-in-Edges.ensures.ok c.args.judged.core.events
-    (subst (λ (es : List Operation). AreTablesOf es c.new-tables.result) events c.new-tables.ensures.tables)))
+    (subst (λ (es : List Operation). AreTablesOf es c.with_order-tables.result) events c.with_order-tables.ensures.tables)))
 
 pub returns-in-Edges-clause-err : goal.returns-in-Edges-clause-err
 returns-in-Edges-clause-err g c = IfErr-weaker c.report-in-Edges.result _ _ (λ fault is. inl is) c.report-in-Edges.ensures.err
@@ -42,8 +42,8 @@ returns-in-Edges-clause-err g c = IfErr-weaker c.report-in-Edges.result _ _ (λ 
 pub returns-clause-ok : goal.returns-clause-ok
 returns-clause-ok g c =
     let events : c.as_events-events.result.now ≡ c.args.judged.core.events = c.as_events-events.ensures ∙ c.in_ok-prefix.ensures.ok in
-    let keys : keys_in c.new-tables.result ≡ c.in-Check.keys = c.new-tables.ensures.keys ∙ (c.in_ok-versions.ensures.keys ∙ (c.keys_of.ensures ∙ ap keys_of c.in-Check.is)) in
+    let keys : keys_in c.with_order-tables.result ≡ c.in-Check.keys = c.with_order-tables.ensures.keys ∙ (c.in_ok-versions.ensures.keys ∙ (c.keys_of-keys.ensures ∙ ap keys_of c.in-Check.is)) in
     rw c.in-Check.is
     (subst (λ (k : KeyOrder). IfOk c.report-in-Check.result (λ answer. IsVerdict k c.args.judged.core.events answer.status answer.printed.items)) keys
     (c.report-in-Check.ensures.ok c.args.judged.core.events
-    (subst (λ (es : List Operation). AreTablesOf es c.new-tables.result) events c.new-tables.ensures.tables)))
+    (subst (λ (es : List Operation). AreTablesOf es c.with_order-tables.result) events c.with_order-tables.ensures.tables)))

@@ -1,6 +1,6 @@
 use Rattle.std.proofs.Common.{subst}
 use Rattle.key_versions.specs.TxnAccesses.{TxnAccesses}
-use Rattle.serial_points.specs.Users.{IsAmongUsers}
+use Rattle.serial_points.specs.Users.{IsAmongUsers, ListOnlyVersions}
 use Rattle.serial_points.proofs.Accesses.{has_place, part_at}
 use Rattle.serial_points.proofs.advance.add_users.Goals as goal
 
@@ -20,4 +20,7 @@ returns-clause-added g c =
           subst (λ reads. IsAmongUsers users c.args.place reads a.writes) (part_at (λ (x : TxnAccesses). x.reads) accesses c.args.place a c.reads.result.now c.reads.ensures there)
           (subst (λ writes. IsAmongUsers users c.args.place c.reads.result.now writes) (part_at (λ (x : TxnAccesses). x.writes) accesses c.args.place a c.writes.result.now c.writes.ensures there)
           (subst (λ n. IsAmongUsers users n c.reads.result.now c.writes.result.now) c.in_ok-number.ensures c.in_ok-add.ensures.added));
+      only = λ a there.
+          subst (ListOnlyVersions c.args.users.now.readers users.readers c.args.place) (part_at (λ (x : TxnAccesses). x.reads) accesses c.args.place a c.reads.result.now c.reads.ensures there)
+          (subst (λ n. ListOnlyVersions c.args.users.now.readers users.readers n c.reads.result.now) c.in_ok-number.ensures c.in_ok-add.ensures.only);
     }

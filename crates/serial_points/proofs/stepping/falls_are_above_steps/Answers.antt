@@ -9,7 +9,7 @@ loop-fall-preserved g c = λ k below. elim (cases_lt k c.loop-fall.fall-index) [
   | inl less ↦ c.loop-fall.invariant k less
   | inr past ↦ (
       let is : c.loop-fall.fall-index ≡ k = omega (arith, past, below) in
-      subst (λ n. AboveStepsAt c.args.points.now c.args.users.now c.args.lists.now c.args.versions.now.accesses (fall_at c.args.falls.now n).place) is (c.is_above_steps_at.ensures (search rules)))
+      subst (λ n. AboveStepsAt c.args.points.now c.args.users.now c.args.lists.now c.args.txns.now c.args.versions.now.accesses (fall_at c.args.falls.now n).place) is (c.is_above_steps_at.ensures (search rules)))
 ]
 
 pub returns : goal.returns

@@ -6,4 +6,4 @@ use Rattle.serial_points.proofs.stepping.falls_are_above_steps.Given as goal
 
 abbrev pub invariant-loop-fall : goal.invariant-loop-fall
 invariant-loop-fall g l =
-    (k : ℕ) → k < l.fall-index → AboveStepsAt l.points l.users l.lists l.versions.accesses (fall_at l.falls k).place
+    (k : ℕ) → k < l.fall-index → AboveStepsAt l.points l.users l.lists l.txns l.versions.accesses (fall_at l.falls k).place

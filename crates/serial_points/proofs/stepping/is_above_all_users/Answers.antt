@@ -5,9 +5,12 @@ use Rattle.serial_points.proofs.Listed.{all_gone}
 use Rattle.serial_points.proofs.stepping.is_above_all_users.Goals as goal
 
 pub loop-version-preserved : goal.loop-version-preserved
-loop-version-preserved c =
-    All-more (AboveUsers c.args.points.now c.args.users.now c.args.place) c.args.versions.now c.loop-version.version-index 0 c.loop-version-test.true c.loop-version.invariant
+loop-version-preserved g c =
+    let holds = AboveUsers c.args.points.now c.args.users.now c.args.txns.now c.args.versions.now.accesses c.args.place in
+    All-more holds c.args.earlier.now c.loop-version.version-index 0 c.loop-version-test.true c.loop-version.invariant
     (c.is_above_users.ensures (search rules))
 
 pub returns : goal.returns
-returns c = λ _. all_gone (AboveUsers c.args.points.now c.args.users.now c.args.place) c.args.versions.now c.loop-version.version-index c.loop-version-test.false c.loop-version.invariant
+returns g c = λ _.
+    let holds = AboveUsers c.args.points.now c.args.users.now c.args.txns.now c.args.versions.now.accesses c.args.place in
+    all_gone holds c.args.earlier.now c.loop-version.version-index c.loop-version-test.false c.loop-version.invariant

@@ -9,5 +9,5 @@ writes-requires g c = has_place c.args.txns.now c.args.versions.now c.args.place
 
 pub returns : goal.returns
 returns g c = λ passed a there.
-    subst (AboveSteps c.args.points.now c.args.users.now c.args.lists.now c.args.place) (part_at (λ (x : TxnAccesses). x.writes) c.args.versions.now.accesses c.args.place a c.writes.result.now c.writes.ensures there)
+    subst (AboveSteps c.args.points.now c.args.users.now c.args.lists.now c.args.txns.now c.args.versions.now.accesses c.args.place) (part_at (λ (x : TxnAccesses). x.writes) c.args.versions.now.accesses c.args.place a c.writes.result.now c.writes.ensures there)
     (c.is_above_steps.ensures passed)

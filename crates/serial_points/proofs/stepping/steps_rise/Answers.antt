@@ -5,9 +5,12 @@ use Rattle.serial_points.proofs.Listed.{all_gone}
 use Rattle.serial_points.proofs.stepping.steps_rise.Goals as goal
 
 pub loop-step-preserved : goal.loop-step-preserved
-loop-step-preserved c =
-    All-more (StepRises c.args.points.now c.args.users.now) c.args.steps.now c.loop-step.step-index (0, 0) c.loop-step-test.true c.loop-step.invariant
+loop-step-preserved g c =
+    let holds = StepRises c.args.points.now c.args.users.now c.args.txns.now c.args.versions.now.accesses in
+    All-more holds c.args.steps.now c.loop-step.step-index (0, 0) c.loop-step-test.true c.loop-step.invariant
     (c.step_rises.ensures (search rules))
 
 pub returns : goal.returns
-returns c = λ _. all_gone (StepRises c.args.points.now c.args.users.now) c.args.steps.now c.loop-step.step-index c.loop-step-test.false c.loop-step.invariant
+returns g c = λ _.
+    let holds = StepRises c.args.points.now c.args.users.now c.args.txns.now c.args.versions.now.accesses in
+    all_gone holds c.args.steps.now c.loop-step.step-index c.loop-step-test.false c.loop-step.invariant

@@ -1,5 +1,5 @@
-use Rattle.std.proofs.Common.{take}
-use Rattle.std.proofs.lemmas.List.Elements.{All-more, All-weaker}
+use Rattle.std.proofs.Common.{take, inl, inr, slice_index_or, sym}
+use Rattle.std.proofs.lemmas.List.Elements.{All-more, All-weaker, Contains-get_or}
 use Rattle.key_versions.specs.declared.pending.Access.{Access}
 use Rattle.serial_points.specs.Users.{IsListed}
 use Rattle.serial_points.proofs.Listed.{all_gone}
@@ -14,6 +14,10 @@ loop-access-preserved c =
       All-more (λ (a : Access). IsListed c.add.new.self a.version c.args.place) accesses i (record { nil = 0; version = 0 }) c.loop-access-test.true
           (All-weaker (λ (a : Access). IsListed c.loop-access.lists a.version c.args.place) (λ (a : Access). IsListed c.add.new.self a.version c.args.place) (λ a listed. stay a.version c.args.place listed) (take i accesses) c.loop-access.invariant.1)
           c.in_ok-add.ensures.added,
+      λ number other listed. elim (c.in_ok-add.ensures.only number other listed) [
+        | inl there ↦ c.loop-access.invariant.2 number other there
+        | inr (is, own) ↦ inr (own, (slice_index_or accesses i (record { nil = 0; version = 0 }), Contains-get_or accesses i (record { nil = 0; version = 0 }) c.loop-access-test.true, sym is))
+      ],
     )
 
 pub returns-clause-added : goal.returns-clause-added

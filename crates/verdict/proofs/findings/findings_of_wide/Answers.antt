@@ -2,9 +2,9 @@ use Rattle.verdict.proofs.Reports.{kept_order, made_order}
 use Rattle.verdict.proofs.findings.findings_of_wide.Goals as goal
 
 pub findings_in_graph_wide-requires-clause-order : goal.findings_in_graph_wide-requires-clause-order
-findings_in_graph_wide-requires-clause-order g c κs within =
+findings_in_graph_wide-requires-clause-order g c =
     kept_order c.args.deps.now c.args.tables.now c.requires.deps c.in-Some.order c.requires.tables c.in-Some.is
 
 pub findings_in_graph_wide-requires-in-None-clause-order : goal.findings_in_graph_wide-requires-in-None-clause-order
-findings_in_graph_wide-requires-in-None-clause-order g c κs within =
+findings_in_graph_wide-requires-in-None-clause-order g c =
     made_order c.args.deps.now c.args.tables.now c.requires.deps c.as_slice.result.now c.in_ok-thinned-in-None.field-0 c.as_slice.ensures c.in_ok-thinned-in-None.ensures

@@ -1,30 +1,28 @@
-use Rattle.std.proofs.Common.{rules, ◌≡◌, ◌∙◌, ◌<◌, ◌-◌, List, false, length, get_or, min, arith, subst, sym, ap}
-use Rattle.std.proofs.lemmas.List.{get_or_default}
+use Rattle.std.proofs.Common.{◌≡◌, ◌∙◌, ◌<◌, ℕ, List, Option, Some, None, IfSome, length, sym, ap, subst}
 use Rattle.key_versions.specs.declared.last_seen.Seen.{Seen}
-use Rattle.key_versions.specs.LastSeen.{Linked, is_of, nothing, index_from}
-use Rattle.key_versions.proofs.LastSeen.{next_from}
-use Rattle.key_versions.proofs.last_seen.LastSeen.find.Goals.{else-seen-process-via-then-seen-process+else-seen-nil, else-seen-process-via-else-seen-process}
+use Rattle.key_versions.specs.LastSeen.{Linked, linked_by, index_from, place_of, index_of, AreLinked}
+use Rattle.key_versions.proofs.LastSeen.{place_read, index_found}
 use Rattle.key_versions.proofs.last_seen.LastSeen.find.Goals as goal
 
-pub loop-place-preserved : goal.loop-place-preserved
-loop-place-preserved c =
-    let place = c.loop-place.place in
-    let seen = c.args.self.now.seen in
+within :
+    (seen : List Seen) (newest : List ℕ) (process nil : ℕ) (index : Option ℕ) → AreLinked seen newest → index ≡ index_of (linked_by seen newest) process nil
+    → IfSome index (λ i. i < length seen)
+within seen newest process nil None are is = tt
+within seen newest process nil (Some i) are is = (index_found seen newest process nil i are (sym is)).0
+
+pub returns-clause-within : goal.returns-clause-within
+returns-clause-within c =
+    let seen = c.self.inside.seen.items in
+    let newest = c.self.inside.newest.items in
     let process = c.args.process in
     let nil = c.args.nil in
-    let some : 0 < place = omega (arith, c.loop-place-test.true) in
-    let same : c.self.inside.seen.items ≡ seen = ap (λ (l : Linked). l.seen) c.self.view_is in
-    let within : place - 1 < length seen = omega (arith, some, c.loop-place.invariant.0) in
-    let read = c.index-seen.result.now in
-    let is : read ≡ get_or seen (place - 1) nothing = c.index-seen.ensures ∙ ap (λ (xs : List Seen). get_or xs (place - 1) read) same ∙ get_or_default seen (place - 1) read nothing within in
-    let differs : is_of process nil read ≡ false =
-    elim c.else-seen-process.branch [
-      | else-seen-process-via-then-seen-process+else-seen-nil w ↦ search rules
-      | else-seen-process-via-else-seen-process w ↦ search rules
-    ] in
-    let other : is_of process nil (get_or seen (place - 1) nothing) ≡ false = subst (λ (s : Seen). is_of process nil s ≡ false) is differs in
-    let next : c.min-place.result ≡ min (get_or seen (place - 1) nothing).next (place - 1) = c.min-place.ensures ∙ ap (λ (s : Seen). min s.next (place - 1)) is in (
-      search rules,
-      subst (λ n. index_from n n process nil seen ≡ index_from c.args.first c.args.first process nil seen) (sym next)
-          (next_from place process nil seen some other ∙ c.loop-place.invariant.1),
-    )
+    let next = c.index.result.now in
+    let index = c.find_from.result in
+    let count : c.len.result ≡ length newest = c.len.ensures ∙ c.self.inside.newest.ok.0 in
+    let first : next ≡ place_of (linked_by seen newest) process nil =
+    place_read seen newest process nil c.hash_below-hash.result c.len.result next c.self.invariant count c.hash_below-hash.ensures.value c.index.ensures in
+    let is : index ≡ index_of (linked_by seen newest) process nil =
+    c.find_from.ensures
+    ∙ ap (λ (l : Linked). index_from next next process nil l.seen) (sym c.self.view_is)
+    ∙ ap (λ n. index_from n n process nil seen) first in
+    subst (λ (l : Linked). IfSome index (λ i. i < length l.seen)) c.self.view_is (within seen newest process nil index c.self.invariant is)

@@ -50,4 +50,4 @@ returns g c = λ events event before next.
     (c.in_ok-advance.ensures.advanced c.if-not-branch.false)
     c.in-Some.ensures
     c.in_ok-steps.ensures
-    (subst (λ xs. StepsPass xs users steps.lists after.accesses falls place) c.as_slice-points_now.ensures.value (c.steps_pass.ensures c.if-not-steps_pass.false))
+    (subst (λ xs. StepsPass xs users steps.lists later after.accesses falls place) c.as_slice-points_now.ensures.value (c.steps_pass.ensures c.if-not-steps_pass.false))
