@@ -2,6 +2,7 @@
 
 ghost use Rattle.std.specs.Prelude.{◌≡◌, ◌≤◌, ◌<◌, ◌+◌, ◌++◌, ◌∷◌, [], length, None, Some, IfOk, OnOk, OnErr, slice_get};
 ghost use Rattle.hist_types.specs.Atoms.{atom_eq};
+ghost use Rattle.indexmap.specs.IndexMap.{get, spare, Updates};
 ghost use Rattle.atom_index.specs.Numbers.{number_in, with_item};
 
 use crate::slots::{slot_of, table_of};
@@ -51,6 +52,31 @@ impl<'a, S: BuildHasher> Model for AtomIndex<'a, S> {
     ghost view = { λ x. index_in x.atoms x.others };
 
     ghost invariant = { λ x. IsIndexed x.atoms.items x.small x.others };
+}
+
+/// The number of an atom in the map, if it is there. It takes a copy, so that callers can keep the atom in registers.
+#[inline(never)]
+fn number_of_other<S: BuildHasher>(
+    others: &IndexMap<Atom<'_>, usize, S>,
+    atom: Atom<'_>,
+) -> Option<usize>
+    ensures { result ≡ get atom_eq others.now atom.entry }
+{
+    others.get(&atom).copied()
+}
+
+/// Puts an atom into the map, where there is room.
+#[inline(never)]
+fn add_other<'a, S: BuildHasher>(
+    others: &mut IndexMap<Atom<'a>, usize, S>,
+    atom: Atom<'a>,
+    number: usize,
+)
+    requires { 0 < spare others.old }
+    ensures updates { Updates atom_eq others.old others.new atom.entry (Some number) }
+    ensures spare { spare others.old ≤ spare others.new + 1 }
+{
+    others.insert(atom, number).unwrap();
 }
 
 impl<'a> AtomIndex<'a> {
@@ -113,7 +139,7 @@ impl<'a, S: BuildHasher> AtomIndex<'a, S> {
     {
         match slot_of(atom, self.small.len()) {
             Some(slot) => self.small.get(slot),
-            None => self.others.get(atom).copied(),
+            None => number_of_other(&self.others, atom.copy()),
         }
     }
 
@@ -139,6 +165,7 @@ impl<'a, S: BuildHasher> AtomIndex<'a, S> {
 
     /// The number of an atom, which is its first one where it has none yet. Out of memory leaves the atoms as they are, and no
     /// less room than before.
+    #[inline(always)]
     pub fn insert(&mut self, atom: Atom<'a>) -> Result<usize, AllocError>
         ensures number { IfOk result
             (λ number. number_in atom_eq atom.entry self.new.items ≡ Some number) }
@@ -146,9 +173,22 @@ impl<'a, S: BuildHasher> AtomIndex<'a, S> {
         ensures err { OnErr result (self.new.items ≡ self.old.items) }
         ensures kept { OnErr result (self.old.spare ≤ self.new.spare) }
     {
-        if let Some(number) = self.get(&atom) {
-            return Ok(number);
+        match self.get(&atom) {
+            Some(number) => Ok(number),
+            None => self.grow_and_push(atom),
         }
+    }
+
+    /// Gives an atom that has none the next number, and makes room for it first.
+    #[inline(never)]
+    fn grow_and_push(&mut self, atom: Atom<'a>) -> Result<usize, AllocError>
+        requires { number_in atom_eq atom self.old.items ≡ None }
+        ensures number { IfOk result
+            (λ number. number_in atom_eq atom.entry self.new.items ≡ Some number) }
+        ensures items { OnOk result (self.new.items ≡ self.old.items ++ atom.entry ∷ []) }
+        ensures err { OnErr result (self.new.items ≡ self.old.items) }
+        ensures kept { OnErr result (self.old.spare ≤ self.new.spare) }
+    {
         self.reserve(1)?;
         Ok(self.push(atom))
     }
@@ -177,9 +217,7 @@ impl<'a, S: BuildHasher> AtomIndex<'a, S> {
         let number = self.atoms.len();
         match slot_of(&atom, self.small.len()) {
             Some(slot) => self.small.set(slot, number),
-            None => {
-                self.others.insert(atom.copy(), number).unwrap();
-            }
+            None => add_other(&mut self.others, atom.copy(), number),
         }
         self.atoms.push(atom).unwrap();
         number

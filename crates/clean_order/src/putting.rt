@@ -40,7 +40,7 @@ struct Putting<'h, 'v, 'a> {
     waiting: Vec<Frame>,
     earlier: Earlier,
     /// How many of the version's first readers need no further look.
-    looked: Vec<usize>,
+    looked: Vec<u32>,
 }
 
 impl<'h, 'v, 'a> Putting<'h, 'v, 'a> {
@@ -90,21 +90,30 @@ impl<'h, 'v, 'a> Putting<'h, 'v, 'a> {
         Ok(true)
     }
 
-    /// Puts the transaction, and before it whatever has to come before it.
+    /// Puts the transaction, and before it whatever has to come before it. It is false if one of these waits for another already.
     fn put(&mut self, place: u32) -> Result<bool, AllocError> {
         if self.is_put(place) {
             return Ok(true);
         }
-        if !self.begin(place)? {
+        if !self.begin(place) {
             return Ok(false);
         }
+        let mut frame = Frame::new(place);
         // Each turn puts a transaction or begins with one.
         for _ in 0..u64::MAX {
-            match self.waiting.pop() {
-                None => return Ok(true),
-                Some(frame) => {
-                    if !self.go_on(frame)? {
+            match self.first_before(&mut frame) {
+                Some(before) => {
+                    self.waiting.push(frame)?;
+                    if !self.begin(before) {
                         return Ok(false);
+                    }
+                    frame = Frame::new(before);
+                }
+                None => {
+                    self.rank(frame.place)?;
+                    match self.waiting.pop() {
+                        Some(waiting) => frame = waiting,
+                        None => return Ok(true),
                     }
                 }
             }
@@ -113,27 +122,23 @@ impl<'h, 'v, 'a> Putting<'h, 'v, 'a> {
     }
 
     /// Begins with the transaction. It is false if that was done before.
-    fn begin(&mut self, place: u32) -> Result<bool, AllocError> {
+    fn begin(&mut self, place: u32) -> bool {
         match self.begun.get_mut(place as usize) {
-            Some(begun) if !*begun => *begun = true,
-            _ => return Ok(false),
+            Some(begun) if !*begun => {
+                *begun = true;
+                true
+            }
+            _ => false,
         }
-        self.waiting.push(Frame::new(place))?;
-        Ok(true)
     }
 
-    /// Puts the transaction, or lets it wait for one that has to come before it. It is false if that one waits already.
-    fn go_on(&mut self, frame: Frame) -> Result<bool, AllocError> {
-        let mut frame = frame;
-        let Some(before) = self.first_before(&mut frame) else {
-            self.put = self.put.checked_add(1).ok_or(AllocError)?;
-            if let Some(rank) = self.ranks.get_mut(frame.place as usize) {
-                *rank = self.put;
-            }
-            return Ok(true);
-        };
-        self.waiting.push(frame)?;
-        self.begin(before)
+    /// Gives the transaction the next rank.
+    fn rank(&mut self, place: u32) -> Result<(), AllocError> {
+        self.put = self.put.checked_add(1).ok_or(AllocError)?;
+        if let Some(rank) = self.ranks.get_mut(place as usize) {
+            *rank = self.put;
+        }
+        Ok(())
     }
 
     /// A transaction that has to be put before this one and wasn't.
@@ -217,7 +222,7 @@ impl<'h, 'v, 'a> Putting<'h, 'v, 'a> {
         let first = self.looked.get(number).copied().unwrap_or(0);
         let mut index = first;
         let mut found = None;
-        for reader in readers.get(first..)? {
+        for reader in readers.get(first as usize..)? {
             if *reader != place && !self.is_put(*reader) {
                 found = Some(*reader);
                 break;

@@ -79,28 +79,16 @@ pub record AreFirstTxnRows (ts : List Transaction) (table : Table) (places : ℕ
   pub count : length rows ≡ places
   pub each : (place : ℕ) → place < places → IsTxnRow ts table place (row_at rows place)
 
--- the rows of the first versions
-pub record AreFirstVersionRows (ts : List Transaction) (table : Table) (numbers : ℕ)
+-- the rows of all transactions, and after them those of the first versions
+pub record AreFirstRows (ts : List Transaction) (table : Table) (numbers : ℕ)
     (rows : List Row) : Type 0 where
-  pub count : length rows ≡ numbers
-  pub each :
-      (number : ℕ)
-      → number < numbers
-      → row_at rows number ≡ version_row table.keys ts (version_at table number)
-
--- the rows of all transactions
-abbrev pub AreTxnRows : History → (rows : List Row) → Type 0
-AreTxnRows h rows = AreFirstTxnRows h.txns h.table (length h.txns) rows
-
--- the rows of all versions
-abbrev pub AreVersionRows : History → (rows : List Row) → Type 0
-AreVersionRows h rows = AreFirstVersionRows h.txns h.table (length h.table.versions) rows
-
--- the rows of the transactions, and after them of the versions
-pub record AreRows (ts : List Transaction) (table : Table) (rows : List Row) : Type 0 where
-  pub count : length rows ≡ length ts + length table.versions
+  pub count : length rows ≡ length ts + numbers
   pub txns : (place : ℕ) → place < length ts → IsTxnRow ts table place (row_at rows place)
   pub versions :
       (number : ℕ)
-      → number < length table.versions
+      → number < numbers
       → row_at rows (length ts + number) ≡ version_row table.keys ts (version_at table number)
+
+-- the rows of the transactions, and after them of the versions
+abbrev pub AreRows : List Transaction → Table → List Row → Type 0
+AreRows ts table rows = AreFirstRows ts table (length table.versions) rows

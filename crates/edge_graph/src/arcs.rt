@@ -4,7 +4,7 @@ ghost use Rattle.std.specs.Prelude.{◌≡◌, ◌≤◌, length};
 ghost use Rattle.edge_graph.specs.Made.{joined, AreWithin, split_at};
 
 use crate::orders::LaterNodes;
-use crate::rows::VertexRows;
+use crate::rows::Rows;
 use crate::types::Dependencies;
 use graph_search::arcs::{Arcs, Successors};
 use std::marker::Model;
@@ -12,7 +12,7 @@ use std::marker::Model;
 /// The arcs of some kinds of a graph. Its vertices are the transactions, by place, and after them the versions, by number.
 #[derive(Drop)]
 pub struct GraphArcs<'g> {
-    rows: &'g VertexRows,
+    rows: &'g Rows,
     order: &'g LaterNodes,
     dependencies: Dependencies,
 }
@@ -29,11 +29,7 @@ impl<'g> Model for GraphArcs<'g> {
 }
 
 impl<'g> GraphArcs<'g> {
-    pub(crate) fn new(
-        rows: &'g VertexRows,
-        order: &'g LaterNodes,
-        dependencies: Dependencies,
-    ) -> Self
+    pub(crate) fn new(rows: &'g Rows, order: &'g LaterNodes, dependencies: Dependencies) -> Self
         requires { AreWithin (joined dependencies rows.now order.now) }
         ensures { result ≡ joined dependencies rows.now order.now }
     {

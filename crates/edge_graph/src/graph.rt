@@ -18,7 +18,7 @@ ghost use Rattle.edge_graph.specs.declared.types.Dependencies.TheVariants.{Rw};
 use crate::arcs::{GraphArcs, SplitArcs};
 use crate::layout;
 use crate::orders::Orders;
-use crate::rows::VertexRows;
+use crate::rows::Rows;
 use crate::threads::try_join;
 use crate::types::{Dependencies, Kinds};
 use dep_edges::deps::Deps;
@@ -38,7 +38,7 @@ pub struct Graph<'g, 'v, 'a> {
     deps: &'g Deps<'v, 'a>,
     history: &'g History<'v, 'a>,
     order: &'g Order,
-    rows: VertexRows,
+    rows: Rows,
     orders: Orders,
 }
 
@@ -144,7 +144,7 @@ fn rows_and_orders_wide<'v, 'a, R: Threads>(
     deps: &Deps<'v, 'a>,
     history: &History<'v, 'a>,
     order: &Order,
-) -> Result<(VertexRows, Orders), AllocError>
+) -> Result<(Rows, Orders), AllocError>
     requires history { history.now.txns ≡ deps.now.txns }
     requires order { IsOrderOf deps.now.txns order.now }
     ensures rows { IfOk result (λ made. AreRows history.now.txns history.now.table made.0) }
@@ -189,7 +189,7 @@ impl<'g, 'v, 'a> Graph<'g, 'v, 'a> {
         deps: &'g Deps<'v, 'a>,
         history: &'g History<'v, 'a>,
         order: &'g Order,
-        rows: VertexRows,
+        rows: Rows,
         orders: Orders,
     ) -> Self
         requires { IsMade deps.now history.now order.now rows orders }

@@ -2,9 +2,9 @@
 
 ghost use Rattle.std.specs.Prelude.{◌≡◌, ◌++◌, IfOk, OnOk};
 ghost use Rattle.dep_edges.specs.Tables.{IsPlace, IsNumber};
-ghost use Rattle.edge_graph.specs.LaidOut.{others, nodes_of, readers_behind, writers_behind, AreRows, AddsReads, AddsTxnRow, AddsVersionRow, AreTxnRows, AreVersionRows};
+ghost use Rattle.edge_graph.specs.LaidOut.{others, nodes_of, readers_behind, writers_behind, AreRows, AddsReads, AddsTxnRow, AddsVersionRow};
 
-use crate::rows::{Rows, Span, VertexRows, number};
+use crate::rows::{Rows, Span, number};
 use dep_edges::deps::Deps;
 use dep_edges::history::History;
 use std::alloc::{AllocError, Global};
@@ -123,39 +123,21 @@ impl<'g, 'v, 'a> Layout<'g, 'v, 'a> {
         })
     }
 
-    /// The rows of the transactions.
-    fn txn_rows(&self, alloc: Global) -> Result<Rows, AllocError>
-        ensures { IfOk result (AreTxnRows self.now.history.now) }
+    /// A row for each transaction, and after them one for each version.
+    fn rows(&self, alloc: Global) -> Result<Rows, AllocError>
+        ensures { IfOk result (AreRows self.now.history.now.txns self.now.history.now.table) }
     {
-        let count = self.history.txns().len();
-        let mut spans = Vec::with_capacity(alloc, count)?;
+        let txns = self.history.txns().len();
+        let versions = self.history.versions();
+        let mut spans = Vec::with_capacity(alloc, txns.saturating_add(versions))?;
         let mut items = Vec::new(alloc);
-        for place in 0..count {
+        for place in 0..txns {
             spans.push(self.push_txn(place, &mut items)?)?;
         }
-        Ok(Rows::new(spans, items))
-    }
-
-    /// The rows of the versions.
-    fn version_rows(&self, alloc: Global) -> Result<Rows, AllocError>
-        ensures { IfOk result (AreVersionRows self.now.history.now) }
-    {
-        let count = self.history.versions();
-        let mut spans = Vec::with_capacity(alloc, count)?;
-        let mut items = Vec::new(alloc);
-        for version in 0..count {
+        for version in 0..versions {
             spans.push(self.push_version(version, &mut items)?)?;
         }
         Ok(Rows::new(spans, items))
-    }
-
-    /// The rows of the transactions, and after them those of the versions.
-    fn joined(&self, txns: Rows, versions: Rows) -> Result<VertexRows, AllocError>
-        requires txns { AreTxnRows self.now.history.now txns }
-        requires versions { AreVersionRows self.now.history.now versions }
-        ensures { IfOk result (AreRows self.now.history.now.txns self.now.history.now.table) }
-    {
-        VertexRows::new(txns, versions)
     }
 }
 
@@ -164,12 +146,9 @@ pub fn rows<'v, 'a>(
     alloc: Global,
     deps: &Deps<'v, 'a>,
     history: &History<'v, 'a>,
-) -> Result<VertexRows, AllocError>
+) -> Result<Rows, AllocError>
     requires { history.now.txns ≡ deps.now.txns }
     ensures { IfOk result (AreRows history.now.txns history.now.table) }
 {
-    let layout = Layout { deps, history };
-    let txns = layout.txn_rows(alloc)?;
-    let versions = layout.version_rows(alloc)?;
-    layout.joined(txns, versions)
+    Layout { deps, history }.rows(alloc)
 }

@@ -16,7 +16,7 @@ pub(crate) struct Span {
     pub end: u32,
 }
 
-/// A row for each of some vertices.
+/// A row for each vertex.
 #[derive(Drop)]
 pub(crate) struct Rows {
     spans: Vec<Span>,
@@ -50,6 +50,7 @@ impl Rows {
         Rows { spans, items }
     }
 
+    /// How many vertices there are.
     pub fn len(&self) -> usize
         ensures { result ≡ length self.now }
     {
@@ -71,58 +72,5 @@ impl Rows {
             Dependencies::All => (span.start, span.end),
         };
         &self.items[start as usize..end as usize]
-    }
-}
-
-/// A row for each vertex: those of the transactions, and after them those of the versions.
-#[derive(Drop)]
-pub(crate) struct VertexRows {
-    txns: Rows,
-    versions: Rows,
-    /// How many vertices there are.
-    count: usize,
-}
-
-impl Model for VertexRows {
-    ghost use Rattle.std.specs.Prelude.{◌≡◌, ◌++◌, List, length};
-    ghost use Rattle.edge_graph.specs.FlatRows.{Row as ARow};
-
-    ghost Value = { List ARow };
-
-    ghost view = { λ r. r.txns ++ r.versions };
-
-    ghost invariant = { λ r. r.count ≡ length (r.txns ++ r.versions) };
-}
-
-impl VertexRows {
-    pub fn new(txns: Rows, versions: Rows) -> Result<Self, AllocError>
-        ensures { IfOk result (λ rows. rows ≡ txns ++ versions) }
-    {
-        let count = txns.len().checked_add(versions.len()).ok_or(AllocError)?;
-        Ok(VertexRows {
-            txns,
-            versions,
-            count,
-        })
-    }
-
-    /// How many vertices there are.
-    pub fn len(&self) -> usize
-        ensures { result ≡ length self.now }
-    {
-        self.count
-    }
-
-    /// What a vertex leads to by these dependencies.
-    pub fn row(&self, vertex: usize, dependencies: Dependencies) -> &[u32]
-        requires { vertex < length self.now }
-        ensures { result.now ≡ led_to dependencies (row_at self.now vertex) }
-    {
-        let txns = self.txns.len();
-        if vertex < txns {
-            self.txns.row(vertex, dependencies)
-        } else {
-            self.versions.row(vertex - txns, dependencies)
-        }
     }
 }

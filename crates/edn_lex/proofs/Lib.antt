@@ -6,4 +6,5 @@ pub mod Exists
 pub mod Steps
 pub mod Passing
 pub mod RunKinds
+pub mod Digits
 pub mod LookAhead

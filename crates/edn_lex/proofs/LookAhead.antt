@@ -192,6 +192,17 @@ word_bytes text start xs word same begins =
     let n : start + length word - start ≡ length word = omega arith in
     ap (λ (k : ℕ). take k (drop start text)) n ∙ ap (take (length word)) (sym same) ∙ sym begins
 
+first_at : (text : List ℕ) (start b : ℕ) → get_or text start 0 ≡ b → first_byte (drop start text) ≡ b
+first_at text start b e = get_or-drop start text 0 0 ∙ ap (λ n. get_or text n 0) (omega arith) ∙ e
+
+no_run : (xs : List ℕ) (b : ℕ) → first_byte xs ≡ b → is_run_byte b ≡ false → run_len xs ≡ 0
+no_run [] b first ends = refl
+no_run (x ∷ xs) b first ends = let stops : is_run_byte x ≡ false = ap is_run_byte first ∙ ends in rw stops refl
+
+-- no run goes on where a byte is that ends it
+pub no_run_at : (text : List ℕ) (at b : ℕ) → get_or text at 0 ≡ b → is_run_byte b ≡ false → run_len (drop at text) ≡ 0
+no_run_at text at b is ends = no_run (drop at text) b (first_at text at b is) ends
+
 -- ---- a space
 
 -- the text begins with a space
@@ -266,9 +277,6 @@ opens_square (b ∷ rest) some e = (ap (λ x. front x rest) e, ap (λ x. x ∷ [
 closes_square : (xs : List ℕ) → 0 < length xs → first_byte xs ≡ close_square → (front (first_byte xs) (drop 1 xs) ≡ (Closer, Some 1)) × (take 1 xs ≡ close_square ∷ [])
 closes_square [] some e = absurd (omega arith)
 closes_square (b ∷ rest) some e = (ap (λ x. front x rest) e, ap (λ x. x ∷ []) e)
-
-first_at : (text : List ℕ) (start b : ℕ) → get_or text start 0 ≡ b → first_byte (drop start text) ≡ b
-first_at text start b e = get_or-drop start text 0 0 ∙ ap (λ n. get_or text n 0) (omega arith) ∙ e
 
 room_is : (n : ℕ) → n < MAX_OPEN_COLLECTIONS → nat_le MAX_OPEN_COLLECTIONS n ≡ false
 room_is n h = grind (arith, nat_tests)

@@ -1,6 +1,10 @@
 -- The flags of bytes.
 use Rattle.std.specs.Prelude.{ℕ, Bool, not, nat_eq, bit_and}
+use Rattle.std.specs.Char.{is_ascii_digit}
 
 -- one of the flags is set
 abbrev pub has_flag : ℕ → ℕ → Bool
 has_flag flags flag = not (nat_eq (bit_and flags flag) 0)
+
+abbrev pub is_no_digit : ℕ → Bool
+is_no_digit b = not (is_ascii_digit b)

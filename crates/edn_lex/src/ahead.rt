@@ -1,18 +1,22 @@
 //! Tokens by looking ahead, as printers write them: after blanks alone.
 
-ghost use Rattle.std.specs.Prelude.{◌≡◌, ◌≤◌, ◌+◌, ℕ, length, take, true, IfSome};
-ghost use Rattle.hist_types.specs.Bytes.{open_square, close_square, open_brace, close_brace};
+ghost use Rattle.std.specs.Prelude.{◌≡◌, ◌≤◌, ◌<◌, ◌+◌, ℕ, length, take, get_or, true, false, IfSome};
+ghost use Rattle.hist_types.specs.Bytes.{open_square, close_square, open_brace, close_brace, is_run_byte};
+ghost use Rattle.edn_lex.specs.declared.ahead.TheConstants.{NUMBER_LOOK};
 ghost use Rattle.edn_lex.specs.Ahead.{is_lone, IsGap, IsWord, IsTokenAt, IsLoneAt, GivesAhead, GivesLone, GivesOpener, GivesCloser};
 ghost use Rattle.edn_lex.specs.Kinds.{kind_of, item_of};
 ghost use Rattle.edn_lex.specs.declared.types.TokenKind.TheVariants.{Int, Tag};
 
 use crate::pieces::first_piece;
 use crate::runs::has_no_leading_zero;
-use crate::scan::{digits_alone, ends_run, is_blank, utf8_end};
+use crate::scan::{DIGIT_LANES, digits_alone, digits_of_16, ends_run, is_blank, utf8_end};
 use crate::types::{Token, TokenKind};
 
 /// How many collections may be opened one within another in what is looked at ahead.
 pub const LEVELS_AHEAD: usize = 16;
+
+/// How many bytes from its start on `number_before` may look at.
+pub const NUMBER_LOOK: usize = DIGIT_LANES;
 
 /// A vector of three tokens that are forms, with its brackets.
 #[derive(Clone, Copy)]
@@ -35,6 +39,18 @@ pub fn behind_blanks(text: &[u8], offset: usize) -> usize
         at += 1;
     }
     at
+}
+
+/// The first offset from this one on where no blank is, or the text's end. Often one space comes first.
+#[inline(always)]
+pub fn behind_word(text: &[u8], offset: usize) -> usize
+    requires { offset ≤ length text.now }
+    ensures { IsGap text.now offset result }
+{
+    match &text[offset..] {
+        [b' ', next, ..] if *next > b',' => offset + 1,
+        _ => behind_blanks(text, offset),
+    }
 }
 
 /// The first offset from this one on where no blank is, or the text's end. Often a comma and one blank come first.
@@ -126,6 +142,71 @@ pub fn number_at(text: &[u8], start: usize) -> Option<Token>
     })
 }
 
+/// The offset after one blank, if a space is here, or this offset.
+#[inline(always)]
+pub fn behind_space(text: &[u8], offset: usize) -> usize
+    requires { offset < length text.now }
+    ensures gap { IsGap text.now offset result }
+    ensures near { result ≤ offset + 1 }
+{
+    if text[offset] == b' ' {
+        offset + 1
+    } else {
+        offset
+    }
+}
+
+/// The token that begins here, if it is this word with this byte after it.
+#[inline(always)]
+pub fn word_before(
+    text: &[u8],
+    start: usize,
+    word: &[u8],
+    kind: TokenKind,
+    after: u8,
+) -> Option<Token>
+    requires room { start + length word.now < length text.now }
+    requires word { IsWord word.now (kind_of kind) }
+    requires after { is_run_byte after ≡ false }
+    ensures lone { IfSome result (IsLoneAt text.now start) }
+    ensures is { IfSome result (λ token. (item_of text.now token).bytes ≡ word.now) }
+    ensures kind { IfSome result (λ token. token.kind ≡ kind) }
+    ensures end { IfSome result (λ token. token.end ≡ start + length word.now) }
+    ensures after { IfSome result (λ token. get_or text.now token.end 0 ≡ after) }
+{
+    let end = start + word.len();
+    if !begins_with(&text[start..], word) || text[end] != after {
+        return None;
+    }
+    Some(Token { kind, start, end })
+}
+
+/// The token that begins here, if it is an integer of fewer than 16 digits alone with this byte after it.
+#[inline(always)]
+pub fn number_before(text: &[u8], start: usize, after: u8) -> Option<Token>
+    requires room { start + NUMBER_LOOK ≤ length text.now }
+    requires after { is_run_byte after ≡ false }
+    ensures lone { IfSome result (IsLoneAt text.now start) }
+    ensures kind { IfSome result (λ token. token.kind ≡ Int) }
+    ensures start { IfSome result (λ token. token.start ≡ start) }
+    ensures few { IfSome result (λ token. token.end < start + NUMBER_LOOK) }
+    ensures after { IfSome result (λ token. get_or text.now token.end 0 ≡ after) }
+{
+    let rest = &text[start..];
+    let len = digits_of_16(text, start);
+    if len == 0 || len == DIGIT_LANES || text[start + len] != after {
+        return None;
+    }
+    if !has_no_leading_zero(&rest[..len]) {
+        return None;
+    }
+    Some(Token {
+        kind: TokenKind::Int,
+        start,
+        end: start + len,
+    })
+}
+
 /// The token that begins here, if it is UTF-8. Whether it may be here is not looked at.
 pub fn token_at(text: &[u8], start: usize) -> Option<Token>
     requires { start ≤ length text.now }
@@ -187,7 +268,7 @@ pub fn lone_token(text: &[u8], offset: usize) -> Option<Token>
     ensures gives { IfSome result (GivesLone text.now offset) }
     ensures fits { IfSome result (λ token. token.end ≤ length text.now) }
 {
-    lone_at(text, behind_blanks(text, offset))
+    lone_at(text, behind_word(text, offset))
 }
 
 /// The next token, if no comment is before it and it is UTF-8; often it is a number.
@@ -249,7 +330,7 @@ pub fn vector_opener(text: &[u8], offset: usize) -> Option<Token>
     ensures gives { IfSome result (GivesOpener text.now offset open_square close_square) }
     ensures fits { IfSome result (λ token. token.end ≤ length text.now) }
 {
-    let start = behind_blanks(text, offset);
+    let start = behind_word(text, offset);
     if start < text.len() && text[start] == b'[' {
         Some(Token {
             kind: TokenKind::Open,
@@ -259,6 +340,41 @@ pub fn vector_opener(text: &[u8], offset: usize) -> Option<Token>
     } else {
         None
     }
+}
+
+/// The token that begins here, if it opens a vector.
+#[inline(always)]
+pub fn vector_opener_at(text: &[u8], start: usize) -> Option<Token>
+    requires { start < length text.now }
+    ensures gives { IfSome result (λ token. (offset : ℕ) → IsGap text.now offset start
+        → GivesOpener text.now offset open_square close_square token) }
+    ensures end { IfSome result (λ token. token.end ≡ start + 1) }
+{
+    if text[start] != b'[' {
+        return None;
+    }
+    Some(Token {
+        kind: TokenKind::Open,
+        start,
+        end: start + 1,
+    })
+}
+
+/// The token that begins here, if it closes a vector.
+#[inline(always)]
+pub fn vector_closer_at(text: &[u8], start: usize) -> Option<Token>
+    requires { start < length text.now }
+    ensures gives { IfSome result (GivesCloser text.now start close_square) }
+    ensures end { IfSome result (λ token. token.end ≡ start + 1) }
+{
+    if text[start] != b']' {
+        return None;
+    }
+    Some(Token {
+        kind: TokenKind::Close,
+        start,
+        end: start + 1,
+    })
 }
 
 /// The next token, if it opens a map.

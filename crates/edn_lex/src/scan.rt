@@ -1,17 +1,19 @@
 //! Where items end. The scans of what is seldom found are not inlined, so that those of the frequent items stay short.
 
-ghost use Rattle.std.specs.Prelude.{◌≡◌, ◌<◌, ◌≤◌, ◌==◌, length, take, drop, true, false, IsTrue, not, IfSome};
+ghost use Rattle.std.specs.Prelude.{◌≡◌, ◌<◌, ◌≤◌, ◌==◌, ◌+◌, length, take, drop, map, true, false, IsTrue, not, IfSome};
 ghost use Rattle.std.specs.Char.{is_ascii_digit};
 ghost use Rattle.std.specs.List.{prefix_len, list_all};
+ghost use Rattle.std.specs.Simd.Lanes.{mask_l};
 ghost use Rattle.std.specs.Str.{IsAscii};
 ghost use Rattle.hist_types.specs.Bytes.{is_blank as is_blank_byte, is_run_byte, line_feed};
-ghost use Rattle.edn_lex.specs.declared.scan.TheConstants.{NOT_DIGIT, PAST_ASCII, BLANK, ENDS_RUN};
+ghost use Rattle.edn_lex.specs.declared.scan.TheConstants.{NOT_DIGIT, PAST_ASCII, BLANK, ENDS_RUN, DIGIT_LANES};
 ghost use Rattle.edn_lex.specs.Ends.{StopsBeingUtf8};
-ghost use Rattle.edn_lex.specs.Flags.{has_flag};
+ghost use Rattle.edn_lex.specs.Flags.{has_flag, is_no_digit};
 ghost use Rattle.edn_lex.specs.Kinds.{is_low};
 ghost use Rattle.hist_types.specs.Tokens.{run_len as longest_run, content_len as len_of_content, character_len as len_of_character};
 
 use memchr::{memchr, memchr2};
+use std::simd::prelude::*;
 
 /// A byte that is no decimal digit.
 const NOT_DIGIT: u8 = 1;
@@ -37,6 +39,9 @@ static FLAGS: [u8; 256] = *b"\
     33333333333333333333333333333333\
     33333333333333333333333333333333\
     33333333333333333333333333333333";
+
+/// How many bytes are looked at together for digits.
+pub(crate) const DIGIT_LANES: usize = 16;
 
 /// How many bytes a run has, and of what kind all of them are.
 #[derive(Clone, Copy)]
@@ -97,6 +102,31 @@ pub(crate) fn digits_alone(text: &[u8]) -> Option<usize>
         len += 1;
     }
     Some(len)
+}
+
+/// A bit for each byte that is no decimal digit, the lowest for the first.
+#[inline(always)]
+fn other_than_digits(bytes: u8x16) -> u64
+    ensures { result ≡ mask_l (map is_no_digit bytes) }
+{
+    (bytes - u8x16::splat(b'0'))
+        .simd_ge(u8x16::splat(10))
+        .to_bitmask()
+}
+
+/// How many of the next 16 bytes, from the first, are decimal digits.
+#[inline(always)]
+pub(crate) fn digits_of_16(text: &[u8], at: usize) -> usize
+    requires { at + DIGIT_LANES ≤ length text.now }
+    ensures len { result ≡ prefix_len is_ascii_digit (take DIGIT_LANES (drop at text.now)) }
+    ensures few { result ≤ DIGIT_LANES }
+{
+    let others = other_than_digits(u8x16::from_slice(&text[at..]));
+    if others == 0 {
+        DIGIT_LANES
+    } else {
+        others.trailing_zeros() as usize
+    }
 }
 
 /// The longest run at the front of the text.

@@ -3,7 +3,7 @@ use Rattle.std.proofs.Common.{◌≡◌, ℕ, ◌+◌, ◌<◌, ◌≤◌, List,
 use Rattle.std.proofs.lemmas.Bool.Decides.{nat_tests}
 use Rattle.std.proofs.lemmas.Slice.Eq.{bytes_eq-Decides}
 use Rattle.hist_types.specs.Forms.{Form, plain, collection, forms_of}
-use Rattle.hist_types.specs.Tokens.{Item, ItemKind, Opener, Closer, closer_of, nesting_refusal, open_after}
+use Rattle.hist_types.specs.Tokens.{ItemKind, Opener, Closer, closer_of, nesting_refusal, open_after}
 use Rattle.hist_types.specs.declared.limits.TheConstants.{MAX_OPEN_COLLECTIONS}
 use Rattle.hist_types.specs.declared.types.Refusal.TheVariants.{TooDeep, StrayCloser}
 use Rattle.edn_lex.specs.Ahead.{is_lone, going_at, GivesAhead, GivesLone, IsGap, IsLoneAt}
@@ -13,8 +13,7 @@ use Rattle.edn_lex.specs.declared.types.Token.{Token}
 use Rattle.edn_lex.specs.declared.types.TokenKind.{TokenKind}
 use Rattle.edn_lex.specs.declared.types.TokenKind.TheVariants as kinds
 use Rattle.edn_lex.proofs.LookAhead.{lone_ahead}
-use Rattle.edn_ops.specs.Collections.{ReadsMembers}
-use Rattle.edn_ops.specs.Flat.{ReadsAhead, PassesAhead}
+use Rattle.edn_ops.specs.Flat.{ReadsAhead, ReadsUpTo, PassesAhead}
 use Rattle.edn_ops.proofs.ByMember.{nothing_read, one_read}
 use Rattle.edn_ops.proofs.Triples.{collection_reads, lone_reads}
 
@@ -30,12 +29,6 @@ pub lone_passed : (text : List ℕ) (deep offset start : ℕ) (token : Token) �
 lone_passed text deep offset start token gap lone fits = (plain (item_of text token), lone_form text deep offset token fits (lone offset gap))
 
 -- ---- members
-
--- from the offset up to here these members have been read
-pub record ReadsUpTo (text : List ℕ) (deep offset : ℕ) (members : List Form) (at : ℕ) : Type 0 where
-  pub forward : offset ≤ at
-  pub within : at ≤ length text
-  pub reads : (opener : Item) (closers : List ℕ) → length closers + deep ≤ MAX_OPEN_COLLECTIONS → ReadsMembers (going_at text offset closers) opener members (going_at text at closers)
 
 pub nothing_up_to : (text : List ℕ) (deep offset : ℕ) → offset ≤ length text → ReadsUpTo text deep offset [] offset
 nothing_up_to text deep offset within = record { forward = omega arith; within = within; reads = λ opener closers room. nothing_read (going_at text offset closers) opener }

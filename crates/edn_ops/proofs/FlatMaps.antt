@@ -1,11 +1,11 @@
 -- Maps that are read in one pass over their bytes.
-use Rattle.std.proofs.Common.{◌≡◌, ℕ, ℤ, ◌+◌, ◌-◌, ◌<◌, ◌≤◌, ◌⊎◌, List, [], ◌∷◌, ◌++◌, length, Bool, true, false, codes, Option, Some, None, Result, Ok, Err, inl, inr, refl, sym, ◌∙◌, ap, arith, subst, append-nil, nat_lt, lit≤, lit<}
+use Rattle.std.proofs.Common.{◌≡◌, ℕ, ℤ, ◌+◌, ◌-◌, ◌<◌, ◌≤◌, ◌⊎◌, List, [], ◌∷◌, ◌++◌, length, Bool, true, false, codes, Option, Some, None, Result, Ok, Err, inl, inr, refl, sym, ◌∙◌, ap, arith, subst, append-nil, nat_lt, lit≤, lit<, drop, get_or, length-take}
 use Rattle.std.specs.List.{slice_get}
 use Rattle.std.specs.Prelude.{IfSome, slice_range}
-use Rattle.std.specs.Option.{is_some}
+use Rattle.std.specs.Option.{is_some, unwrap_or}
 use Rattle.std.proofs.lemmas.Bool.{true≢false, false_from_ne_true, cases_lt}
 use Rattle.hist_types.specs.AtomTokens.{int_value, process_of}
-use Rattle.hist_types.specs.Bytes.{close_brace, open_square, close_square}
+use Rattle.hist_types.specs.Bytes.{close_brace, open_square, close_square, is_blank}
 use Rattle.hist_types.specs.Entries.{◌>>=◌, is_write_of, or_refuse, the_one, is_named, int_of, kind_of as kind_of_form, micro_ops_of, transaction_of, client_operation, end_of, entry_by, entry_of}
 use Rattle.hist_types.specs.Forms.{Form, plain, collection, forms_of, place_of, is_map}
 use Rattle.hist_types.specs.Tokens.{Item}
@@ -31,12 +31,12 @@ use Rattle.edn_ops.specs.declared.types.Span.{Span}
 use Rattle.edn_ops.specs.declared.types.OpShape.{OpShape}
 use Rattle.edn_ops.specs.Collections.{ReadsMap}
 use Rattle.edn_ops.specs.Fields.{fields_named, members_of, mops_result, result_outline, IsEntry}
-use Rattle.edn_ops.specs.Flat.{ReadsAhead, PassesAhead, IsMopValue, GivesMop, ReadsFlatMop, ReadsFlatTransaction, ReadsFlatValue, ReadsFlatField, HasKind, NamesOwner, HasOwner, HasMops, may_have_mops, AreFlat, AddsFlat, ReadsFlatMap, AreFlatMops, IsComplete, IsFlatEntry}
+use Rattle.edn_ops.specs.Flat.{ReadsAhead, ReadsUpTo, ReadsInside, ReadsFields, ReadsFlatFront, PassesAhead, IsMopValue, GivesMop, ReadsFlatMop, ReadsFlatTransaction, ReadsFlatValue, ReadsFlatField, HasKind, NamesOwner, HasOwner, HasMops, may_have_mops, AreFlat, AddsFlat, ReadsFlatMap, AreFlatMops, IsComplete, IsFlatEntry}
 use Rattle.edn_ops.specs.Leads.{is_mark_kind}
 use Rattle.edn_ops.specs.Outlines.{outline, outline_of, number_of, IsTokenIn}
 use Rattle.edn_ops.proofs.Closing.{IsAt, by_process, entry_from, entry_is, entry_skipped, has_value, is_operation, value_mops, bind_ok}
 use Rattle.edn_ops.proofs.Collected.{token_in}
-use Rattle.edn_ops.proofs.FlatForms.{ReadsUpTo, deeper, lone_form, nothing_up_to, one_up_to, collection_ahead}
+use Rattle.edn_ops.proofs.FlatForms.{deeper, lone_form, nothing_up_to, one_up_to, collection_ahead}
 use Rattle.edn_ops.proofs.Gathering.{if_named, key_more, pair_more, named_more, type_process, type_value, process_value, value_type, value_process}
 use Rattle.edn_ops.proofs.Integers.{short_atom}
 use Rattle.edn_ops.proofs.LeftOut.{GivesMember-first}
@@ -141,6 +141,9 @@ mop_ahead text offset old shape end new h room pushed =
 pub short_number : (text : List ℕ) (token : Token) → token.kind ≡ kinds.Int → IsTokenIn text token → length (slice_range text token.start token.end) < LONG_INTEGER → IsMopValue true (plain (item_of text token))
 short_number text token int h short = grind (arith, short_atom token.kind (slice_range text token.start token.end) int h.spelled short)
 
+pub few_bytes : (text : List ℕ) (start end : ℕ) → end < start + 16 → length (slice_range text start end) < LONG_INTEGER
+few_bytes text start end few = omega (arith, length-take (end - start) (drop start text))
+
 -- a vector of a name, an atom and a value
 pub mop_given :
     (text : List ℕ) (offset : ℕ) (is_write : Bool) (t : Triple) (key value : Span) → GivesTriple text offset t → t.closer.end ≤ length text → is_write_of (plain (item_of text t.first)) ≡ Some is_write →
@@ -167,6 +170,15 @@ gap_more text offset middle start first second =
       ];
     }
 
+-- a space is a gap
+pub space_here : (text : List ℕ) (at : ℕ) → at < length text → get_or text at 0 ≡ 32 → IsGap text at (at + 1)
+space_here text at within is =
+    record {
+      low = omega arith;
+      fits = omega arith;
+      blanks = λ k low high. let same : k ≡ at = omega arith in ap is_blank (ap (λ (n : ℕ). get_or text n 0) same ∙ is);
+    }
+
 -- a token that begins at the offset
 pub lone_here : (text : List ℕ) (offset : ℕ) (token : Token) → offset ≤ length text → IsLoneAt text offset token → GivesLone text offset token
 lone_here text offset token within h = h offset (record { low = omega arith; fits = within; blanks = λ k low high. absurd (omega arith) })
@@ -174,10 +186,7 @@ lone_here text offset token within h = h offset (record { low = omega arith; fit
 pub lone_token_in : (text : List ℕ) (start : ℕ) (token : Token) → start ≤ length text → IsLoneAt text start token → IsTokenIn text token
 lone_token_in text start token within h = lone_in text start token (lone_here text start token within h)
 
--- the members of a vector so far
-pub record ReadsInside (text : List ℕ) (opener : Token) (members : List Form) (shapes : List MopShape) (at : ℕ) : Type 0 where
-  pub up_to : ReadsUpTo text 1 opener.end members at
-  pub shapes_are : Ok shapes ≡ mops_result (micro_ops_of 0 members)
+-- ---- members of a vector
 
 pub nothing_inside : (text : List ℕ) (opener : Token) (shapes : List MopShape) → opener.end ≤ length text → shapes ≡ [] → ReadsInside text opener [] shapes opener.end
 nothing_inside text opener shapes within empty = record { up_to = nothing_up_to text 1 opener.end within; shapes_are = ap (λ (xs : List MopShape). Ok xs) empty }
@@ -199,11 +208,6 @@ transaction_ahead text offset opener closer members shapes at opens inside close
     )
 
 -- ---- maps
-
--- the fields of a map so far
-pub record ReadsFields (text : List ℕ) (offset : ℕ) (pairs : List (Form × Form)) (fields : FlatFields) (shapes : List MopShape) (at : ℕ) : Type 0 where
-  pub up_to : ReadsUpTo text VALUE_LEVELS offset (members_of pairs None) at
-  pub flat : AreFlat fields shapes pairs
 
 pub no_fields : (text : List ℕ) (offset : ℕ) (fields : FlatFields) (shapes : List MopShape) → offset ≤ length text → AreFlat fields shapes [] → ReadsFields text offset [] fields shapes offset
 no_fields text offset fields shapes within flat = record { up_to = nothing_up_to text VALUE_LEVELS offset within; flat = flat }
@@ -232,6 +236,41 @@ field_further text at key end value gives ahead =
     let high = ahead.further in
     let middle = (lone_form text VALUE_LEVELS at key (omega arith) gives).further in
     (omega arith, within)
+
+process_no_type : (f : Form) → is_named (codes ":process") f ≡ true → is_named (codes ":type") f ≡ false
+process_no_type f h = false_from_ne_true (is_named (codes ":type") f) (λ k. true≢false (sym h ∙ type_process f k))
+
+-- a map that begins with its kind and its process
+pub front_read :
+    (text : List ℕ) (offset : ℕ) (kind_key kind_token owner_key owner_token : Token) (old : FlatFields) (kind : OpKind) (owner : Owner) → offset ≤ length text → is_some old.kind ≡ false → is_some old.owner ≡ false →
+    IsLoneAt text offset kind_key → is_named (codes ":type") (plain (item_of text kind_key)) ≡ true →
+    GivesLone text kind_key.end kind_token → kind_token.end ≤ length text → Some kind ≡ kind_of_form (plain (item_of text kind_token)) →
+    GivesLone text kind_token.end owner_key → is_named (codes ":process") (plain (item_of text owner_key)) ≡ true →
+    GivesLone text owner_key.end owner_token → owner_token.end ≤ length text → NamesOwner (plain (item_of text owner_token)) owner →
+    ReadsFlatFront text offset old (Some owner_token.end) (record old { kind = Some kind; owner = Some owner })
+front_read text offset kind_key kind_token owner_key owner_token old kind owner within no_kind no_owner kind_key_lone kind_named kind_lone kind_fits kind_is owner_key_lone owner_named owner_lone owner_fits owner_is shapes flat =
+    let mid : FlatFields = record old { kind = Some kind } in
+    let new : FlatFields = record old { kind = Some kind; owner = Some owner } in
+    let k = plain (item_of text kind_key) in
+    let o = plain (item_of text owner_key) in
+    let kv = plain (item_of text kind_token) in
+    let ov = plain (item_of text owner_token) in
+    let first = one_field text offset [] old mid shapes shapes offset kind_key kind_token.end kv (no_fields text offset old shapes within flat) (lone_here text offset kind_key within kind_key_lone)
+    (lone_form text VALUE_LEVELS kind_key.end kind_token kind_fits kind_lone) (adds_kind old shapes k kv (Some kind) kind_named no_kind kind_is refl) in (
+      ([] ++ (k, kv) ∷ []) ++ (o, ov) ∷ [],
+      one_field text offset ([] ++ (k, kv) ∷ []) mid new shapes shapes kind_token.end owner_key owner_token.end ov first owner_key_lone
+          (lone_form text VALUE_LEVELS owner_key.end owner_token owner_fits owner_lone) (adds_owner mid shapes o ov owner (process_no_type o owner_named) owner_named no_owner owner_is),
+    )
+
+-- the fields that a map begins with, if it was read so
+pub front_begins :
+    (text : List ℕ) (offset : ℕ) (old new : FlatFields) (shapes : List MopShape) (o : Option ℕ) (at : ℕ) → offset ≤ length text → AreFlat old shapes [] → ReadsFlatFront text offset old o new → at ≡ unwrap_or o offset →
+    (pairs : List (Form × Form)) × ReadsFields text offset pairs new shapes at
+front_begins text offset old new shapes None at within flat same is =
+    ([], subst (λ (n : ℕ). ReadsFields text offset [] new shapes n) (sym is) (subst (λ (f : FlatFields). ReadsFields text offset [] f shapes offset) (sym same) (no_fields text offset old shapes within flat)))
+front_begins text offset old new shapes (Some end) at within flat read is =
+    let front = read shapes flat in
+    (front.0, subst (λ (n : ℕ). ReadsFields text offset front.0 new shapes n) (sym is) front.1)
 
 -- and its closer
 pub map_read :
@@ -355,9 +394,6 @@ kind_read text offset token old kind none gives fits is = (
   lone_form text VALUE_LEVELS offset token fits gives,
   λ key shapes named. adds_kind old shapes key (plain (item_of text token)) (Some kind) named none is refl,
 )
-
-process_no_type : (f : Form) → is_named (codes ":process") f ≡ true → is_named (codes ":type") f ≡ false
-process_no_type f h = false_from_ne_true (is_named (codes ":type") f) (λ k. true≢false (sym h ∙ type_process f k))
 
 -- the value of `:process`
 pub owner_read :

@@ -42,6 +42,15 @@ pub record ReadsAhead (text : List ℕ) (deep offset : ℕ) (form : Form) (end :
       (closers : List ℕ) → length closers + deep ≤ MAX_OPEN_COLLECTIONS →
       ReadsMember (going_at text offset closers) form (going_at text end closers)
 
+-- From the offset up to here these members of a collection have been read.
+pub record ReadsUpTo (text : List ℕ) (deep offset : ℕ) (members : List Form) (at : ℕ)
+    : Type 0 where
+  pub forward : offset ≤ at
+  pub within : at ≤ length text
+  pub reads :
+      (opener : Item) (closers : List ℕ) → length closers + deep ≤ MAX_OPEN_COLLECTIONS →
+      ReadsMembers (going_at text offset closers) opener members (going_at text at closers)
+
 -- a call passed over a form, up to the end that it gives
 abbrev pub PassesAhead : List ℕ → ℕ → ℕ → Option ℕ → Type 0
 PassesAhead text deep offset found =
@@ -76,6 +85,21 @@ ReadsFlatMop text offset old (Ok (Some end)) new =
     × ((members : List Form) → Ok old ≡ mops_result (micro_ops_of 0 members) →
     Ok new ≡ mops_result (micro_ops_of 0 (members ++ form ∷ [])))
 ReadsFlatMop text offset old (Err fault) new = fault ≡ memory_fault
+
+-- up to here these members of a transaction have been read, and have these shapes
+pub record ReadsInside
+    (text : List ℕ) (opener : Token) (members : List Form) (shapes : List MopShape) (at : ℕ)
+    : Type 0 where
+  pub up_to : ReadsUpTo text 1 opener.end members at
+  pub shapes_are : Ok shapes ≡ mops_result (micro_ops_of 0 members)
+
+-- a call read some more micro-operations, up to the end that it gives
+abbrev pub ReadsFlatMops :
+    List ℕ → ℕ → List MopShape → Result ℕ Fault → List MopShape → Type 0
+ReadsFlatMops text offset old (Ok end) new =
+    (opener : Token) (members : List Form) → ReadsInside text opener members old offset →
+    (more : List Form) × ReadsInside text opener more new end
+ReadsFlatMops text offset old (Err fault) new = fault ≡ memory_fault
 
 -- a call read a transaction
 abbrev pub ReadsFlatTransaction : List ℕ → ℕ → Result (Option ℕ) Fault → List MopShape → Type 0
@@ -153,6 +177,20 @@ ReadsFlatValue text offset name old (Some end) new =
     (value : Form) × ReadsAhead text VALUE_LEVELS offset value end
     × ((key : Form) (shapes : List MopShape) → is_named name key ≡ true →
     AddsFlat old shapes key value new shapes)
+
+-- up to here these fields of a map have been read
+pub record ReadsFields
+    (text : List ℕ) (offset : ℕ) (pairs : List (Form × Form)) (fields : FlatFields)
+    (shapes : List MopShape) (at : ℕ) : Type 0 where
+  pub up_to : ReadsUpTo text VALUE_LEVELS offset (members_of pairs None) at
+  pub flat : AreFlat fields shapes pairs
+
+-- a call read the first fields of a map, none of which is a transaction
+abbrev pub ReadsFlatFront : List ℕ → ℕ → FlatFields → Option ℕ → FlatFields → Type 0
+ReadsFlatFront text offset old None new = new ≡ old
+ReadsFlatFront text offset old (Some end) new =
+    (shapes : List MopShape) → AreFlat old shapes [] →
+    (pairs : List (Form × Form)) × ReadsFields text offset pairs new shapes end
 
 -- a call read the field whose key begins here
 abbrev pub ReadsFlatField :

@@ -1,23 +1,27 @@
 //! Maps as printers write them, read in one pass over their bytes: keys are forms by themselves, and there are no tags, no `#_`
 //! and no comments.
 
-ghost use Rattle.std.specs.Prelude.{◌≡◌, ◌≤◌, ◌+◌, [], List, length, codes, true, false, Some, Ok, IfSome};
+ghost use Rattle.std.specs.Prelude.{◌≡◌, ◌≤◌, ◌<◌, ◌+◌, [], List, length, codes, get_or, true, false, Some, Ok, IfSome, IfOk, ℕ};
 ghost use Rattle.hist_types.specs.Entries.{is_named, is_write_of};
+ghost use Rattle.hist_types.specs.Bytes.{is_run_byte};
 ghost use Rattle.hist_types.specs.Forms.{plain};
 ghost use Rattle.hist_types.specs.Tokens.{Keyword};
+ghost use Rattle.edn_lex.specs.declared.ahead.TheConstants.{NUMBER_LOOK};
 ghost use Rattle.edn_lex.specs.Ahead.{IsGap, IsWord, IsLoneAt};
 ghost use Rattle.edn_lex.specs.Kinds.{item_of};
 ghost use Rattle.edn_ops.specs.declared.flat.TheConstants.{VALUE_LEVELS};
 ghost use Rattle.edn_ops.specs.Outlines.{outline_of, IsTokenIn, IsOutlineIn};
-ghost use Rattle.edn_ops.specs.Flat.{PassesAhead, NamesKind, NamesOwner, IsMopValue, GivesMop, shape_of, ReadsFlatMop, ReadsFlatTransaction, may_have_mops, AreFlat, IsOther, ReadsFlatValue, ReadsFlatField, IsComplete, GivesFlatMap, OpensOperation, GivesFlatEntry};
+ghost use Rattle.edn_ops.specs.Flat.{PassesAhead, NamesKind, NamesOwner, IsMopValue, GivesMop, shape_of, ReadsFlatMop, ReadsFlatMops, ReadsFlatTransaction, may_have_mops, AreFlat, IsOther, ReadsFlatValue, ReadsFlatFront, ReadsFlatField, IsComplete, GivesFlatMap, OpensOperation, GivesFlatEntry};
 
 use crate::atoms::{self, LONG_INTEGER};
 use crate::outline::{Outline, bytes_of, span};
 use crate::passing::form_end;
 use crate::types::{MopShape, Span};
 use edn_lex::ahead::{
-    LEVELS_AHEAD, behind_blanks, behind_comma, form_at, lone_token, map_closer, map_opener,
-    number_at, spaced_word_at, tag_token, token_at, vector_closer, vector_opener, word_at,
+    LEVELS_AHEAD, NUMBER_LOOK, behind_blanks, behind_comma, behind_space, behind_word, form_at,
+    lone_token, map_closer, map_opener, number_at, number_before, spaced_word_at, tag_token,
+    token_at, vector_closer, vector_closer_at, vector_opener, vector_opener_at, word_at,
+    word_before,
 };
 use edn_lex::types::{Token, TokenKind};
 use hist_types::limits::{MAX_MICRO_OPS, MAX_OPERATION_BYTES};
@@ -28,6 +32,9 @@ pub(crate) type Mops = SmallVec<MopShape, 4>;
 
 /// How many collections may be opened one within another in the value of a field.
 const VALUE_LEVELS: usize = LEVELS_AHEAD - 1;
+
+/// How many bytes from its first blank on `plain_mop` may look at: a blank, `[:r `, a number, a space and a number.
+const PLAIN_MOP_LOOK: usize = 6 + 2 * NUMBER_LOOK;
 
 /// Whose operation a map is.
 #[derive(Clone, Copy)]
@@ -108,7 +115,7 @@ fn passed_value(text: &[u8], offset: usize) -> Option<usize>
     requires { offset ≤ length text.now }
     ensures { PassesAhead text.now VALUE_LEVELS offset result }
 {
-    let start = behind_blanks(text, offset);
+    let start = behind_word(text, offset);
     if let Some(token) = word_at(text, start, b":txn", TokenKind::Keyword) {
         return Some(token.end);
     }
@@ -138,7 +145,7 @@ impl FlatFields {
         if self.kind.is_some() {
             return None;
         }
-        let (kind, token) = kind_at(text, behind_blanks(text, offset))?;
+        let (kind, token) = kind_at(text, behind_word(text, offset))?;
         self.kind = Some(kind);
         Some(token.end)
     }
@@ -156,6 +163,26 @@ impl FlatFields {
         let owner = owner_of(text, Outline::Plain(token))?;
         self.owner = Some(owner);
         Some(token.end)
+    }
+
+    /// Reads `:type` and `:process`, up to the end that is given, if the map begins with them and a space after each.
+    #[inline(always)]
+    fn read_front(&mut self, text: &[u8], offset: usize) -> Option<usize>
+        requires { offset ≤ length text.now }
+        ensures { ReadsFlatFront text.now offset self.old result self.new }
+    {
+        if self.kind.is_some() || self.owner.is_some() {
+            return None;
+        }
+        let kind_key = spaced_key_at(text, offset, b":type")?;
+        let (kind, kind_token) = kind_at(text, kind_key.end + 1)?;
+        let start = behind_comma(text, kind_token.end);
+        let owner_key = spaced_key_at(text, start, b":process")?;
+        let owner_token = number_at(text, owner_key.end + 1)?;
+        let owner = owner_of(text, Outline::Plain(owner_token))?;
+        self.kind = Some(kind);
+        self.owner = Some(owner);
+        Some(owner_token.end)
     }
 
     /// Whose operation it is, as far as it is known.
@@ -281,18 +308,85 @@ fn next_mop(text: &[u8], offset: usize) -> Option<(bool, Span, Span, usize)>
     let opener = vector_opener(text, offset)?;
     let (is_write, name) = mop_name(text, opener.end)?;
     let key = atom_at(text, behind_blanks(text, name.end + 1))?;
-    let value = value_at(text, behind_blanks(text, key.end), is_write)?;
+    let value = value_at(text, behind_word(text, key.end), is_write)?;
     let closer = vector_closer(text, value.end)?;
     Some((is_write, span(key), span(value), closer.end))
 }
 
-/// Reads one more micro-operation, up to the end that is given, if it is a vector of three forms by themselves without a fault.
+/// The token that begins here, if it is `:w` or `:r` with a space after it, and whether it is `:w`, in a text with more bytes.
 #[inline(always)]
-fn flat_mop(text: &[u8], offset: usize, mops: &mut Mops) -> Result<Option<usize>, Fault>
-    requires { offset ≤ length text.now }
-    ensures { ReadsFlatMop text.now offset mops.old.items result mops.new.items }
+fn plain_name(text: &[u8], start: usize) -> Option<(bool, Token)>
+    requires { start + 2 < length text.now }
+    ensures lone { IfSome result (λ name. IsLoneAt text.now start name.1) }
+    ensures is_write { IfSome result (λ name.
+        is_write_of (plain (item_of text.now name.1)) ≡ Some name.0) }
+    ensures end { IfSome result (λ name. name.1.end ≡ start + 2) }
+    ensures space { IfSome result (λ name. get_or text.now name.1.end 0 ≡ 32) }
 {
-    let Some((is_write, key, value, end)) = next_mop(text, offset) else {
+    if let Some(token) = word_before(text, start, b":w", TokenKind::Keyword, b' ') {
+        return Some((true, token));
+    }
+    let token = word_before(text, start, b":r", TokenKind::Keyword, b' ')?;
+    Some((false, token))
+}
+
+/// The token that begins here, if it is an integer of few digits with this byte after it.
+#[inline(always)]
+fn plain_number(text: &[u8], start: usize, after: u8) -> Option<Token>
+    requires room { start + NUMBER_LOOK ≤ length text.now }
+    requires after { is_run_byte after ≡ false }
+    ensures lone { IfSome result (IsLoneAt text.now start) }
+    ensures atom { IfSome result (λ token. IsMopValue true (plain (item_of text.now token))) }
+    ensures few { IfSome result (λ token. token.end < start + NUMBER_LOOK) }
+    ensures after { IfSome result (λ token. get_or text.now token.end 0 ≡ after) }
+{
+    let number = number_before(text, start, after)?;
+    Some(number)
+}
+
+/// The token that begins here, if it is an integer of few digits, or `nil` that was read, with a vector's closer after it.
+#[inline(always)]
+fn plain_value(text: &[u8], start: usize, is_write: bool) -> Option<Token>
+    requires { start + NUMBER_LOOK ≤ length text.now }
+    ensures lone { IfSome result (IsLoneAt text.now start) }
+    ensures value { IfSome result (λ token. IsMopValue is_write (plain (item_of text.now token))) }
+    ensures within { IfSome result (λ token. token.end < length text.now) }
+{
+    if let Some(number) = plain_number(text, start, b']') {
+        return Some(number);
+    }
+    if is_write {
+        return None;
+    }
+    word_before(text, start, b"nil", TokenKind::Nil, b']')
+}
+
+/// What `next_mop` gives, if the micro-operation is spelled as it is printed, by a space between two tokens, an integer of few
+/// digits as its key, and another or nil as its value, and bytes enough come after it.
+#[inline(always)]
+fn plain_mop(text: &[u8], offset: usize) -> Option<(bool, Span, Span, usize)>
+    requires { offset ≤ length text.now }
+    ensures { IfSome result (λ mop. GivesMop text.now offset (shape_of mop.0 mop.1 mop.2) mop.3) }
+{
+    if text.len() - offset < PLAIN_MOP_LOOK {
+        return None;
+    }
+    let opener = vector_opener_at(text, behind_space(text, offset))?;
+    let (is_write, name) = plain_name(text, opener.end)?;
+    let key = plain_number(text, name.end + 1, b' ')?;
+    let value = plain_value(text, key.end + 1, is_write)?;
+    let closer = vector_closer_at(text, value.end)?;
+    Some((is_write, span(key), span(value), closer.end))
+}
+
+/// Adds a micro-operation, up to whose end the text was read, if there is room for one more.
+#[inline(always)]
+fn push_mop(mop: Option<(bool, Span, Span, usize)>, mops: &mut Mops) -> Result<Option<usize>, Fault>
+    ensures { (text : List ℕ) (offset : ℕ) →
+        IfSome mop (λ m. GivesMop text offset (shape_of m.0 m.1 m.2) m.3) →
+        ReadsFlatMop text offset mops.old.items result mops.new.items }
+{
+    let Some((is_write, key, value, end)) = mop else {
         return Ok(None);
     };
     if mops.len() >= MAX_MICRO_OPS {
@@ -309,6 +403,38 @@ fn flat_mop(text: &[u8], offset: usize, mops: &mut Mops) -> Result<Option<usize>
     Ok(Some(end))
 }
 
+/// Reads one more micro-operation, up to the end that is given, if it is a vector of three forms by themselves without a fault.
+#[inline(always)]
+fn flat_mop(text: &[u8], offset: usize, mops: &mut Mops) -> Result<Option<usize>, Fault>
+    requires { offset ≤ length text.now }
+    ensures { ReadsFlatMop text.now offset mops.old.items result mops.new.items }
+{
+    push_mop(next_mop(text, offset), mops)
+}
+
+/// Reads one more micro-operation, up to the end that is given, if it is spelled as it is printed.
+#[inline(always)]
+fn printed_mop(text: &[u8], offset: usize, mops: &mut Mops) -> Result<Option<usize>, Fault>
+    requires { offset ≤ length text.now }
+    ensures { ReadsFlatMop text.now offset mops.old.items result mops.new.items }
+{
+    push_mop(plain_mop(text, offset), mops)
+}
+
+/// Reads micro-operations, up to the end that is given, as long as they are spelled as they are printed.
+#[inline(always)]
+fn printed_mops(text: &[u8], offset: usize, mops: &mut Mops) -> Result<usize, Fault>
+    requires { offset ≤ length text.now }
+    ensures within { IfOk result (λ end. end ≤ length text.now) }
+    ensures reads { ReadsFlatMops text.now offset mops.old.items result mops.new.items }
+{
+    let mut at = offset;
+    while let Some(end) = printed_mop(text, at, mops)? {
+        at = end;
+    }
+    Ok(at)
+}
+
 /// Reads a transaction into the empty list, up to the end that is given, if all its members can be read so.
 #[inline(never)]
 fn flat_transaction(text: &[u8], offset: usize, mops: &mut Mops) -> Result<Option<usize>, Fault>
@@ -319,7 +445,7 @@ fn flat_transaction(text: &[u8], offset: usize, mops: &mut Mops) -> Result<Optio
     let Some(opener) = vector_opener(text, offset) else {
         return Ok(None);
     };
-    let mut at = opener.end;
+    let mut at = printed_mops(text, opener.end, mops)?;
     while let Some(end) = flat_mop(text, at, mops)? {
         at = end;
     }
@@ -339,6 +465,18 @@ fn key_at(text: &[u8], start: usize, name: &[u8]) -> Option<Token>
     ensures fits { IfSome result (λ key. key.end ≤ length text.now) }
 {
     word_at(text, start, name, TokenKind::Keyword)
+}
+
+/// The key that begins here, if it is this one with a space after it.
+#[inline(always)]
+fn spaced_key_at(text: &[u8], start: usize, name: &[u8]) -> Option<Token>
+    requires start { start ≤ length text.now }
+    requires name { IsWord name.now Keyword }
+    ensures lone { IfSome result (IsLoneAt text.now start) }
+    ensures named { IfSome result (λ key. is_named name.now (plain (item_of text.now key)) ≡ true) }
+    ensures space { IfSome result (λ key. IsGap text.now key.end (key.end + 1)) }
+{
+    spaced_word_at(text, start, name, TokenKind::Keyword)
 }
 
 /// Whether a key names a field that says nothing.
@@ -448,7 +586,7 @@ fn flat_map(
     requires none { AreFlat fields.old mops.old.items [] }
     ensures { GivesFlatMap text.now offset result fields.new mops.new.items }
 {
-    let mut at = offset;
+    let mut at = fields.read_front(text, offset).unwrap_or(offset);
     loop {
         let start = behind_comma(text, at);
         if let Some(closer) = map_closer(text, start) {

@@ -6,6 +6,7 @@ pub mod KeyNumbers
 mod Places
 mod NilNumbers
 mod Numbered
+mod Spelled
 mod Growing
 mod Accessing
 mod Lists

@@ -4,6 +4,7 @@ pub mod Rows
 pub mod Spans
 pub mod Nils
 pub mod Numbering
+pub mod Named
 pub mod Given
 pub mod Views
 pub mod Pending

@@ -4,16 +4,16 @@ ghost use Rattle.std.specs.Prelude.{◌≡◌, [], OnOk};
 ghost use Rattle.key_versions.specs.Rows.{with_access, with_read};
 
 use crate::pending::Access;
+use crate::push::push;
 use crate::rows::has_key;
-use smallvec::SmallVec;
 use std::alloc::{AllocError, Global};
 
 /// What a transaction reads externally, if it is ok, and what it writes.
 pub(crate) struct Accessed {
-    pub reads: SmallVec<Access, 4>,
-    pub writes: SmallVec<Access, 4>,
+    pub reads: Vec<Access>,
+    pub writes: Vec<Access>,
     /// Where keys are sequential, what each micro-operation of an ok transaction reads or writes.
-    pub seen: SmallVec<Access, 4>,
+    pub seen: Vec<Access>,
 }
 
 // Written out, as what is derived is repeated wherever one is dropped.
@@ -35,9 +35,9 @@ impl Accessed {
         ensures seen { result.seen.items ≡ [] }
     {
         Accessed {
-            reads: SmallVec::new(alloc),
-            writes: SmallVec::new(alloc),
-            seen: SmallVec::new(alloc),
+            reads: Vec::new(alloc),
+            writes: Vec::new(alloc),
+            seen: Vec::new(alloc),
         }
     }
 
@@ -68,12 +68,12 @@ impl Accessed {
             (self.new.seen.items ≡ with_access keeps_seen access self.old.seen.items) }
     {
         if keeps_seen {
-            self.seen.push(access)?;
+            push(&mut self.seen, access)?;
         }
         if is_write {
-            self.writes.push(access)?;
+            push(&mut self.writes, access)?;
         } else if !has_key(self.writes.as_slice(), access.nil) {
-            self.reads.push(access)?;
+            push(&mut self.reads, access)?;
         }
         Ok(())
     }

@@ -4,6 +4,7 @@ ghost use Rattle.std.specs.Prelude.{◌≡◌, ◌<◌, ◌≤◌, ◌++◌, [],
 ghost use Rattle.key_versions.specs.Rows.{Accessed, numbers_of, with_accessed};
 
 use crate::pending::Access;
+use crate::push::push;
 use crate::rows::number_of;
 use std::alloc::{AllocError, Global};
 use std::marker::Model;
@@ -43,7 +44,7 @@ fn append(numbers: &mut Vec<u32>, accesses: &[Access]) -> Result<(), AllocError>
     ensures kept { length numbers.old.items ≤ length numbers.new.items }
 {
     for access in accesses {
-        numbers.push(access.version)?;
+        push(numbers, access.version)?;
     }
     Ok(())
 }
@@ -75,11 +76,14 @@ impl Accesses {
         let middle = number_of(self.numbers.len())?;
         append(&mut self.numbers, installs)?;
         let end = number_of(self.numbers.len())?;
-        self.spans.push(Span {
-            reads: start,
-            installs: middle,
-            end,
-        })?;
+        push(
+            &mut self.spans,
+            Span {
+                reads: start,
+                installs: middle,
+                end,
+            },
+        )?;
         Ok(())
     }
 

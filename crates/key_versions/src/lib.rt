@@ -19,6 +19,7 @@ mod nils;
 mod numbering;
 mod pending;
 pub mod process_steps;
+mod push;
 mod rows;
 mod sequential;
 mod steps;

@@ -1,12 +1,14 @@
 //! Numbers for versions.
 
-ghost use Rattle.std.specs.Prelude.{◌≡◌, ◌<◌, ◌∷◌, slice_get, [], Some, length, IfOk, IfSome, OnOk, None};
+ghost use Rattle.std.specs.Prelude.{◌≡◌, ◌<◌, ◌∷◌, slice_get, [], true, Some, length, IfOk, IfSome, OnOk, None};
 ghost use Rattle.atom_index.specs.Numbers.{AreNumbered, number_in, with_item};
 ghost use Rattle.hist_types.specs.Atoms.{atom_eq};
 ghost use Rattle.hist_types.specs.Transactions.{Version, version_eq};
 ghost use Rattle.hist_types.specs.Versions.{nil_of};
+ghost use Rattle.edn_ops.specs.Shapes.{is_write};
 ghost use Rattle.key_versions.specs.Histories.{named_by};
-ghost use Rattle.key_versions.specs.Numbering.{Numbers, key_at, version_with, versions_in, versions_of, AreInRange, with_versions, IsAccess, IsAccessIfAny, IsVersionOfKey};
+ghost use Rattle.key_versions.specs.Numbering.{Numbers, key_at, version_by, version_with, versions_in, versions_of, AreInRange, with_versions, IsAccess, IsAccessIfAny, IsVersionOfKey};
+ghost use Rattle.key_versions.specs.Named.{version_named, AreNumbersOf, IsNamed};
 ghost use Rattle.key_versions.specs.Given.{AreGiven};
 ghost use Rattle.key_versions.specs.TxnAccesses.{AreAccessesOf, AreSeenBy};
 
@@ -19,6 +21,7 @@ use atom_index::pairs::PairIndex;
 use hist_types::types::KeyOrder;
 use journal_core::written::{Written, WrittenTables};
 use op_view::atom::Atom;
+use op_view::mops::Mop;
 use std::alloc::{AllocError, Global};
 use std::hash::{BuildHasher, BuildHasherDefault, FoldHasher};
 use std::marker::Model;
@@ -212,21 +215,43 @@ impl<'a, S: BuildHasher> Numbering<'a, S> {
         })
     }
 
-    /// The number of the key, if the version with this number has this key and value.
-    fn key_of_version(
-        &self,
-        number: usize,
-        key: &Atom<'a>,
-        value: &Option<Atom<'a>>,
-    ) -> Option<usize>
-        ensures { IfSome result
-            (λ k. IsVersionOfKey self.now number k (version_with key.now value.now)) }
+    /// Whether the micro-operation is of the key and of the value with these numbers, however they are spelled.
+    fn is_of_atoms(&self, key: usize, value: usize, mop: &Mop<'a>) -> bool
+        requires key { key < length self.now.keys }
+        requires value { value < length self.now.values }
+        ensures { result ≡ version_eq
+            (version_by self.now.keys self.now.values (key, Some value)) (version_named mop.now) }
     {
-        let (known_key, known_value) = *self.pairs.as_slice().get(number)?;
-        let known_value = known_value?;
-        let value = value.as_ref()?;
-        if self.values.atom(known_value) == *value && self.keys.atom(known_key) == *key {
-            Some(known_key)
+        match mop.value() {
+            None => false,
+            Some(named) => self.keys.atom(key) == mop.key() && self.values.atom(value) == named,
+        }
+    }
+
+    /// Whether the write is of the key and of the value with these numbers. Equal texts are equal atoms, and only others are parsed.
+    fn is_of(&self, key: usize, value: usize, write: &Mop<'a>) -> bool
+        requires is_write { is_write write.now ≡ true }
+        requires key { key < length self.now.keys }
+        requires value { value < length self.now.values }
+        ensures { result ≡ version_eq
+            (version_by self.now.keys self.now.values (key, Some value)) (version_named write.now) }
+    {
+        let text = write.text();
+        if self.values.atom(value).text() == text.value && self.keys.atom(key).text() == text.key {
+            return true;
+        }
+        self.is_of_atoms(key, value, write)
+    }
+
+    /// The number of the key, if the version with this number is written.
+    fn key_of_version(&self, number: usize, write: &Mop<'a>) -> Option<usize>
+        requires { is_write write.now ≡ true }
+        ensures { IfSome result (λ k. IsVersionOfKey self.now number k (version_named write.now)) }
+    {
+        let (key, value) = *self.pairs.as_slice().get(number)?;
+        let value = value?;
+        if self.is_of(key, value, write) {
+            Some(key)
         } else {
             None
         }
@@ -248,21 +273,21 @@ impl<'a, S: BuildHasher> Numbering<'a, S> {
         Some(next)
     }
 
-    /// The version with this key and value, if it has the number that is expected.
+    /// The version that is written, if it has the number that is expected.
     fn expected_version(
         &mut self,
-        key: &Atom<'a>,
-        value: &Option<Atom<'a>>,
+        write: &Mop<'a>,
         invoked: Option<&Access>,
     ) -> Result<Option<Access>, AllocError>
-        requires { AreNumbered version_eq (versions_of self.old) }
+        requires numbered { AreNumbered version_eq (versions_of self.old) }
+        requires is_write { is_write write.now ≡ true }
         ensures { IfOk result (IsAccessIfAny (versions_of self.old) (versions_of self.new)
-            (version_with key.now value.now)) }
+            (version_named write.now)) }
     {
         let Some(number) = self.expected(invoked) else {
             return Ok(None);
         };
-        let Some(key) = self.key_of_version(number, key, value) else {
+        let Some(key) = self.key_of_version(number, write) else {
             return Ok(None);
         };
         let nil = self.nil(key)?;
@@ -272,30 +297,70 @@ impl<'a, S: BuildHasher> Numbering<'a, S> {
         }))
     }
 
-    /// The version that a micro-operation names, where None is nil. Most writes have the number that is expected, so a write is
-    /// compared with that version before it is looked up.
-    fn access(
-        &mut self,
-        key: Atom<'a>,
-        value: Option<Atom<'a>>,
-        is_write: bool,
-        invoked: Option<&Access>,
-    ) -> Result<Access, AllocError>
-        requires { AreNumbered version_eq (versions_of self.old) }
-        ensures versions { OnOk result
-            (versions_of self.new
-            ≡ with_versions (versions_of self.old)
-            (nil_of key.entry ∷ version_with key.entry value.entry ∷ [])) }
-        ensures access { IfOk result
-            (IsAccess (versions_of self.new) (version_with key.entry value.entry)) }
+    /// The numbers of the nil version of the key that a micro-operation names, and of the version, if both have one.
+    fn known(&self, mop: &Mop<'a>) -> Option<(usize, usize)>
+        ensures { IfSome result (AreNumbersOf (versions_of self.now) (version_named mop.now)) }
     {
-        if !is_write {
-            return self.insert(key, value);
+        let key = self.keys.get(&mop.key())?;
+        let nil = self.nils[key]?;
+        let version = match mop.value() {
+            None => nil,
+            Some(value) => self.pairs.get(key, Some(self.values.get(&value)?))?,
+        };
+        Some((nil, version))
+    }
+
+    /// The version that a read names, where None is nil, if it has a number.
+    fn read(&self, read: &Mop<'a>) -> Result<Option<Access>, AllocError>
+        requires { AreNumbered version_eq (versions_of self.now) }
+        ensures { IfOk result (IsAccessIfAny (versions_of self.now) (versions_of self.now)
+            (version_named read.now)) }
+    {
+        let Some((nil, version)) = self.known(read) else {
+            return Ok(None);
+        };
+        Ok(Some(Access {
+            nil: number_of(nil)?,
+            version: number_of(version)?,
+        }))
+    }
+
+    /// The version that a micro-operation names, if it is found where it most likely is. Most writes have the number that is
+    /// expected, so a write is compared with that version before it is looked up.
+    fn found(
+        &mut self,
+        mop: &Mop<'a>,
+        invoked: Option<&Access>,
+    ) -> Result<Option<Access>, AllocError>
+        requires { AreNumbered version_eq (versions_of self.old) }
+        ensures { IfOk result (IsAccessIfAny (versions_of self.old) (versions_of self.new)
+            (version_named mop.now)) }
+    {
+        if mop.is_write() {
+            self.expected_version(mop, invoked)
+        } else {
+            self.read(mop)
         }
-        if let Some(access) = self.expected_version(&key, &value, invoked)? {
-            return Ok(access);
+    }
+
+    /// The version that a micro-operation names. Where it has no number, it gets one.
+    fn named(&mut self, mop: &Mop<'a>) -> Result<Access, AllocError>
+        ensures { IfOk result
+            (IsNamed (versions_of self.old) (versions_of self.new) (version_named mop.now)) }
+    {
+        self.insert(mop.key(), mop.value())
+    }
+
+    /// The version that a micro-operation names, found or looked up.
+    fn access(&mut self, mop: &Mop<'a>, invoked: Option<&Access>) -> Result<Access, AllocError>
+        requires { AreNumbered version_eq (versions_of self.old) }
+        ensures { IfOk result
+            (IsNamed (versions_of self.old) (versions_of self.new) (version_named mop.now)) }
+    {
+        match self.found(mop, invoked)? {
+            Some(access) => Ok(access),
+            None => self.named(mop),
         }
-        self.insert(key, value)
     }
 
     /// Numbers the versions that a transaction names, and notes which it reads and writes in place of what was noted. Of a read of
@@ -324,7 +389,7 @@ impl<'a, S: BuildHasher> Numbering<'a, S> {
             let is_known = is_ok || is_write;
             if is_known {
                 let before = invoked.get(accessed.writes.len());
-                let access = self.access(mop.key(), mop.value(), is_write, before)?;
+                let access = self.access(&mop, before)?;
                 accessed.add(access, is_write, keeps_seen)?;
             } else {
                 let key = self.key(mop.key())?;

@@ -8,6 +8,7 @@ ghost use Rattle.key_versions.specs.Steps.{stepped_rows, FollowersAreUpTo, Insta
 
 use crate::accesses::Accesses;
 use crate::interleaving::with_steps;
+use crate::push::push;
 use crate::types::{Follower, Writer};
 use flat_groups::groups::Groups;
 use std::alloc::{AllocError, Global};
@@ -121,7 +122,7 @@ impl Pending {
     pub fn add(&mut self) -> Result<(), AllocError>
         ensures { OnOk result (self.new ≡ self.old ++ unknown ∷ []) }
     {
-        self.writers.push(Written::Never)?;
+        push(&mut self.writers, Written::Never)?;
         Ok(())
     }
 
@@ -138,7 +139,7 @@ impl Pending {
         requires order { All (FollowersAreUpTo follower.txn) self.old }
         ensures { OnOk result (self.new ≡ change (with_follower follower) version self.old) }
     {
-        self.followers.push((version, follower))?;
+        push(&mut self.followers, (version, follower))?;
         Ok(())
     }
 
@@ -146,7 +147,7 @@ impl Pending {
         requires { version < length self.old }
         ensures { OnOk result (self.new ≡ change (with_place place) version self.old) }
     {
-        self.readers.push((version, place))?;
+        push(&mut self.readers, (version, place))?;
         Ok(())
     }
 

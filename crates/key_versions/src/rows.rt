@@ -11,8 +11,8 @@ ghost use Rattle.key_versions.specs.Views.{table_by};
 
 use crate::accesses::Accesses;
 use crate::pending::{Access, Pending};
+use crate::push::push;
 use crate::types::{Follower, Writer};
-use smallvec::SmallVec;
 use std::alloc::{AllocError, Global};
 
 /// A place as a number. What has more places than there are numbers is out of memory.
@@ -35,26 +35,26 @@ fn has_version(accesses: &[Access], version: u32) -> bool
     accesses.iter().any(|access| access.version == version)
 }
 
-/// Adds the writes of a transaction, and gives those that it installs.
+/// Adds the writes of a transaction, and notes those that it installs in place of what was noted.
 fn add_writes(
-    alloc: Global,
     rows: &mut Pending,
+    installs: &mut Vec<Access>,
     place: u32,
     writes: &[Access],
-) -> Result<SmallVec<Access, 4>, AllocError>
+) -> Result<(), AllocError>
     requires { All (IsWithin (length rows.old)) writes.now }
-    ensures installs { IfOk result (λ installs. installs.items ≡ lasts writes.now) }
+    ensures installs { OnOk result (installs.new.items ≡ lasts writes.now) }
     ensures rows { OnOk result (rows.new ≡ written_rows place rows.old writes.now) }
 {
-    let mut installs = SmallVec::new(alloc);
+    installs.clear();
     for (i, write) in writes.iter().enumerate() {
         let over = has_key(&writes[i + 1..], write.nil);
         rows.write(write.version, Writer { txn: place, over });
         if !over {
-            installs.push(*write)?;
+            push(installs, *write)?;
         }
     }
-    Ok(installs)
+    Ok(())
 }
 
 /// Adds what a transaction installs after the nil version of each key.
@@ -97,9 +97,10 @@ fn add_reads(
 /// A row for each version, and for each transaction what it reads and installs.
 #[derive(Drop)]
 pub(crate) struct Rows {
-    alloc: Global,
     pub rows: Pending,
     pub accesses: Accesses,
+    /// A buffer for what one transaction installs.
+    installs: Vec<Access>,
 }
 
 impl Rows {
@@ -113,9 +114,9 @@ impl Rows {
             → IfOk result (λ r. IsTableBeside given [] (table_by given r.rows r.accesses)) }
     {
         let mut rows = Rows {
-            alloc,
             rows: Pending::with_capacity(alloc, transactions, versions)?,
             accesses: Accesses::with_capacity(alloc, transactions)?,
+            installs: Vec::new(alloc),
         };
         rows.grow(versions)?;
         Ok(rows)
@@ -144,10 +145,11 @@ impl Rows {
             (self.new.accesses ≡ self.old.accesses ++ accessed reads.now writes.now ∷ []) }
     {
         let place = number_of(self.accesses.len())?;
-        let installs = add_writes(self.alloc, &mut self.rows, place, writes)?;
-        add_installs(&mut self.rows, place, installs.as_slice())?;
-        add_reads(&mut self.rows, place, reads, installs.as_slice())?;
-        self.accesses.push(reads, installs.as_slice())
+        add_writes(&mut self.rows, &mut self.installs, place, writes)?;
+        let installs = self.installs.as_slice();
+        add_installs(&mut self.rows, place, installs)?;
+        add_reads(&mut self.rows, place, reads, installs)?;
+        self.accesses.push(reads, installs)
     }
 
     /// Takes the next transaction, by what it reads, if it is ok, and what it writes. There are n versions now, those that it

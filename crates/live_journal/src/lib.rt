@@ -2,6 +2,8 @@
 #![tactic(auto)]
 
 mod cells;
+#[cfg(test)]
+mod contended_tests;
 pub mod journal;
 mod kept;
 pub mod laws;

@@ -64,7 +64,7 @@ impl BuildHasher for Counting<'_> {
     }
 }
 
-fn atom_of(text: &str) -> Result<Atom<'_>, Fault> {
+pub(crate) fn atom_of(text: &str) -> Result<Atom<'_>, Fault> {
     match Atom::read(text.as_bytes()) {
         Some(atom) => Ok(atom),
         None => Err(Fault {

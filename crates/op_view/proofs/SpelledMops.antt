@@ -1,26 +1,26 @@
 -- The micro-operations of an operation are in the places that its shape gives.
 use Rattle.std.proofs.Common.{◌≡◌, inl, inr, ℕ, ◌<◌, pos, List, [], ◌∷◌, length, map, true, false, Option, Some, None, refl, sym, ◌∙◌, ap, subst, arith}
 use Rattle.std.specs.List.{All, AllByRecursion, slice_get}
-use Rattle.std.specs.Option.{unwrap_or, IfSome}
+use Rattle.std.specs.Option.{option_map_or, unwrap_or, IfSome}
 use Rattle.std.proofs.lemmas.Bool.{true≢false}
 use Rattle.std.proofs.lemmas.Option.{none-some, slice_get_cases}
 use Rattle.std.proofs.lemmas.List.Elements.{recursion_from_All}
 use Rattle.hist_types.specs.Atoms.{Atom, Value, integer}
 use Rattle.hist_types.specs.AtomTokens.{atom_of_token}
 use Rattle.hist_types.specs.Entries.{PlacedMop, PlacedOperation, operation as entry, operation_of}
-use Rattle.hist_types.specs.Operations.{Mop, Operation, read, write}
+use Rattle.hist_types.specs.Operations.{Mop, read, write}
 use Rattle.reading_laws.specs.Placed.{IsTextOf, IsTokenIn, IsTokenAlone, Spells, SpellsParts, IsMopIn, IsMopOfTokens}
 use Rattle.hist_types.specs.Tokens.{Item, ItemKind, Nil}
 use Rattle.reading_laws.proofs.SpelledParts.{parts_spelled}
 use Rattle.reading_laws.proofs.SingleTokens.{mops_alone_in}
-use Rattle.hist_types.specs.declared.types.OpKind.{OpKind}
 use Rattle.op_block.specs.Contents.{BlockOperation}
 use Rattle.op_block.specs.Shapes.{short_span_of, short_mop_of, IsShapeOf}
 use Rattle.op_block.specs.declared.shapes.ShapeRef.{ShapeRef}
 use Rattle.edn_ops.specs.SourceTexts.{IsTokenOf, IsAtomText, IsValueText, IsMopText}
 use Rattle.edn_ops.specs.declared.write.MopText.{MopText}
 use Rattle.op_view.specs.Mops.{value_of}
-use Rattle.op_view.specs.MopTexts.{atom_in, is_nil, value_in, mop_in, IsAtom, bytes_at, mop_at, mops_at, operation_at, IsWithin, IsMopAt, AreMopsAt}
+use Rattle.op_view.specs.Operations.{no_operation, operation_in}
+use Rattle.op_view.specs.MopTexts.{atom_in, is_nil, value_in, mop_in, IsAtom, bytes_at, mop_at, mops_at, IsWithin, IsMopAt, AreMopsAt}
 use Rattle.edn_ops.proofs.KindsByFront.{kind_told}
 use Rattle.op_view.proofs.NilTokens.{nil_text, atom_no_nil}
 
@@ -175,18 +175,6 @@ operation_there text o is =
 
 -- ---- the operations of a block
 
-abbrev operation : OpKind → ℕ → List Mop → Operation
-operation kind process mops = record { kind = kind; process = process; mops = mops }
-
-same_operation :
-    (k l : OpKind) (p q : ℕ) (ms ns : List Mop)
-    → k ≡ l
-    → p ≡ q
-    → ms ≡ ns
-    → operation k p ms ≡ operation l q ns
-same_operation k l p q ms ns ks ps mss =
-    ap (λ (x : OpKind). operation x p ms) ks ∙ (ap (λ (x : ℕ). operation l x ms) ps ∙ ap (operation l q) mss)
-
 shape_mops :
     (text : List ℕ) (shape : ShapeRef) (o : BlockOperation)
     → text ≡ o.text
@@ -197,19 +185,6 @@ shape_mops text shape o same reads is =
     subst (λ (bs : List ℕ). AreMopsAt bs shape.mops.now) (sym same)
     (subst (AreMopsAt o.text) (sym is.mops) (operation_there o.text o.placed reads).0)
 
-shape_view :
-    (text : List ℕ) (shape : ShapeRef) (o : BlockOperation)
-    → text ≡ o.text
-    → IsTextOf o.text o.placed
-    → IsShapeOf shape o.placed
-    → operation_at text shape ≡ operation_of o.placed
-shape_view text shape o same reads is =
-    let p = o.placed in
-    let there = operation_there o.text p reads in
-    same_operation shape.kind p.kind shape.process p.process (mops_at text shape.mops.now) (operation_of p).mops
-    is.kind is.process
-    (ap (λ (bs : List ℕ). mops_at bs shape.mops.now) same ∙ (ap (mops_at o.text) is.mops ∙ there.1))
-
 abbrev HasText : Option BlockOperation → List ℕ → Type 0
 HasText found text = IfSome found (λ o. text ≡ o.text)
 
@@ -218,13 +193,6 @@ Reads found = IfSome found (λ o. IsTextOf o.text o.placed)
 
 abbrev HasShape : Option BlockOperation → ShapeRef → Type 0
 HasShape found shape = IfSome found (λ o. IsShapeOf shape o.placed)
-
-pub found_view :
-    (found : Option BlockOperation) (text : List ℕ) (shape : ShapeRef)
-    → HasText found text → Reads found → HasShape found shape
-    → IfSome found (λ o. operation_at text shape ≡ operation_of o.placed)
-found_view None text shape same reads is = tt
-found_view (Some o) text shape same reads is = shape_view text shape o same reads is
 
 found_mops :
     (found : Option BlockOperation) (text : List ℕ) (shape : ShapeRef)
@@ -247,3 +215,22 @@ pub operation_mops :
     → AreMopsAt text shape.mops.now
 operation_mops os i text shape below same reads is =
     found_mops (slice_get os i) text shape same reads is (is_there os i below)
+
+-- the operation has the micro-operations that are there
+mops_of_found :
+    (found : Option BlockOperation) (text : List ℕ) (shape : ShapeRef)
+    → HasText found text → Reads found → HasShape found shape
+    → (found ≡ None → ⊥)
+    → mops_at text shape.mops.now ≡ (option_map_or (λ (o : BlockOperation). operation_of o.placed) found no_operation).mops
+mops_of_found None text shape same reads is there = absurd (there refl)
+mops_of_found (Some o) text shape same reads is there =
+    ap (λ (bs : List ℕ). mops_at bs shape.mops.now) same
+    ∙ (ap (mops_at o.text) is.mops ∙ (operation_there o.text o.placed reads).1)
+
+pub operation_in_mops :
+    (os : List BlockOperation) (i : ℕ) (text : List ℕ) (shape : ShapeRef)
+    → i < length os
+    → HasText (slice_get os i) text → Reads (slice_get os i) → HasShape (slice_get os i) shape
+    → mops_at text shape.mops.now ≡ (operation_in os i).mops
+operation_in_mops os i text shape below same reads is =
+    mops_of_found (slice_get os i) text shape same reads is (is_there os i below)

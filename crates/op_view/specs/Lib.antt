@@ -5,3 +5,4 @@ pub mod Hashing
 pub mod AtomLaws
 pub mod Mops
 pub mod MopTexts
+pub mod Operations

@@ -4,12 +4,13 @@ ghost use Rattle.std.specs.Prelude.{◌≡◌, length, Some, IfSome};
 ghost use Rattle.std.specs.Iterator.{YieldsFirst, item_count, at_most, UpTo};
 ghost use Rattle.std.specs.Iterator.SizeHint.{IsWithinCount};
 ghost use Rattle.std.specs.Cmp.Lexicographic.{pointwise};
+ghost use Rattle.std.specs.Str.{bytes_eq};
 ghost use Rattle.hist_types.specs.Atoms.{atom_eq};
 ghost use Rattle.hist_types.specs.Journal.{same_mop};
 ghost use Rattle.hist_types.specs.Operations.{read, write};
 ghost use Rattle.edn_ops.specs.Shapes.{is_write};
 ghost use Rattle.edn_ops.specs.SourceTexts.{IsMopText, IsValueText};
-ghost use Rattle.op_view.specs.MopTexts.{bytes_at, atom_in, mop_at as mop_of_text, mops_at, IsAtom, IsWithin, IsMopAt, AreMopsAt};
+ghost use Rattle.op_view.specs.MopTexts.{bytes_at, atom_in, is_nil, mop_at as mop_of_text, mops_at, IsAtom, IsWithin, IsMopAt, AreMopsAt};
 ghost use Rattle.op_view.specs.Mops.{key_of, value_of};
 
 use crate::atom::Atom;
@@ -20,6 +21,9 @@ use std::marker::Model;
 
 /// The text of the value of a read of nil.
 const NIL: &[u8] = b"nil";
+
+/// Texts up to so many bytes, as most atoms are, are compared without a call.
+const SHORT: usize = 12;
 
 /// A read of a key with what it returned, nil or an atom, or a write of an atom to a key, by the texts of both.
 ///
@@ -96,7 +100,7 @@ impl<'a> Mop<'a> {
     pub fn value(&self) -> Option<Atom<'a>>
         ensures { result ≡ value_of self.now }
     {
-        if self.text.value == NIL {
+        if is_nil(self.text.value) {
             None
         } else {
             Some(atom_of(self.text.value))
@@ -142,6 +146,51 @@ fn mop_at(text: &[u8], shape: ShortMop) -> Mop<'_>
     Mop { text }
 }
 
+/// Whether the text of a value is that of nil.
+#[inline(always)]
+fn is_nil(text: &[u8]) -> bool
+    ensures { result ≡ is_nil text.now }
+{
+    matches!(text, [b'n', b'i', b'l'])
+}
+
+/// Whether the texts, which may be long, have the same bytes.
+#[inline(never)]
+fn is_same_long_text(a: &[u8], b: &[u8]) -> bool
+    ensures { result ≡ bytes_eq a.now b.now }
+{
+    a == b
+}
+
+/// Whether the texts have the same bytes.
+#[inline(always)]
+fn is_same_text(a: &[u8], b: &[u8]) -> bool
+    ensures { result ≡ bytes_eq a.now b.now }
+{
+    if a.len() > SHORT {
+        return is_same_long_text(a, b);
+    }
+    if a.len() != b.len() {
+        return false;
+    }
+    for (x, y) in a.iter().zip(b) {
+        if x != y {
+            return false;
+        }
+    }
+    true
+}
+
+/// Whether the bytes are the same atom, by what they mean.
+#[inline(never)]
+fn means_same_atom(a: &[u8], b: &[u8]) -> bool
+    requires first { IsAtom a.now }
+    requires second { IsAtom b.now }
+    ensures { result ≡ atom_eq (atom_in a.now) (atom_in b.now) }
+{
+    atom_of(a) == atom_of(b)
+}
+
 /// Whether the bytes are the same atom. Equal bytes are, and only others are parsed.
 #[inline(always)]
 fn is_same_atom(a: &[u8], b: &[u8]) -> bool
@@ -149,7 +198,7 @@ fn is_same_atom(a: &[u8], b: &[u8]) -> bool
     requires second { IsAtom b.now }
     ensures { result ≡ atom_eq (atom_in a.now) (atom_in b.now) }
 {
-    a == b || atom_of(a) == atom_of(b)
+    is_same_text(a, b) || means_same_atom(a, b)
 }
 
 /// Whether the micro-operations in these places of their texts are the same, whatever a read returned.
@@ -159,12 +208,12 @@ fn is_same_mop(text: &[u8], mop: ShortMop, other_text: &[u8], other: ShortMop) -
     requires second { IsMopAt other_text.now other }
     ensures { result ≡ same_mop (mop_of_text text.now mop) (mop_of_text other_text.now other) }
 {
-    let same_key = is_same_atom(slice_at(text, mop.key), slice_at(other_text, other.key));
+    if !is_same_atom(slice_at(text, mop.key), slice_at(other_text, other.key)) {
+        return false;
+    }
     match (mop.is_write, other.is_write) {
-        (false, false) => same_key,
-        (true, true) => {
-            same_key && is_same_atom(slice_at(text, mop.value), slice_at(other_text, other.value))
-        }
+        (false, false) => true,
+        (true, true) => is_same_atom(slice_at(text, mop.value), slice_at(other_text, other.value)),
         _ => false,
     }
 }
@@ -206,19 +255,15 @@ impl<'a> Mops<'a> {
     pub fn matches(&self, other: &Mops) -> bool
         ensures { result ≡ pointwise same_mop self.now other.now }
     {
-        let mut left = self.left;
-        let mut right = other.left;
-        while let Some((first, others)) = left.split_first() {
-            let Some((second, behind)) = right.split_first() else {
-                return false;
-            };
-            if !is_same_mop(self.text, *first, other.text, *second) {
+        if self.left.len() != other.left.len() {
+            return false;
+        }
+        for (mop, other_mop) in self.left.iter().zip(other.left) {
+            if !is_same_mop(self.text, *mop, other.text, *other_mop) {
                 return false;
             }
-            left = others;
-            right = behind;
         }
-        right.is_empty()
+        true
     }
 }
 

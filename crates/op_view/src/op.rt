@@ -6,17 +6,17 @@ ghost use Rattle.hist_types.specs.Entries.{operation_of};
 use crate::mops::Mops;
 use hist_types::types::{OpKind, Process};
 use op_block::block::Block;
-use op_block::shapes::ShapeRef;
 use std::marker::Model;
 
 /// An operation of a block. It borrows the block, and takes no memory.
 #[derive(Drop)]
 pub struct OpView<'a> {
-    text: &'a [u8],
-    shape: ShapeRef<'a>,
+    block: &'a Block,
+    index: usize,
 }
 
 impl<'a> Model for OpView<'a> {
+    ghost use Rattle.std.specs.Prelude.{◌<◌, length};
     ghost use Rattle.hist_types.specs.Operations.{Operation};
     ghost use Rattle.hist_types.specs.Stored.{coded_operation};
 
@@ -24,11 +24,11 @@ impl<'a> Model for OpView<'a> {
 
     ghost coded = { coded_operation };
 
-    ghost use Rattle.op_view.specs.MopTexts.{operation_at, AreMopsAt};
+    ghost use Rattle.op_view.specs.Operations.{operation_in};
 
-    ghost view = { λ v. operation_at v.text.now v.shape };
+    ghost view = { λ v. operation_in v.block.now.operations v.index };
 
-    ghost invariant = { λ v. AreMopsAt v.text.now v.shape.mops.now };
+    ghost invariant = { λ v. v.index < length v.block.now.operations };
 }
 
 impl<'a> OpView<'a> {
@@ -38,10 +38,7 @@ impl<'a> OpView<'a> {
         ensures { IfSome (slice_get block.now.operations index)
             (λ o. result ≡ operation_of o.placed) }
     {
-        OpView {
-            text: block.text(index),
-            shape: block.shape(index),
-        }
+        OpView { block, index }
     }
 
     /// The same operation.
@@ -49,31 +46,29 @@ impl<'a> OpView<'a> {
         ensures { result ≡ self.now }
     {
         OpView {
-            text: self.text,
-            shape: ShapeRef {
-                kind: self.shape.kind,
-                process: self.shape.process,
-                mops: self.shape.mops,
-            },
+            block: self.block,
+            index: self.index,
         }
     }
 
     pub fn kind(&self) -> OpKind
         ensures { result ≡ self.now.kind }
     {
-        self.shape.kind
+        self.block.shape(self.index).kind
     }
 
     pub fn process(&self) -> Process
         ensures { result ≡ self.now.process }
     {
-        self.shape.process
+        self.block.shape(self.index).process
     }
 
     /// The micro-operations in their order. A fail and an info have none.
     pub fn mops(&self) -> Mops<'a>
         ensures { result ≡ self.now.mops }
     {
-        Mops::new(self.text, self.shape.mops)
+        let text = self.block.text(self.index);
+        let shape = self.block.shape(self.index);
+        Mops::new(text, shape.mops)
     }
 }

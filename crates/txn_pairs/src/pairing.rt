@@ -72,6 +72,7 @@ impl<'a> Pairing<'a> {
     /// Takes the event with this index, which comes after all that were taken, and returns the place of the transaction that it
     /// begins or completes. A completion of a process with no open transaction changes nothing. Out of memory leaves the state as
     /// it was.
+    #[inline(always)]
     pub fn take(&mut self, index: u64, op: OpView<'a>) -> Result<Option<usize>, AllocError>
         requires { index < MAX_EVENTS }
         ensures ok { OnOk result (TakesEvent index op.entry self.old self.new) }
@@ -86,6 +87,7 @@ impl<'a> Pairing<'a> {
     }
 
     /// Takes an invocation, and returns the place of its transaction.
+    #[inline(always)]
     fn begin(&mut self, index: u64, op: OpView<'a>) -> Result<usize, AllocError>
         requires index { index < MAX_EVENTS }
         requires invoke { is_invoke op.kind ≡ true }
@@ -103,6 +105,7 @@ impl<'a> Pairing<'a> {
     }
 
     /// Takes a completion, and returns the place of the transaction that it completes, if its process has one open.
+    #[inline(always)]
     fn complete(&mut self, index: u64, outcome: Outcome, op: OpView<'a>) -> Option<usize>
         requires index { index < MAX_EVENTS }
         requires outcome { outcome_by op.kind ≡ Some outcome }

@@ -188,4 +188,4 @@ impl<'a> Txns<'a> {
     }
 }
 
-const _: () = prove!(size_of::<Txn>() <= 56);
+const _: () = prove!(size_of::<Txn>() <= 32);

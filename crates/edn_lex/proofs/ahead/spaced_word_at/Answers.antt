@@ -1,4 +1,4 @@
-use Rattle.std.proofs.Common.{◌≡◌, ◌+◌, ◌-◌, ℕ, List, length, drop, take, ap, ◌∙◌, sym, refl, subst}
+use Rattle.std.proofs.Common.{◌≡◌, ◌+◌, ◌-◌, length, drop, take, ap, ◌∙◌, refl, subst}
 use Rattle.std.proofs.lemmas.List.{take_rest, drop-drop}
 use Rattle.edn_lex.specs.Kinds.{kind_of}
 use Rattle.edn_lex.proofs.LookAhead.{BeginsWithSpace, word_begins, word_bytes, space_first, space_gap}

@@ -1,11 +1,12 @@
 use Rattle.std.proofs.Common.{[], ◌∷◌, ◌++◌, arith}
 use Rattle.hist_types.specs.Forms.{plain}
 use Rattle.edn_lex.specs.Kinds.{item_of}
-use Rattle.edn_ops.proofs.FlatMaps.{no_fields, one_field, field_further, map_read}
+use Rattle.edn_ops.proofs.FlatMaps.{front_begins, one_field, field_further, map_read}
 use Rattle.edn_ops.proofs.flat.flat_map.Goals as goal
 
 pub loop-closer-init : goal.loop-closer-init
-loop-closer-init c = ([], no_fields c.args.text.now c.args.offset c.args.fields.now c.args.mops.now.items c.requires.offset c.requires.none)
+loop-closer-init c =
+    front_begins c.args.text.now c.args.offset c.args.fields.now c.read_front.new.self c.args.mops.now.items c.read_front.result c.unwrap_or-at.result c.requires.offset c.requires.none c.read_front.ensures c.unwrap_or-at.ensures
 
 pub loop-closer-smaller : goal.loop-closer-smaller
 loop-closer-smaller c =

@@ -1,6 +1,6 @@
 use Rattle.std.proofs.Common.{◌-◌, List, length}
 use Rattle.hist_types.specs.Forms.{Form}
-use Rattle.edn_ops.proofs.FlatMaps.{ReadsFields}
+use Rattle.edn_ops.specs.Flat.{ReadsFields}
 use Rattle.edn_ops.proofs.flat.flat_map.Given as goal
 
 abbrev pub invariant-loop-closer : goal.invariant-loop-closer

@@ -5,7 +5,8 @@ use Rattle.edn_ops.proofs.flat.flat_transaction.Goals as goal
 pub loop-end-init : goal.loop-end-init
 loop-end-init c =
     let opener = c.in-Some.opener in
-    (opener, c.in-Some.ensures.gives, [], nothing_inside c.args.text.now opener c.args.mops.now.items c.in-Some.ensures.fits c.requires.empty)
+    let front = c.in_ok-at.ensures.reads opener [] (nothing_inside c.args.text.now opener c.args.mops.now.items c.in-Some.ensures.fits c.requires.empty) in
+    (opener, c.in-Some.ensures.gives, front.0, front.1)
 
 pub loop-end-preserved : goal.loop-end-preserved
 loop-end-preserved c =

@@ -3,7 +3,7 @@ use Rattle.hist_types.specs.Forms.{Form}
 use Rattle.hist_types.specs.Bytes.{open_square, close_square}
 use Rattle.edn_lex.specs.Ahead.{GivesOpener}
 use Rattle.edn_lex.specs.declared.types.Token.{Token}
-use Rattle.edn_ops.proofs.FlatMaps.{ReadsInside}
+use Rattle.edn_ops.specs.Flat.{ReadsInside}
 use Rattle.edn_ops.proofs.flat.flat_transaction.Given as goal
 
 abbrev pub invariant-loop-end : goal.invariant-loop-end

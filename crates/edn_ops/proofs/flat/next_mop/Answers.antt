@@ -17,7 +17,7 @@ returns c =
       opener = opener.ensures.gives;
       first = lone_here text opener.opener.end name.name opener.ensures.fits name.ensures.lone;
       second = key.ensures.lone name.name.end (gap_more text name.name.end (name.name.end + 1) c.behind_blanks.result name.ensures.space c.behind_blanks.ensures);
-      third = value.ensures.lone key.key.end c.behind_blanks-2.ensures;
+      third = value.ensures.lone key.key.end c.behind_word.ensures;
       closer = closer.ensures.gives;
     })
     closer.ensures.fits name.ensures.is_write key.ensures.atom value.ensures.value c.span.ensures c.span-2.ensures

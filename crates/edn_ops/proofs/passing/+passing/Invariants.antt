@@ -1,6 +1,6 @@
 use Rattle.std.proofs.Common.{◌+◌, ◌-◌, ◌*◌, List, length}
 use Rattle.hist_types.specs.Forms.{Form}
-use Rattle.edn_ops.proofs.FlatForms.{ReadsUpTo}
+use Rattle.edn_ops.specs.Flat.{ReadsUpTo}
 use Rattle.edn_ops.proofs.passing.+passing.Given as goal
 
 abbrev pub decreases-form_end : goal.decreases-form_end

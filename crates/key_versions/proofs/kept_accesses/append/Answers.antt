@@ -11,9 +11,9 @@ returns-clause-ok c =
     let now = c.extend_from_slice-3.new.self.items in
     appended_accesses xs first second now c.args.accessed.now.reads.items c.args.accessed.now.writes.items c.args.accessed.now.seen.items
     c.in_ok-reads.reads c.in_ok-writes.writes c.in_ok-seen.seen c.in_ok-end.end
-    (c.in_ok-extend_from_slice.ensures.items ∙ ap (λ (ys : List Access). xs ++ ys) c.as_slice.ensures)
-    (c.in_ok-extend_from_slice-2.ensures.items ∙ ap (λ (ys : List Access). first ++ ys) c.as_slice-2.ensures)
-    (c.in_ok-extend_from_slice-3.ensures.items ∙ ap (λ (ys : List Access). second ++ ys) c.as_slice-3.ensures)
+    (c.in_ok-extend_from_slice.ensures.items ∙ ap (λ (ys : List Access). xs ++ ys) c.as_slice.ensures.value)
+    (c.in_ok-extend_from_slice-2.ensures.items ∙ ap (λ (ys : List Access). first ++ ys) c.as_slice-2.ensures.value)
+    (c.in_ok-extend_from_slice-3.ensures.items ∙ ap (λ (ys : List Access). second ++ ys) c.as_slice-3.ensures.value)
     (c.in_ok-reads.ensures ∙ c.len.ensures ∙ c.args.accesses.now.ok.0)
     (c.in_ok-writes.ensures ∙ c.len-2.ensures ∙ c.extend_from_slice.new.self.ok.0)
     (c.in_ok-seen.ensures ∙ c.len-3.ensures ∙ c.extend_from_slice-2.new.self.ok.0)

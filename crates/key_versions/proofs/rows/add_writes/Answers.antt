@@ -28,7 +28,7 @@ loop-i-preserved c =
     elim c.if-not-over.branch [
       | then-not-over+in_ok-push w' ↦ (
           let is : has_nil w.nil rest ≡ false = sym over ∙ w'.if-not-over.true in
-          (long, rows, rw (w'.installs-is, w'.in_ok-push.ensures.ok) (one_installed w c.loop-i.installs.items rest is ∙ sym (ap (λ (ws : List Access). c.loop-i.installs.items ++ ws) lasts_step) ∙ c.loop-i.invariant.2)))
+          (long, rows, rw (w'.installs-is, w'.in_ok-push.ensures.items) (one_installed w c.loop-i.installs.items rest is ∙ sym (ap (λ (ws : List Access). c.loop-i.installs.items ++ ws) lasts_step) ∙ c.loop-i.invariant.2)))
       | else-not-over w' ↦ (
           let is : has_nil w.nil rest ≡ true = sym over ∙ w'.if-not-over.false in
           (long, rows, rw w'.installs-is (none_installed w c.loop-i.installs.items rest is ∙ sym (ap (λ (ws : List Access). c.loop-i.installs.items ++ ws) lasts_step) ∙ c.loop-i.invariant.2)))

@@ -17,7 +17,7 @@ invariant_of-self-in_err-append-2 c =
 pub returns : goal.returns
 returns c =
     (pushed c.self.inside.numbers.items c.append.new.numbers.items c.append-2.new.numbers.items (numbers_of c.args.reads.now) (numbers_of c.args.installs.now)
-    c.self.inside.spans.items c.push.new.self.items c.in_ok-start.start c.in_ok-middle.middle c.in_ok-end.end c.self.invariant
+    c.self.inside.spans.items c.push.new.items.items c.in_ok-start.start c.in_ok-middle.middle c.in_ok-end.end c.self.invariant
     c.in_ok-append.ensures.ok c.in_ok-append-2.ensures.ok
     (c.in_ok-start.ensures ∙ c.len.ensures ∙ c.self.inside.numbers.ok.0)
     (c.in_ok-middle.ensures ∙ c.len-2.ensures ∙ c.append.new.numbers.ok.0)

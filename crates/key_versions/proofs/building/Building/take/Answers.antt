@@ -18,5 +18,5 @@ returns-clause-table g c = λ given ts is.
     let rows = c.self.inside.rows in
     let old : IsTableBeside given ts (table_by vs rows.rows rows.accesses) = subst (IsTableBeside given ts) (sym c.self.view_is) is in
     let adds : AddsNamed vs us c.len.result t = record { versions = c.in_ok-take.ensures.versions; count = c.len.ensures } in
-    let has : AreAccessesOf us t c.as_slice.result.now c.as_slice-2.result.now = rw (c.as_slice.ensures, c.as_slice-2.ensures) c.in_ok-take.ensures.accesses in
+    let has : AreAccessesOf us t c.as_slice.result.now c.as_slice-2.result.now = rw (c.as_slice.ensures.value, c.as_slice-2.ensures.value) c.in_ok-take.ensures.accesses in
     c.in_ok-take-2.ensures given vs us ts t old adds has

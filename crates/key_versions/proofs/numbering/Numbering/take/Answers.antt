@@ -1,4 +1,4 @@
-use Rattle.std.proofs.Common.{◌≡◌, ◌∙◌, ◌++◌, ◌∷◌, [], List, None, map, true, false, sym, ap, subst}
+use Rattle.std.proofs.Common.{◌≡◌, ◌∙◌, ◌++◌, ◌∷◌, [], List, None, map, true, false, refl, sym, ap, subst}
 use Rattle.std.specs.Prelude.{◌||◌}
 use Rattle.std.proofs.lemmas.Bool.{or_right, true≢false}
 use Rattle.std.proofs.lemmas.List.{append_assoc}
@@ -7,7 +7,7 @@ use Rattle.hist_types.specs.Transactions.{Version, version_eq}
 use Rattle.hist_types.specs.Versions.{nil_of, version_in}
 use Rattle.atom_index.specs.Numbers.{AreNumbered, with_item}
 use Rattle.edn_ops.specs.Shapes.{is_write}
-use Rattle.op_view.specs.Mops.{key_of}
+use Rattle.op_view.specs.Mops.{key_of, value_of}
 use Rattle.key_versions.specs.Histories.{named_in}
 use Rattle.key_versions.specs.Numbering.{versions_of, version_with}
 use Rattle.key_versions.proofs.Numbered.{key_is}
@@ -38,7 +38,7 @@ loop-mop-preserved-in-Continue-branch-2 g c =
       | then-is_ok-2 w ↦ ap (λ b. b || is_write m) w.if-is_ok-2.true
       | else-is_ok-2 w ↦ or_right ok (is_write m) (sym c.is_write-is_write.ensures ∙ sym w.is_known-is ∙ c.if-is_known.true)
     ] in
-    let made = accessed_by vs us m a c.key.result c.value.result c.key.ensures c.value.ensures c.in_ok-access.ensures.versions c.in_ok-access.ensures.access in
+    let made = accessed_by vs us m a (key_of m) (value_of m) refl refl c.in_ok-access.ensures.0 c.in_ok-access.ensures.1 in
     let writes = c.is_write-is_write.ensures in (
       left,
       rw (c.in_ok-add.ensures.reads, c.in_ok-add.ensures.writes, writes) (taken_added base numbered ok ms vs us ws rs m a c.loop-mop.invariant.1 made.0 made.1 known),
@@ -66,9 +66,9 @@ loop-mop-preserved g c =
       | then-is_ok w ↦ absurd (true≢false (sym w.if-is_ok.true ∙ parts.0))
       | else-is_ok w ↦ w.keeps_seen-is ∙ w.if-is_ok.false
     ] in
-    let key = c.key-else-is_known-2.new.self in
+    let key = c.key-else-is_known.new.self in
     let us = versions_of c.nil.new.self in
-    let found = key_is key c.key-else-is_known.result c.in_ok-key.key c.in_ok-key.ensures.number ∙ c.key-else-is_known.ensures in
+    let found = key_is key c.key.result c.in_ok-key.key c.in_ok-key.ensures.number ∙ c.key.ensures in
     let grown : us ≡ with_item version_eq vs (nil_of (key_of m)) =
     c.in_ok-nil.ensures.versions ∙ ap (λ k. with_item version_eq (versions_of key) (version_with k None)) found
     ∙ ap (λ (xs : List Version). with_item version_eq xs (nil_of (key_of m))) c.in_ok-key.ensures.versions in (

@@ -4,7 +4,7 @@ use Rattle.op_view.specs.MopTexts.{is_nil}
 use Rattle.op_view.proofs.SpelledMops.{nil_read}
 use Rattle.op_view.proofs.mops.Mop.value.Goals as goal
 
-pub returns-then-eq : goal.returns-then-eq
-returns-then-eq c =
-    let nil : is_nil c.self.inside.text.value.now ≡ true = sym c.eq.ensures ∙ c.if-eq.true in
+pub returns-then-is_nil : goal.returns-then-is_nil
+returns-then-is_nil c =
+    let nil : is_nil c.self.inside.text.value.now ≡ true = sym c.is_nil.ensures ∙ c.if-is_nil.true in
     sym (nil_read c.self.inside.text _ c.self.invariant nil) ∙ ap value_of c.self.view_is

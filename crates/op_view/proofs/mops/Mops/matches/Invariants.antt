@@ -1,10 +1,9 @@
--- What is left on both sides matches where the whole does.
-use Rattle.std.proofs.Common.{length}
+-- What is left on both sides is as long, and matches where the whole does.
+use Rattle.std.proofs.Common.{◌≡◌, length}
 use Rattle.op_view.proofs.Matching.{Matches}
 use Rattle.op_view.proofs.mops.Mops.matches.Given as goal
 
-abbrev pub invariant-loop-first : goal.invariant-loop-first
-invariant-loop-first l = Matches l.self-inside.text.now l.other-inside.text.now l.left l.right l.fn.self l.fn.other
-
-abbrev pub decreases-loop-first : goal.decreases-loop-first
-decreases-loop-first l = length l.left
+abbrev pub invariant-loop-mop : goal.invariant-loop-mop
+invariant-loop-mop l =
+    (length l.mop-iterator.a.rest.now ≡ length l.mop-iterator.b.rest.now)
+    × Matches l.self-inside.text.now l.other-inside.text.now l.mop-iterator.a.rest.now l.mop-iterator.b.rest.now l.fn.self l.fn.other

@@ -4,11 +4,11 @@ use Rattle.smallvec.specs.SmallVec.{SmallVec}
 use Rattle.edn_ops.specs.declared.types.MopShape.{MopShape}
 use Rattle.edn_ops.specs.Flat.{shape_of}
 use Rattle.edn_ops.proofs.FlatMaps.{mop_ahead}
-use Rattle.edn_ops.proofs.flat.flat_mop.Goals as goal
-use Rattle.edn_ops.proofs.flat.flat_mop.Goals.{then-len-capacity+in_ok-reserve, else-len-capacity}
+use Rattle.edn_ops.proofs.flat.push_mop.Goals as goal
+use Rattle.edn_ops.proofs.flat.push_mop.Goals.{then-len-capacity+in_ok-reserve, else-len-capacity}
 
 pub returns : goal.returns
-returns c =
+returns c text offset gives =
     let found = c.in-Some in
     let shape = shape_of found.is_write found.key found.value in
     let room : length c.args.mops.now.items < MAX_MICRO_OPS = subst (λ (n : ℕ). n < MAX_MICRO_OPS) c.len.ensures.value c.if-len-ge-MAX_MICRO_OPS.false in
@@ -17,5 +17,5 @@ returns c =
       | then-len-capacity+in_ok-reserve w ↦ ap (λ (v : SmallVec MopShape). v.items) w.mops-is ∙ w.reserve.ensures.items
       | else-len-capacity w ↦ ap (λ (v : SmallVec MopShape). v.items) w.mops-is
     ] in
-    mop_ahead c.args.text.now c.args.offset c.args.mops.now.items shape found.end c.push_reserved.new.self.items found.ensures room
+    mop_ahead text offset c.args.mops.now.items shape found.end c.push_reserved.new.self.items (rw found.is at gives) room
     (c.push_reserved.ensures.items ∙ ap (λ (xs : List MopShape). xs ++ shape ∷ []) kept)

@@ -1,0 +1,16 @@
+-- The operations of a block by their index.
+use Rattle.std.specs.Prelude.{ℕ, List, []}
+use Rattle.std.specs.List.{slice_get}
+use Rattle.std.specs.Option.{option_map_or}
+use Rattle.hist_types.specs.Entries.{operation_of}
+use Rattle.hist_types.specs.Operations.{Operation}
+use Rattle.hist_types.specs.declared.types.OpKind.TheVariants.{Invoke}
+use Rattle.op_block.specs.Contents.{BlockOperation}
+
+-- what stands for an operation where there is none
+abbrev pub no_operation : Operation
+no_operation = record { kind = Invoke; process = 0; mops = [] }
+
+-- the operation at an index
+abbrev pub operation_in : List BlockOperation → ℕ → Operation
+operation_in os index = option_map_or (λ (o : BlockOperation). operation_of o.placed) (slice_get os index) no_operation
