@@ -12,7 +12,7 @@ use Rattle.hist_types.specs.Versions.{nil_of}
 use Rattle.hist_types.proofs.Equality.{atom_eq-same, atom_eq-itself, version_eq-itself}
 use Rattle.atom_index.specs.Numbers.{number_in, with_item, AreNumbered, pair_eq}
 use Rattle.atom_index.proofs.Pushed.{numbered_push, inserted_numbered, pair_eq-itself, item_pushed}
-use Rattle.key_versions.specs.Numbering.{Numbers, IsNumbering, IsBelow, IsInRange, AreInRange, key_at, version_with, version_by, versions_in, versions_of, with_versions, IsAccess, IsVersionOfKey}
+use Rattle.key_versions.specs.Numbering.{Numbers, IsNumbering, IsBelow, IsInRange, AreInRange, key_at, version_with, version_by, versions_in, versions_of, with_versions, IsAccess}
 use Rattle.key_versions.specs.Nils.{AreNilsIn}
 use Rattle.key_versions.specs.declared.pending.Access.{Access}
 use Rattle.key_versions.proofs.NilNumbers.{nils_kept}
@@ -320,20 +320,3 @@ access_there first last v nil version numbered at grown nil_at =
     let stays : slice_get longer version ≡ Some v = slice_get-with_item version_eq first (nil_of v.key) v version at in
     let again = version_there longer v version (inserted_numbered version_eq first (nil_of v.key) (version_eq-itself (nil_of v.key)) numbered) stays in
     (grown ∙ again, (nil_at, ap (λ (vs : List Version). slice_get vs version) grown ∙ stays))
-
--- a version is told by its key and its value
-pub version_found :
-    (s : Numbers) (number m : ℕ) (p : ℕ × Option ℕ) (key value known_key known_value : Atom) → IsNumbering s.keys s.values s.pairs s.nils
-    → slice_get s.pairs number ≡ Some p → p.1 ≡ Some m
-    → slice_get s.values m ≡ Some known_value → atom_eq known_value value ≡ true → slice_get s.keys p.0 ≡ Some known_key → atom_eq known_key key ≡ true
-    → IsVersionOfKey s number p.0 (version_with key (Some value))
-version_found s number m p key value known_key known_value is at valued value_at same_value key_at same_key =
-    let found : get_or s.keys p.0 none ≡ key = get_or_from_slice_get s.keys p.0 known_key none key_at ∙ atom_eq-same known_key key same_key in
-    let read : get_or s.values m none ≡ value = get_or_from_slice_get s.values m known_value none value_at ∙ atom_eq-same known_value value same_value in (
-      (is.in_range number p at).0,
-      found,
-      slice_get-map (version_by s.keys s.values) s.pairs number ∙ ap (option_map (version_by s.keys s.values)) at
-          ∙ ap (λ (k : Atom). Some (version_with k (option_map (λ m. get_or s.values m none) p.1))) found
-          ∙ ap (λ (v : Option ℕ). Some (version_with key (option_map (λ m. get_or s.values m none) v))) valued
-          ∙ ap (λ (v : Atom). Some (version_with key (Some v))) read,
-    )
