@@ -24,7 +24,7 @@ pub struct AtomIndex<'a, S: BuildHasher = BuildHasherDefault<FoldHasher>> {
     /// The number of each small integer that has one.
     small: Table,
     /// The numbers of the other atoms.
-    others: IndexMap<Atom<'a>, usize, S>,
+    others: IndexMap<Atom<'a>, u32, S>,
 }
 
 // Written out, as what is derived is repeated wherever one is dropped.
@@ -57,9 +57,9 @@ impl<'a, S: BuildHasher> Model for AtomIndex<'a, S> {
 /// The number of an atom in the map, if it is there. It takes a copy, so that callers can keep the atom in registers.
 #[inline(never)]
 fn number_of_other<S: BuildHasher>(
-    others: &IndexMap<Atom<'_>, usize, S>,
+    others: &IndexMap<Atom<'_>, u32, S>,
     atom: Atom<'_>,
-) -> Option<usize>
+) -> Option<u32>
     ensures { result ≡ get atom_eq others.now atom.entry }
 {
     others.get(&atom).copied()
@@ -68,9 +68,9 @@ fn number_of_other<S: BuildHasher>(
 /// Puts an atom into the map, where there is room.
 #[inline(never)]
 fn add_other<'a, S: BuildHasher>(
-    others: &mut IndexMap<Atom<'a>, usize, S>,
+    others: &mut IndexMap<Atom<'a>, u32, S>,
     atom: Atom<'a>,
-    number: usize,
+    number: u32,
 )
     requires { 0 < spare others.old }
     ensures updates { Updates atom_eq others.old others.new atom.entry (Some number) }
@@ -134,7 +134,7 @@ impl<'a, S: BuildHasher> AtomIndex<'a, S> {
 
     /// The number of an atom, if it has one.
     #[inline(always)]
-    pub fn get(&self, atom: &Atom) -> Option<usize>
+    pub fn get(&self, atom: &Atom) -> Option<u32>
         ensures { result ≡ number_in atom_eq atom.now self.now.items }
     {
         match slot_of(atom, self.small.len()) {
@@ -166,7 +166,7 @@ impl<'a, S: BuildHasher> AtomIndex<'a, S> {
     /// The number of an atom, which is its first one where it has none yet. Out of memory leaves the atoms as they are, and no
     /// less room than before.
     #[inline(always)]
-    pub fn insert(&mut self, atom: Atom<'a>) -> Result<usize, AllocError>
+    pub fn insert(&mut self, atom: Atom<'a>) -> Result<u32, AllocError>
         ensures number { IfOk result
             (λ number. number_in atom_eq atom.entry self.new.items ≡ Some number) }
         ensures items { OnOk result (self.new.items ≡ with_item atom_eq self.old.items atom.entry) }
@@ -181,7 +181,7 @@ impl<'a, S: BuildHasher> AtomIndex<'a, S> {
 
     /// Gives an atom that has none the next number, and makes room for it first.
     #[inline(never)]
-    fn grow_and_push(&mut self, atom: Atom<'a>) -> Result<usize, AllocError>
+    fn grow_and_push(&mut self, atom: Atom<'a>) -> Result<u32, AllocError>
         requires { number_in atom_eq atom self.old.items ≡ None }
         ensures number { IfOk result
             (λ number. number_in atom_eq atom.entry self.new.items ≡ Some number) }
@@ -194,7 +194,7 @@ impl<'a, S: BuildHasher> AtomIndex<'a, S> {
     }
 
     /// The same where there is room for one more atom, so that no memory is asked for.
-    pub fn insert_reserved(&mut self, atom: Atom<'a>) -> usize
+    pub fn insert_reserved(&mut self, atom: Atom<'a>) -> u32
         requires { 0 < self.old.spare }
         ensures number { number_in atom_eq atom.entry self.new.items ≡ Some result }
         ensures items { self.new.items ≡ with_item atom_eq self.old.items atom.entry }
@@ -207,14 +207,14 @@ impl<'a, S: BuildHasher> AtomIndex<'a, S> {
     }
 
     /// Gives an atom that has none the next number.
-    fn push(&mut self, atom: Atom<'a>) -> usize
+    fn push(&mut self, atom: Atom<'a>) -> u32
         requires new { number_in atom_eq atom self.old.items ≡ None }
         requires room { 0 < self.old.spare }
         ensures number { number_in atom_eq atom.entry self.new.items ≡ Some result }
         ensures items { self.new.items ≡ self.old.items ++ atom.entry ∷ [] }
         ensures room { self.old.spare ≤ self.new.spare + 1 }
     {
-        let number = self.atoms.len();
+        let number = self.atoms.len() as u32;
         match slot_of(&atom, self.small.len()) {
             Some(slot) => self.small.set(slot, number),
             None => add_other(&mut self.others, atom.copy(), number),

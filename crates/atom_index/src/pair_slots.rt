@@ -15,12 +15,12 @@ pub(crate) const SLOTS_OF_PAIR: usize = 4;
 
 /// The place of a pair in a table with n slots: that of a small key and a small value, by their numbers. The values
 /// of a key are side by side.
-pub(crate) fn slot_of(pair: (usize, Option<usize>), slots: usize) -> Option<usize>
+pub(crate) fn slot_of(pair: (u32, Option<u32>), slots: usize) -> Option<usize>
     ensures { result ≡ slot_of_pair pair slots }
 {
     let (key, value) = pair;
-    let value = value?;
-    let slot = key.checked_mul(VALUES_OF_KEY)?.checked_add(value)?;
+    let value = value? as usize;
+    let slot = key as usize * VALUES_OF_KEY + value;
     if value < VALUES_OF_KEY && slot < slots {
         Some(slot)
     } else {
@@ -31,7 +31,7 @@ pub(crate) fn slot_of(pair: (usize, Option<usize>), slots: usize) -> Option<usiz
 /// The table of the small pairs, with their places there.
 pub(crate) fn table_of(
     alloc: Global,
-    pairs: &[(usize, Option<usize>)],
+    pairs: &[(u32, Option<u32>)],
     slots: usize,
 ) -> Result<Table, AllocError>
     requires { length pairs.now ≤ MAX_NUMBERS }
@@ -39,7 +39,7 @@ pub(crate) fn table_of(
     ensures places { IfOk result (λ table. HoldsPairs table pairs.now) }
 {
     let mut table = Table::with_slots(alloc, slots)?;
-    let mut number = 0;
+    let mut number: u32 = 0;
     for pair in pairs {
         if let Some(slot) = slot_of(*pair, slots) {
             if table.get(slot).is_none() {

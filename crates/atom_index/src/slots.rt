@@ -23,7 +23,7 @@ pub(crate) fn table_of(alloc: Global, atoms: &[Atom], slots: usize) -> Result<Ta
     ensures places { IfOk result (λ table. HoldsNumbers table atoms.now) }
 {
     let mut table = Table::with_slots(alloc, slots)?;
-    let mut number = 0;
+    let mut number: u32 = 0;
     for atom in atoms {
         if let Some(slot) = slot_of(atom, slots) {
             if table.get(slot).is_none() {

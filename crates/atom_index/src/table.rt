@@ -54,19 +54,19 @@ impl Table {
     }
 
     /// The number in a slot.
-    pub fn get(&self, slot: usize) -> Option<usize>
+    pub fn get(&self, slot: usize) -> Option<u32>
         requires { slot < length self.now }
         ensures { result ≡ get_or self.now slot None }
     {
-        (self.entries[slot] as usize).checked_sub(1)
+        self.entries[slot].checked_sub(1)
     }
 
     /// Puts a number in a slot.
-    pub fn set(&mut self, slot: usize, number: usize)
+    pub fn set(&mut self, slot: usize, number: u32)
         requires slot { slot < length self.old }
         requires number { number < MAX_NUMBERS }
         ensures { self.new ≡ set self.old slot (Some number) }
     {
-        self.entries[slot] = number as u32 + 1;
+        self.entries[slot] = number + 1;
     }
 }

@@ -6,6 +6,7 @@ ghost use Rattle.block_reader.specs.Parts.{IsIn, IsPartOf, ReadsOn};
 use crate::blocks::Blocks;
 use bytes::Bytes;
 use edn_ops::reader::OpReader;
+use edn_ops::types::OpShape;
 use hist_types::types::Fault;
 use op_block::block::Block;
 use reading_laws::{operations_read_alone, texts_have_one_reading};
@@ -20,8 +21,12 @@ pub struct Part {
     pub blocks: Vec<Block>,
 }
 
-/// Reads the next operation into the blocks: false at the text's end.
-pub fn read_op(reader: &mut OpReader<'_>, blocks: &mut Blocks) -> Result<bool, Fault>
+/// Reads the next operation into the blocks, by way of a shape that may have been used before: false at the text's end.
+pub fn read_op(
+    reader: &mut OpReader<'_>,
+    shape: &mut OpShape,
+    blocks: &mut Blocks,
+) -> Result<bool, Fault>
     requires { reader.old.state.text ≡ blocks.old.text }
     ensures on { ReadsOn blocks.old.text result reader.old reader.new blocks.old.operations
         blocks.new.operations }
@@ -33,10 +38,10 @@ pub fn read_op(reader: &mut OpReader<'_>, blocks: &mut Blocks) -> Result<bool, F
     // Laws, called for their clauses: the text reads in one way, and each operation's map reads alone.
     texts_have_one_reading();
     operations_read_alone();
-    let Some(shape) = reader.next_op()? else {
+    if !reader.next_into(shape)? {
         return Ok(false);
-    };
-    blocks.push(&shape)?;
+    }
+    blocks.push(shape)?;
     Ok(true)
 }
 
@@ -48,12 +53,13 @@ fn read_from(alloc: Global, seat: u32, text: &Bytes, start: usize, stop: usize) 
 {
     let mut reader = OpReader::at(alloc, text, start);
     let mut blocks = Blocks::new(alloc, text.clone().ok()?, seat);
+    let mut shape = OpShape::new(alloc);
     let mut end = start;
     for _ in start..stop {
         if end >= stop {
             break;
         }
-        match read_op(&mut reader, &mut blocks) {
+        match read_op(&mut reader, &mut shape, &mut blocks) {
             Ok(true) => end = reader.top_offset()?,
             Ok(false) | Err(_) => break,
         }

@@ -13,6 +13,7 @@ use crate::parts::{Part, read_op, take_parts};
 use crate::starts::helpers_of;
 use bytes::Bytes;
 use edn_ops::reader::OpReader;
+use edn_ops::types::OpShape;
 use hist_types::types::Fault;
 use op_block::block::Block;
 use std::alloc::{AllocError, Global};
@@ -42,7 +43,12 @@ pub struct Round {
 }
 
 /// Reads up to a place at `stop` or after it where nothing is open, or to the text's end, where it returns false.
-fn read_up_to(stop: usize, reader: &mut OpReader<'_>, blocks: &mut Blocks) -> Result<bool, Fault>
+fn read_up_to(
+    alloc: Global,
+    stop: usize,
+    reader: &mut OpReader<'_>,
+    blocks: &mut Blocks,
+) -> Result<bool, Fault>
     requires { reader.old.state.text ≡ blocks.old.text }
     ensures up_to { (before : List Operation)
         → HasReadTo blocks.old.text reader.old (before ++ blocks.old.operations)
@@ -50,11 +56,12 @@ fn read_up_to(stop: usize, reader: &mut OpReader<'_>, blocks: &mut Blocks) -> Re
     ensures reader { reader.new.state.text ≡ blocks.old.text }
     ensures text { blocks.new.text ≡ blocks.old.text }
 {
+    let mut shape = OpShape::new(alloc);
     for _ in 0..u64::MAX {
         if matches!(reader.top_offset(), Some(offset) if offset >= stop) {
             return Ok(true);
         }
-        if !read_op(reader, blocks)? {
+        if !read_op(reader, &mut shape, blocks)? {
             return Ok(false);
         }
     }
@@ -107,12 +114,12 @@ fn read_over<'a>(
     ensures reader { reader.new.state.text ≡ text.now }
 {
     for part in parts {
-        if !read_up_to(part.start, reader, blocks)? {
+        if !read_up_to(alloc, part.start, reader, blocks)? {
             return Ok(false);
         }
         take_over(alloc, text, part, reader, blocks)?;
     }
-    read_up_to(stop, reader, blocks)
+    read_up_to(alloc, stop, reader, blocks)
 }
 
 /// The blocks of a round that ends at `stop`, of which these parts have been read.

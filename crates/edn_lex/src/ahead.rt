@@ -1,6 +1,8 @@
 //! Tokens by looking ahead, as printers write them: after blanks alone.
 
-ghost use Rattle.std.specs.Prelude.{◌≡◌, ◌≤◌, ◌<◌, ◌+◌, ℕ, length, take, get_or, true, false, IfSome};
+ghost use Rattle.std.specs.Prelude.{◌≡◌, ◌≤◌, ◌<◌, ◌+◌, ℕ, length, take, drop, get_or, true, false, IfSome};
+ghost use Rattle.std.specs.Char.{is_ascii_digit};
+ghost use Rattle.std.specs.List.{list_all};
 ghost use Rattle.hist_types.specs.Bytes.{open_square, close_square, open_brace, close_brace, is_run_byte};
 ghost use Rattle.edn_lex.specs.declared.ahead.TheConstants.{NUMBER_LOOK};
 ghost use Rattle.edn_lex.specs.Ahead.{is_lone, IsGap, IsWord, IsTokenAt, IsLoneAt, GivesAhead, GivesLone, GivesOpener, GivesCloser};
@@ -61,6 +63,18 @@ pub fn behind_comma(text: &[u8], offset: usize) -> usize
 {
     match &text[offset..] {
         [b',', b' ', ..] => behind_blanks(text, offset + 2),
+        _ => behind_blanks(text, offset),
+    }
+}
+
+/// The first offset from this one on where no blank is, or the text's end. Often one line feed comes first.
+#[inline(always)]
+pub fn behind_line(text: &[u8], offset: usize) -> usize
+    requires { offset ≤ length text.now }
+    ensures { IsGap text.now offset result }
+{
+    match &text[offset..] {
+        [b'\n', next, ..] if !is_blank(*next) => offset + 1,
         _ => behind_blanks(text, offset),
     }
 }
@@ -181,6 +195,32 @@ pub fn word_before(
     Some(Token { kind, start, end })
 }
 
+/// The token of so many bytes that begins here, all of them decimal digits, if it is an integer with this byte after it.
+#[inline(always)]
+pub fn digits_before(text: &[u8], start: usize, len: usize, after: u8) -> Option<Token>
+    requires room { start + len < length text.now }
+    requires digits { list_all is_ascii_digit (take len (drop start text.now)) ≡ true }
+    requires after { is_run_byte after ≡ false }
+    ensures lone { IfSome result (IsLoneAt text.now start) }
+    ensures kind { IfSome result (λ token. token.kind ≡ Int) }
+    ensures start { IfSome result (λ token. token.start ≡ start) }
+    ensures end { IfSome result (λ token. token.end ≡ start + len) }
+    ensures after { IfSome result (λ token. get_or text.now token.end 0 ≡ after) }
+{
+    let rest = &text[start..];
+    if len == 0 || text[start + len] != after {
+        return None;
+    }
+    if !has_no_leading_zero(&rest[..len]) {
+        return None;
+    }
+    Some(Token {
+        kind: TokenKind::Int,
+        start,
+        end: start + len,
+    })
+}
+
 /// The token that begins here, if it is an integer of fewer than 16 digits alone with this byte after it.
 #[inline(always)]
 pub fn number_before(text: &[u8], start: usize, after: u8) -> Option<Token>
@@ -192,19 +232,11 @@ pub fn number_before(text: &[u8], start: usize, after: u8) -> Option<Token>
     ensures few { IfSome result (λ token. token.end < start + NUMBER_LOOK) }
     ensures after { IfSome result (λ token. get_or text.now token.end 0 ≡ after) }
 {
-    let rest = &text[start..];
     let len = digits_of_16(text, start);
-    if len == 0 || len == DIGIT_LANES || text[start + len] != after {
+    if len == DIGIT_LANES {
         return None;
     }
-    if !has_no_leading_zero(&rest[..len]) {
-        return None;
-    }
-    Some(Token {
-        kind: TokenKind::Int,
-        start,
-        end: start + len,
-    })
+    digits_before(text, start, len, after)
 }
 
 /// The token that begins here, if it is UTF-8. Whether it may be here is not looked at.
@@ -294,7 +326,7 @@ fn record_tag(text: &[u8], start: usize) -> Option<Token>
 {
     let tag: &[u8] = b"#jepsen.history.Op";
     let rest = &text[start..];
-    if !rest.starts_with(tag) || !ends_run(&rest[tag.len()..]) {
+    if !begins_with(rest, tag) || !ends_run(&rest[tag.len()..]) {
         return None;
     }
     Some(Token {
@@ -312,7 +344,7 @@ pub fn tag_token(text: &[u8], offset: usize) -> Option<Token>
     ensures tag { IfSome result (λ token. token.kind ≡ Tag) }
     ensures fits { IfSome result (λ token. token.end ≤ length text.now) }
 {
-    let start = behind_blanks(text, offset);
+    let start = behind_line(text, offset);
     if let Some(token) = record_tag(text, start) {
         return Some(token);
     }
@@ -384,7 +416,7 @@ pub fn map_opener(text: &[u8], offset: usize) -> Option<Token>
     ensures gives { IfSome result (GivesOpener text.now offset open_brace close_brace) }
     ensures fits { IfSome result (λ token. token.end ≤ length text.now) }
 {
-    let start = behind_blanks(text, offset);
+    let start = behind_line(text, offset);
     if start < text.len() && text[start] == b'{' {
         Some(Token {
             kind: TokenKind::Open,

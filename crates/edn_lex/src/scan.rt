@@ -89,7 +89,12 @@ pub(crate) fn digits_alone(text: &[u8]) -> Option<usize>
     ensures digits { IfSome result (λ len. list_all is_ascii_digit (take len text.now) ≡ true) }
     ensures alone { IfSome result (λ len. longest_run (drop len text.now) ≡ 0) }
 {
-    let mut len = 0;
+    // Few numbers have more than 16 digits.
+    let mut len = if text.len() < DIGIT_LANES {
+        0
+    } else {
+        digits_of_16(text, 0)
+    };
     while len < text.len() {
         let byte = text[len];
         if !byte.is_ascii_digit() {

@@ -1,10 +1,10 @@
 -- Maps that are read in one pass over their bytes.
-use Rattle.std.proofs.Common.{◌≡◌, ℕ, ℤ, ◌+◌, ◌-◌, ◌<◌, ◌≤◌, ◌⊎◌, List, [], ◌∷◌, ◌++◌, length, Bool, true, false, codes, Option, Some, None, Result, Ok, Err, inl, inr, refl, sym, ◌∙◌, ap, arith, subst, append-nil, nat_lt, lit≤, lit<, drop, get_or, length-take}
+use Rattle.std.proofs.Common.{◌≡◌, ℕ, ℤ, ◌+◌, ◌-◌, ◌<◌, ◌≤◌, ◌⊎◌, List, [], ◌∷◌, ◌++◌, length, Bool, true, false, codes, Option, Some, None, Result, Ok, Err, inl, inr, refl, sym, ◌∙◌, ap, arith, subst, append-nil, nat_lt, lit≤, lit<, drop, take, get_or, length-take}
 use Rattle.std.specs.List.{slice_get}
 use Rattle.std.specs.Prelude.{IfSome, slice_range}
 use Rattle.std.specs.Option.{is_some, unwrap_or}
 use Rattle.std.proofs.lemmas.Bool.{true≢false, false_from_ne_true, cases_lt}
-use Rattle.hist_types.specs.AtomTokens.{int_value, process_of}
+use Rattle.hist_types.specs.AtomTokens.{int_value, int_of_token, process_of}
 use Rattle.hist_types.specs.Bytes.{close_brace, open_square, close_square, is_blank}
 use Rattle.hist_types.specs.Entries.{◌>>=◌, is_write_of, or_refuse, the_one, is_named, int_of, kind_of as kind_of_form, micro_ops_of, transaction_of, client_operation, end_of, entry_by, entry_of}
 use Rattle.hist_types.specs.Forms.{Form, plain, collection, forms_of, place_of, is_map}
@@ -15,15 +15,18 @@ use Rattle.hist_types.specs.declared.types.OpKind.{OpKind}
 use Rattle.hist_types.specs.declared.types.OpKind.TheVariants as op_kinds
 use Rattle.hist_types.specs.declared.types.Refusal.TheVariants.{NotTxn}
 use Rattle.edn_lex.specs.Ahead.{going_at, IsGap, IsLoneAt, GivesLone, GivesOpener, GivesCloser, GivesTriple}
-use Rattle.edn_lex.specs.Kinds.{item_of}
+use Rattle.edn_lex.specs.Kinds.{kind_of, item_of}
 use Rattle.edn_lex.specs.declared.ahead.TheConstants.{LEVELS_AHEAD}
 use Rattle.edn_lex.specs.declared.ahead.Triple.{Triple}
 use Rattle.edn_lex.specs.declared.types.Token.{Token}
+use Rattle.edn_lex.specs.declared.types.TokenKind.{TokenKind}
 use Rattle.edn_lex.specs.declared.types.TokenKind.TheVariants as kinds
 use Rattle.edn_ops.specs.declared.atoms.TheConstants.{LONG_INTEGER}
 use Rattle.edn_ops.specs.declared.flat.FlatFields.{FlatFields}
 use Rattle.edn_ops.specs.declared.flat.Owner.{Owner}
 use Rattle.edn_ops.specs.declared.flat.Owner.TheVariants as owners
+use Rattle.edn_ops.specs.declared.flat.Reached.{Reached}
+use Rattle.edn_ops.specs.declared.flat.Reached.TheVariants as reaches
 use Rattle.edn_ops.specs.declared.flat.TheConstants.{VALUE_LEVELS}
 use Rattle.edn_ops.specs.declared.outline.Outline.{Outline}
 use Rattle.edn_ops.specs.declared.types.MopShape.{MopShape}
@@ -31,7 +34,7 @@ use Rattle.edn_ops.specs.declared.types.Span.{Span}
 use Rattle.edn_ops.specs.declared.types.OpShape.{OpShape}
 use Rattle.edn_ops.specs.Collections.{ReadsMap}
 use Rattle.edn_ops.specs.Fields.{fields_named, members_of, mops_result, result_outline, IsEntry}
-use Rattle.edn_ops.specs.Flat.{ReadsAhead, ReadsUpTo, ReadsInside, ReadsFields, ReadsFlatFront, PassesAhead, IsMopValue, GivesMop, ReadsFlatMop, ReadsFlatTransaction, ReadsFlatValue, ReadsFlatField, HasKind, NamesOwner, HasOwner, HasMops, may_have_mops, AreFlat, AddsFlat, ReadsFlatMap, AreFlatMops, IsComplete, IsFlatEntry}
+use Rattle.edn_ops.specs.Flat.{ReadsAhead, ReadsUpTo, ReadsInside, ReadsFields, PassesFields, PassesFieldAt, IsOther, ReadsFlatFront, ReadsFirstFields, PassesAhead, IsMopValue, GivesMop, ReadsFlatMop, ReadsFlatTransaction, ReadsFlatValue, ReadsPlainField, ReadsFlatField, HasReached, CanGoOn, place_reached, HasKind, NamesOwner, HasOwner, HasMops, may_have_mops, AreFlat, AddsFlat, ReadsFlatMap, AreFlatMops, IsComplete, IsFlatEntry}
 use Rattle.edn_ops.specs.Leads.{is_mark_kind}
 use Rattle.edn_ops.specs.Outlines.{outline, outline_of, number_of, IsTokenIn}
 use Rattle.edn_ops.proofs.Closing.{IsAt, by_process, entry_from, entry_is, entry_skipped, has_value, is_operation, value_mops, bind_ok}
@@ -123,6 +126,17 @@ pub process_says :
     NamesOwner (outline_of text value) (owners.Client process)
 process_says text bytes value number process int is e = (number_of text number, int, sym (e ∙ ap (λ (bs : List ℕ). process_of (int_value bs)) is))
 
+pub digits_spelled : (text : List ℕ) (start len : ℕ) (token : Token) → token.start ≡ start → token.end ≡ start + len → take len (drop start text) ≡ slice_range text token.start token.end
+digits_spelled text start len token begins ends =
+    let count : len ≡ token.end - token.start = omega arith in
+    ap (λ (n : ℕ). take n (drop start text)) count ∙ ap (λ (s : ℕ). take (token.end - token.start) (drop s text)) (sym begins)
+
+pub digits_say :
+    (text bytes : List ℕ) (token : Token) (process : ℕ) → token.kind ≡ kinds.Int → bytes ≡ slice_range text token.start token.end → process_of (int_value bytes) ≡ Some process → NamesOwner (plain (item_of text token)) (owners.Client process)
+digits_say text bytes token process int is e =
+    let spelled = slice_range text token.start token.end in
+    (number_of text token, ap (λ (kind : TokenKind). int_of_token (kind_of kind) spelled) int, sym (ap (λ (bs : List ℕ). process_of (int_value bs)) is) ∙ e)
+
 -- ---- micro-operations
 
 -- a vector of three is one more micro-operation
@@ -170,18 +184,28 @@ gap_more text offset middle start first second =
       ];
     }
 
--- a space is a gap
-pub space_here : (text : List ℕ) (at : ℕ) → at < length text → get_or text at 0 ≡ 32 → IsGap text at (at + 1)
-space_here text at within is =
+-- a blank is a gap
+pub blank_here : (text : List ℕ) (at byte : ℕ) → at < length text → get_or text at 0 ≡ byte → is_blank byte ≡ true → IsGap text at (at + 1)
+blank_here text at byte within is blank =
     record {
       low = omega arith;
       fits = omega arith;
-      blanks = λ k low high. let same : k ≡ at = omega arith in ap is_blank (ap (λ (n : ℕ). get_or text n 0) same ∙ is);
+      blanks = λ k low high. let same : k ≡ at = omega arith in ap is_blank (ap (λ (n : ℕ). get_or text n 0) same ∙ is) ∙ blank;
     }
+
+pub space_here : (text : List ℕ) (at : ℕ) → at < length text → get_or text at 0 ≡ 32 → IsGap text at (at + 1)
+space_here text at within is = blank_here text at 32 within is refl
+
+pub comma_here : (text : List ℕ) (at : ℕ) → at < length text → get_or text at 0 ≡ 44 → IsGap text at (at + 1)
+comma_here text at within is = blank_here text at 44 within is refl
+
+-- nothing is a gap
+pub no_gap : (text : List ℕ) (offset : ℕ) → offset ≤ length text → IsGap text offset offset
+no_gap text offset within = record { low = omega arith; fits = within; blanks = λ k low high. absurd (omega arith) }
 
 -- a token that begins at the offset
 pub lone_here : (text : List ℕ) (offset : ℕ) (token : Token) → offset ≤ length text → IsLoneAt text offset token → GivesLone text offset token
-lone_here text offset token within h = h offset (record { low = omega arith; fits = within; blanks = λ k low high. absurd (omega arith) })
+lone_here text offset token within h = h offset (no_gap text offset within)
 
 pub lone_token_in : (text : List ℕ) (start : ℕ) (token : Token) → start ≤ length text → IsLoneAt text start token → IsTokenIn text token
 lone_token_in text start token within h = lone_in text start token (lone_here text start token within h)
@@ -240,37 +264,122 @@ field_further text at key end value gives ahead =
 process_no_type : (f : Form) → is_named (codes ":process") f ≡ true → is_named (codes ":type") f ≡ false
 process_no_type f h = false_from_ne_true (is_named (codes ":type") f) (λ k. true≢false (sym h ∙ type_process f k))
 
--- a map that begins with its kind and its process
-pub front_read :
-    (text : List ℕ) (offset : ℕ) (kind_key kind_token owner_key owner_token : Token) (old : FlatFields) (kind : OpKind) (owner : Owner) → offset ≤ length text → is_some old.kind ≡ false → is_some old.owner ≡ false →
-    IsLoneAt text offset kind_key → is_named (codes ":type") (plain (item_of text kind_key)) ≡ true →
-    GivesLone text kind_key.end kind_token → kind_token.end ≤ length text → Some kind ≡ kind_of_form (plain (item_of text kind_token)) →
-    GivesLone text kind_token.end owner_key → is_named (codes ":process") (plain (item_of text owner_key)) ≡ true →
-    GivesLone text owner_key.end owner_token → owner_token.end ≤ length text → NamesOwner (plain (item_of text owner_token)) owner →
-    ReadsFlatFront text offset old (Some owner_token.end) (record old { kind = Some kind; owner = Some owner })
-front_read text offset kind_key kind_token owner_key owner_token old kind owner within no_kind no_owner kind_key_lone kind_named kind_lone kind_fits kind_is owner_key_lone owner_named owner_lone owner_fits owner_is shapes flat =
-    let mid : FlatFields = record old { kind = Some kind } in
-    let new : FlatFields = record old { kind = Some kind; owner = Some owner } in
-    let k = plain (item_of text kind_key) in
-    let o = plain (item_of text owner_key) in
-    let kv = plain (item_of text kind_token) in
-    let ov = plain (item_of text owner_token) in
-    let first = one_field text offset [] old mid shapes shapes offset kind_key kind_token.end kv (no_fields text offset old shapes within flat) (lone_here text offset kind_key within kind_key_lone)
-    (lone_form text VALUE_LEVELS kind_key.end kind_token kind_fits kind_lone) (adds_kind old shapes k kv (Some kind) kind_named no_kind kind_is refl) in (
-      ([] ++ (k, kv) ∷ []) ++ (o, ov) ∷ [],
-      one_field text offset ([] ++ (k, kv) ∷ []) mid new shapes shapes kind_token.end owner_key owner_token.end ov first owner_key_lone
-          (lone_form text VALUE_LEVELS owner_key.end owner_token owner_fits owner_lone) (adds_owner mid shapes o ov owner (process_no_type o owner_named) owner_named no_owner owner_is),
+-- ---- fields that say nothing
+
+pub none_passed : (text : List ℕ) (at : ℕ) → PassesFields text at at
+none_passed text at start pairs fields shapes read = (pairs, read)
+
+pub both_passed : (text : List ℕ) (from middle to : ℕ) → PassesFields text from middle → PassesFields text middle to → PassesFields text from to
+both_passed text from middle to first second start pairs fields shapes read =
+    let one = first start pairs fields shapes read in
+    second start one.0 fields shapes one.1
+
+-- a key of such a field and a form by itself
+pub field_passed :
+    (text : List ℕ) (start : ℕ) (key token : Token) → IsLoneAt text start key → IsOther (plain (item_of text key)) → GivesLone text key.end token → token.end ≤ length text → PassesFieldAt text start token.end
+field_passed text start key token lone other gives fits from gap begin pairs fields shapes read =
+    let k = plain (item_of text key) in
+    let v = plain (item_of text token) in (
+      pairs ++ (k, v) ∷ [],
+      one_field text begin pairs fields fields shapes shapes from key token.end v read (lone from gap) (lone_form text VALUE_LEVELS key.end token fits gives) (adds_other fields shapes k v other.0 other.1 (λ _. other.2)),
     )
 
--- the fields that a map begins with, if it was read so
+-- and one more, if it comes next
+pub one_more_passed :
+    (text : List ℕ) (offset at next end : ℕ) (o : Option ℕ) → PassesFields text offset at → IsGap text at next → IfSome o (PassesFieldAt text next) → end ≡ unwrap_or o at → PassesFields text offset end
+one_more_passed text offset at next end None first gap more is = subst (PassesFields text offset) (sym is) first
+one_more_passed text offset at next end (Some far) first gap more is = subst (PassesFields text offset) (sym is) (both_passed text offset at far first (more at gap))
+
+-- fields that begin with a kind and a process, up to a transaction's opener
+pub front_read :
+    (text : List ℕ) (offset at : ℕ) (kind_key kind_token owner_key owner_token value_key opener : Token) (old : FlatFields) (kind : OpKind) (owner : Owner) → is_some old.kind ≡ false → is_some old.owner ≡ false →
+    old.has_value ≡ false → IsLoneAt text offset kind_key → is_named (codes ":type") (plain (item_of text kind_key)) ≡ true →
+    GivesLone text kind_key.end kind_token → kind_token.end ≤ length text → Some kind ≡ kind_of_form (plain (item_of text kind_token)) → may_have_mops (Some kind) ≡ true →
+    GivesLone text kind_token.end owner_key → is_named (codes ":process") (plain (item_of text owner_key)) ≡ true →
+    GivesLone text owner_key.end owner_token → owner_token.end ≤ length text → NamesOwner (plain (item_of text owner_token)) owner → PassesFields text owner_token.end at →
+    GivesLone text at value_key → is_named (codes ":value") (plain (item_of text value_key)) ≡ true → GivesOpener text value_key.end open_square close_square opener →
+    ReadsFlatFront text offset old (Some opener) (record old { kind = Some kind; owner = Some owner; has_value = true })
+front_read text offset at kind_key kind_token owner_key owner_token value_key opener old kind owner no_kind no_owner no_mops kind_key_lone kind_named kind_lone kind_fits kind_is may owner_key_lone owner_named owner_lone owner_fits owner_is passed value_key_lone value_named opens = (
+  value_key.end,
+  opens,
+  λ start from pairs shapes more end gap before read.
+      let one : FlatFields = record old { kind = Some kind } in
+      let two : FlatFields = record old { kind = Some kind; owner = Some owner } in
+      let three : FlatFields = record old { kind = Some kind; owner = Some owner; has_value = true } in
+      let k = plain (item_of text kind_key) in
+      let o = plain (item_of text owner_key) in
+      let v = plain (item_of text value_key) in
+      let kv = plain (item_of text kind_token) in
+      let ov = plain (item_of text owner_token) in
+      let first = one_field text start pairs old one shapes shapes from kind_key kind_token.end kv before (kind_key_lone from gap)
+      (lone_form text VALUE_LEVELS kind_key.end kind_token kind_fits kind_lone) (adds_kind old shapes k kv (Some kind) kind_named no_kind kind_is refl) in
+      let second = one_field text start (pairs ++ (k, kv) ∷ []) one two shapes shapes kind_token.end owner_key owner_token.end ov first owner_key_lone
+      (lone_form text VALUE_LEVELS owner_key.end owner_token owner_fits owner_lone) (adds_owner one shapes o ov owner (process_no_type o owner_named) owner_named no_owner owner_is) in
+      let third = passed start ((pairs ++ (k, kv) ∷ []) ++ (o, ov) ∷ []) two shapes second in (
+        third.0 ++ (v, read.0) ∷ [],
+        one_field text start third.0 two three shapes more at value_key end read.0 third.1 value_key_lone
+            (deeper text 2 VALUE_LEVELS value_key.end read.0 end (lit≤ tt) read.1) (adds_value two shapes more v read.0 value_named may no_mops read.2),
+      ),
+)
+
+-- the fields that a map begins with
+pub front_missed :
+    (text : List ℕ) (offset at : ℕ) (old new : FlatFields) (shapes : List MopShape) → offset ≤ length text → AreFlat old shapes [] → PassesFields text offset at → new ≡ old → HasReached text offset new shapes (reaches.End at)
+front_missed text offset at old new shapes within flat passed same =
+    let front = passed offset [] old shapes (no_fields text offset old shapes within flat) in
+    (front.0, subst (λ (f : FlatFields). ReadsFields text offset front.0 f shapes at) (sym same) front.1)
+
 pub front_begins :
-    (text : List ℕ) (offset : ℕ) (old new : FlatFields) (shapes : List MopShape) (o : Option ℕ) (at : ℕ) → offset ≤ length text → AreFlat old shapes [] → ReadsFlatFront text offset old o new → at ≡ unwrap_or o offset →
-    (pairs : List (Form × Form)) × ReadsFields text offset pairs new shapes at
-front_begins text offset old new shapes None at within flat same is =
-    ([], subst (λ (n : ℕ). ReadsFields text offset [] new shapes n) (sym is) (subst (λ (f : FlatFields). ReadsFields text offset [] f shapes offset) (sym same) (no_fields text offset old shapes within flat)))
-front_begins text offset old new shapes (Some end) at within flat read is =
-    let front = read shapes flat in
-    (front.0, subst (λ (n : ℕ). ReadsFields text offset front.0 new shapes n) (sym is) front.1)
+    (text : List ℕ) (offset at next : ℕ) (old new : FlatFields) (shapes : List MopShape) (opener : Token) → offset ≤ length text → AreFlat old shapes [] → PassesFields text offset at → IsGap text at next →
+    ReadsFlatFront text next old (Some opener) new → HasReached text offset new shapes (reaches.Opener opener)
+front_begins text offset at next old new shapes opener within flat passed gap front =
+    let before = passed offset [] old shapes (no_fields text offset old shapes within flat) in
+    (front.0, front.1, λ more end read. front.2 offset at before.0 shapes more end gap before.1 read)
+
+-- and a transaction after its opener
+pub transaction_reached :
+    (text : List ℕ) (offset : ℕ) (fields : FlatFields) (shapes more : List MopShape) (opener : Token) (result : Result (Option ℕ) Fault) → HasReached text offset fields shapes (reaches.Opener opener) →
+    ((at : ℕ) → GivesOpener text at open_square close_square opener → ReadsFlatTransaction text at result more) → ReadsFirstFields text offset result fields more
+transaction_reached text offset fields shapes more opener (Ok None) has reads = tt
+transaction_reached text offset fields shapes more opener (Ok (Some end)) has reads = has.2 more end (reads has.0 has.1)
+transaction_reached text offset fields shapes more opener (Err fault) has reads = reads has.0 has.1
+
+pub can_within : (text : List ℕ) (shapes : List MopShape) (reached : Reached) → CanGoOn text shapes reached → place_reached reached ≤ length text
+can_within text shapes (reaches.End at) can = can
+can_within text shapes (reaches.Opener opener) can = can.0
+
+-- one field more
+pub field_reached :
+    (text : List ℕ) (offset at start : ℕ) (pairs : List (Form × Form)) (old new : FlatFields) (shapes : List MopShape) (further : Reached) → ReadsFields text offset pairs old shapes at → IsGap text at start →
+    ReadsFlatField text start old (Some further) new → HasReached text offset new shapes further × CanGoOn text shapes further × (at < place_reached further)
+field_reached text offset at start pairs old new shapes (reaches.End end) front gap r =
+    let key = r.0 in
+    let lone = r.1 at gap in
+    let further = field_further text at key end r.2 lone r.3 in (
+      (pairs ++ (plain (item_of text key), r.2) ∷ [], one_field text offset pairs old new shapes shapes at key end r.2 front lone r.3 (r.4 shapes)),
+      further.1,
+      further.0,
+    )
+field_reached text offset at start pairs old new shapes (reaches.Opener opener) front gap r =
+    let key = r.0 in
+    let lone = r.1 at gap in
+    let k = plain (item_of text key) in
+    let opens = r.2.gives [] (lit< tt) in
+    let low = opens.low in
+    let some = opens.some in
+    let fits = r.3 in
+    let middle = (lone_form text VALUE_LEVELS at key (omega arith) lone).further in (
+      (
+        key.end,
+        r.2,
+        λ more end read. (
+          pairs ++ (k, read.0) ∷ [],
+          one_field text offset pairs old new shapes more at key end read.0 front lone (deeper text 2 VALUE_LEVELS key.end read.0 end (lit≤ tt) read.1) (r.5 shapes more read.0 read.2),
+        ),
+      ),
+      (fits, front.flat.empty r.4),
+      omega arith,
+    )
 
 -- and its closer
 pub map_read :
@@ -407,24 +516,22 @@ owner_read text offset token old owner none gives fits is = (
 
 -- a value that is no transaction
 pub value_read :
-    (text : List ℕ) (start : ℕ) (key : Token) (name : List ℕ) (old : FlatFields) (shapes : List MopShape) (o : Option ℕ) (new : FlatFields) → IsLoneAt text start key → is_named name (plain (item_of text key)) ≡ true →
-    ReadsFlatValue text key.end name old o new → ReadsFlatField text start old shapes (Ok o) new shapes
-value_read text start key name old shapes None new lone is r = tt
-value_read text start key name old shapes (Some end) new lone is r = (key, lone, r.0, r.1, r.2 (plain (item_of text key)) shapes is)
+    (text : List ℕ) (start : ℕ) (key : Token) (name : List ℕ) (old : FlatFields) (o : Option ℕ) (new : FlatFields) → IsLoneAt text start key → is_named name (plain (item_of text key)) ≡ true →
+    ReadsFlatValue text key.end name old o new → ReadsPlainField text start old o new
+value_read text start key name old None new lone is r = tt
+value_read text start key name old (Some end) new lone is r = (key, lone, r.0, r.1, λ shapes. r.2 (plain (item_of text key)) shapes is)
 
 -- a value that says nothing
 pub value_passed :
-    (text : List ℕ) (start : ℕ) (key : Token) (fields : FlatFields) (shapes : List MopShape) (o : Option ℕ) → IsLoneAt text start key → (let k = plain (item_of text key) in is_named (codes ":type") k ≡ false) →
+    (text : List ℕ) (start : ℕ) (key : Token) (fields : FlatFields) (o : Option ℕ) → IsLoneAt text start key → (let k = plain (item_of text key) in is_named (codes ":type") k ≡ false) →
     (let k = plain (item_of text key) in is_named (codes ":process") k ≡ false) → (let k = plain (item_of text key) in may_have_mops fields.kind ≡ true → is_named (codes ":value") k ≡ false) →
-    PassesAhead text VALUE_LEVELS key.end o → ReadsFlatField text start fields shapes (Ok o) fields shapes
-value_passed text start key fields shapes None lone type process other passes = tt
-value_passed text start key fields shapes (Some end) lone type process other passes = (key, lone, passes.0, passes.1, adds_other fields shapes (plain (item_of text key)) passes.0 type process other)
+    PassesAhead text VALUE_LEVELS key.end o → ReadsPlainField text start fields o fields
+value_passed text start key fields None lone type process other passes = tt
+value_passed text start key fields (Some end) lone type process other passes = (key, lone, passes.0, passes.1, λ shapes. adds_other fields shapes (plain (item_of text key)) passes.0 type process other)
 
 -- a transaction that is the value of the first `:value`
 pub value_ahead :
-    (text : List ℕ) (start : ℕ) (key : Token) (old : FlatFields) (shapes more : List MopShape) (result : Result (Option ℕ) Fault) → IsLoneAt text start key → is_named (codes ":value") (plain (item_of text key)) ≡ true →
-    may_have_mops old.kind ≡ true → old.has_value ≡ false → ReadsFlatTransaction text key.end result more → ReadsFlatField text start old shapes result (record old { has_value = true }) more
-value_ahead text start key old shapes more (Ok None) lone named may first r = tt
-value_ahead text start key old shapes more (Ok (Some end)) lone named may first r =
-    (key, lone, r.0, deeper text 2 VALUE_LEVELS key.end r.0 end (lit≤ tt) r.1, adds_value old shapes more (plain (item_of text key)) r.0 named may first r.2)
-value_ahead text start key old shapes more (Err fault) lone named may first r = r
+    (text : List ℕ) (start : ℕ) (key opener : Token) (old : FlatFields) → IsLoneAt text start key → is_named (codes ":value") (plain (item_of text key)) ≡ true → may_have_mops old.kind ≡ true → old.has_value ≡ false →
+    GivesOpener text key.end open_square close_square opener → opener.end ≤ length text → ReadsFlatField text start old (Some (reaches.Opener opener)) (record old { has_value = true })
+value_ahead text start key opener old lone named may first opens fits =
+    (key, lone, opens, fits, first, λ shapes more value says. adds_value old shapes more (plain (item_of text key)) value named may first says)

@@ -188,6 +188,14 @@ type_value f h = false_from_ne_true (is_named (codes ":value") f) (λ k. let e =
 pub process_value : (f : Form) → is_named (codes ":process") f ≡ true → is_named (codes ":value") f ≡ false
 process_value f h = false_from_ne_true (is_named (codes ":value") f) (λ k. let e = one_name (codes ":process") (codes ":value") f h k in cc)
 
+-- the name of what was called says nothing
+pub function_other : (f : Form) → is_named (codes ":f") f ≡ true → (is_named (codes ":type") f ≡ false) × (is_named (codes ":process") f ≡ false) × (is_named (codes ":value") f ≡ false)
+function_other f h = (
+  false_from_ne_true (is_named (codes ":type") f) (λ k. let e = one_name (codes ":f") (codes ":type") f h k in cc),
+  false_from_ne_true (is_named (codes ":process") f) (λ k. let e = one_name (codes ":f") (codes ":process") f h k in cc),
+  false_from_ne_true (is_named (codes ":value") f) (λ k. let e = one_name (codes ":f") (codes ":value") f h k in cc),
+)
+
 pub value_type : (f : Form) → is_named (codes ":value") f ≡ true → is_named (codes ":type") f ≡ false
 value_type f h = false_from_ne_true (is_named (codes ":type") f) (λ k. let e = one_name (codes ":value") (codes ":type") f h k in cc)
 

@@ -233,6 +233,15 @@ digits_number text count number whole fits h =
       fits = ap is_64_bit (to_z_pos w64 number fits) ∙ lt-ltb number (2 ^ 63) fits;
     }
 
+pub digits_taken : (text : List ℕ) (count number : ℕ) → number < 2 ^ 63 → AreDigitsUpTo text count number → IsNumberOf (take count text) (pos number)
+digits_taken text count number fits h =
+    let ds = take count text in
+    record {
+      digits = h.digits;
+      means = ap (signed_digits_value 10) (no_n ds h.digits) ∙ plain_sign ds h.digits ∙ ap pos (sym h.value);
+      fits = lt-ltb number (2 ^ 63) fits;
+    }
+
 -- as the machine holds it
 pub number_kept : (text : List ℕ) (number : ℤ) → IsNumberOf text number → to_z w64 (of_z w64 number) ≡ number
 number_kept text number h = to_z-of_z w64 number (is_fits number h.fits)

@@ -2,7 +2,7 @@
 use Rattle.std.specs.Prelude.{◌≡◌, ◌⊎◌, ℕ, ℤ, ◌+◌, ◌<◌, ◌≤◌, List, [], ◌∷◌, ◌++◌, length, Bool, true, false, codes, Option, Some, None, IfSome, Result, Ok, Err}
 use Rattle.std.specs.Option.{is_some}
 use Rattle.hist_types.specs.AtomTokens.{process_of}
-use Rattle.hist_types.specs.Bytes.{open_brace, close_brace}
+use Rattle.hist_types.specs.Bytes.{open_square, close_square, open_brace, close_brace}
 use Rattle.hist_types.specs.Entries.{atom_of, entry_of, int_of, is_named, kind_of, micro_ops_of, mops_of, transaction_of, value_of}
 use Rattle.hist_types.specs.Forms.{Form, plain}
 use Rattle.hist_types.specs.Refusals.{memory_fault}
@@ -12,7 +12,7 @@ use Rattle.hist_types.specs.declared.types.Fault.{Fault}
 use Rattle.hist_types.specs.declared.types.OpKind.{OpKind}
 use Rattle.hist_types.specs.declared.types.OpKind.TheVariants as kinds
 use Rattle.smallvec.specs.SmallVec.{SmallVec}
-use Rattle.edn_lex.specs.Ahead.{going_at, IsLoneAt, GivesAhead, GivesOpener, GivesCloser, GivesTriple}
+use Rattle.edn_lex.specs.Ahead.{going_at, IsGap, IsLoneAt, GivesAhead, GivesOpener, GivesCloser, GivesTriple}
 use Rattle.edn_lex.specs.Kinds.{item_of}
 use Rattle.edn_lex.specs.declared.ahead.Triple.{Triple}
 use Rattle.edn_lex.specs.declared.types.Token.{Token}
@@ -23,6 +23,8 @@ use Rattle.edn_ops.specs.declared.flat.FlatFields.{FlatFields}
 use Rattle.edn_ops.specs.declared.flat.FlatOperation.{FlatOperation}
 use Rattle.edn_ops.specs.declared.flat.Owner.{Owner}
 use Rattle.edn_ops.specs.declared.flat.Owner.TheVariants as owners
+use Rattle.edn_ops.specs.declared.flat.Reached.{Reached}
+use Rattle.edn_ops.specs.declared.flat.Reached.TheVariants as reaches
 use Rattle.edn_ops.specs.declared.flat.TheConstants.{VALUE_LEVELS}
 use Rattle.edn_ops.specs.declared.outline.Outline.{Outline}
 use Rattle.edn_ops.specs.declared.outline.Outline.TheVariants as outlines
@@ -185,23 +187,73 @@ pub record ReadsFields
   pub up_to : ReadsUpTo text VALUE_LEVELS offset (members_of pairs None) at
   pub flat : AreFlat fields shapes pairs
 
--- a call read the first fields of a map, none of which is a transaction
-abbrev pub ReadsFlatFront : List ℕ → ℕ → FlatFields → Option ℕ → FlatFields → Type 0
-ReadsFlatFront text offset old None new = new ≡ old
-ReadsFlatFront text offset old (Some end) new =
-    (shapes : List MopShape) → AreFlat old shapes [] →
-    (pairs : List (Form × Form)) × ReadsFields text offset pairs new shapes end
+-- from one offset up to another there are fields that say nothing
+abbrev pub PassesFields : List ℕ → ℕ → ℕ → Type 0
+PassesFields text from to =
+    (start : ℕ) (pairs : List (Form × Form)) (fields : FlatFields) (shapes : List MopShape) →
+    ReadsFields text start pairs fields shapes from →
+    (more : List (Form × Form)) × ReadsFields text start more fields shapes to
 
--- a call read the field whose key begins here
-abbrev pub ReadsFlatField :
-    List ℕ → ℕ → FlatFields → List MopShape →
-    Result (Option ℕ) Fault → FlatFields → List MopShape → Type 0
-ReadsFlatField text start old shapes (Ok None) new more = Unit {0}
-ReadsFlatField text start old shapes (Ok (Some end)) new more =
+-- such a field begins here, and ends where this says
+abbrev pub PassesFieldAt : List ℕ → ℕ → ℕ → Type 0
+PassesFieldAt text start end = (from : ℕ) → IsGap text from start → PassesFields text from end
+
+-- a call read the fields that begin here up to the opener of a transaction, with which these are all
+abbrev pub ReadsFlatFront : List ℕ → ℕ → FlatFields → Option Token → FlatFields → Type 0
+ReadsFlatFront text offset old None new = new ≡ old
+ReadsFlatFront text offset old (Some opener) new =
+    (at : ℕ) × GivesOpener text at open_square close_square opener
+    × ((start from : ℕ) (pairs : List (Form × Form)) (shapes more : List MopShape) (end : ℕ) →
+    IsGap text from offset → ReadsFields text start pairs old shapes from →
+    ReadsFlatTransaction text at (Ok (Some end)) more →
+    (all : List (Form × Form)) × ReadsFields text start all new more end)
+
+-- a call read the first fields of a map, up to the end that it gives
+abbrev pub ReadsFirstFields :
+    List ℕ → ℕ → Result (Option ℕ) Fault → FlatFields → List MopShape → Type 0
+ReadsFirstFields text offset (Ok None) new more = Unit {0}
+ReadsFirstFields text offset (Ok (Some end)) new more =
+    (pairs : List (Form × Form)) × ReadsFields text offset pairs new more end
+ReadsFirstFields text offset (Err fault) new more = fault ≡ memory_fault
+
+-- a call read the field whose key begins here, up to the end that it gives
+abbrev pub ReadsPlainField : List ℕ → ℕ → FlatFields → Option ℕ → FlatFields → Type 0
+ReadsPlainField text start old None new = Unit {0}
+ReadsPlainField text start old (Some end) new =
     (key : Token) × IsLoneAt text start key
     × (value : Form) × ReadsAhead text VALUE_LEVELS key.end value end
-    × AddsFlat old shapes (plain (item_of text key)) value new more
-ReadsFlatField text start old shapes (Err fault) new more = fault ≡ memory_fault
+    × ((shapes : List MopShape) → AddsFlat old shapes (plain (item_of text key)) value new shapes)
+
+-- the same, where a transaction is read only up to its opener
+abbrev pub ReadsFlatField : List ℕ → ℕ → FlatFields → Option Reached → FlatFields → Type 0
+ReadsFlatField text start old None new = Unit {0}
+ReadsFlatField text start old (Some (reaches.End end)) new =
+    ReadsPlainField text start old (Some end) new
+ReadsFlatField text start old (Some (reaches.Opener opener)) new =
+    (key : Token) × IsLoneAt text start key
+    × GivesOpener text key.end open_square close_square opener
+    × (opener.end ≤ length text) × (old.has_value ≡ false)
+    × ((shapes more : List MopShape) (value : Form) → Ok more ≡ mops_result (transaction_of value) →
+    AddsFlat old shapes (plain (item_of text key)) value new more)
+
+-- from the offset on these fields of a map were read up to here, but for a transaction after its
+-- opener
+abbrev pub HasReached : List ℕ → ℕ → FlatFields → List MopShape → Reached → Type 0
+HasReached text offset fields shapes (reaches.End at) =
+    (pairs : List (Form × Form)) × ReadsFields text offset pairs fields shapes at
+HasReached text offset fields shapes (reaches.Opener opener) =
+    (at : ℕ) × GivesOpener text at open_square close_square opener
+    × ((more : List MopShape) (end : ℕ) → ReadsFlatTransaction text at (Ok (Some end)) more →
+    (pairs : List (Form × Form)) × ReadsFields text offset pairs fields more end)
+
+-- it is in the text, and a transaction that begins here is read into an empty list
+abbrev pub CanGoOn : List ℕ → List MopShape → Reached → Type 0
+CanGoOn text shapes (reaches.End at) = at ≤ length text
+CanGoOn text shapes (reaches.Opener opener) = (opener.end ≤ length text) × (shapes ≡ [])
+
+abbrev pub place_reached : Reached → ℕ
+place_reached (reaches.End at) = at
+place_reached (reaches.Opener opener) = opener.end
 
 -- ---- maps
 

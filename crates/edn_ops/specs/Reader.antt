@@ -1,5 +1,5 @@
 -- Readers of operations, and what their calls read.
-use Rattle.std.specs.Prelude.{◌≡◌, ◌≢◌, ◌⊎◌, ◌≤◌, ◌+◌, ℕ, zero, suc, List, [], ◌∷◌, ◌++◌, length, true, false, Option, Some, None, IfSome, Result, Ok, Err}
+use Rattle.std.specs.Prelude.{◌≡◌, ◌≢◌, ◌⊎◌, ◌≤◌, ◌+◌, ℕ, zero, suc, List, [], ◌∷◌, ◌++◌, length, Bool, true, false, Option, Some, None, IfSome, Result, Ok, Err}
 use Rattle.hist_types.specs.Entries.{Entry, operation, skipped, PlacedOperation}
 use Rattle.hist_types.specs.Forms.{Form, Open, has_drop, is_vector_or_list}
 use Rattle.hist_types.specs.Reading.{nothing_open}
@@ -119,6 +119,12 @@ NextOf old (Ok (Some shape)) new = HasRead old shape new
 NextOf old (Ok None) new = HasEnded old new
 NextOf old (Err fault) new =
     ((fault ≡ memory_fault) × (new ≡ old)) ⊎ ((fault ≢ memory_fault) × HasFailed old fault new)
+
+-- what a call found that fills this shape, and returns whether it did
+abbrev pub found_in : OpShape → Result Bool Fault → Result (Option OpShape) Fault
+found_in shape (Ok true) = Ok (Some shape)
+found_in shape (Ok false) = Ok None
+found_in shape (Err fault) = Err fault
 
 -- what a call gives that reads an operation at once, or leaves the reader as it is
 abbrev pub FlatNext : Reader → Result (Option OpShape) Fault → Reader → Type 0

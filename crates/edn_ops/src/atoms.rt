@@ -1,11 +1,14 @@
 //! What the tokens of atoms mean, and the numbers of processes.
 
-ghost use Rattle.std.specs.Prelude.{◌≡◌, true, false, IfSome};
+ghost use Rattle.std.specs.Prelude.{◌≡◌, ◌≤◌, pos, take, length, true, false, Some, IfSome};
+ghost use Rattle.std.specs.Char.{is_ascii_digit};
+ghost use Rattle.std.specs.List.{list_all};
 ghost use Rattle.std.specs.Bool.{then_some};
 ghost use Rattle.std.specs.Option.{is_some};
 ghost use Rattle.hist_types.specs.AtomTokens.{int_value, is_64_bit, escape_value as value_of_escape, between_quotes as bytes_between_quotes, decoded, atom_of_token, process_of as process_of_number};
 ghost use Rattle.hist_types.specs.Tokens.{is_int, begins_with_number};
 ghost use Rattle.edn_lex.specs.Kinds.{kind_of};
+ghost use Rattle.edn_ops.specs.declared.atoms.TheConstants.{FEW_DIGITS};
 ghost use Rattle.edn_ops.specs.Outlines.{IsSpelled};
 ghost use Rattle.edn_ops.specs.SourceTexts.{IsNumberOf, kind_by_front};
 
@@ -16,6 +19,9 @@ use std::str;
 
 /// An integer of fewer bytes has 64 bits.
 pub(crate) const LONG_INTEGER: usize = 19;
+
+/// How many digits `process_ahead` takes at most.
+pub(crate) const FEW_DIGITS: usize = 9;
 
 /// The number of digits alone, if they are so few that it has 64 bits.
 pub fn number_of_digits(text: &[u8]) -> Option<i64>
@@ -56,6 +62,38 @@ pub(crate) fn process_of(spelling: &[u8]) -> Option<Process>
 {
     let number = u64::try_from(integer_of(spelling)?).ok()?;
     Process::new(number)
+}
+
+/// How many decimal digits are at the front of the text, at most nine, and the number that they write.
+#[inline(always)]
+fn few_digits(text: &[u8]) -> (usize, u64)
+    requires { FEW_DIGITS ≤ length text.now }
+    ensures number { IsNumberOf (take result.0 text.now) (pos result.1) }
+    ensures few { result.0 ≤ FEW_DIGITS }
+{
+    let mut len = 0;
+    let mut number: u64 = 0;
+    while len < FEW_DIGITS && text[len].is_ascii_digit() {
+        number = number * 10 + u64::from(text[len] - b'0');
+        len += 1;
+    }
+    (len, number)
+}
+
+/// The process whose number the decimal digits at the front of the text write, of which at most nine are taken, and how many
+/// they are.
+#[inline(always)]
+pub(crate) fn process_ahead(text: &[u8]) -> Option<(usize, Process)>
+    requires { FEW_DIGITS ≤ length text.now }
+    ensures digits { IfSome result (λ found.
+        list_all is_ascii_digit (take found.0 text.now) ≡ true) }
+    ensures few { IfSome result (λ found. found.0 ≤ FEW_DIGITS) }
+    ensures process { IfSome result (λ found.
+        process_of_number (int_value (take found.0 text.now)) ≡ Some found.1) }
+{
+    let (len, number) = few_digits(text);
+    let process = Process::new(number)?;
+    Some((len, process))
 }
 
 /// What is between the quotes of a string.

@@ -3,25 +3,25 @@
 
 ghost use Rattle.std.specs.Prelude.{◌≡◌, ◌≤◌, ◌<◌, ◌+◌, [], List, length, codes, get_or, true, false, Some, Ok, IfSome, IfOk, ℕ};
 ghost use Rattle.hist_types.specs.Entries.{is_named, is_write_of};
-ghost use Rattle.hist_types.specs.Bytes.{is_run_byte};
-ghost use Rattle.hist_types.specs.Forms.{plain};
+ghost use Rattle.hist_types.specs.Bytes.{is_run_byte, open_square, close_square};
+ghost use Rattle.hist_types.specs.Forms.{Form, plain};
 ghost use Rattle.hist_types.specs.Tokens.{Keyword};
 ghost use Rattle.edn_lex.specs.declared.ahead.TheConstants.{NUMBER_LOOK};
-ghost use Rattle.edn_lex.specs.Ahead.{IsGap, IsWord, IsLoneAt};
+ghost use Rattle.edn_lex.specs.Ahead.{IsGap, IsWord, IsLoneAt, GivesOpener};
 ghost use Rattle.edn_lex.specs.Kinds.{item_of};
 ghost use Rattle.edn_ops.specs.declared.flat.TheConstants.{VALUE_LEVELS};
 ghost use Rattle.edn_ops.specs.Outlines.{outline_of, IsTokenIn, IsOutlineIn};
-ghost use Rattle.edn_ops.specs.Flat.{PassesAhead, NamesKind, NamesOwner, IsMopValue, GivesMop, shape_of, ReadsFlatMop, ReadsFlatMops, ReadsFlatTransaction, may_have_mops, AreFlat, IsOther, ReadsFlatValue, ReadsFlatFront, ReadsFlatField, IsComplete, GivesFlatMap, OpensOperation, GivesFlatEntry};
+ghost use Rattle.edn_ops.specs.Flat.{PassesAhead, NamesKind, NamesOwner, IsMopValue, GivesMop, shape_of, ReadsFlatMop, ReadsFlatMops, ReadsFlatTransaction, may_have_mops, AreFlat, IsOther, PassesFields, PassesFieldAt, ReadsFlatValue, ReadsFlatFront, ReadsFirstFields, ReadsPlainField, ReadsFlatField, HasReached, CanGoOn, place_reached, IsComplete, GivesFlatMap, OpensOperation, GivesFlatEntry};
 
-use crate::atoms::{self, LONG_INTEGER};
+use crate::atoms::{self, FEW_DIGITS, LONG_INTEGER};
 use crate::outline::{Outline, bytes_of, span};
 use crate::passing::form_end;
 use crate::types::{MopShape, Span};
 use edn_lex::ahead::{
-    LEVELS_AHEAD, NUMBER_LOOK, behind_blanks, behind_comma, behind_space, behind_word, form_at,
-    lone_token, map_closer, map_opener, number_at, number_before, spaced_word_at, tag_token,
-    token_at, vector_closer, vector_closer_at, vector_opener, vector_opener_at, word_at,
-    word_before,
+    LEVELS_AHEAD, NUMBER_LOOK, behind_blanks, behind_comma, behind_space, behind_word,
+    digits_before, form_at, lone_token, map_closer, map_opener, number_at, number_before,
+    spaced_word_at, tag_token, token_at, vector_closer, vector_closer_at, vector_opener,
+    vector_opener_at, word_at, word_before,
 };
 use edn_lex::types::{Token, TokenKind};
 use hist_types::limits::{MAX_MICRO_OPS, MAX_OPERATION_BYTES};
@@ -36,12 +36,27 @@ const VALUE_LEVELS: usize = LEVELS_AHEAD - 1;
 /// How many bytes from its first blank on `plain_mop` may look at: a blank, `[:r `, a number, a space and a number.
 const PLAIN_MOP_LOOK: usize = 6 + 2 * NUMBER_LOOK;
 
+/// How many bytes from its start on `read_front` may look at: `:type :invoke, :process `, digits and `, :f :txn, :value [`.
+const FRONT_LOOK: usize = 43 + FEW_DIGITS;
+
+/// How many bytes from its start on `behind_numbers` may look at: `:index `, a number, `, :time ` and a number.
+const NUMBERS_LOOK: usize = 16 + 2 * NUMBER_LOOK;
+
 /// Whose operation a map is.
 #[derive(Clone, Copy)]
 pub(crate) enum Owner {
     Client(Process),
     /// Its process is no integer.
     NoClient,
+}
+
+/// Up to where the fields of a map were read.
+#[derive(Clone, Copy)]
+pub(crate) enum Reached {
+    /// The end of a field, or the front of the map.
+    End(usize),
+    /// The opener of the transaction that is the value of `:value`.
+    Opener(Token),
 }
 
 /// What the fields of a map say so far.
@@ -109,6 +124,23 @@ fn kind_at(text: &[u8], start: usize) -> Option<(OpKind, Token)>
     }
 }
 
+/// The token that begins here, if it is `:invoke` or `:ok` with a comma after it, in a text with more bytes.
+#[inline(always)]
+fn printed_kind(text: &[u8], start: usize) -> Option<(OpKind, Token)>
+    requires { start + 7 < length text.now }
+    ensures lone { IfSome result (λ found. IsLoneAt text.now start found.1) }
+    ensures kind { IfSome result (NamesKind text.now) }
+    ensures mops { IfSome result (λ found. may_have_mops (Some found.0) ≡ true) }
+    ensures near { IfSome result (λ found. found.1.end ≤ start + 7) }
+    ensures comma { IfSome result (λ found. get_or text.now found.1.end 0 ≡ 44) }
+{
+    if let Some(token) = word_before(text, start, b":invoke", TokenKind::Keyword, b',') {
+        return Some((OpKind::Invoke, token));
+    }
+    let token = word_before(text, start, b":ok", TokenKind::Keyword, b',')?;
+    Some((OpKind::Ok, token))
+}
+
 /// Passes over a value, up to the end that is given, if it can be read so; often it is `:txn` or a number.
 #[inline(always)]
 fn passed_value(text: &[u8], offset: usize) -> Option<usize>
@@ -165,24 +197,62 @@ impl FlatFields {
         Some(token.end)
     }
 
-    /// Reads `:type` and `:process`, up to the end that is given, if the map begins with them and a space after each.
+    /// Reads `:type`, `:process` and `:value` up to the transaction's opener, if they come next as they are printed, with `:invoke` or
+    /// `:ok` and an integer of few digits, perhaps with `:f :txn` before `:value`, and bytes enough come after it.
     #[inline(always)]
-    fn read_front(&mut self, text: &[u8], offset: usize) -> Option<usize>
+    fn read_front(&mut self, text: &[u8], offset: usize) -> Option<Token>
         requires { offset ≤ length text.now }
-        ensures { ReadsFlatFront text.now offset self.old result self.new }
+        ensures reads { ReadsFlatFront text.now offset self.old result self.new }
+        ensures fits { IfSome result (λ opener. opener.end ≤ length text.now) }
     {
-        if self.kind.is_some() || self.owner.is_some() {
+        if self.kind.is_some() || self.owner.is_some() || self.has_value {
             return None;
         }
-        let kind_key = spaced_key_at(text, offset, b":type")?;
-        let (kind, kind_token) = kind_at(text, kind_key.end + 1)?;
-        let start = behind_comma(text, kind_token.end);
-        let owner_key = spaced_key_at(text, start, b":process")?;
-        let owner_token = number_at(text, owner_key.end + 1)?;
-        let owner = owner_of(text, Outline::Plain(owner_token))?;
+        if text.len() - offset < FRONT_LOOK {
+            return None;
+        }
+        let kind_key = printed_key(text, offset, b":type")?;
+        let (kind, kind_token) = printed_kind(text, kind_key.end + 1)?;
+        let owner_start = behind_space(text, kind_token.end + 1);
+        let owner_key = printed_key(text, owner_start, b":process")?;
+        let (len, process) = atoms::process_ahead(&text[owner_key.end + 1..])?;
+        let number = digits_before(text, owner_key.end + 1, len, b',')?;
+        let value_start = behind_space(text, behind_txn(text, number.end) + 1);
+        let value_key = printed_key(text, value_start, b":value")?;
+        let opener = vector_opener_at(text, value_key.end + 1)?;
         self.kind = Some(kind);
-        self.owner = Some(owner);
-        Some(owner_token.end)
+        self.owner = Some(Owner::Client(process));
+        self.has_value = true;
+        Some(opener)
+    }
+
+    /// Reads the fields that the map begins with, as far as they are spelled as they are printed.
+    #[inline(always)]
+    fn first_reached(&mut self, text: &[u8], offset: usize) -> Reached
+        requires { offset ≤ length text.now }
+        ensures reads { (shapes : List MopShape) → AreFlat self.old shapes []
+            → HasReached text.now offset self.new shapes result }
+        ensures can { CanGoOn text.now [] result }
+    {
+        match self.read_front(text, offset) {
+            Some(opener) => Reached::Opener(opener),
+            None => self.reached_behind_numbers(text, offset),
+        }
+    }
+
+    /// The same where the map may begin with `:index` and `:time`.
+    #[inline(never)]
+    fn reached_behind_numbers(&mut self, text: &[u8], offset: usize) -> Reached
+        requires { offset ≤ length text.now }
+        ensures reads { (shapes : List MopShape) → AreFlat self.old shapes []
+            → HasReached text.now offset self.new shapes result }
+        ensures can { CanGoOn text.now [] result }
+    {
+        let end = behind_numbers(text, offset);
+        match self.read_front(text, behind_comma(text, end)) {
+            Some(opener) => Reached::Opener(opener),
+            None => Reached::End(end),
+        }
     }
 
     /// Whose operation it is, as far as it is known.
@@ -435,23 +505,25 @@ fn printed_mops(text: &[u8], offset: usize, mops: &mut Mops) -> Result<usize, Fa
     Ok(at)
 }
 
-/// Reads a transaction into the empty list, up to the end that is given, if all its members can be read so.
-#[inline(never)]
-fn flat_transaction(text: &[u8], offset: usize, mops: &mut Mops) -> Result<Option<usize>, Fault>
-    requires offset { offset ≤ length text.now }
+/// Reads a transaction after its opener into the empty list, up to the end that is given, if all its members can be read so.
+#[inline(always)]
+fn flat_members(text: &[u8], opener: Token, mops: &mut Mops) -> Result<Option<usize>, Fault>
+    requires opener { opener.end ≤ length text.now }
     requires empty { mops.old.items ≡ [] }
-    ensures { ReadsFlatTransaction text.now offset result mops.new.items }
+    ensures reads { (offset : ℕ) → GivesOpener text.now offset open_square close_square opener
+        → ReadsFlatTransaction text.now offset result mops.new.items }
+    ensures further { IfOk result (λ found. IfSome found (λ end. opener.end ≤ end)) }
+    ensures within { IfOk result (λ found. IfSome found (λ end. end ≤ length text.now)) }
 {
-    let Some(opener) = vector_opener(text, offset) else {
-        return Ok(None);
-    };
     let mut at = printed_mops(text, opener.end, mops)?;
-    while let Some(end) = flat_mop(text, at, mops)? {
-        at = end;
-    }
-    match vector_closer(text, at) {
-        Some(closer) => Ok(Some(closer.end)),
-        None => Ok(None),
+    loop {
+        if let Some(closer) = vector_closer(text, at) {
+            return Ok(Some(closer.end));
+        }
+        match flat_mop(text, at, mops)? {
+            Some(end) => at = end,
+            None => return Ok(None),
+        }
     }
 }
 
@@ -467,16 +539,67 @@ fn key_at(text: &[u8], start: usize, name: &[u8]) -> Option<Token>
     word_at(text, start, name, TokenKind::Keyword)
 }
 
-/// The key that begins here, if it is this one with a space after it.
+/// The key that begins here, if it is this one with a space after it, in a text with more bytes.
 #[inline(always)]
-fn spaced_key_at(text: &[u8], start: usize, name: &[u8]) -> Option<Token>
-    requires start { start ≤ length text.now }
+fn printed_key(text: &[u8], start: usize, name: &[u8]) -> Option<Token>
+    requires room { start + length name.now < length text.now }
     requires name { IsWord name.now Keyword }
     ensures lone { IfSome result (IsLoneAt text.now start) }
     ensures named { IfSome result (λ key. is_named name.now (plain (item_of text.now key)) ≡ true) }
-    ensures space { IfSome result (λ key. IsGap text.now key.end (key.end + 1)) }
+    ensures end { IfSome result (λ key. key.end ≡ start + length name.now) }
+    ensures space { IfSome result (λ key. get_or text.now key.end 0 ≡ 32) }
 {
-    spaced_word_at(text, start, name, TokenKind::Keyword)
+    word_before(text, start, name, TokenKind::Keyword, b' ')
+}
+
+/// Where the field with this key and an integer of few digits ends, if it is printed here with a comma after it.
+#[inline(always)]
+fn number_field(text: &[u8], start: usize, name: &[u8]) -> Option<usize>
+    requires room { start + length name.now + NUMBER_LOOK < length text.now }
+    requires name { IsWord name.now Keyword }
+    requires other { (key : Form) → is_named name.now key ≡ true → IsOther key }
+    ensures passes { IfSome result (PassesFieldAt text.now start) }
+    ensures comma { IfSome result (λ end. get_or text.now end 0 ≡ 44) }
+    ensures few { IfSome result (λ end. end < start + length name.now + 1 + NUMBER_LOOK) }
+{
+    let key = printed_key(text, start, name)?;
+    let number = number_before(text, key.end + 1, b',')?;
+    Some(number.end)
+}
+
+/// Where `:index` and `:time` end, as far as they are printed here, or else the offset.
+#[inline(always)]
+fn behind_numbers(text: &[u8], offset: usize) -> usize
+    requires { offset ≤ length text.now }
+    ensures passes { PassesFields text.now offset result }
+    ensures within { result ≤ length text.now }
+{
+    if text.len() - offset < NUMBERS_LOOK {
+        return offset;
+    }
+    let Some(index) = number_field(text, offset, b":index") else {
+        return offset;
+    };
+    number_field(text, behind_space(text, index + 1), b":time").unwrap_or(index)
+}
+
+/// Where `:f :txn` ends, if it is printed behind the comma here with a comma after it, or else this offset.
+#[inline(always)]
+fn behind_txn(text: &[u8], comma: usize) -> usize
+    requires room { comma + 9 < length text.now }
+    requires comma { get_or text.now comma 0 ≡ 44 }
+    ensures passes { PassesFields text.now comma result }
+    ensures comma { get_or text.now result 0 ≡ 44 }
+    ensures near { result ≤ comma + 9 }
+{
+    let start = behind_space(text, comma + 1);
+    let Some(key) = printed_key(text, start, b":f") else {
+        return comma;
+    };
+    match word_before(text, key.end + 1, b":txn", TokenKind::Keyword, b',') {
+        Some(token) => token.end,
+        None => comma,
+    }
 }
 
 /// Whether a key names a field that says nothing.
@@ -526,52 +649,63 @@ fn any_other_key(text: &[u8], start: usize) -> Option<Token>
 #[inline(always)]
 fn other_field(text: &[u8], start: usize) -> Option<usize>
     requires { start ≤ length text.now }
-    ensures { (fields : FlatFields) (shapes : List MopShape) →
-        ReadsFlatField text.now start fields shapes (Ok result) fields shapes }
+    ensures { (fields : FlatFields) → ReadsPlainField text.now start fields result fields }
 {
     let key = other_key(text, start)?;
     passed_value(text, key.end)
 }
 
-/// Reads the field that begins here, up to the end that is given, if it can be read so. The letter after its key's colon tells which
-/// name the key may be.
+/// Reads the field that begins here, if it can be read so, a transaction only up to its opener. The letter after its key's colon
+/// tells which name the key may be.
 #[inline(always)]
-fn flat_field(
-    text: &[u8],
-    start: usize,
-    fields: &mut FlatFields,
-    mops: &mut Mops,
-) -> Result<Option<usize>, Fault>
-    requires start { start ≤ length text.now }
-    requires none { fields.old.has_value ≡ false → mops.old.items ≡ [] }
-    ensures { ReadsFlatField text.now start fields.old mops.old.items result fields.new mops.new.items }
+fn flat_field(text: &[u8], start: usize, fields: &mut FlatFields) -> Option<Reached>
+    requires { start ≤ length text.now }
+    ensures { ReadsFlatField text.now start fields.old result fields.new }
 {
     match text.get(start + 1) {
         Some(b't') => {
             if let Some(key) = key_at(text, start, b":type") {
-                return Ok(fields.read_kind(text, key.end));
+                return Some(Reached::End(fields.read_kind(text, key.end)?));
             }
         }
         Some(b'p') => {
             if let Some(key) = key_at(text, start, b":process") {
-                return Ok(fields.read_owner(text, key.end));
+                return Some(Reached::End(fields.read_owner(text, key.end)?));
             }
         }
         Some(b'v') => {
             if let Some(key) = key_at(text, start, b":value") {
                 if !fields.may_have_mops() {
-                    return Ok(passed_value(text, key.end));
+                    return Some(Reached::End(passed_value(text, key.end)?));
                 }
                 if fields.has_value {
-                    return Ok(None);
+                    return None;
                 }
+                let opener = vector_opener(text, key.end)?;
                 fields.has_value = true;
-                return flat_transaction(text, key.end, mops);
+                return Some(Reached::Opener(opener));
             }
         }
         _ => {}
     }
-    Ok(other_field(text, start))
+    Some(Reached::End(other_field(text, start)?))
+}
+
+/// The end of the fields that were reached. Where this is a transaction's opener, the transaction is read first into the empty
+/// list; none where it can't be read so.
+#[inline(always)]
+fn end_of(text: &[u8], reached: Reached, mops: &mut Mops) -> Result<Option<usize>, Fault>
+    requires { CanGoOn text.now mops.old.items reached }
+    ensures reads { (offset : ℕ) (fields : FlatFields)
+        → HasReached text.now offset fields mops.old.items reached
+        → ReadsFirstFields text.now offset result fields mops.new.items }
+    ensures further { IfOk result (λ found. IfSome found (λ end. place_reached reached ≤ end)) }
+    ensures within { IfOk result (λ found. IfSome found (λ end. end ≤ length text.now)) }
+{
+    match reached {
+        Reached::Opener(opener) => flat_members(text, opener, mops),
+        Reached::End(end) => Ok(Some(end)),
+    }
 }
 
 /// Reads the fields of a map, up to the end that is given, if all can be read so.
@@ -584,16 +718,20 @@ fn flat_map(
 ) -> Result<Option<usize>, Fault>
     requires offset { offset ≤ length text.now }
     requires none { AreFlat fields.old mops.old.items [] }
+    requires empty { mops.old.items ≡ [] }
     ensures { GivesFlatMap text.now offset result fields.new mops.new.items }
 {
-    let mut at = fields.read_front(text, offset).unwrap_or(offset);
+    let mut reached = fields.first_reached(text, offset);
     loop {
+        let Some(at) = end_of(text, reached, mops)? else {
+            return Ok(None);
+        };
         let start = behind_comma(text, at);
         if let Some(closer) = map_closer(text, start) {
             return Ok(Some(closer.end));
         }
-        match flat_field(text, start, fields, mops)? {
-            Some(end) => at = end,
+        match flat_field(text, start, fields) {
+            Some(further) => reached = further,
             None => return Ok(None),
         }
     }

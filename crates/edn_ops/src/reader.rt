@@ -5,7 +5,7 @@ ghost use Rattle.hist_types.specs.Reading.{Reads, ReadsFrom};
 ghost use Rattle.hist_types.specs.Forms.{is_map};
 ghost use Rattle.edn_lex.specs.declared.types.TokenKind.TheVariants.{Open};
 ghost use Rattle.edn_lex.specs.Kinds.{item_of};
-ghost use Rattle.edn_ops.specs.Reader.{reader_at_start, reader_at, IsAtTop, LeavesAll, LeavesOnly, FailsAgain, NextOf, FlatNext};
+ghost use Rattle.edn_ops.specs.Reader.{reader_at_start, reader_at, IsAtTop, LeavesAll, LeavesOnly, FailsAgain, NextOf, FlatNext, found_in};
 ghost use Rattle.edn_ops.specs.Flat.{result_with};
 ghost use Rattle.edn_ops.specs.Outlines.{begins_sequence};
 ghost use Rattle.edn_ops.specs.Places.{NextOp, FlatOp};
@@ -20,7 +20,6 @@ use crate::types::OpShape;
 use edn_lex::lexer::Lexer;
 use edn_lex::types::Token;
 use hist_types::types::{Fault, Refusal};
-use smallvec::SmallVec;
 use std::alloc::Global;
 use std::marker::Model;
 
@@ -212,16 +211,31 @@ impl<'a> OpReader<'a> {
         ensures shape { IfOk result (λ found. IfSome found (IsShapeIn self.old.state.text)) }
         ensures text { self.new.state.text ≡ self.old.state.text }
     {
-        let mut mops = SmallVec::new(self.alloc);
-        let Some(operation) = self.flat_op(&mut mops)? else {
-            return self.any_op();
+        let mut shape = OpShape::new(self.alloc);
+        if self.next_into(&mut shape)? {
+            Ok(Some(shape))
+        } else {
+            Ok(None)
+        }
+    }
+
+    /// Reads the next operation into a shape that may have been used before, or returns false at the text's end. After false or a
+    /// fault the shape is of no use. Faults are those of `next_op`.
+    pub fn next_into(&mut self, shape: &mut OpShape) -> Result<bool, Fault>
+        ensures again { FailsAgain self.old (found_in shape.new result) self.new }
+        ensures next { self.old.failed ≡ None → NextOf self.old (found_in shape.new result) self.new }
+        ensures shape { IfOk (found_in shape.new result) (λ found.
+            IfSome found (IsShapeIn self.old.state.text)) }
+        ensures text { self.new.state.text ≡ self.old.state.text }
+    {
+        shape.mops.clear();
+        let Some(operation) = self.flat_op(&mut shape.mops)? else {
+            return self.any_into(shape);
         };
-        Ok(Some(OpShape {
-            span: operation.span,
-            kind: operation.kind,
-            process: operation.process,
-            mops,
-        }))
+        shape.span = operation.span;
+        shape.kind = operation.kind;
+        shape.process = operation.process;
+        Ok(true)
     }
 
     /// The next operation, whose micro-operations are read into the empty list, if it can be read in one pass. Else the reader is
@@ -237,8 +251,25 @@ impl<'a> OpReader<'a> {
         self.place.flat_op(mops)
     }
 
-    /// The next operation, whatever form it has.
+    /// Reads the next operation into the shape, whatever form it has, or returns false at the text's end.
     #[inline(never)]
+    fn any_into(&mut self, shape: &mut OpShape) -> Result<bool, Fault>
+        ensures again { FailsAgain self.old (found_in shape.new result) self.new }
+        ensures next { self.old.failed ≡ None → NextOf self.old (found_in shape.new result) self.new }
+        ensures shape { IfOk (found_in shape.new result) (λ found.
+            IfSome found (IsShapeIn self.old.state.text)) }
+        ensures text { self.new.state.text ≡ self.old.state.text }
+    {
+        match self.any_op()? {
+            Some(found) => {
+                *shape = found;
+                Ok(true)
+            }
+            None => Ok(false),
+        }
+    }
+
+    /// The next operation, whatever form it has.
     fn any_op(&mut self) -> Result<Option<OpShape>, Fault>
         ensures again { FailsAgain self.old result self.new }
         ensures next { self.old.failed ≡ None → NextOf self.old result self.new }

@@ -1,7 +1,10 @@
 //! Where an operation and its parts are in a text.
 
+ghost use Rattle.std.specs.Prelude.{◌≡◌, []};
+
 use hist_types::types::{OpKind, Process};
 use smallvec::SmallVec;
+use std::alloc::Global;
 
 /// Where a part of a text begins and ends, in bytes from the text's start.
 #[derive(Clone, Copy, Debug, Default, PartialEq, Eq)]
@@ -27,4 +30,18 @@ pub struct OpShape {
     pub kind: OpKind,
     pub process: Process,
     pub mops: SmallVec<MopShape, 4>,
+}
+
+impl OpShape {
+    /// A shape that operations can be read into. It has no micro-operations.
+    pub fn new(alloc: Global) -> OpShape
+        ensures { result.mops.items ≡ [] }
+    {
+        OpShape {
+            span: Span::default(),
+            kind: OpKind::Invoke,
+            process: Process::new(0).unwrap(),
+            mops: SmallVec::new(alloc),
+        }
+    }
 }

@@ -1,25 +1,25 @@
 -- The versions that micro-operations name, by texts, atoms and numbers.
-use Rattle.std.proofs.Common.{◌≡◌, ◌<◌, ℕ, List, Bool, true, false, length, get_or, Option, Some, None, option_map, refl, sym, ◌∙◌, ap, subst}
-use Rattle.std.specs.Prelude.{slice_get, ◌&&◌}
+use Rattle.std.proofs.Common.{◌≡◌, ◌<◌, ℕ, List, [], ◌∷◌, true, length, get_or, Option, Some, None, option_map, sym, ◌∙◌, ap, subst}
+use Rattle.std.specs.Prelude.{slice_get}
 use Rattle.std.proofs.lemmas.Bool.{false≢true}
 use Rattle.std.proofs.lemmas.List.{get_or_default}
 use Rattle.std.proofs.lemmas.Option.{slice_get-map}
-use Rattle.hist_types.specs.Atoms.{Atom, Value, atom_eq, value_eq}
+use Rattle.hist_types.specs.Atoms.{Atom, atom_eq}
 use Rattle.hist_types.specs.Operations.{Mop, read, write}
 use Rattle.hist_types.specs.Transactions.{Version, version_eq}
 use Rattle.hist_types.specs.Versions.{nil_of}
 use Rattle.hist_types.proofs.Equality.{version_eq-same, version_eq-itself}
-use Rattle.atom_index.specs.Numbers.{number_in, AreNumbered, pair_eq}
+use Rattle.atom_index.specs.Numbers.{number_in, with_item, AreNumbered, pair_eq}
 use Rattle.edn_ops.specs.Shapes.{is_write}
 use Rattle.edn_ops.specs.SourceTexts.{IsAtomText, IsMopText}
 use Rattle.edn_ops.specs.declared.write.MopText.{MopText}
 use Rattle.op_view.specs.MopTexts.{atom_in}
 use Rattle.op_view.specs.Mops.{key_of, value_of}
 use Rattle.op_view.proofs.SpelledMops.{atom_in-is}
-use Rattle.key_versions.specs.Named.{version_named, AreNumbersOf, IsNamed}
-use Rattle.key_versions.specs.Numbering.{Numbers, IsNumbering, IsBelow, key_at, version_with, version_by, versions_of, IsVersionOfKey}
-use Rattle.key_versions.proofs.Numbered.{access_by, access_there, version_there, key_is, new_nil, new_version}
-use Rattle.key_versions.proofs.Places.{number_within, with_item-there}
+use Rattle.key_versions.specs.Named.{version_named, IsNamed}
+use Rattle.key_versions.specs.Numbering.{Numbers, IsNumbering, IsBelow, version_with, version_by, versions_of, with_versions, IsAccess, IsVersionOfKey}
+use Rattle.key_versions.proofs.Numbered.{access_by, access_there, access_versions, version_there, key_is, new_nil, new_version}
+use Rattle.key_versions.proofs.Places.{number_within, with_item-there, with_item-twice}
 
 abbrev pair_by : ℕ → Option ℕ → ℕ × Option ℕ
 pair_by a v = (a, v)
@@ -84,10 +84,10 @@ known_value s key value k m n is numbered valued at =
     (sym (with_item-there pair_eq s.pairs (pair_by k (Some m)) n at)) at).2
     ∙ ap (λ (a : Atom). Some (version_with a (Some value))) (key_is s key k numbered)
 
--- the numbers of what a micro-operation of a key and a value names
+-- what a micro-operation of a key and a value names has these numbers
 pub named_numbers :
     (vs : List Version) (m : Mop) (key : Atom) (value : Option Atom) (nil n : ℕ) → key ≡ key_of m → value ≡ value_of m
-    → slice_get vs nil ≡ Some (version_with key None) → slice_get vs n ≡ Some (version_with key value) → AreNumbersOf vs (version_named m) (nil, n)
+    → slice_get vs nil ≡ Some (version_with key None) → slice_get vs n ≡ Some (version_with key value) → IsAccess vs (version_named m) (access_by nil n)
 named_numbers vs m key value nil n same_key same_value nil_at at = (
   nil_at ∙ ap (λ (a : Atom). Some (version_with a None)) same_key,
   at ∙ ap (λ (a : Atom). Some (version_with a value)) same_key ∙ ap (λ (v : Option Atom). Some (version_with (key_of m) v)) same_value,
@@ -98,3 +98,13 @@ pub all_there :
     (vs : List Version) (v : Version) (nil version : ℕ) → AreNumbered version_eq vs → slice_get vs nil ≡ Some (nil_of v.key) → slice_get vs version ≡ Some v
     → IsNamed vs vs v (access_by nil version)
 all_there vs v nil version numbered nil_at at = access_there vs vs v nil version numbered at (version_there vs (nil_of v.key) nil numbered nil_at) nil_at
+
+-- the nil version of a key is the version that was named
+pub nil_access :
+    (first before : List Version) (key : Atom) (value : Option Atom) (nil : ℕ) → value ≡ None → before ≡ with_item version_eq first (nil_of key) → slice_get before nil ≡ Some (nil_of key)
+    → (before ≡ with_versions first (nil_of key ∷ version_with key value ∷ [])) × IsAccess before (version_with key value) (access_by nil nil)
+nil_access first before key value nil none keyed at =
+    let again : before ≡ with_item version_eq before (nil_of key) =
+    keyed ∙ sym (with_item-twice version_eq version_eq-itself first (nil_of key)) ∙ ap (λ (vs : List Version). with_item version_eq vs (nil_of key)) (sym keyed) in
+    access_versions first before before key value nil nil keyed at (again ∙ ap (λ (v : Option Atom). with_item version_eq before (version_with key v)) (sym none))
+    (at ∙ ap (λ (v : Option Atom). Some (version_with key v)) (sym none))

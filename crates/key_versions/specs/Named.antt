@@ -1,5 +1,5 @@
 -- The versions that micro-operations name, by their numbers.
-use Rattle.std.specs.Prelude.{◌≡◌, ℕ, List, [], ◌∷◌, slice_get, Some}
+use Rattle.std.specs.Prelude.{◌≡◌, List, [], ◌∷◌}
 use Rattle.hist_types.specs.Operations.{Mop}
 use Rattle.hist_types.specs.Transactions.{Version}
 use Rattle.hist_types.specs.Versions.{nil_of}
@@ -9,11 +9,6 @@ use Rattle.key_versions.specs.Numbering.{version_with, with_versions, IsAccess}
 
 abbrev pub version_named : Mop → Version
 version_named m = version_with (key_of m) (value_of m)
-
--- the numbers of the nil version of a version's key, and of the version
-abbrev pub AreNumbersOf : List Version → Version → ℕ × ℕ → Type 0
-AreNumbersOf versions v numbers =
-    (slice_get versions numbers.0 ≡ Some (nil_of v.key)) × (slice_get versions numbers.1 ≡ Some v)
 
 -- the version and the nil version of its key are numbered afterwards, and these are their numbers
 abbrev pub IsNamed : (before after : List Version) → Version → Access → Type 0

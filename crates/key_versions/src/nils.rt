@@ -11,9 +11,9 @@ use std::hash::BuildHasher;
 /// The number of the nil version of a key. Where it has none, it gets one.
 pub(crate) fn nil_number<S: BuildHasher>(
     pairs: &mut PairIndex<S>,
-    nils: &mut Vec<Option<usize>>,
-    key: usize,
-) -> Result<usize, AllocError>
+    nils: &mut Vec<Option<u32>>,
+    key: u32,
+) -> Result<u32, AllocError>
     requires key { key < length nils.old.items }
     requires nils { AreNilsIn pairs.old.items nils.old.items }
     ensures number { IfOk result
@@ -24,18 +24,18 @@ pub(crate) fn nil_number<S: BuildHasher>(
     ensures len { length nils.new.items ≡ length nils.old.items }
     ensures err { OnErr result (pairs.new.items ≡ pairs.old.items) }
 {
-    if let Some(nil) = nils[key] {
+    if let Some(nil) = nils[key as usize] {
         return Ok(nil);
     }
     let nil = pairs.insert(key, None)?;
-    nils[key] = Some(nil);
+    nils[key as usize] = Some(nil);
     Ok(nil)
 }
 
 /// Gives a number to the nil version of each key of these pairs.
 pub(crate) fn add_nils<S: BuildHasher>(
     pairs: &mut PairIndex<S>,
-    nils: &mut Vec<Option<usize>>,
+    nils: &mut Vec<Option<u32>>,
 ) -> Result<(), AllocError>
     requires keys { AreOfKeysBelow (length nils.old.items) pairs.old.items }
     requires nils { AreNilsIn pairs.old.items nils.old.items }

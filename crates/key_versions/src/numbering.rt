@@ -8,7 +8,7 @@ ghost use Rattle.hist_types.specs.Versions.{nil_of};
 ghost use Rattle.edn_ops.specs.Shapes.{is_write};
 ghost use Rattle.key_versions.specs.Histories.{named_by};
 ghost use Rattle.key_versions.specs.Numbering.{Numbers, key_at, version_by, version_with, versions_in, versions_of, AreInRange, with_versions, IsAccess, IsAccessIfAny, IsVersionOfKey};
-ghost use Rattle.key_versions.specs.Named.{version_named, AreNumbersOf, IsNamed};
+ghost use Rattle.key_versions.specs.Named.{version_named, IsNamed};
 ghost use Rattle.key_versions.specs.Given.{AreGiven};
 ghost use Rattle.key_versions.specs.TxnAccesses.{AreAccessesOf, AreSeenBy};
 
@@ -36,11 +36,11 @@ pub(crate) struct Numbering<'a, S: BuildHasher> {
     /// The key and the value of each version, by their numbers.
     pairs: PairIndex<S>,
     /// The nil version of each key, if it has a number.
-    nils: Vec<Option<usize>>,
+    nils: Vec<Option<u32>>,
     /// How many versions the journal numbered. They have the first numbers.
-    written: usize,
+    written: u32,
     /// How many of these were compared with writes of the transactions.
-    compared: usize,
+    compared: u32,
 }
 
 impl<'a, S: BuildHasher> Model for Numbering<'a, S> {
@@ -64,7 +64,7 @@ impl<'a, S: BuildHasher> Model for Numbering<'a, S> {
 pub(crate) struct Numbered<'a> {
     pub keys: Vec<Atom<'a>>,
     pub values: Vec<Atom<'a>>,
-    pub pairs: Vec<(usize, Option<usize>)>,
+    pub pairs: Vec<(u32, Option<u32>)>,
 }
 
 /// The versions that the journal numbered when they were written, and the nil versions of their keys.
@@ -79,7 +79,7 @@ pub(crate) fn numbering_of<'a>(
         values,
         mut pairs,
     } = written.into_tables();
-    let count = pairs.len();
+    let count = number_of(pairs.len())?;
     let mut nils = vec![in alloc; None; keys.len()]?;
     pairs.reserve(keys.len())?;
     add_nils(&mut pairs, &mut nils)?;
@@ -148,7 +148,7 @@ impl<'a, S: BuildHasher> Numbering<'a, S> {
     }
 
     /// The number of a key.
-    fn key(&mut self, key: Atom<'a>) -> Result<usize, AllocError>
+    fn key(&mut self, key: Atom<'a>) -> Result<u32, AllocError>
         ensures number { IfOk result
             (λ number. number_in atom_eq key.entry self.new.keys ≡ Some number) }
         ensures versions { OnOk result (versions_of self.new ≡ versions_of self.old) }
@@ -163,7 +163,7 @@ impl<'a, S: BuildHasher> Numbering<'a, S> {
     }
 
     /// The nil version of the key with this number.
-    fn nil(&mut self, key: usize) -> Result<usize, AllocError>
+    fn nil(&mut self, key: u32) -> Result<u32, AllocError>
         requires { key < length self.old.keys }
         ensures versions { OnOk result
             (versions_of self.new
@@ -179,7 +179,7 @@ impl<'a, S: BuildHasher> Numbering<'a, S> {
     }
 
     /// The version with a value and the key of this number.
-    fn version(&mut self, key: usize, value: Atom<'a>) -> Result<usize, AllocError>
+    fn version(&mut self, key: u32, value: Atom<'a>) -> Result<u32, AllocError>
         requires { key < length self.old.keys }
         ensures versions { OnOk result
             (versions_of self.new
@@ -209,14 +209,11 @@ impl<'a, S: BuildHasher> Numbering<'a, S> {
             None => nil,
             Some(value) => self.version(key, value)?,
         };
-        Ok(Access {
-            nil: number_of(nil)?,
-            version: number_of(version)?,
-        })
+        Ok(Access { nil, version })
     }
 
     /// Whether the micro-operation is of the key and of the value with these numbers, however they are spelled.
-    fn is_of_atoms(&self, key: usize, value: usize, mop: &Mop<'a>) -> bool
+    fn is_of_atoms(&self, key: u32, value: u32, mop: &Mop<'a>) -> bool
         requires key { key < length self.now.keys }
         requires value { value < length self.now.values }
         ensures { result ≡ version_eq
@@ -224,12 +221,15 @@ impl<'a, S: BuildHasher> Numbering<'a, S> {
     {
         match mop.value() {
             None => false,
-            Some(named) => self.keys.atom(key) == mop.key() && self.values.atom(value) == named,
+            Some(named) => {
+                self.keys.atom(key as usize) == mop.key()
+                    && self.values.atom(value as usize) == named
+            }
         }
     }
 
     /// Whether the write is of the key and of the value with these numbers. Equal texts are equal atoms, and only others are parsed.
-    fn is_of(&self, key: usize, value: usize, write: &Mop<'a>) -> bool
+    fn is_of(&self, key: u32, value: u32, write: &Mop<'a>) -> bool
         requires is_write { is_write write.now ≡ true }
         requires key { key < length self.now.keys }
         requires value { value < length self.now.values }
@@ -237,18 +237,20 @@ impl<'a, S: BuildHasher> Numbering<'a, S> {
             (version_by self.now.keys self.now.values (key, Some value)) (version_named write.now) }
     {
         let text = write.text();
-        if self.values.atom(value).text() == text.value && self.keys.atom(key).text() == text.key {
+        if self.values.atom(value as usize).text() == text.value
+            && self.keys.atom(key as usize).text() == text.key
+        {
             return true;
         }
         self.is_of_atoms(key, value, write)
     }
 
     /// The number of the key, if the version with this number is written.
-    fn key_of_version(&self, number: usize, write: &Mop<'a>) -> Option<usize>
+    fn key_of_version(&self, number: u32, write: &Mop<'a>) -> Option<u32>
         requires { is_write write.now ≡ true }
         ensures { IfSome result (λ k. IsVersionOfKey self.now number k (version_named write.now)) }
     {
-        let (key, value) = *self.pairs.as_slice().get(number)?;
+        let (key, value) = *self.pairs.as_slice().get(number as usize)?;
         let value = value?;
         if self.is_of(key, value, write) {
             Some(key)
@@ -259,11 +261,11 @@ impl<'a, S: BuildHasher> Numbering<'a, S> {
 
     /// The number that the next write most likely has: the one that it had when its transaction was invoked, or else the next of
     /// those that the journal gave.
-    fn expected(&mut self, invoked: Option<&Access>) -> Option<usize>
+    fn expected(&mut self, invoked: Option<&Access>) -> Option<u32>
         ensures { self.new ≡ self.old }
     {
         if let Some(access) = invoked {
-            return Some(access.version as usize);
+            return Some(access.version);
         }
         let next = self.compared;
         if next >= self.written {
@@ -292,37 +294,22 @@ impl<'a, S: BuildHasher> Numbering<'a, S> {
         };
         let nil = self.nil(key)?;
         Ok(Some(Access {
-            nil: number_of(nil)?,
-            version: number_of(number)?,
+            nil,
+            version: number,
         }))
     }
 
-    /// The numbers of the nil version of the key that a micro-operation names, and of the version, if both have one.
-    fn known(&self, mop: &Mop<'a>) -> Option<(usize, usize)>
-        ensures { IfSome result (AreNumbersOf (versions_of self.now) (version_named mop.now)) }
+    /// The version that a micro-operation names, where None is nil, if it and the nil version of its key have numbers.
+    fn known(&self, mop: &Mop<'a>) -> Option<Access>
+        ensures { IfSome result (IsAccess (versions_of self.now) (version_named mop.now)) }
     {
         let key = self.keys.get(&mop.key())?;
-        let nil = self.nils[key]?;
+        let nil = self.nils[key as usize]?;
         let version = match mop.value() {
             None => nil,
             Some(value) => self.pairs.get(key, Some(self.values.get(&value)?))?,
         };
-        Some((nil, version))
-    }
-
-    /// The version that a read names, where None is nil, if it has a number.
-    fn read(&self, read: &Mop<'a>) -> Result<Option<Access>, AllocError>
-        requires { AreNumbered version_eq (versions_of self.now) }
-        ensures { IfOk result (IsAccessIfAny (versions_of self.now) (versions_of self.now)
-            (version_named read.now)) }
-    {
-        let Some((nil, version)) = self.known(read) else {
-            return Ok(None);
-        };
-        Ok(Some(Access {
-            nil: number_of(nil)?,
-            version: number_of(version)?,
-        }))
+        Some(Access { nil, version })
     }
 
     /// The version that a micro-operation names, if it is found where it most likely is. Most writes have the number that is
@@ -339,7 +326,7 @@ impl<'a, S: BuildHasher> Numbering<'a, S> {
         if mop.is_write() {
             self.expected_version(mop, invoked)
         } else {
-            self.read(mop)
+            Ok(self.known(mop))
         }
     }
 

@@ -31,7 +31,7 @@ pub struct Versions<'a> {
     keys: Vec<Atom<'a>>,
     values: Vec<Atom<'a>>,
     /// The key and the value of each version, by their numbers. None is nil.
-    pairs: Vec<(usize, Option<usize>)>,
+    pairs: Vec<(u32, Option<u32>)>,
     writers: Vec<Written>,
     readers: Groups<u32>,
     followers: Groups<Follower>,
@@ -68,14 +68,14 @@ impl<'a> Model for Versions<'a> {
         v.writers.items v.readers v.followers };
 }
 
-fn key_in(pair: &(usize, Option<usize>)) -> usize
+fn key_in(pair: &(u32, Option<u32>)) -> usize
     ensures { result ≡ pair.now.0 }
 {
-    pair.0
+    pair.0 as usize
 }
 
 /// The key of each pair.
-fn keys_in(alloc: Global, pairs: &[(usize, Option<usize>)]) -> Result<Vec<usize>, AllocError>
+fn keys_in(alloc: Global, pairs: &[(u32, Option<u32>)]) -> Result<Vec<usize>, AllocError>
     ensures { IfOk result (λ keys. keys.items ≡ map (λ p. p.0) pairs.now) }
 {
     pairs.iter().map(key_in).collect(alloc)
@@ -148,10 +148,10 @@ impl<'a> Versions<'a> {
     {
         let (key, value) = self.pairs[number];
         VersionRef::new(
-            self.keys[key].copy(),
+            self.keys[key as usize].copy(),
             match value {
                 None => None,
-                Some(value) => Some(self.values[value].copy()),
+                Some(value) => Some(self.values[value as usize].copy()),
             },
         )
     }

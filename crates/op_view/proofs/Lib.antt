@@ -5,3 +5,4 @@ pub mod NilTokens
 pub mod SpelledMops
 pub mod ExampleOperation
 pub mod Matching
+pub mod ShortNumbers

@@ -1,5 +1,6 @@
 -- How atoms are spelled.
-use Rattle.std.specs.Prelude.{◌≡◌, ℕ, List, false, Option, Some, None, MatchOption}
+use Rattle.std.specs.Prelude.{◌≡◌, ◌-◌, ℕ, List, true, false, Option, Some, None, MatchOption}
+use Rattle.std.specs.Char.{is_ascii_digit}
 use Rattle.hist_types.specs.Atoms.{Atom, integer, keyword, string, symbol}
 use Rattle.hist_types.specs.AtomTokens.{atom_of_token, between_quotes}
 use Rattle.hist_types.specs.Tokens.{ItemKind, Int, Keyword, Symbol, Str}
@@ -45,3 +46,8 @@ IsSpellingOf kind text found =
 abbrev pub IsKnownSpelling : List ℕ → Spelling → Type 0
 IsKnownSpelling text spelling =
     (kind : ItemKind) (atom : Atom) → IsTokenOf kind text atom → IsSpelled kind text spelling
+
+-- The byte is a digit, which spells this number.
+pub record IsDigit (byte number : ℕ) : Type 0 where
+  pub digit : is_ascii_digit byte ≡ true
+  pub value : number ≡ byte - 48

@@ -1,6 +1,7 @@
 //! Micro-operations, and the iterator over those of an operation.
 
-ghost use Rattle.std.specs.Prelude.{◌≡◌, length, Some, IfSome};
+ghost use Rattle.std.specs.Prelude.{◌≡◌, true, length, Some, IfSome};
+ghost use Rattle.std.specs.Bool.{OnTrue};
 ghost use Rattle.std.specs.Iterator.{YieldsFirst, item_count, at_most, UpTo};
 ghost use Rattle.std.specs.Iterator.SizeHint.{IsWithinCount};
 ghost use Rattle.std.specs.Cmp.Lexicographic.{pointwise};
@@ -21,9 +22,6 @@ use std::marker::Model;
 
 /// The text of the value of a read of nil.
 const NIL: &[u8] = b"nil";
-
-/// Texts up to so many bytes, as most atoms are, are compared without a call.
-const SHORT: usize = 12;
 
 /// A read of a key with what it returned, nil or an atom, or a write of an atom to a key, by the texts of both.
 ///
@@ -90,6 +88,7 @@ impl<'a> Mop<'a> {
         self.text.is_write
     }
 
+    #[inline(always)]
     pub fn key(&self) -> Atom<'a>
         ensures { result ≡ key_of self.now }
     {
@@ -97,6 +96,7 @@ impl<'a> Mop<'a> {
     }
 
     /// What was read or is written. None is nil, which only a read has.
+    #[inline(always)]
     pub fn value(&self) -> Option<Atom<'a>>
         ensures { result ≡ value_of self.now }
     {
@@ -154,22 +154,11 @@ fn is_nil(text: &[u8]) -> bool
     matches!(text, [b'n', b'i', b'l'])
 }
 
-/// Whether the texts, which may be long, have the same bytes.
-#[inline(never)]
-fn is_same_long_text(a: &[u8], b: &[u8]) -> bool
-    ensures { result ≡ bytes_eq a.now b.now }
-{
-    a == b
-}
-
-/// Whether the texts have the same bytes.
+/// Whether the texts have the same bytes, one by one.
 #[inline(always)]
-fn is_same_text(a: &[u8], b: &[u8]) -> bool
+fn has_same_bytes(a: &[u8], b: &[u8]) -> bool
     ensures { result ≡ bytes_eq a.now b.now }
 {
-    if a.len() > SHORT {
-        return is_same_long_text(a, b);
-    }
     if a.len() != b.len() {
         return false;
     }
@@ -181,28 +170,30 @@ fn is_same_text(a: &[u8], b: &[u8]) -> bool
     true
 }
 
-/// Whether the bytes are the same atom, by what they mean.
-#[inline(never)]
-fn means_same_atom(a: &[u8], b: &[u8]) -> bool
-    requires first { IsAtom a.now }
-    requires second { IsAtom b.now }
-    ensures { result ≡ atom_eq (atom_in a.now) (atom_in b.now) }
+/// Whether the texts have the same bytes. Up to four, as most atoms have, are compared without a loop.
+#[inline(always)]
+fn is_same_text(a: &[u8], b: &[u8]) -> bool
+    ensures { OnTrue result (a.now ≡ b.now) }
 {
-    atom_of(a) == atom_of(b)
+    match (a, b) {
+        ([a0], [b0]) => a0 == b0,
+        ([a0, a1], [b0, b1]) => a0 == b0 && a1 == b1,
+        ([a0, a1, a2], [b0, b1, b2]) => a0 == b0 && a1 == b1 && a2 == b2,
+        ([a0, a1, a2, a3], [b0, b1, b2, b3]) => a0 == b0 && a1 == b1 && a2 == b2 && a3 == b3,
+        _ => has_same_bytes(a, b),
+    }
 }
 
 /// Whether the bytes are the same atom. Equal bytes are, and only others are parsed.
-#[inline(always)]
 fn is_same_atom(a: &[u8], b: &[u8]) -> bool
     requires first { IsAtom a.now }
     requires second { IsAtom b.now }
     ensures { result ≡ atom_eq (atom_in a.now) (atom_in b.now) }
 {
-    is_same_text(a, b) || means_same_atom(a, b)
+    a == b || atom_of(a) == atom_of(b)
 }
 
 /// Whether the micro-operations in these places of their texts are the same, whatever a read returned.
-#[inline(always)]
 fn is_same_mop(text: &[u8], mop: ShortMop, other_text: &[u8], other: ShortMop) -> bool
     requires first { IsMopAt text.now mop }
     requires second { IsMopAt other_text.now other }
@@ -216,6 +207,43 @@ fn is_same_mop(text: &[u8], mop: ShortMop, other_text: &[u8], other: ShortMop) -
         (true, true) => is_same_atom(slice_at(text, mop.value), slice_at(other_text, other.value)),
         _ => false,
     }
+}
+
+/// Whether the keys in these places of their texts, and of two writes the values, have the same texts. Then the
+/// micro-operations are the same.
+#[inline(always)]
+fn has_same_texts(text: &[u8], mop: &ShortMop, other_text: &[u8], other: &ShortMop) -> bool
+    requires first { IsMopAt text.now mop.now }
+    requires second { IsMopAt other_text.now other.now }
+    ensures { OnTrue result
+        (same_mop (mop_of_text text.now mop.now) (mop_of_text other_text.now other.now) ≡ true) }
+{
+    if mop.is_write != other.is_write {
+        return false;
+    }
+    if !is_same_text(slice_at(text, mop.key), slice_at(other_text, other.key)) {
+        return false;
+    }
+    !mop.is_write || is_same_text(slice_at(text, mop.value), slice_at(other_text, other.value))
+}
+
+/// Whether the micro-operations in these places of their texts are the same, one for one, whatever reads returned.
+#[inline(never)]
+fn are_same_mops(text: &[u8], mops: &[ShortMop], other_text: &[u8], other_mops: &[ShortMop]) -> bool
+    requires first { AreMopsAt text.now mops.now }
+    requires second { AreMopsAt other_text.now other_mops.now }
+    ensures { result
+        ≡ pointwise same_mop (mops_at text.now mops.now) (mops_at other_text.now other_mops.now) }
+{
+    if mops.len() != other_mops.len() {
+        return false;
+    }
+    for (mop, other_mop) in mops.iter().zip(other_mops) {
+        if !is_same_mop(text, *mop, other_text, *other_mop) {
+            return false;
+        }
+    }
+    true
 }
 
 /// Gives the micro-operations of an operation one after the other, as slices of its text. It takes no memory.
@@ -251,7 +279,7 @@ impl<'a> Mops<'a> {
         Mops { text, left }
     }
 
-    /// Whether both are the same, one for one, whatever reads returned.
+    /// Whether both are the same, one for one, whatever reads returned. Mostly their texts show it.
     pub fn matches(&self, other: &Mops) -> bool
         ensures { result ≡ pointwise same_mop self.now other.now }
     {
@@ -259,8 +287,8 @@ impl<'a> Mops<'a> {
             return false;
         }
         for (mop, other_mop) in self.left.iter().zip(other.left) {
-            if !is_same_mop(self.text, *mop, other.text, *other_mop) {
-                return false;
+            if !has_same_texts(self.text, mop, other.text, other_mop) {
+                return are_same_mops(self.text, self.left, other.text, other.left);
             }
         }
         true

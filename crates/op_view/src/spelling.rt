@@ -1,12 +1,12 @@
 //! How an atom's text spells it.
 
-ghost use Rattle.std.specs.Prelude.{◌≡◌, ℕ, List, MatchOption};
+ghost use Rattle.std.specs.Prelude.{◌≡◌, ℕ, pos, List, MatchOption, IfSome};
 ghost use Rattle.hist_types.specs.Atoms.{Atom as AnAtom, rank as rank_of_atom};
 ghost use Rattle.hist_types.specs.Tokens.{Str};
 ghost use Rattle.edn_lex.specs.Kinds.{kind_of};
 ghost use Rattle.reading_laws.specs.Placed.{IsTokenAlone};
-ghost use Rattle.edn_ops.specs.SourceTexts.{IsAtomText};
-ghost use Rattle.op_view.specs.Spellings.{atom_spelled, HasNoContent, IsSpelled, IsSpellingOf, IsKnownSpelling};
+ghost use Rattle.edn_ops.specs.SourceTexts.{IsAtomText, IsNumberOf};
+ghost use Rattle.op_view.specs.Spellings.{atom_spelled, HasNoContent, IsDigit, IsSpelled, IsSpellingOf, IsKnownSpelling};
 
 use edn_lex::types::TokenKind;
 use edn_ops::atoms::{between_quotes, has_known_escapes, integer_of, number_of_digits, token_kind};
@@ -65,9 +65,49 @@ pub(crate) fn spelling_of(kind: TokenKind, text: &[u8]) -> Option<Spelling>
     }
 }
 
-/// How a text that is known to be an atom spells it. Most are integers of digits alone, as one pass over them shows.
+/// The number that a digit spells; none of any other byte.
+#[inline(always)]
+fn digit_of(byte: u8) -> Option<u32>
+    ensures { IfSome result (IsDigit byte) }
+{
+    if byte.is_ascii_digit() {
+        Some(u32::from(byte - b'0'))
+    } else {
+        None
+    }
+}
+
+/// The number of up to four digits alone, as most integers are.
+#[inline(always)]
+fn short_number(text: &[u8]) -> Option<u32>
+    ensures { IfSome result (λ number. IsNumberOf text.now (pos number)) }
+{
+    match text {
+        [a] => digit_of(*a),
+        [a, b] => Some(digit_of(*a)? * 10 + digit_of(*b)?),
+        [a, b, c] => Some((digit_of(*a)? * 10 + digit_of(*b)?) * 10 + digit_of(*c)?),
+        [a, b, c, d] => {
+            Some(((digit_of(*a)? * 10 + digit_of(*b)?) * 10 + digit_of(*c)?) * 10 + digit_of(*d)?)
+        }
+        _ => None,
+    }
+}
+
+/// How a text that is known to be an atom spells it. Most are integers of a few digits.
 #[inline(always)]
 pub(crate) fn known_spelling(text: &[u8]) -> Spelling
+    requires { (atom : AnAtom) × IsAtomText text.now atom }
+    ensures { IsKnownSpelling text.now result }
+{
+    match short_number(text) {
+        Some(number) => Spelling::Integer(i64::from(number)),
+        None => longer_spelling(text),
+    }
+}
+
+/// The same, where it isn't an integer of a few digits.
+#[inline(never)]
+fn longer_spelling(text: &[u8]) -> Spelling
     requires { (atom : AnAtom) × IsAtomText text.now atom }
     ensures { IsKnownSpelling text.now result }
 {

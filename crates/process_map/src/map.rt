@@ -1,6 +1,7 @@
 //! A map from the numbers of processes to values.
 
-ghost use Rattle.std.specs.Prelude.{◌≡◌, ℕ, Some, None, OnOk, OnErr};
+ghost use Rattle.std.specs.Prelude.{◌≡◌, ℕ, Some, None, OnOk, OnErr, nat_eq};
+ghost use Rattle.std.specs.HashMap.{get, Updates};
 ghost use Rattle.process_map.specs.Values.{value_of, ChangesOnly};
 
 use std::alloc::{AllocError, Global};
@@ -47,20 +48,52 @@ impl<V> ProcessMap<V> {
     }
 }
 
+/// The value of a process in the map, if it has one.
+#[inline(never)]
+fn value_of_large<V: Copy>(large: &HashMap<u64, V>, process: u64) -> Option<V>
+    ensures { result ≡ get nat_eq large.now process }
+{
+    large.get(&process).copied()
+}
+
+/// Takes the value of a process out of the map.
+#[inline(never)]
+fn remove_large<V: Copy>(large: &mut HashMap<u64, V>, process: u64)
+    ensures { Updates nat_eq large.old large.new process None }
+{
+    large.remove(&process);
+}
+
 impl<V: Copy> ProcessMap<V> {
     /// The value of a process, if it has one.
+    #[inline(always)]
     pub fn get(&self, process: u64) -> Option<V>
         ensures { result ≡ value_of self.now process }
     {
         if process < SMALL {
             self.small.get(process as usize).copied().flatten()
         } else {
-            self.large.get(&process).copied()
+            value_of_large(&self.large, process)
         }
     }
 
     /// Gives a process a value, in place of the one that it had. Out of memory leaves the values as they are.
+    #[inline(always)]
     pub fn insert(&mut self, process: u64, value: V) -> Result<(), AllocError>
+        ensures ok { OnOk result (ChangesOnly self.old self.new process (Some value)) }
+        ensures err { OnErr result ((p : ℕ) → value_of self.new p ≡ value_of self.old p) }
+    {
+        let place = process as usize;
+        if process < SMALL && place < self.small.len() {
+            self.small[place] = Some(value);
+            return Ok(());
+        }
+        self.grow_and_insert(process, value)
+    }
+
+    /// The same where the process has no place in the table yet, or is not small.
+    #[inline(never)]
+    fn grow_and_insert(&mut self, process: u64, value: V) -> Result<(), AllocError>
         ensures ok { OnOk result (ChangesOnly self.old self.new process (Some value)) }
         ensures err { OnErr result ((p : ℕ) → value_of self.new p ≡ value_of self.old p) }
     {
@@ -77,6 +110,7 @@ impl<V: Copy> ProcessMap<V> {
     }
 
     /// Takes the value of a process, if it has one.
+    #[inline(always)]
     pub fn remove(&mut self, process: u64) -> Option<V>
         ensures value { result ≡ value_of self.old process }
         ensures others { ChangesOnly self.old self.new process None }
@@ -85,7 +119,7 @@ impl<V: Copy> ProcessMap<V> {
         if process < SMALL {
             self.small[process as usize] = None;
         } else {
-            self.large.remove(&process);
+            remove_large(&mut self.large, process);
         }
         Some(value)
     }

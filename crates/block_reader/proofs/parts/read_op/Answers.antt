@@ -7,21 +7,21 @@ use Rattle.block_reader.specs.Parts.{FailsFrom, HasReadFrom}
 use Rattle.block_reader.proofs.Readings.{one_more, is_read, all_given, next_refused}
 use Rattle.block_reader.proofs.parts.read_op.Goals as goal
 
-pub returns-in_err-shape-clause-on : goal.returns-in_err-shape-clause-on
-returns-in_err-shape-clause-on c =
+pub returns-in_err-next_into-clause-on : goal.returns-in_err-next_into-clause-on
+returns-in_err-next_into-clause-on c =
     λ offset before low h.
     let text = c.args.blocks.now.text in
-    let fault = c.in_err-shape.field-0.0 in
+    let fault = c.in_err-next_into.field-0.0 in
     let given : (fault ≡ memory_fault) ⊎ FailsFrom text offset fault =
-    next_refused text offset c.args.reader.now c.next_op.new.self (before ++ c.args.blocks.now.operations) fault h (c.in_err-shape.ensures.next h.going) in
+    next_refused text offset c.args.reader.now c.next_into.new.self (before ++ c.args.blocks.now.operations) fault h (c.in_err-next_into.ensures.next h.going) in
     let left = err_from_is_err_and c.from_residual.result c.from_residual.ensures.1 in
     rw left.1 (rw left.2 given)
 
-pub returns-in_default-clause-on : goal.returns-in_default-clause-on
-returns-in_default-clause-on c =
+pub returns-then-not-branch-clause-on : goal.returns-then-not-branch-clause-on
+returns-then-not-branch-clause-on c =
     λ offset before low h.
-    let ended : HasEnded c.args.reader.now c.next_op.new.self = rw c.in_default.is at (c.in_ok-shape.ensures.next h.going) in
-    all_given c.args.blocks.now.text offset c.args.reader.now c.next_op.new.self (before ++ c.args.blocks.now.operations) h ended
+    let ended : HasEnded c.args.reader.now c.next_into.new.self = rw c.if-not-branch.true at (c.in_ok-next_into.ensures.next h.going) in
+    all_given c.args.blocks.now.text offset c.args.reader.now c.next_into.new.self (before ++ c.args.blocks.now.operations) h ended
 
 pub returns-clause-on : goal.returns-clause-on
 returns-clause-on c =
@@ -29,10 +29,10 @@ returns-clause-on c =
     let text = c.args.blocks.now.text in
     let operations = c.args.blocks.now.operations in
     let old = c.args.reader.now in
-    let new = c.next_op.new.self in
-    let shape = c.in-Some.shape in
-    let read : HasRead old shape new = rw c.in-Some.is at (c.in_ok-shape.ensures.next h.going) in
-    let same = c.in_ok-shape.ensures.text ∙ c.requires in
+    let new = c.next_into.new.self in
+    let shape = c.next_into.new.shape in
+    let read : HasRead old shape new = rw c.if-not-branch.false at (c.in_ok-next_into.ensures.next h.going) in
+    let same = c.in_ok-next_into.ensures.text ∙ c.requires in
     let is_in = is_read text offset old new shape (before ++ operations) h read same low c.operations_read_alone.ensures in
     let more = one_more text offset old new shape (before ++ operations) h read same in
     rw (c.in_ok-push.ensures.ok read.read is_in read.shape_of)

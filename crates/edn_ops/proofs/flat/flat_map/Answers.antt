@@ -1,31 +1,35 @@
-use Rattle.std.proofs.Common.{[], ◌∷◌, ◌++◌, arith}
-use Rattle.hist_types.specs.Forms.{plain}
-use Rattle.edn_lex.specs.Kinds.{item_of}
-use Rattle.edn_ops.proofs.FlatMaps.{front_begins, one_field, field_further, map_read}
+use Rattle.std.proofs.Common.{arith}
+use Rattle.std.proofs.lemmas.Result.{err_from_is_err_and}
+use Rattle.edn_ops.proofs.FlatMaps.{can_within, field_reached, map_read}
 use Rattle.edn_ops.proofs.flat.flat_map.Goals as goal
 
-pub loop-closer-init : goal.loop-closer-init
-loop-closer-init c =
-    front_begins c.args.text.now c.args.offset c.args.fields.now c.read_front.new.self c.args.mops.now.items c.read_front.result c.unwrap_or-at.result c.requires.offset c.requires.none c.read_front.ensures c.unwrap_or-at.ensures
+pub loop-at-init : goal.loop-at-init
+loop-at-init c = (c.first_reached-reached.ensures.reads c.args.mops.now.items c.requires.none, rw c.requires.empty c.first_reached-reached.ensures.can)
 
-pub loop-closer-smaller : goal.loop-closer-smaller
-loop-closer-smaller c =
-    let r = rw c.in-Some-2.is at c.in_ok-end.ensures in
-    let further = field_further c.args.text.now c.loop-closer.at r.0 c.in-Some-2.end r.2 (r.1 c.loop-closer.at c.behind_comma-start.ensures) r.3 in
-    omega (arith, further.0, further.1)
+pub returns-in_err-at : goal.returns-in_err-at
+returns-in_err-at c =
+    let p = err_from_is_err_and c.from_residual.result c.from_residual.ensures.1 in
+    rw (p.1, p.2) (c.in_err-at.ensures.reads c.args.offset c.loop-at.fields c.loop-at.invariant.0)
 
-pub loop-closer-preserved : goal.loop-closer-preserved
-loop-closer-preserved c =
+pub loop-at-smaller : goal.loop-at-smaller
+loop-at-smaller c =
     let text = c.args.text.now in
-    let front = c.loop-closer.invariant in
-    let r = rw c.in-Some-2.is at c.in_ok-end.ensures in (
-      front.0 ++ (plain (item_of text r.0), r.2) ∷ [],
-      one_field text c.args.offset front.0 c.loop-closer.fields c.flat_field.new.fields c.loop-closer.mops.items c.flat_field.new.mops.items c.loop-closer.at r.0 c.in-Some-2.end r.2 front.1
-          (r.1 c.loop-closer.at c.behind_comma-start.ensures) r.3 r.4,
-    )
+    let front = rw c.in-Some.is at (c.in_ok-at.ensures.reads c.args.offset c.loop-at.fields c.loop-at.invariant.0) in
+    let low = rw c.in-Some.is at c.in_ok-at.ensures.further in
+    let further = c.in-Some-flat_field.further in
+    let more = c.end_of.new.mops.items in
+    let r = field_reached text c.args.offset c.in-Some.at c.behind_comma-start.result front.0 c.loop-at.fields c.flat_field.new.fields more further front.1 c.behind_comma-start.ensures c.in-Some-flat_field.ensures in
+    omega (arith, low, can_within text more further r.1, r.2)
 
-pub returns-in-Some : goal.returns-in-Some
-returns-in-Some c =
-    let front = c.loop-closer.invariant in
-    let closer = c.in-Some in
-    map_read c.args.text.now c.args.offset front.0 c.loop-closer.fields c.loop-closer.mops.items c.loop-closer.at closer.closer front.1 (closer.ensures.gives c.loop-closer.at c.behind_comma-start.ensures) closer.ensures.fits
+pub loop-at-preserved : goal.loop-at-preserved
+loop-at-preserved c =
+    let front = rw c.in-Some.is at (c.in_ok-at.ensures.reads c.args.offset c.loop-at.fields c.loop-at.invariant.0) in
+    let r = field_reached c.args.text.now c.args.offset c.in-Some.at c.behind_comma-start.result front.0 c.loop-at.fields c.flat_field.new.fields c.end_of.new.mops.items c.in-Some-flat_field.further front.1
+    c.behind_comma-start.ensures c.in-Some-flat_field.ensures in
+    (r.0, r.1)
+
+pub returns-in-Some-map_closer : goal.returns-in-Some-map_closer
+returns-in-Some-map_closer c =
+    let front = rw c.in-Some.is at (c.in_ok-at.ensures.reads c.args.offset c.loop-at.fields c.loop-at.invariant.0) in
+    let closer = c.in-Some-map_closer in
+    map_read c.args.text.now c.args.offset front.0 c.loop-at.fields c.end_of.new.mops.items c.in-Some.at closer.closer front.1 (closer.ensures.gives c.in-Some.at c.behind_comma-start.ensures) closer.ensures.fits

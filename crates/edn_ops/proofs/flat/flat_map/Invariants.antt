@@ -1,10 +1,9 @@
-use Rattle.std.proofs.Common.{◌-◌, List, length}
-use Rattle.hist_types.specs.Forms.{Form}
-use Rattle.edn_ops.specs.Flat.{ReadsFields}
+use Rattle.std.proofs.Common.{◌-◌, length}
+use Rattle.edn_ops.specs.Flat.{HasReached, CanGoOn, place_reached}
 use Rattle.edn_ops.proofs.flat.flat_map.Given as goal
 
-abbrev pub invariant-loop-closer : goal.invariant-loop-closer
-invariant-loop-closer l = (pairs : List (Form × Form)) × ReadsFields l.text l.offset pairs l.fields l.mops.items l.at
+abbrev pub invariant-loop-at : goal.invariant-loop-at
+invariant-loop-at l = HasReached l.text l.offset l.fields l.mops.items l.reached × CanGoOn l.text l.mops.items l.reached
 
-abbrev pub decreases-loop-closer : goal.decreases-loop-closer
-decreases-loop-closer l = length l.text - l.at
+abbrev pub decreases-loop-at : goal.decreases-loop-at
+decreases-loop-at l = length l.text - place_reached l.reached

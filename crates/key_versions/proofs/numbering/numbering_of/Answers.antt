@@ -13,14 +13,14 @@ add_nils-requires-clause-keys c =
     let nils = c.in_ok-nils.nils.items in
     subst (AreOfKeysBelow (length nils)) (sym c.in_ok-reserve.ensures.items)
     (keys_below (length t.keys.items) (length t.values.items) (length nils) t.pairs.items c.into_tables-keys.ensures.within.within
-    (none_count c.len.result nils (c.in_ok-nils.ensures.items_if_clones_equal (λ y is. search rules)) ∙ c.len.ensures))
+    (none_count c.len-2.result nils (c.in_ok-nils.ensures.items_if_clones_equal (λ y is. search rules)) ∙ c.len-2.ensures))
 
 pub add_nils-requires-clause-nils : goal.add_nils-requires-clause-nils
 add_nils-requires-clause-nils c =
     let t = c.into_tables-keys.result in
     let nils = c.in_ok-nils.nils.items in
     subst (λ (ps : List (ℕ × Option ℕ)). AreNilsIn ps nils) (sym c.in_ok-reserve.ensures.items)
-    (nils_none (length t.keys.items) (length t.values.items) c.len.result t.pairs.items nils c.into_tables-keys.ensures.within.within
+    (nils_none (length t.keys.items) (length t.values.items) c.len-2.result t.pairs.items nils c.into_tables-keys.ensures.within.within
     (c.in_ok-nils.ensures.items_if_clones_equal (λ y is. search rules)))
 
 pub invariant_of-result : goal.invariant_of-result
@@ -30,7 +30,7 @@ invariant_of-result c =
     let pairs = c.add_nils.new.pairs.items in
     let are : AreWithNils t.pairs.items pairs = subst (λ (ps : List (ℕ × Option ℕ)). AreWithNils ps pairs) c.in_ok-reserve.ensures.items added.pairs in
     given_numbering t.keys.items t.values.items t.pairs.items pairs c.add_nils.new.nils.items c.into_tables-keys.ensures.within added.numbered are added.nils
-    (added.len ∙ none_count c.len.result c.in_ok-nils.nils.items (c.in_ok-nils.ensures.items_if_clones_equal (λ y is. search rules)) ∙ c.len.ensures)
+    (added.len ∙ none_count c.len-2.result c.in_ok-nils.nils.items (c.in_ok-nils.ensures.items_if_clones_equal (λ y is. search rules)) ∙ c.len-2.ensures)
 
 pub returns : goal.returns
 returns c =
@@ -43,6 +43,6 @@ returns c =
     subst (λ (ws : List Write). AreGiven ws (versions_in t.keys.items t.values.items pairs)) written.writes (record {
       distinct = numbered_versions (numbers t.keys.items t.values.items pairs nils)
           (given_numbering t.keys.items t.values.items t.pairs.items pairs nils written.within added.numbered are added.nils
-          (added.len ∙ none_count c.len.result c.in_ok-nils.nils.items (c.in_ok-nils.ensures.items_if_clones_equal (λ y is. search rules)) ∙ c.len.ensures));
+          (added.len ∙ none_count c.len-2.result c.in_ok-nils.nils.items (c.in_ok-nils.ensures.items_if_clones_equal (λ y is. search rules)) ∙ c.len-2.ensures));
       named = named_by_writes t.keys.items t.values.items t.pairs.items pairs written.within.within are;
     })

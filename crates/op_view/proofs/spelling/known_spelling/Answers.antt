@@ -1,4 +1,5 @@
-use Rattle.std.proofs.Common.{ℤ, sym, subst}
+use Rattle.std.proofs.Common.{◌∙◌, ℤ, pos, to_z, of_z, ap, sym, subst}
+use Rattle.std.specs.Int.{w64}
 use Rattle.op_view.specs.Spellings.{IsSpelled}
 use Rattle.op_view.specs.declared.spelling.Spelling.TheVariants as spellings
 use Rattle.edn_ops.proofs.Integers.{number_kept}
@@ -7,7 +8,8 @@ use Rattle.op_view.proofs.spelling.known_spelling.Goals as goal
 
 pub returns-in-Some : goal.returns-in-Some
 returns-in-Some c kind atom token =
-    let number = c.in-Some.number in
     let text = c.args.text.now in
-    subst (λ (n : ℤ). IsSpelled kind text (spellings.Integer n)) (sym (number_kept text number c.in-Some.ensures))
+    let number = pos c.in-Some.number in
+    subst (λ (n : ℤ). IsSpelled kind text (spellings.Integer n))
+    (sym (ap (λ (n : ℤ). to_z w64 (of_z w64 n)) c.from.ensures ∙ number_kept text number c.in-Some.ensures))
     (spelled_digits kind text atom number token c.in-Some.ensures)

@@ -20,5 +20,5 @@ returns g c =
     let nil : slice_get (versions_of c.nil.new.self) c.in_ok-nil.nil ≡ Some (nil_of v.key) = c.in_ok-nil.ensures.number ∙ ap (λ (k : Atom). Some (version_with k None)) is.1 in
     let done = access_there (versions_of s) (versions_of c.nil.new.self) v c.in_ok-nil.nil c.in-Some.number numbered is.2 grown nil in (
       done.0 ∙ ap (λ (n : Numbers). with_item version_eq (with_item version_eq (versions_of n) (nil_of v.key)) v) c.expected.ensures,
-      (ap (slice_get (versions_of c.nil.new.self)) c.in_ok-number_of.ensures ∙ done.1.0, ap (slice_get (versions_of c.nil.new.self)) c.in_ok-number_of-2.ensures ∙ done.1.1),
+      done.1,
     )

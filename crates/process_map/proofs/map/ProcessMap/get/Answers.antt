@@ -16,5 +16,5 @@ pub returns-else-process-lt-SMALL : goal.returns-else-process-lt-SMALL
 returns-else-process-lt-SMALL g c =
     let small = c.self.inside.small.items in
     let large = c.self.inside.large in
-    let is : c.copied-else-process-lt-SMALL.result ≡ cond (nat_lt c.args.process SMALL) (get_or small c.args.process None) (get nat_eq large c.args.process) = search rules in
+    let is : c.value_of_large.result ≡ cond (nat_lt c.args.process SMALL) (get_or small c.args.process None) (get nat_eq large c.args.process) = search rules in
     is ∙ sym (value_in small large c.args.process) ∙ ap (λ entries. value_of entries c.args.process) c.self.view_is

@@ -26,7 +26,7 @@ returns-clause-others g c p =
           let is = value_in_set small c.args.process p None (get nat_eq large p) low (has_place small large c.args.process c.in_ok-value.value low there) in
           ap (λ entries. value_of entries p) w.self-is ∙ value_in _ large p ∙ is ∙ before)
       | else-process-lt-SMALL w ↦ (
-          let is : cond (nat_lt p SMALL) (get_or small p None) (get nat_eq w.remove.new.self p)
+          let is : cond (nat_lt p SMALL) (get_or small p None) (get nat_eq w.remove_large.new.large p)
           ≡ cond (c.args.process == p) None (cond (nat_lt p SMALL) (get_or small p None) (get nat_eq large p)) = search rules in
-          ap (λ entries. value_of entries p) w.self-is ∙ value_in small w.remove.new.self p ∙ is ∙ before)
+          ap (λ entries. value_of entries p) w.self-is ∙ value_in small w.remove_large.new.large p ∙ is ∙ before)
     ]

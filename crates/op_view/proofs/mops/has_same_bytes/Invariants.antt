@@ -1,7 +1,7 @@
 -- What is left of both texts is as long, and the same where the wholes are.
 use Rattle.std.proofs.Common.{◌≡◌, length}
 use Rattle.std.specs.Str.{bytes_eq}
-use Rattle.op_view.proofs.mops.is_same_text.Given as goal
+use Rattle.op_view.proofs.mops.has_same_bytes.Given as goal
 
 abbrev pub invariant-loop-x : goal.invariant-loop-x
 invariant-loop-x l =
