@@ -13,6 +13,15 @@ module _ {A : Type 0} {eq : A → A → Bool} {place_of : A → ℕ → Option �
   differs : (a b : A) → eq a b ≡ false → eq b a ≡ false
   differs a b h = false_from_ne_true _ (λ same. true≢false (sym (ap (eq a) (slots.same b a same) ∙ slots.itself a) ∙ h))
 
+  -- the table tells the number of an item that has a slot
+  pub number_at :
+      {S : Type 0} (items : List A) (table : List (Option ℕ)) (others : IndexMap A ℕ S) (item : A) (slot : ℕ)
+      → IsIndexedBy eq place_of item_at items table others → place_of item (length table) ≡ Some slot
+      → get_or table slot None ≡ number_in eq item items
+  number_at items table others item slot index at =
+      let small = slots.told item (length table) slot at in
+      index.small slot small.within ∙ ap (λ (a : A). number_in eq a items) (sym small.is)
+
   -- an item that has a slot goes into the table
   pub indexed_small :
       {S : Type 0} (items : List A) (table : List (Option ℕ)) (others : IndexMap A ℕ S) (item : A) (slot : ℕ)

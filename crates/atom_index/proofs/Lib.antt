@@ -1,3 +1,5 @@
 pub mod Pushed
 pub mod Tables
 pub mod Indexed
+pub mod LeftOut
+pub mod PairPushed

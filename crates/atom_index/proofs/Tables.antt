@@ -4,13 +4,13 @@ use Rattle.std.specs.Prelude.{nat_lt, ◌≢◌, ◌&&◌, ◌==◌, nat_eq}
 use Rattle.std.proofs.lemmas.List.{take_more, get_or-set_same, get_or-set_other, length-set, length-take-le}
 use Rattle.std.proofs.Math.ListN.{set}
 use Rattle.std.specs.Option.{is_some, option_eq}
-use Rattle.std.proofs.lemmas.Nat.{div-mul-add, mod-mul-add}
+use Rattle.std.proofs.lemmas.Nat.{div-mul-add, mod-mul-add, div-add-mod'}
+use Rattle.std.proofs.Math.Nat.{mod-lt}
 use Rattle.std.proofs.lemmas.Bool.{cases_Bool, true≢false, lt-ltb, ltb-true, eqb-true, and_parts, false_from_ne_true}
 use Rattle.hist_types.specs.Atoms.{Atom, integer, keyword, string, symbol, atom_eq}
 use Rattle.hist_types.proofs.Equality.{atom_eq-same, atom_eq-itself}
-use Rattle.atom_index.specs.declared.pair_slots.TheConstants.{VALUES_OF_KEY}
 use Rattle.atom_index.specs.Numbers.{number_in, pair_eq}
-use Rattle.atom_index.specs.Slots.{number_of_entry, slot_of, integer_at, slot_of_pair, pair_at, HoldsNumbersOf}
+use Rattle.atom_index.specs.Slots.{number_of_entry, slot_of, integer_at, place_of_value, slot_of_pair, pair_at, HoldsNumbersOf}
 use Rattle.atom_index.proofs.Pushed.{number_first, number_last, number_kept, pair_eq-itself}
 
 -- ---- what is kept in a slot
@@ -68,7 +68,7 @@ atom_slots = record { same = atom_eq-same; itself = atom_eq-itself; told = int_t
 abbrev pair : ℕ → Option ℕ → ℕ × Option ℕ
 pair key value = (key, value)
 
-same_pair : (p q : ℕ × Option ℕ) → pair_eq p q ≡ true → p ≡ q
+pub same_pair : (p q : ℕ × Option ℕ) → pair_eq p q ≡ true → p ≡ q
 same_pair (k, v) (l, w) e =
     let parts = and_parts (k == l) (option_eq nat_eq v w) e in
     pair_of k l v w (eqb-true k l parts.0) (same_value v w parts.1)
@@ -82,32 +82,42 @@ same_pair (k, v) (l, w) e =
     pair_of : (k l : ℕ) (v w : Option ℕ) → k ≡ l → v ≡ w → pair k v ≡ pair l w
     pair_of k l v w e f = ap (λ (x : ℕ). pair x v) e ∙ ap (pair l) f
 
-pair_told : (p : ℕ × Option ℕ) (slots slot : ℕ) → slot_of_pair p slots ≡ Some slot → IsSmall pair_at p slots slot
-pair_told (key, None) slots slot e = absurd (no_slot slot e)
-pair_told (key, Some value) slots slot e = elim (cases_Bool (nat_lt value VALUES_OF_KEY && nat_lt (key * VALUES_OF_KEY + value) slots)) [
+value_place : (value : Option ℕ) → number_of_entry (place_of_value value) ≡ value
+value_place None = refl
+value_place (Some value) = entry_of value
+
+place_value : (place : ℕ) → place_of_value (number_of_entry place) ≡ place
+place_value zero = refl
+place_value (suc n) =
+    let is : number_of_entry (suc n) ≡ Some n = ap number_of_entry (omega arith) ∙ entry_of n in
+    ap place_of_value is ∙ omega arith
+
+pair_told : (width : ℕ) (p : ℕ × Option ℕ) (slots slot : ℕ) → slot_of_pair width p slots ≡ Some slot → IsSmall (pair_at width) p slots slot
+pair_told width (key, value) slots slot e = elim (cases_Bool (nat_lt (place_of_value value) width && nat_lt (key * width + place_of_value value) slots)) [
   | inl is ↦ (
-      let tests = and_parts (nat_lt value VALUES_OF_KEY) (nat_lt (key * VALUES_OF_KEY + value) slots) is in
-      let small = ltb-true value VALUES_OF_KEY tests.0 in
-      let at : key * VALUES_OF_KEY + value ≡ slot = same_slot _ slot (rw is at e) in
-      let item : pair_at (key * VALUES_OF_KEY + value) ≡ pair key (Some value) =
-      ap (λ (k : ℕ). pair k (Some ((key * VALUES_OF_KEY + value) % VALUES_OF_KEY))) (div-mul-add key VALUES_OF_KEY value small)
-      ∙ ap (λ (v : ℕ). pair key (Some v)) (mod-mul-add key VALUES_OF_KEY value small) in
+      let tests = and_parts (nat_lt (place_of_value value) width) (nat_lt (key * width + place_of_value value) slots) is in
+      let small = ltb-true (place_of_value value) width tests.0 in
+      let at : key * width + place_of_value value ≡ slot = same_slot _ slot (rw is at e) in
+      let item : pair_at width (key * width + place_of_value value) ≡ pair key value =
+      ap (λ (k : ℕ). pair k (number_of_entry ((key * width + place_of_value value) % width))) (div-mul-add key width (place_of_value value) small)
+      ∙ ap (λ (v : ℕ). pair key (number_of_entry v)) (mod-mul-add key width (place_of_value value) small)
+      ∙ ap (pair key) (value_place value) in
       record {
-        is = sym item ∙ ap pair_at at;
-        within = subst (λ (m : ℕ). m < slots) at (ltb-true (key * VALUES_OF_KEY + value) slots tests.1);
+        is = sym item ∙ ap (pair_at width) at;
+        within = subst (λ (m : ℕ). m < slots) at (ltb-true (key * width + place_of_value value) slots tests.1);
       })
   | inr is_not ↦ absurd (no_slot slot (rw is_not at e))
 ]
 
-pair_has : (n slots : ℕ) → n < slots → slot_of_pair (pair_at n) slots ≡ Some n
-pair_has n slots h =
-    let whole : n / VALUES_OF_KEY * VALUES_OF_KEY + n % VALUES_OF_KEY ≡ n = omega arith in
-    let small : nat_lt (n % VALUES_OF_KEY) VALUES_OF_KEY ≡ true = lt-ltb (n % VALUES_OF_KEY) VALUES_OF_KEY (omega arith) in
+pair_has : (width : ℕ) → 0 < width → (n slots : ℕ) → n < slots → slot_of_pair width (pair_at width n) slots ≡ Some n
+pair_has width wide n slots h =
+    let whole : n / width * width + n % width ≡ n = div-add-mod' n width in
+    let small : nat_lt (n % width) width ≡ true = lt-ltb (n % width) width (mod-lt n wide) in
     let within : nat_lt n slots ≡ true = lt-ltb n slots h in
-    rw (small, whole, within) refl
+    rw (place_value (n % width), small, whole, within) refl
 
-pub pair_slots : AreSlots pair_eq slot_of_pair pair_at
-pair_slots = record { same = same_pair; itself = pair_eq-itself; told = pair_told; has = pair_has }
+pub pair_slots : (width : ℕ) → 0 < width → AreSlots pair_eq (slot_of_pair width) (pair_at width)
+pair_slots width wide = record { same = same_pair; itself = pair_eq-itself; told = pair_told width; has = pair_has width wide }
 
 module _ {A : Type 0} {eq : A → A → Bool} {place_of : A → ℕ → Option ℕ} {item_at : ℕ → A} (slots : AreSlots eq place_of item_at) where
   -- an item with no slot is none of those that have one

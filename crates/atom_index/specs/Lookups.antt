@@ -1,5 +1,5 @@
 -- What an index keeps: the items by number, a table for the small ones, and a map for the others.
-use Rattle.std.specs.Prelude.{◌≡◌, ◌-◌, ℕ, min, List, length, Bool, Option, None, Vec, vec_len, vec_capacity}
+use Rattle.std.specs.Prelude.{◌≡◌, ◌<◌, ◌-◌, ℕ, min, List, length, Bool, Option, None, Some, Vec, vec_len, vec_capacity}
 use Rattle.indexmap.specs.IndexMap.{IndexMap, get, spare}
 use Rattle.hist_types.specs.Atoms.{Atom, atom_eq}
 use Rattle.atom_index.specs.Numbers.{Index, number_in, AreNumbered, pair_eq}
@@ -26,6 +26,20 @@ pub record IsIndexedBy {A S : Type 0}
 abbrev pub IsIndexed : {S : Type 0} → List Atom → List (Option ℕ) → IndexMap Atom ℕ S → Type 0
 IsIndexed = IsIndexedBy atom_eq slot_of integer_at
 
-abbrev pub IsPairIndexed : {S : Type 0} → List (ℕ × Option ℕ) → List (Option ℕ)
-    → IndexMap (ℕ × Option ℕ) ℕ S → Type 0
-IsPairIndexed = IsIndexedBy pair_eq slot_of_pair pair_at
+-- Each number in the map is that of its pair.
+abbrev pub AreNumbersOf : {S : Type 0} → IndexMap (ℕ × Option ℕ) ℕ S → List (ℕ × Option ℕ) → Type 0
+AreNumbersOf others pairs = (p : ℕ × Option ℕ) (number : ℕ)
+    → get pair_eq others p ≡ Some number → number_in pair_eq p pairs ≡ Some number
+
+-- The map tells the number of each pair that has no slot.
+abbrev pub HoldsOthers : {S : Type 0} → ℕ → ℕ → IndexMap (ℕ × Option ℕ) ℕ S
+    → List (ℕ × Option ℕ) → Type 0
+HoldsOthers width slots others pairs = (p : ℕ × Option ℕ)
+    → slot_of_pair width p slots ≡ None → get pair_eq others p ≡ number_in pair_eq p pairs
+
+-- A pair may be in the map and have a slot too, since it may have had none in an earlier table.
+pub record IsPairIndexed {S : Type 0} (pairs : List (ℕ × Option ℕ))
+    (width : ℕ) (table : List (Option ℕ)) (others : IndexMap (ℕ × Option ℕ) ℕ S) : Type 0 where
+  pub wide : 0 < width
+  pub indexed : IsIndexedBy pair_eq (slot_of_pair width) (pair_at width) pairs table others
+  pub numbers : AreNumbersOf others pairs

@@ -2,7 +2,6 @@
 use Rattle.std.specs.Prelude.{◌≡◌, ◌<◌, ◌+◌, ◌-◌, ◌*◌, ◌/◌, ◌%◌, ◌&&◌, ℕ, pos, List, length, get_or, Bool, Option, Some, None, nat_lt, if◌then◌else◌}
 use Rattle.hist_types.specs.Atoms.{Atom, integer, atom_eq}
 use Rattle.atom_index.specs.Numbers.{number_in, pair_eq}
-use Rattle.atom_index.specs.declared.pair_slots.TheConstants.{VALUES_OF_KEY}
 
 -- what is kept in a slot: one more than the number there, or 0 for none
 abbrev pub number_of_entry : ℕ → Option ℕ
@@ -27,17 +26,22 @@ integer_at slot = integer (pos slot)
 abbrev pub HoldsNumbers : List (Option ℕ) → List Atom → Type 0
 HoldsNumbers = HoldsNumbersOf atom_eq integer_at
 
--- ---- pairs of a small key and a small value
+-- ---- pairs of a key and one of its first values
 
--- the place of a pair: the values of a key are side by side
-abbrev pub slot_of_pair : ℕ × Option ℕ → ℕ → Option ℕ
-slot_of_pair (key, Some value) slots =
-    let slot = key * VALUES_OF_KEY + value in
-    if nat_lt value VALUES_OF_KEY && nat_lt slot slots then Some slot else None
-slot_of_pair (key, None) slots = None
+-- the place of nil or of a value in the row of its key: nil is first
+abbrev pub place_of_value : Option ℕ → ℕ
+place_of_value None = 0
+place_of_value (Some value) = value + 1
 
-abbrev pub pair_at : ℕ → ℕ × Option ℕ
-pair_at slot = (slot / VALUES_OF_KEY, Some (slot % VALUES_OF_KEY))
+-- the slot of a pair, if it has one: each key has a row, which is as wide as this
+abbrev pub slot_of_pair : ℕ → ℕ × Option ℕ → ℕ → Option ℕ
+slot_of_pair width (key, value) slots =
+    let place = place_of_value value in
+    let slot = key * width + place in
+    if nat_lt place width && nat_lt slot slots then Some slot else None
 
-abbrev pub HoldsPairs : List (Option ℕ) → List (ℕ × Option ℕ) → Type 0
-HoldsPairs = HoldsNumbersOf pair_eq pair_at
+abbrev pub pair_at : ℕ → ℕ → ℕ × Option ℕ
+pair_at width slot = (slot / width, number_of_entry (slot % width))
+
+abbrev pub HoldsPairs : ℕ → List (Option ℕ) → List (ℕ × Option ℕ) → Type 0
+HoldsPairs width = HoldsNumbersOf pair_eq (pair_at width)

@@ -1,52 +1,125 @@
-//! A table for pairs of a small key and a small value.
+//! A table for pairs of a key and one of its first values.
 
-ghost use Rattle.std.specs.Prelude.{◌≡◌, ◌≤◌, length, IfOk};
+ghost use Rattle.std.specs.Prelude.{◌≡◌, ◌≤◌, ◌<◌, [], length, IfOk};
 ghost use Rattle.atom_index.specs.declared.table.TheConstants.{MAX_NUMBERS};
 ghost use Rattle.atom_index.specs.Slots.{HoldsPairs, slot_of_pair};
 
 use crate::table::Table;
 use std::alloc::{AllocError, Global};
 
-/// How many values of a key have places in the table of pairs: those with the smallest numbers.
-pub(crate) const VALUES_OF_KEY: usize = 64;
+/// How many values of a key have slots at most: those with the smallest numbers.
+const MOST_VALUES: usize = 64;
 
-/// How many slots for each pair a new table has. It is left for a larger one when it has fewer than half as many.
-pub(crate) const SLOTS_OF_PAIR: usize = 4;
+/// How many keys are few.
+const FEW_KEYS: usize = 64;
 
-/// The place of a pair in a table with n slots: that of a small key and a small value, by their numbers. The values
-/// of a key are side by side.
-pub(crate) fn slot_of(pair: (u32, Option<u32>), slots: usize) -> Option<usize>
-    ensures { result ≡ slot_of_pair pair slots }
-{
-    let (key, value) = pair;
-    let value = value? as usize;
-    let slot = key as usize * VALUES_OF_KEY + value;
-    if value < VALUES_OF_KEY && slot < slots {
-        Some(slot)
-    } else {
-        None
-    }
+/// How many keys have rows at least.
+const LEAST_KEYS: usize = 16;
+
+/// The numbers of pairs. Each key has a row, with a slot for nil and for each of its first values. How wide the rows are is
+/// chosen when the table is made, by how many pairs a key has.
+#[derive(Drop)]
+pub(crate) struct PairTable {
+    pub numbers: Table,
+    /// How many slots a row has.
+    pub width: u32,
+    /// How many pairs it was made for.
+    pub pairs: usize,
 }
 
-/// The table of the small pairs, with their places there.
-pub(crate) fn table_of(
-    alloc: Global,
-    pairs: &[(u32, Option<u32>)],
-    slots: usize,
-) -> Result<Table, AllocError>
-    requires { length pairs.now ≤ MAX_NUMBERS }
-    ensures len { IfOk result (λ table. length table ≡ slots) }
-    ensures places { IfOk result (λ table. HoldsPairs table pairs.now) }
+/// How many values of a key have slots where n keys have these pairs: half as many again as a key has pairs, and as many as can be
+/// while keys are few.
+fn values_of_key(keys: usize, pairs: usize) -> usize
+    ensures { result ≤ MOST_VALUES }
 {
-    let mut table = Table::with_slots(alloc, slots)?;
-    let mut number: u32 = 0;
-    for pair in pairs {
-        if let Some(slot) = slot_of(*pair, slots) {
-            if table.get(slot).is_none() {
-                table.set(slot, number);
-            }
-        }
-        number += 1;
+    if keys <= FEW_KEYS {
+        return MOST_VALUES;
     }
-    Ok(table)
+    let average = pairs.div_ceil(keys);
+    average.saturating_add(average / 2).min(MOST_VALUES)
+}
+
+/// How many keys need rows where n keys have these pairs: no more than there are pairs, and no fewer than whose rows the pairs fill.
+fn rows_for(keys: usize, pairs: usize) -> usize {
+    keys.min(pairs).max(pairs / MOST_VALUES).max(LEAST_KEYS)
+}
+
+impl PairTable {
+    /// A table without slots.
+    pub fn new(alloc: Global) -> Self
+        ensures numbers { result.numbers ≡ [] }
+        ensures width { 0 < result.width }
+    {
+        PairTable {
+            numbers: Table::new(alloc),
+            width: 1,
+            pairs: 0,
+        }
+    }
+
+    /// A table with the numbers of these pairs, for `wanted` pairs. Twice as many keys have rows as need them.
+    pub fn with_pairs(
+        alloc: Global,
+        pairs: &[(u32, Option<u32>)],
+        keys: usize,
+        wanted: usize,
+    ) -> Result<Self, AllocError>
+        requires { length pairs.now ≤ MAX_NUMBERS }
+        ensures width { IfOk result (λ table. 0 < table.width) }
+        ensures places { IfOk result (λ table. HoldsPairs table.width table.numbers pairs.now) }
+    {
+        let width = values_of_key(keys, pairs.len()) + 1;
+        let rows = rows_for(keys, wanted).saturating_mul(2);
+        let mut table = PairTable {
+            numbers: Table::with_slots(alloc, rows.saturating_mul(width))?,
+            width: width as u32,
+            pairs: wanted,
+        };
+        table.fill(pairs);
+        Ok(table)
+    }
+
+    /// Gives each of these pairs its number, in a table that has none.
+    fn fill(&mut self, pairs: &[(u32, Option<u32>)])
+        requires width { 0 < self.old.width }
+        requires len { length pairs.now ≤ MAX_NUMBERS }
+        requires empty { HoldsPairs self.old.width self.old.numbers [] }
+        ensures width { self.new.width ≡ self.old.width }
+        ensures places { HoldsPairs self.new.width self.new.numbers pairs.now }
+    {
+        let mut number: u32 = 0;
+        for pair in pairs {
+            if let Some(slot) = self.slot_of(*pair) {
+                if self.numbers.get(slot).is_none() {
+                    self.numbers.set(slot, number);
+                }
+            }
+            number += 1;
+        }
+    }
+
+    /// The slot of a pair, if it has one.
+    pub fn slot_of(&self, pair: (u32, Option<u32>)) -> Option<usize>
+        ensures { result ≡ slot_of_pair self.now.width pair (length self.now.numbers) }
+    {
+        let (key, value) = pair;
+        let width = self.width as usize;
+        let place = match value {
+            None => 0,
+            Some(value) => value as usize + 1,
+        };
+        let slot = key as usize * width + place;
+        if place < width && slot < self.numbers.len() {
+            Some(slot)
+        } else {
+            None
+        }
+    }
+
+    /// Whether a new table is worth making where n keys have these pairs, and others of them are outside of the table: keys that
+    /// need rows have none, or more than twice as many pairs are outside as the table was made for.
+    pub fn is_outgrown(&self, keys: usize, pairs: usize, others: usize) -> bool {
+        let slots = rows_for(keys, pairs).saturating_mul(self.width as usize);
+        self.numbers.len() < slots || others / 2 > self.pairs
+    }
 }

@@ -6,6 +6,7 @@ use Rattle.std.specs.List.{list_any}
 use Rattle.std.proofs.lemmas.Bool.{false≢true, and_parts, eq-eqb, ne_eqb}
 use Rattle.std.proofs.lemmas.Option.{none-some, same_Some, slice_get_within, get_or_from_slice_get}
 use Rattle.hist_types.specs.Edges.{Label, ww, wr, rw, process, realtime, Edge, is_ok_before, order_labels, dependency_edges, order_edges, edges_at}
+use Rattle.hist_types.specs.Phenomena.{is_rw_label, is_rw}
 use Rattle.hist_types.specs.Reports.{AreFindings, no_findings}
 use Rattle.hist_types.specs.Transactions.{Transaction, Version, version_of, Open, is_ok, external_reads, reads_after, has_version, installs, writes, is_known_to_read, is_node, nodes, transactions_of}
 use Rattle.hist_types.specs.Atoms.{Atom, integer, atom_eq}
@@ -13,6 +14,7 @@ use Rattle.hist_types.specs.Operations.{Mop, read, write}
 use Rattle.hist_types.specs.Versions.{nil_of, pair, process_pairs, version_pairs}
 use Rattle.hist_types.specs.Journal.{writes_of}
 use Rattle.hist_types.specs.declared.types.Level.{Level}
+use Rattle.hist_types.specs.declared.types.Level.TheVariants.{Plain}
 use Rattle.hist_types.specs.declared.types.KeyOrder.{KeyOrder}
 use Rattle.hist_types.proofs.Members.{In, in_back, in_from_Contains, Contains_from_in, in_append, in_mapped, in_filter, passes_filter}
 use Rattle.history_laws.specs.Dependencies.{Depends}
@@ -30,9 +32,9 @@ use Rattle.dep_edges.specs.Tables.{IsNumber, txn_at, version_at}
 use Rattle.dep_edges.proofs.Marks.{place_in, to_some_place}
 use Rattle.dep_edges.proofs.Out.{pair_is_behind}
 use Rattle.dep_edges.proofs.Writers.{has_writer, WroteAt, writer_wrote}
-use Rattle.clean_order.specs.Rising.{RisesAlong, RisesAtEachLevel}
-use Rattle.clean_order.specs.Ranked.{IsLower, IsLowerIfOther, users, RisesToReaders, RisesToNode, RisesAtVersion, RisesInTime}
-use Rattle.clean_order.proofs.Walks.{none_found}
+use Rattle.clean_order.specs.Rising.{RisesAlong, ShowsNoWrites, ShowsNothingAtPlain}
+use Rattle.clean_order.specs.Ranked.{IsLower, IsLowerIfOther, users, counted, RisesToReaders, RisesToNode, RisesAtVersion, RisesInTime}
+use Rattle.clean_order.proofs.Walks.{none_found, no_writes_found, show_nothing}
 
 -- ---- members and places
 
@@ -153,17 +155,17 @@ different : (ts : List Transaction) (t u : Transaction) (j k : ℕ) → AreEnds 
 different ts t u j k ends same =
     ends.other (ap (λ (x : Transaction). x.invocation) (same_Some t u (sym ends.first ∙ ap (slice_get ts) same ∙ ends.second)))
 
-module _ (keys : KeyOrder) (ts : List Transaction) (table : Table) (ranks : List ℕ) (kept : AreOfHistory ts) (is : IsTableOf keys ts table)
-    (versions : (number : ℕ) → IsNumber table number → RisesAtVersion keys ts ranks (version_at table number)) where
-  rises_at_read : (v : Version) (t : Transaction) → In t ts → is_known_to_read t v ≡ true → RisesAtVersion keys ts ranks v
+module _ (keys : KeyOrder) (ts : List Transaction) (table : Table) (reads : Bool) (ranks : List ℕ) (kept : AreOfHistory ts) (is : IsTableOf keys ts table)
+    (versions : (number : ℕ) → IsNumber table number → RisesAtVersion keys reads ts ranks (version_at table number)) where
+  rises_at_read : (v : Version) (t : Transaction) → In t ts → is_known_to_read t v ≡ true → RisesAtVersion keys reads ts ranks v
   rises_at_read v t i known =
       let (number, at) = place_in table.versions v (in_from_has v table.versions (is.named v ∙ is_named_by_read ts v t i known)) in
-      subst (RisesAtVersion keys ts ranks) (version_of_number table number v at) (versions number (slice_get_within table.versions number v at))
+      subst (RisesAtVersion keys reads ts ranks) (version_of_number table number v at) (versions number (slice_get_within table.versions number v at))
 
-  rises_at_written : (v : Version) (t : Transaction) → In t ts → writes t v ≡ true → RisesAtVersion keys ts ranks v
+  rises_at_written : (v : Version) (t : Transaction) → In t ts → writes t v ≡ true → RisesAtVersion keys reads ts ranks v
   rises_at_written v t i wrote =
       let (number, at) = place_in table.versions v (in_from_has v table.versions (is.named v ∙ is_named_by_write ts v t i wrote)) in
-      subst (RisesAtVersion keys ts ranks) (version_of_number table number v at) (versions number (slice_get_within table.versions number v at))
+      subst (RisesAtVersion keys reads ts ranks) (version_of_number table number v at) (versions number (slice_get_within table.versions number v at))
 
   -- who installs a version is the one that wrote it
   writer_at : (t : Transaction) (j : ℕ) (v : Version) → slice_get ts j ≡ Some t → installs t v ≡ true → (w : Writer) × (writer_of ts v ≡ Some w) × (w.txn ≡ j)
@@ -187,10 +189,10 @@ module _ (keys : KeyOrder) (ts : List Transaction) (table : Table) (ranks : List
 
   -- from who wrote a version or reads it to who installs one after it
   from_user :
-      (t u : Transaction) (j k : ℕ) (v w : Version) → AreEnds ts t u j k → RisesAtVersion keys ts ranks v
-      → In j (users (writer_of ts v) (readers_of ts v)) → Contains (version_pairs keys ts) (pair v w) → installs u w ≡ true → IsLower ranks j k
+      (t u : Transaction) (j k : ℕ) (v w : Version) → AreEnds ts t u j k → RisesAtVersion keys reads ts ranks v
+      → In j (users (writer_of ts v) (counted reads (readers_of ts v))) → Contains (version_pairs keys ts) (pair v w) → installs u w ≡ true → IsLower ranks j k
   from_user t u j k v w ends rises user paired installed =
-      let places = users (writer_of ts v) (readers_of ts v) in
+      let places = users (writer_of ts v) (counted reads (readers_of ts v)) in
       let behind : In w (installs_behind (process_pairs keys ts) u v) = pair_is_behind keys ts kept u v w (in_at ts k u ends.second) installed paired in
       let p : ℕ × Version = (k, w) in
       let follower : In p (followers_of keys ts v) = follower_there keys ts v w k u ends.second behind in
@@ -199,17 +201,19 @@ module _ (keys : KeyOrder) (ts : List Transaction) (table : Table) (ranks : List
       let node : is_node ts (txn_at ts k) ≡ true = ap (is_node ts) (txn_of ts k u ends.second) ∙ ends.node in
       all_in (λ n. IsLowerIfOther ranks n k) places j (above node) user (different ts t u j k ends)
 
-  by_label : (t u : Transaction) (j k : ℕ) (label : Label) → AreEnds ts t u j k → Depends keys ts t u label → IsLower ranks j k
-  by_label t u j k (ww v w) ends d =
+  by_label : (t u : Transaction) (j k : ℕ) (label : Label) → AreEnds ts t u j k → Depends keys ts t u label → (is_rw_label label ≡ true → reads ≡ true) → IsLower ranks j k
+  by_label t u j k (ww v w) ends d counts =
       let (writer, e, same) = writer_at t j v ends.first d.1 in
-      let user : In j (users (writer_of ts v) (readers_of ts v)) = subst (λ o. In j (users o (readers_of ts v))) (sym e) (inl same) in
+      let user : In j (users (writer_of ts v) (counted reads (readers_of ts v))) = subst (λ o. In j (users o (counted reads (readers_of ts v)))) (sym e) (inl same) in
       from_user t u j k v w ends (rises_at_written v t (in_at ts j t ends.first) ((installed_or_over t v).1 (inl d.1))) user d.0 d.2
-  by_label t u j k (wr v) ends d = from_writer t u j k v ends d.0 d.1
-  by_label t u j k (rw v w) ends d =
+  by_label t u j k (wr v) ends d counts = from_writer t u j k v ends d.0 d.1
+  by_label t u j k (rw v w) ends d counts =
+      let reader : In j (readers_of ts v) = reader_there ts v j t ends.first d.1 in
+      let read : In j (counted reads (readers_of ts v)) = subst (λ b. In j (counted b (readers_of ts v))) (sym (counts refl)) reader in
       from_user t u j k v w ends (rises_at_read v t (in_at ts j t ends.first) d.1)
-      (reader_is_user (writer_of ts v) (readers_of ts v) j (reader_there ts v j t ends.first d.1)) d.0 d.2
-  by_label t u j k (process p) ends d = elim d [ ]
-  by_label t u j k (realtime c i) ends d = elim d [ ]
+      (reader_is_user (writer_of ts v) (counted reads (readers_of ts v)) j read) d.0 d.2
+  by_label t u j k (process p) ends d counts = elim d [ ]
+  by_label t u j k (realtime c i) ends d counts = elim d [ ]
 
   by_places : (e : Edge) (t u : Transaction) (j k : ℕ) → AreEnds ts t u j k → e.from ≡ t.invocation → e.to ≡ u.invocation → IsLower ranks j k → RisesAlong (rank_by ts ranks) e
   by_places e t u j k ends from to lower =
@@ -223,11 +227,11 @@ module _ (keys : KeyOrder) (ts : List Transaction) (table : Table) (ranks : List
       let (k, there) = place_in ts u (in_filter (is_node ts) u ts second) in
       (j, k, record { first = at; second = there; node = passes_filter (is_node ts) u ts second; other = other })
 
-  dependency_rises : (e : Edge) → Contains (dependency_edges keys ts) e → RisesAlong (rank_by ts ranks) e
-  dependency_rises e c =
+  dependency_rises : (e : Edge) → Contains (dependency_edges keys ts) e → (is_rw e ≡ true → reads ≡ true) → RisesAlong (rank_by ts ranks) e
+  dependency_rises e c counts =
       let (t, u, first, second, apart, same, depends) = (edges_by_versions keys ts e).0 c in
       let (j, k, ends) = ends_at t u (in_from_Contains t (nodes ts) first) (in_from_Contains u (nodes ts) second) apart in
-      by_places e t u j k ends (ap (λ (d : Edge). d.from) same) (ap (λ (d : Edge). d.to) same) (by_label t u j k e.label ends depends)
+      by_places e t u j k ends (ap (λ (d : Edge). d.from) same) (ap (λ (d : Edge). d.to) same) (by_label t u j k e.label ends depends counts)
 
   -- ---- order edges
 
@@ -244,11 +248,30 @@ module _ (keys : KeyOrder) (ts : List Transaction) (table : Table) (ranks : List
         by_places e t u j k ends (ap (λ (d : Edge). d.from) found.is) (ap (λ (d : Edge). d.to) found.is)
         (time j k (slice_get_within ts j t ends.first) (slice_get_within ts k u ends.second) node timely)
 
-    rises_along : RisesAtEachLevel keys (rank_by ts ranks) ts
-    rises_along level e c = elim (in_append e (dependency_edges keys ts) (order_edges level ts) (in_from_Contains e (edges_at keys level ts) c)) [
-      | inl i ↦ dependency_rises e (Contains_from_in e (dependency_edges keys ts) i)
+    rises_along : (level : Level) (e : Edge) → Contains (edges_at keys level ts) e → (is_rw e ≡ true → reads ≡ true) → RisesAlong (rank_by ts ranks) e
+    rises_along level e c counts = elim (in_append e (dependency_edges keys ts) (order_edges level ts) (in_from_Contains e (edges_at keys level ts) c)) [
+      | inl i ↦ dependency_rises e (Contains_from_in e (dependency_edges keys ts) i) counts
       | inr i ↦ order_rises level e (Contains_from_in e (order_edges level ts) i)
     ]
 
-    pub nothing_found : AreFindings keys ts no_findings
-    nothing_found = none_found keys (rank_by ts ranks) ts rises_along
+    pub nothing_found : reads ≡ true → AreFindings keys ts no_findings
+    nothing_found all = none_found keys (rank_by ts ranks) ts (λ level e c. rises_along level e c (λ _. all))
+
+    pub no_writes : ShowsNoWrites keys ts
+    no_writes = no_writes_found keys (rank_by ts ranks) ts (λ level e c none. rises_along level e c (λ is. elim (false≢true (sym none ∙ is)) [ ]))
+
+  -- ---- the level plain
+
+  none_in_order : (e : Edge) → ¬ In e (order_edges Plain ts)
+  none_in_order e i =
+      let (t, u, label, found) = ends_of (nodes ts) (order_labels Plain) e i in
+      found.labelled
+
+  pub nothing_at_plain : reads ≡ true → ShowsNothingAtPlain keys ts
+  nothing_at_plain all =
+      let rises : (e : Edge) → Contains (edges_at keys Plain ts) e → RisesAlong (rank_by ts ranks) e =
+      λ e c. elim (in_append e (dependency_edges keys ts) (order_edges Plain ts) (in_from_Contains e (edges_at keys Plain ts) c)) [
+        | inl i ↦ dependency_rises e (Contains_from_in e (dependency_edges keys ts) i) (λ _. all)
+        | inr i ↦ absurd (none_in_order e i)
+      ] in
+      show_nothing (rank_by ts ranks) (edges_at keys Plain ts) rises

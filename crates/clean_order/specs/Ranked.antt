@@ -1,5 +1,5 @@
 -- A rank for each transaction of a history, by its place, and along what it rises.
-use Rattle.std.specs.Prelude.{◌≡◌, ◌<◌, ◌≤◌, ℕ, List, ◌∷◌, slice_index, slice_get, Option, Some, None, All, IsTrue, ⊤}
+use Rattle.std.specs.Prelude.{◌≡◌, ◌<◌, ◌≤◌, ℕ, List, ◌∷◌, slice_index, slice_get, Bool, if◌then◌else◌, [], Option, Some, None, All, IsTrue, ⊤}
 use Rattle.hist_types.specs.Edges.{is_ok_before}
 use Rattle.hist_types.specs.Transactions.{Transaction, Version, is_ok, is_node}
 use Rattle.hist_types.specs.declared.types.KeyOrder.{KeyOrder}
@@ -28,28 +28,33 @@ abbrev pub users : Option Writer → (readers : List ℕ) → List ℕ
 users None readers = readers
 users (Some w) readers = w.txn ∷ readers
 
+-- those that read it, where reads count
+abbrev pub counted : (reads : Bool) → (readers : List ℕ) → List ℕ
+counted reads readers = if reads then readers else []
+
 -- each of these has a lower rank than the other one, if that is a node
 abbrev pub RisesToNode : (ts : List Transaction) → (ranks places : List ℕ) → (place : ℕ) → Type 0
 RisesToNode ts ranks places place =
     IsTrue (is_node ts (txn_at ts place))
     → All (λ user. IsLowerIfOther ranks user place) places
 
--- ranks rise from who wrote the version to who reads it, and from both to the nodes that install
--- a version after it
-pub record RisesAtVersion (keys : KeyOrder) (ts : List Transaction) (ranks : List ℕ)
+-- Ranks rise from who wrote the version to who reads it and to the nodes that install a version
+-- after it, and, where reads count, from who reads it to these nodes.
+pub record RisesAtVersion (keys : KeyOrder) (reads : Bool) (ts : List Transaction) (ranks : List ℕ)
     (v : Version) : Type 0 where
   pub readers : RisesToReaders ranks (writer_of ts v) (readers_of ts v)
   pub followers :
       All
-      (λ (p : ℕ × Version). RisesToNode ts ranks (users (writer_of ts v) (readers_of ts v)) p.0)
+      (λ (p : ℕ × Version).
+      RisesToNode ts ranks (users (writer_of ts v) (counted reads (readers_of ts v))) p.0)
       (followers_of keys ts v)
 
 -- so they do at each version that the history's table has
-abbrev pub RisesAtEach : History → (ranks : List ℕ) → Type 0
-RisesAtEach h ranks =
+abbrev pub RisesAtEach : History → (reads : Bool) → (ranks : List ℕ) → Type 0
+RisesAtEach h reads ranks =
     (number : ℕ)
     → IsNumber h.table number
-    → RisesAtVersion h.table.keys h.txns ranks (version_at h.table number)
+    → RisesAtVersion h.table.keys reads h.txns ranks (version_at h.table number)
 
 -- ---- time
 

@@ -1,10 +1,15 @@
 -- Ranks of a history's transactions that rise along its edges. Where there are such ranks, no walk
 -- along edges comes back to where it began.
-use Rattle.std.specs.Prelude.{◌<◌, ℕ, List, Contains}
+use Rattle.std.specs.Prelude.{◌<◌, ℕ, List, Contains, None}
 use Rattle.hist_types.specs.Edges.{Edge, edges_at}
+use Rattle.hist_types.specs.Phenomena.{IsThere}
 use Rattle.hist_types.specs.Transactions.{Transaction}
+use Rattle.hist_types.specs.Witness.{IsFinding}
 use Rattle.hist_types.specs.declared.types.Level.{Level}
+use Rattle.hist_types.specs.declared.types.Level.TheVariants.{Plain}
 use Rattle.hist_types.specs.declared.types.KeyOrder.{KeyOrder}
+use Rattle.hist_types.specs.declared.types.Phenomenon.{Phenomenon}
+use Rattle.hist_types.specs.declared.types.Phenomenon.TheVariants.{G0, G1c}
 
 -- the rank of what the edge leads to is higher than that of what it leaves
 abbrev pub RisesAlong : (rank : ℕ → ℕ) → Edge → Type 0
@@ -17,3 +22,11 @@ Rises rank es = (e : Edge) → Contains es e → RisesAlong rank e
 -- it rises along each edge that a cycle at some level may use
 abbrev pub RisesAtEachLevel : (keys : KeyOrder) (rank : ℕ → ℕ) → List Transaction → Type 0
 RisesAtEachLevel keys rank ts = (level : Level) → Rises rank (edges_at keys level ts)
+
+-- no cycle shows G0 or G1c at any level
+abbrev pub ShowsNoWrites : KeyOrder → List Transaction → Type 0
+ShowsNoWrites keys ts = IsFinding keys G0 ts None × IsFinding keys G1c ts None
+
+-- no cycle shows any phenomenon at the level plain
+abbrev pub ShowsNothingAtPlain : KeyOrder → List Transaction → Type 0
+ShowsNothingAtPlain keys ts = (phenomenon : Phenomenon) → ¬ IsThere keys phenomenon Plain ts

@@ -4,6 +4,7 @@
 ghost use Rattle.std.specs.Prelude.{IfOk};
 ghost use Rattle.std.specs.Bool.{OnTrue};
 ghost use Rattle.hist_types.specs.Reports.{AreFindings, no_findings};
+ghost use Rattle.clean_order.specs.Rising.{ShowsNoWrites, ShowsNothingAtPlain};
 
 mod earlier;
 mod ends;
@@ -13,7 +14,7 @@ mod rising;
 
 use crate::ends::ends;
 use crate::putting::ranks;
-use crate::rising::{rises, rises_wide};
+use crate::rising::{dependencies_rise, rises, rises_wide, writes_rise};
 use dep_edges::deps::Deps;
 use std::alloc::{AllocError, Global};
 use std::thread::Threads;
@@ -32,7 +33,7 @@ pub fn settles(alloc: Global, deps: &Deps<'_, '_>) -> Result<bool, AllocError>
 {
     let history = deps.history();
     let ends = ends(alloc, history)?;
-    match ranks(alloc, history, &ends)? {
+    match ranks(alloc, history, true, &ends)? {
         None => Ok(false),
         Some(ranks) => Ok(rises(deps, history, ranks.as_slice(), &ends)),
     }
@@ -49,8 +50,38 @@ pub fn settles_wide<R: Threads>(
 {
     let history = deps.history();
     let ends = ends(alloc, history)?;
-    match ranks(alloc, history, &ends)? {
+    match ranks(alloc, history, true, &ends)? {
         None => Ok(false),
         Some(ranks) => Ok(rises_wide(rt, deps, history, ranks.as_slice(), &ends)),
+    }
+}
+
+/// True only if no cycle shows G0 or G1c at any level. False says nothing.
+///
+/// It is what `settles` does, with the ww and wr edges and the order edges alone.
+pub fn settles_writes(alloc: Global, deps: &Deps<'_, '_>) -> Result<bool, AllocError>
+    ensures { IfOk result (λ settled. OnTrue settled
+        (ShowsNoWrites deps.now.table.keys deps.now.txns)) }
+{
+    let history = deps.history();
+    let ends = ends(alloc, history)?;
+    match ranks(alloc, history, false, &ends)? {
+        None => Ok(false),
+        Some(ranks) => Ok(writes_rise(deps, history, ranks.as_slice(), &ends)),
+    }
+}
+
+/// True only if no cycle shows any phenomenon at the level plain. False says nothing.
+///
+/// It is what `settles` does, with the dependency edges alone.
+pub fn settles_plain(alloc: Global, deps: &Deps<'_, '_>) -> Result<bool, AllocError>
+    ensures { IfOk result (λ settled. OnTrue settled
+        (ShowsNothingAtPlain deps.now.table.keys deps.now.txns)) }
+{
+    let history = deps.history();
+    let ends = ends(alloc, history)?;
+    match ranks(alloc, history, true, &ends)? {
+        None => Ok(false),
+        Some(ranks) => Ok(dependencies_rise(deps, history, ranks.as_slice())),
     }
 }

@@ -31,6 +31,8 @@ impl Frame {
 #[derive(Drop)]
 struct Putting<'h, 'v, 'a> {
     history: &'h History<'v, 'a>,
+    /// Whether those that read a version come before the others that install one after it.
+    reads: bool,
     /// Which one it was that was put, from 1 on. 0 is one that wasn't put.
     ranks: Vec<u32>,
     put: u32,
@@ -48,11 +50,13 @@ impl<'h, 'v, 'a> Putting<'h, 'v, 'a> {
     fn new(
         alloc: Global,
         history: &'h History<'v, 'a>,
+        reads: bool,
         invoked: &[u32],
     ) -> Result<Self, AllocError> {
         let txns = history.txns().len();
         Ok(Putting {
             history,
+            reads,
             ranks: vec![in alloc; 0; txns]?,
             put: 0,
             begun: vec![in alloc; false; txns]?,
@@ -66,6 +70,7 @@ impl<'h, 'v, 'a> Putting<'h, 'v, 'a> {
     fn into_ranks(self) -> Vec<u32> {
         let Putting {
             history: _,
+            reads: _,
             ranks,
             put: _,
             begun: _,
@@ -213,9 +218,9 @@ impl<'h, 'v, 'a> Putting<'h, 'v, 'a> {
         Some(writer)
     }
 
-    /// A reader of the version, other than the transaction, that wasn't put.
+    /// A reader of the version, other than the transaction, that wasn't put, if readers count.
     fn next_reader(&mut self, place: u32, number: usize) -> Option<u32> {
-        if number >= self.history.versions() {
+        if !self.reads || number >= self.history.versions() {
             return None;
         }
         let readers = self.history.readers(number);
@@ -236,14 +241,16 @@ impl<'h, 'v, 'a> Putting<'h, 'v, 'a> {
     }
 }
 
-/// Ranks for the transactions of a history, by who completed when, if each can be put after what has to come before it.
+/// Ranks for the transactions of a history, by who completed when, if each can be put after what has to come before it: those whose
+/// writes it read or wrote over and, if reads count, those that read what it wrote over.
 pub fn ranks(
     alloc: Global,
     history: &History<'_, '_>,
+    reads: bool,
     ends: &[u32],
 ) -> Result<Option<Vec<u32>>, AllocError> {
     let invoked = invoked_before(alloc, history.txns().len(), ends)?;
-    let mut putting = Putting::new(alloc, history, &invoked)?;
+    let mut putting = Putting::new(alloc, history, reads, &invoked)?;
     if !putting.put_each(ends)? {
         return Ok(None);
     }

@@ -1,13 +1,14 @@
 //! One look at each version and at each transaction, which shows that ranks rise along all edges.
 
-ghost use Rattle.std.specs.Prelude.{◌≡◌, ◌<◌, ◌≤◌, ℕ, length, slice_index, slice_get, All, Some, IsTrue};
+ghost use Rattle.std.specs.Prelude.{◌≡◌, ◌<◌, ◌≤◌, ℕ, length, slice_index, slice_get, All, Some, IsTrue, true};
 ghost use Rattle.hist_types.specs.Transactions.{is_node};
 ghost use Rattle.std.specs.Bool.{OnTrue};
 ghost use Rattle.hist_types.specs.Reports.{AreFindings, no_findings};
 ghost use Rattle.key_versions.specs.Tables.{IsTableOf};
 ghost use Rattle.dep_edges.specs.Histories.{AreOfHistory};
 ghost use Rattle.dep_edges.specs.Tables.{IsPlace, IsNumber, txn_at, version_at};
-ghost use Rattle.clean_order.specs.Ranked.{IsLowerIfOther, users, RisesToReaders, RisesAtVersion, RisesAtEach, RisesInTime, IsListed, AreAtMost};
+ghost use Rattle.clean_order.specs.Rising.{ShowsNoWrites, ShowsNothingAtPlain};
+ghost use Rattle.clean_order.specs.Ranked.{IsLowerIfOther, users, counted, RisesToReaders, RisesAtVersion, RisesAtEach, RisesInTime, IsListed, AreAtMost};
 ghost use Rattle.clean_order.specs.Highest.{IsCounted, AreCounted, RisesAbove};
 
 use dep_edges::deps::Deps;
@@ -121,6 +122,13 @@ fn highest_at(ranks: &[u32], writer: Option<Writer>, readers: &[u32]) -> Highest
     }
 }
 
+/// Those that read a version, if reads count.
+fn counted(reads: bool, readers: &[u32]) -> &[u32]
+    ensures { result.now ≡ counted reads readers.now }
+{
+    if reads { readers } else { &[] }
+}
+
 /// Whether the transactions that wrote or read a version have lower ranks than the others that install one after it and are nodes.
 fn rises_to_followers(
     deps: &Deps<'_, '_>,
@@ -140,27 +148,34 @@ fn rises_to_followers(
     true
 }
 
-/// Whether ranks rise from who wrote the version to who reads it, and from both to who installs one after it.
-fn rises_at(deps: &Deps<'_, '_>, history: &History<'_, '_>, ranks: &[u32], number: usize) -> bool
+/// Whether ranks rise from who wrote the version to who reads it and to who installs one after it, and, if reads count, from who
+/// reads it to who installs one after it.
+fn rises_at(
+    deps: &Deps<'_, '_>,
+    history: &History<'_, '_>,
+    reads: bool,
+    ranks: &[u32],
+    number: usize,
+) -> bool
     requires history { deps.now ≡ history.now }
     requires number { IsNumber history.now.table number }
-    ensures { OnTrue result (RisesAtVersion history.now.table.keys history.now.txns ranks.now
+    ensures { OnTrue result (RisesAtVersion history.now.table.keys reads history.now.txns ranks.now
         (version_at history.now.table number)) }
 {
     let writer = history.writer(number);
     let readers = history.readers(number);
-    let highest = highest_at(ranks, writer, readers);
+    let highest = highest_at(ranks, writer, counted(reads, readers));
     rises_to_readers(ranks, writer, readers)
         && rises_to_followers(deps, ranks, &highest, history.followers(number))
 }
 
 /// Whether they do at each version.
-fn rises_at_each(deps: &Deps<'_, '_>, history: &History<'_, '_>, ranks: &[u32]) -> bool
+fn rises_at_each(deps: &Deps<'_, '_>, history: &History<'_, '_>, reads: bool, ranks: &[u32]) -> bool
     requires { deps.now ≡ history.now }
-    ensures { OnTrue result (RisesAtEach history.now ranks.now) }
+    ensures { OnTrue result (RisesAtEach history.now reads ranks.now) }
 {
     for number in 0..history.versions() {
-        if !rises_at(deps, history, ranks, number) {
+        if !rises_at(deps, history, reads, ranks, number) {
             return false;
         }
     }
@@ -240,12 +255,12 @@ fn both_wide<R: Threads>(
     ends: &[u32],
 ) -> (bool, bool)
     requires { deps.now ≡ history.now }
-    ensures each { OnTrue result.0 (RisesAtEach history.now ranks.now) }
+    ensures each { OnTrue result.0 (RisesAtEach history.now true ranks.now) }
     ensures time { OnTrue result.1 (RisesInTime history.now.txns ranks.now) }
 {
     join_mut(
         rt,
-        &mut || rises_at_each(deps, history, ranks),
+        &mut || rises_at_each(deps, history, true, ranks),
         &mut || rises_in_time(deps, history, ranks, ends),
     )
 }
@@ -257,7 +272,7 @@ pub fn rises(deps: &Deps<'_, '_>, history: &History<'_, '_>, ranks: &[u32], ends
     requires table { IsTableOf history.now.table.keys history.now.txns history.now.table }
     ensures { OnTrue result (AreFindings deps.now.table.keys deps.now.txns no_findings) }
 {
-    rises_at_each(deps, history, ranks) && rises_in_time(deps, history, ranks, ends)
+    rises_at_each(deps, history, true, ranks) && rises_in_time(deps, history, ranks, ends)
 }
 
 /// As `rises`, with two threads if another can be started.
@@ -275,4 +290,29 @@ pub fn rises_wide<R: Threads>(
 {
     let (at_each, in_time) = both_wide(rt, deps, history, ranks, ends);
     at_each && in_time
+}
+
+/// Whether ranks rise along all edges of the history that are no rw edges.
+pub fn writes_rise(
+    deps: &Deps<'_, '_>,
+    history: &History<'_, '_>,
+    ranks: &[u32],
+    ends: &[u32],
+) -> bool
+    requires history { deps.now ≡ history.now }
+    requires kept { AreOfHistory history.now.txns }
+    requires table { IsTableOf history.now.table.keys history.now.txns history.now.table }
+    ensures { OnTrue result (ShowsNoWrites deps.now.table.keys deps.now.txns) }
+{
+    rises_at_each(deps, history, false, ranks) && rises_in_time(deps, history, ranks, ends)
+}
+
+/// Whether ranks rise along all dependency edges of the history.
+pub fn dependencies_rise(deps: &Deps<'_, '_>, history: &History<'_, '_>, ranks: &[u32]) -> bool
+    requires history { deps.now ≡ history.now }
+    requires kept { AreOfHistory history.now.txns }
+    requires table { IsTableOf history.now.table.keys history.now.txns history.now.table }
+    ensures { OnTrue result (ShowsNothingAtPlain deps.now.table.keys deps.now.txns) }
+{
+    rises_at_each(deps, history, true, ranks)
 }

@@ -8,7 +8,9 @@ pub mod ClosedByOrder
 pub mod OrderBack
 pub mod Scanning
 pub mod Equal
+pub mod TwoEdges
 pub mod Pairs
+pub mod ThereAndBack
 pub mod Turned
 pub mod FewBack
 pub mod Past

@@ -1,15 +1,13 @@
 -- A walk that shows a phenomenon with two edges is a pair of edges; a pair of edges is such a walk, and has arcs.
-use Rattle.std.proofs.Common.{◌≡◌, ◌∙◌, ◌<◌, ◌≤◌, ◌+◌, inl, inr, ℕ, zero, suc, List, [], ◌∷◌, length, get_or, Bool, true, false, not, if◌then◌else◌, is_some, Option, Some, None, ◌⊎◌, Contains, refl, sym, ap, subst, arith}
+use Rattle.std.proofs.Common.{◌≡◌, ◌∙◌, ◌<◌, ◌≤◌, ◌+◌, inl, inr, ℕ, zero, suc, List, [], ◌∷◌, length, get_or, Bool, true, false, if◌then◌else◌, is_some, Option, Some, None, ◌⊎◌, Contains, refl, sym, ap, subst, arith}
 use Rattle.std.specs.List.{AllByRecursion, list_all}
 use Rattle.std.specs.Prelude.{◌==◌, slice_get}
 use Rattle.std.proofs.lemmas.Bool.{false≢true, cases_lt, and_parts, eq-eqb}
 use Rattle.std.proofs.lemmas.Option.{get_or_from_slice_get}
 use Rattle.std.proofs.lemmas.List.{get_or_default}
 use Rattle.flat_groups.specs.Groups.{group, groups_from}
-use Rattle.hist_types.specs.Edges.{Label, ww, wr, rw, process, realtime, Edge, dependency_labels}
+use Rattle.hist_types.specs.Edges.{Label, ww, wr, rw, process, realtime, Edge, dependency_edges}
 use Rattle.hist_types.specs.Phenomena.{Leads, Shows, is_ww, is_wr, is_order}
-use Rattle.hist_types.specs.Transactions.{nodes}
-use Rattle.hist_types.specs.Versions.{version_pairs}
 use Rattle.hist_types.specs.Witness.{dependencies_in}
 use Rattle.hist_types.specs.declared.types.Level.TheVariants.{Plain}
 use Rattle.hist_types.specs.declared.types.Phenomenon.{Phenomenon}
@@ -17,9 +15,7 @@ use Rattle.hist_types.specs.declared.types.Phenomenon.TheVariants.{G0, G1c, GSin
 use Rattle.hist_types.proofs.Members.{In, in_from_Contains, Contains_from_in}
 use Rattle.history_laws.specs.WaysBack.{is_needed, may_lead_back}
 use Rattle.history_laws.proofs.Fewest.{few_by_one}
-use Rattle.history_laws.proofs.ThinningPaths.{ends_of}
-use Rattle.history_laws.proofs.ThinningWalks.{count_yes, within_in}
-use Rattle.history_laws.proofs.ThinningWitnesses.{is_dependency}
+use Rattle.history_laws.proofs.ThinningWalks.{within_in}
 use Rattle.dep_edges.specs.Histories.{AreOfHistory}
 use Rattle.dep_edges.specs.Tables.{IsPlace, txn_at}
 use Rattle.edge_graph.specs.Kinds.{includes, kinds_of, has_rw, AreAmong}
@@ -41,6 +37,7 @@ use Rattle.cycle_find.proofs.Closing.{back_kind, needed_kind, shows}
 use Rattle.cycle_find.proofs.OrderBack.{has_arcs}
 use Rattle.cycle_find.proofs.RankedArcs.{arc_from_within, arc_to_within, behind_version, fewer_plain, among_all}
 use Rattle.cycle_find.proofs.Returning.{needed_label}
+use Rattle.cycle_find.proofs.TwoEdges.{no_loop, all_counted, two_at_least}
 
 -- ---- dependencies
 
@@ -168,12 +165,12 @@ module _ (task : Task) (level : task.level ≡ Plain) (kept : AreOfHistory task.
   abbrev es : List Edge
   es = edges_in task.graph Plain
 
+  depend : (e : Edge) → In e es → In e (dependency_edges g.keys g.txns)
+  depend e i = in_from_Contains e _ ((plain g e).0 (Contains_from_in e es i))
+
   -- no edge leads from a transaction to itself
   pub apart : (e : Edge) → In e es → e.to ≡ e.from → ⊥
-  apart e i same =
-      let dependency = in_from_Contains e _ ((plain g e).0 (Contains_from_in e es i)) in
-      let (t, u, label, ends) = ends_of (nodes g.txns) (dependency_labels (version_pairs g.keys g.txns)) e dependency in
-      ends.other (ap (λ (d : Edge). d.from) (sym ends.is) ∙ sym same ∙ ap (λ (d : Edge). d.to) ends.is)
+  apart e i = no_loop g.keys g.txns e (depend e i)
 
   -- the places of a needed edge
   places : (e : Edge) → Contains es e → is_needed task.phenomenon e ≡ true → (from to : ℕ) × LeadsBetween g from to e
@@ -207,17 +204,11 @@ module _ (task : Task) (level : task.level ≡ Plain) (kept : AreOfHistory task.
       )
   closes e (f ∷ d ∷ rest) i is leads within back few = absurd (omega (arith, few))
 
-  -- each edge is a dependency edge
-  all_counted : (walk : List Edge) → AllByRecursion (λ (d : Edge). In d es) walk → dependencies_in walk ≡ length walk
-  all_counted [] within = refl
-  all_counted (e ∷ walk) within =
-      omega (arith, all_counted walk within.1, count_yes is_dependency e walk (ap not (((levels g Plain e).0 (Contains_from_in e es within.0)).1)))
-
   pair_in : (walk : List Edge) → Shows task.phenomenon es walk → dependencies_in walk ≤ 2 → (from to : ℕ) × IsPair task from to
   pair_in walk is few =
       let (e, among, needs, rest, back, fewer) = (few_by_one task.phenomenon es 1).0 (walk, is, few) in
       let within = within_in es rest back.within in
-      closes e rest (in_from_Contains e es among) needs back.leads within back.kinds (omega (arith, fewer, all_counted rest within))
+      closes e rest (in_from_Contains e es among) needs back.leads within back.kinds (omega (arith, fewer, all_counted g.keys g.txns es depend rest within))
 
   at_level : (walk : List Edge) → Shows task.phenomenon (edges_in g task.level) walk → Shows task.phenomenon es walk
   at_level walk = subst (λ l. Shows task.phenomenon (edges_in g l) walk) level
@@ -232,25 +223,13 @@ module _ (task : Task) (level : task.level ≡ Plain) (kept : AreOfHistory task.
 
   -- ---- a pair is a walk with the fewest
 
-  no_way : (e : Edge) (rest : List Edge) → In e es → Leads e.to rest e.from → length rest ≤ 0 → ⊥
-  no_way e [] i leads few = apart e i leads
-  no_way e (f ∷ rest) i leads few = omega (arith, few)
-
-  two_at_least : (walk : List Edge) → Shows task.phenomenon es walk → 2 ≤ dependencies_in walk
-  two_at_least walk is = elim (cases_lt 1 (dependencies_in walk)) [
-    | inl more ↦ more
-    | inr few ↦
-        let (e, among, needs, rest, back, fewer) = (few_by_one task.phenomenon es 0).0 (walk, is, few) in
-        absurd (no_way e rest (in_from_Contains e es among) back.leads (omega (arith, fewer, all_counted rest (within_in es rest back.within))))
-  ]
-
   pub shows_by_two :
       (from to : ℕ) (e f : Edge) → IsEdgeBetween g (needed_kinds task) from to e → IsEdgeBetween g (back_kinds task) to from f
       → ShowsByFewest task.phenomenon (edges_in g task.level) (e ∷ f ∷ [])
   shows_by_two from to e f is back =
       let shown = pair_shows task from to e f is back in
-      let count : dependencies_in (e ∷ f ∷ []) ≡ 2 = all_counted (e ∷ f ∷ []) (within_in es (e ∷ f ∷ []) (at_level (e ∷ f ∷ []) shown).within) in
-      record { shows = shown; fewest = λ other shows. omega (arith, count, two_at_least other (at_level other shows)) }
+      let count : dependencies_in (e ∷ f ∷ []) ≡ 2 = all_counted g.keys g.txns es depend (e ∷ f ∷ []) (within_in es (e ∷ f ∷ []) (at_level (e ∷ f ∷ []) shown).within) in
+      record { shows = shown; fewest = λ other shows. omega (arith, count, two_at_least g.keys g.txns es depend task.phenomenon other (at_level other shows)) }
 
   -- ---- a pair has arcs
 

@@ -10,3 +10,4 @@ pub mod OneDependency
 pub mod TwoDependencies
 pub mod Fewest
 pub mod Past
+pub mod Single

@@ -13,5 +13,7 @@ mod ranking;
 mod ranks_past;
 mod settle;
 mod sharing;
+pub mod single;
+mod single_ends;
 mod two_dependencies;
 pub mod types;

@@ -1,6 +1,6 @@
 pub mod Lists
 pub mod Joined
-pub mod Spans
+pub mod Parts
 pub mod RunSteps
 pub mod RowSteps
 pub mod Placed

@@ -3,13 +3,10 @@ use Rattle.std.proofs.Common.{◌≡◌, ◌∙◌, ◌<◌, ◌==◌, ℕ, List
 use Rattle.std.proofs.lemmas.Bool.{eqb-false}
 use Rattle.std.proofs.lemmas.List.{length-append, length-set, get_or-map, get_or-set_same, get_or-set_other, get_or-replicate, length-replicate}
 use Rattle.std.proofs.lemmas.List.Elements.{All-set}
-use Rattle.edge_graph.specs.Runs.{run_in, lists_in, IsRunIn, IsExtended}
+use Rattle.edge_graph.specs.Runs.{run_in, lists_in, empty_run, IsRunIn, IsExtended}
 use Rattle.edge_graph.specs.Successors.{list_at}
 use Rattle.edge_graph.specs.declared.runs.Run.{Run}
-use Rattle.edge_graph.proofs.Spans.{part-append}
-
-abbrev pub empty_run : Run
-empty_run = record { start = 0; end = 0 }
+use Rattle.edge_graph.proofs.Parts.{part-append}
 
 -- ---- a longer list
 

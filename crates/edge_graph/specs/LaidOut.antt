@@ -8,7 +8,7 @@ use Rattle.key_versions.specs.Tables.{Table}
 use Rattle.dep_edges.specs.Histories.{History}
 use Rattle.dep_edges.specs.Tables.{IsNumber, txn_at, version_at}
 use Rattle.edge_graph.specs.FlatRows.{Row, row_at, IsRowBehind}
-use Rattle.edge_graph.specs.declared.rows.Span.{Span}
+use Rattle.edge_graph.specs.declared.layout.Ends.{Ends}
 
 -- the places of the nodes that install a version after this one
 abbrev pub nodes_behind : KeyOrder → List Transaction → Version → List ℕ
@@ -60,35 +60,19 @@ pub record IsTxnRow (ts : List Transaction) (table : Table) (place : ℕ) (row :
   pub ww : row.ww ≡ if_node ts place (writers_behind table.keys ts place)
 
 -- such a row, after what was there before
-abbrev pub AddsTxnRow : History → (place : ℕ) → (before after : List ℕ) → Span → Type 0
-AddsTxnRow h place before after s =
-    (row : Row) × IsTxnRow h.txns h.table place row × IsRowBehind before after s row
+abbrev pub AddsTxnRow : History → (place : ℕ) → (before after : List ℕ) → Ends → Type 0
+AddsTxnRow h place before after e =
+    (row : Row) × IsTxnRow h.txns h.table place row × IsRowBehind before after e row
 
 -- a version leads to who installs a version after it
 abbrev pub version_row : KeyOrder → List Transaction → Version → Row
 version_row keys ts v = record { rw = nodes_behind keys ts v; wr = []; ww = [] }
 
--- such a row, after what was there before
-abbrev pub AddsVersionRow : History → (number : ℕ) → (before after : List ℕ) → Span → Type 0
-AddsVersionRow h number before after s =
-    IsRowBehind before after s (version_row h.table.keys h.txns (version_at h.table number))
-
--- the rows of the first transactions
-pub record AreFirstTxnRows (ts : List Transaction) (table : Table) (places : ℕ)
-    (rows : List Row) : Type 0 where
-  pub count : length rows ≡ places
-  pub each : (place : ℕ) → place < places → IsTxnRow ts table place (row_at rows place)
-
--- the rows of all transactions, and after them those of the first versions
-pub record AreFirstRows (ts : List Transaction) (table : Table) (numbers : ℕ)
-    (rows : List Row) : Type 0 where
-  pub count : length rows ≡ length ts + numbers
+-- the rows of the transactions, and after them of the versions
+pub record AreRows (ts : List Transaction) (table : Table) (rows : List Row) : Type 0 where
+  pub count : length rows ≡ length ts + length table.versions
   pub txns : (place : ℕ) → place < length ts → IsTxnRow ts table place (row_at rows place)
   pub versions :
       (number : ℕ)
-      → number < numbers
+      → number < length table.versions
       → row_at rows (length ts + number) ≡ version_row table.keys ts (version_at table number)
-
--- the rows of the transactions, and after them of the versions
-abbrev pub AreRows : List Transaction → Table → List Row → Type 0
-AreRows ts table rows = AreFirstRows ts table (length table.versions) rows

@@ -6,6 +6,9 @@ use Rattle.edge_graph.specs.declared.runs.Run.{Run}
 abbrev pub run_in : List ℕ → Run → List ℕ
 run_in items run = slice_range items run.start run.end
 
+abbrev pub empty_run : Run
+empty_run = record { start = 0; end = 0 }
+
 abbrev pub lists_in : List ℕ → List Run → List (List ℕ)
 lists_in items runs = map (run_in items) runs
 

@@ -4,7 +4,7 @@ ghost use Rattle.std.specs.Prelude.{◌≡◌, ◌≤◌, length};
 ghost use Rattle.edge_graph.specs.Made.{joined, AreWithin, split_at};
 
 use crate::orders::LaterNodes;
-use crate::rows::Rows;
+use crate::rows::{Followed, Rows};
 use crate::types::Dependencies;
 use graph_search::arcs::{Arcs, Successors};
 use std::marker::Model;
@@ -14,7 +14,7 @@ use std::marker::Model;
 pub struct GraphArcs<'g> {
     rows: &'g Rows,
     order: &'g LaterNodes,
-    dependencies: Dependencies,
+    followed: Followed,
 }
 
 impl<'g> Model for GraphArcs<'g> {
@@ -23,9 +23,9 @@ impl<'g> Model for GraphArcs<'g> {
 
     ghost Value = { List (List ℕ) };
 
-    ghost view = { λ a. joined a.dependencies a.rows.now a.order.now };
+    ghost view = { λ a. joined a.followed a.rows.now a.order.now };
 
-    ghost invariant = { λ a. AreWithin (joined a.dependencies a.rows.now a.order.now) };
+    ghost invariant = { λ a. AreWithin (joined a.followed a.rows.now a.order.now) };
 }
 
 impl<'g> GraphArcs<'g> {
@@ -36,7 +36,7 @@ impl<'g> GraphArcs<'g> {
         GraphArcs {
             rows,
             order,
-            dependencies,
+            followed: Followed::new(dependencies),
         }
     }
 }
@@ -53,7 +53,7 @@ impl Arcs for GraphArcs<'_> {
     fn successors(&self, vertex: usize) -> Successors<'_> {
         Successors::new(
             self.rows.len(),
-            self.rows.row(vertex, self.dependencies),
+            self.rows.row(vertex, &self.followed),
             self.order.get(vertex),
         )
     }

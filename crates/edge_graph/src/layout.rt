@@ -2,9 +2,9 @@
 
 ghost use Rattle.std.specs.Prelude.{◌≡◌, ◌++◌, IfOk, OnOk};
 ghost use Rattle.dep_edges.specs.Tables.{IsPlace, IsNumber};
-ghost use Rattle.edge_graph.specs.LaidOut.{others, nodes_of, readers_behind, writers_behind, AreRows, AddsReads, AddsTxnRow, AddsVersionRow};
+ghost use Rattle.edge_graph.specs.LaidOut.{others, nodes_of, readers_behind, writers_behind, AreRows, AddsReads, AddsTxnRow};
 
-use crate::rows::{Rows, Span, number};
+use crate::rows::{Rows, number};
 use dep_edges::deps::Deps;
 use dep_edges::history::History;
 use std::alloc::{AllocError, Global};
@@ -15,6 +15,14 @@ struct Layout<'g, 'v, 'a> {
     deps: &'g Deps<'v, 'a>,
     history: &'g History<'v, 'a>,
     ghost of_one: { history.now.txns ≡ deps.now.txns },
+}
+
+/// Where the parts of a transaction's row end in a list.
+#[derive(Clone, Copy, Drop)]
+struct Ends {
+    pub rw: u32,
+    pub wr: u32,
+    pub ww: u32,
 }
 
 /// Adds the places except one.
@@ -82,45 +90,22 @@ impl<'g, 'v, 'a> Layout<'g, 'v, 'a> {
         Ok(())
     }
 
-    /// Adds what the transaction leads to, and returns where that is.
-    fn push_txn(&self, place: usize, items: &mut Vec<u32>) -> Result<Span, AllocError>
+    /// Adds what the transaction leads to, and returns where its parts end.
+    fn push_txn(&self, place: usize, items: &mut Vec<u32>) -> Result<Ends, AllocError>
         requires { IsPlace self.now.history.now.txns place }
         ensures { IfOk result
             (AddsTxnRow self.now.history.now place items.old.items items.new.items) }
     {
-        let start = number(items.len())?;
         self.push_read(place, items)?;
-        let wr = number(items.len())?;
+        let rw = number(items.len())?;
         if !self.deps.is_node(place) {
-            return Ok(Span {
-                start,
-                wr,
-                ww: wr,
-                end: wr,
-            });
+            return Ok(Ends { rw, wr: rw, ww: rw });
         }
         self.push_readers(place, items)?;
-        let ww = number(items.len())?;
+        let wr = number(items.len())?;
         self.push_writers(place, items)?;
-        let end = number(items.len())?;
-        Ok(Span { start, wr, ww, end })
-    }
-
-    /// Adds what the version leads to, and returns where that is.
-    fn push_version(&self, version: usize, items: &mut Vec<u32>) -> Result<Span, AllocError>
-        requires { IsNumber self.now.history.now.table version }
-        ensures { IfOk result
-            (AddsVersionRow self.now.history.now version items.old.items items.new.items) }
-    {
-        let start = number(items.len())?;
-        self.push_nodes_behind(version, items)?;
-        let end = number(items.len())?;
-        Ok(Span {
-            start,
-            wr: end,
-            ww: end,
-            end,
-        })
+        let ww = number(items.len())?;
+        Ok(Ends { rw, wr, ww })
     }
 
     /// A row for each transaction, and after them one for each version.
@@ -129,15 +114,21 @@ impl<'g, 'v, 'a> Layout<'g, 'v, 'a> {
     {
         let txns = self.history.txns().len();
         let versions = self.history.versions();
-        let mut spans = Vec::with_capacity(alloc, txns.saturating_add(versions))?;
-        let mut items = Vec::new(alloc);
+        let parts = txns.saturating_mul(3).saturating_add(versions);
+        let mut bounds = Vec::with_capacity(alloc, parts.saturating_add(1))?;
+        let mut items = Vec::with_capacity(alloc, parts)?;
+        bounds.push(0)?;
         for place in 0..txns {
-            spans.push(self.push_txn(place, &mut items)?)?;
+            let ends = self.push_txn(place, &mut items)?;
+            bounds.push(ends.rw)?;
+            bounds.push(ends.wr)?;
+            bounds.push(ends.ww)?;
         }
         for version in 0..versions {
-            spans.push(self.push_version(version, &mut items)?)?;
+            self.push_nodes_behind(version, &mut items)?;
+            bounds.push(number(items.len())?)?;
         }
-        Ok(Rows::new(spans, items))
+        Ok(Rows::new(txns, versions, bounds, items))
     }
 }
 

@@ -1,12 +1,12 @@
 //! What each transaction comes before.
 
-ghost use Rattle.std.specs.Prelude.{◌≡◌, ◌<◌, [], length, All, OnOk, IfOk};
+ghost use Rattle.std.specs.Prelude.{◌≡◌, ◌<◌, [], length, replicate, All, OnOk, IfOk};
 ghost use Rattle.history_laws.specs.Times.{AreInvokedInOrder};
 ghost use Rattle.dep_edges.specs.Histories.{AreOfHistory};
 ghost use Rattle.hist_types.specs.declared.types.Level.TheVariants.{Process, Realtime};
 ghost use Rattle.order_frontier.specs.Predecessors.{before_at};
 ghost use Rattle.edge_graph.specs.Parts.{IsOrderOf};
-ghost use Rattle.edge_graph.specs.Runs.{lists_in, IsRunIn};
+ghost use Rattle.edge_graph.specs.Runs.{lists_in, empty_run, IsRunIn};
 ghost use Rattle.edge_graph.specs.Successors.{ArePlaces, predecessors_at, HavePlaces, HaveOwnPlaces, AddsNode, list_at, lists_at, AreSuccessors, AreTurned};
 
 use crate::rows::number;
@@ -66,7 +66,8 @@ fn places(alloc: Global, txns: &[Txn<'_>]) -> Result<Vec<u32>, AllocError>
     requires { AreInvokedInOrder txns.now }
     ensures { IfOk result (λ places. ArePlaces txns.now places.items) }
 {
-    let mut places = Vec::new(alloc);
+    // Most transactions have two events.
+    let mut places = Vec::with_capacity(alloc, txns.len().saturating_mul(2))?;
     for (place, txn) in txns.iter().enumerate() {
         let place = number(place)?;
         // Completions before this invocation have its place too.
@@ -119,21 +120,29 @@ fn push_node(
     Ok(())
 }
 
-/// The level's order as successors, in place of predecessors.
+/// Lists without items.
+fn empty_lists(alloc: Global, count: usize) -> Result<Vec<Run>, AllocError>
+    ensures { IfOk result (λ runs. runs.items ≡ replicate count empty_run) }
+{
+    vec![in alloc; Run::default(); count]
+}
+
+/// The level's order as successors, in place of predecessors. The runs are those of empty lists.
 fn turned(
     alloc: Global,
     deps: &Deps<'_, '_>,
     order: &Order,
     places: &[u32],
     level: Level,
+    mut runs: Vec<Run>,
 ) -> Result<LaterNodes, AllocError>
     requires kept { AreOfHistory deps.now.txns }
     requires order { IsOrderOf deps.now.txns order.now }
     requires places { ArePlaces deps.now.txns places.now }
+    requires runs { runs.items ≡ replicate (length order.now) empty_run }
     ensures { IfOk result (λ later. AreSuccessors deps.now.txns order.now level later) }
 {
     let mut nodes = Vec::new(alloc);
-    let mut runs = vec![in alloc; Run::default(); order.len()]?;
     for place in 0..order.len() {
         if deps.is_node(place) {
             push_node(
@@ -173,9 +182,12 @@ impl Orders {
         requires { IsOrderOf deps.now.txns order.now }
         ensures { IfOk result (AreTurned deps.now.txns order.now) }
     {
+        // What is kept is made first, so that the memory of the places serves again once they are dropped.
+        let in_process = empty_lists(alloc, order.len())?;
+        let in_realtime = empty_lists(alloc, order.len())?;
         let places = places_of(alloc, deps)?;
-        let in_process = turned(alloc, deps, order, &places, Level::Process)?;
-        let in_realtime = turned(alloc, deps, order, &places, Level::Realtime)?;
+        let in_process = turned(alloc, deps, order, &places, Level::Process, in_process)?;
+        let in_realtime = turned(alloc, deps, order, &places, Level::Realtime, in_realtime)?;
         Ok(Orders {
             in_plain: LaterNodes::empty(alloc),
             in_process,

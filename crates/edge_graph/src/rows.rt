@@ -1,37 +1,80 @@
 //! What each vertex leads to, in flat lists.
 
-ghost use Rattle.std.specs.Prelude.{◌≡◌, ◌<◌, ◌++◌, length, map, All, IfOk};
-ghost use Rattle.edge_graph.specs.FlatRows.{row_in, row_at, led_to, IsSpanIn};
+ghost use Rattle.std.specs.Prelude.{◌≡◌, ◌<◌, ◌≤◌, length, slice_range, IfOk};
+ghost use Rattle.edge_graph.specs.FlatRows.{row_at, led_to, rows_in, AreRowBounds};
 
 use crate::types::Dependencies;
 use std::alloc::AllocError;
 use std::marker::Model;
 
-/// The places of a row in the flat list: rw from `start` on, then wr, then ww, so that what may be followed is at its end.
-#[derive(Clone, Copy, Debug, Default, PartialEq, Eq)]
-pub(crate) struct Span {
-    pub start: u32,
-    pub wr: u32,
-    pub ww: u32,
-    pub end: u32,
+/// The dependencies that a search follows, and the parts of rows that have what they lead to.
+#[derive(Drop)]
+pub(crate) struct Followed {
+    dependencies: Dependencies,
+    /// The first of them in a transaction's row.
+    first: usize,
+    /// The first one after them.
+    last: usize,
+    /// Whether a version's part is one of them.
+    from_versions: bool,
 }
 
-/// A row for each vertex.
+impl Model for Followed {
+    ghost use Rattle.std.specs.Prelude.{◌≡◌};
+    ghost use Rattle.edge_graph.specs.FlatRows.{first_part, last_part, leave_versions};
+    ghost use Rattle.edge_graph.specs.declared.types.Dependencies.{Dependencies};
+
+    ghost Value = { Dependencies };
+
+    ghost view = { λ f. f.dependencies };
+
+    ghost invariant = { λ f. (f.first ≡ first_part f.dependencies)
+        × (f.last ≡ last_part f.dependencies)
+        × (f.from_versions ≡ leave_versions f.dependencies) };
+}
+
+impl Followed {
+    /// Those of a search that follows these dependencies.
+    pub fn new(dependencies: Dependencies) -> Self
+        ensures { result ≡ dependencies }
+    {
+        let (first, last, from_versions) = match dependencies {
+            Dependencies::None => (0, 0, false),
+            Dependencies::Ww => (2, 3, false),
+            Dependencies::Wr => (1, 2, false),
+            Dependencies::Rw => (0, 1, true),
+            Dependencies::WrAndWw => (1, 3, false),
+            Dependencies::All => (0, 3, true),
+        };
+        Followed {
+            dependencies,
+            first,
+            last,
+            from_versions,
+        }
+    }
+}
+
+/// A row for each vertex, in parts: for a transaction one for rw, then one for wr, then one for ww, so that what may be followed is
+/// at its end. From versions only rw leads on, so that a version has one part.
 #[derive(Drop)]
 pub(crate) struct Rows {
-    spans: Vec<Span>,
+    txns: usize,
+    versions: usize,
+    /// Where the parts begin in the list, and where the last one ends.
+    bounds: Vec<u32>,
     items: Vec<u32>,
 }
 
 impl Model for Rows {
-    ghost use Rattle.std.specs.Prelude.{List, map, All};
-    ghost use Rattle.edge_graph.specs.FlatRows.{Row as ARow, row_in, IsSpanIn};
+    ghost use Rattle.std.specs.Prelude.{List};
+    ghost use Rattle.edge_graph.specs.FlatRows.{Row, rows_in, AreRowBounds};
 
-    ghost Value = { List ARow };
+    ghost Value = { List Row };
 
-    ghost view = { λ r. map (row_in r.items.items) r.spans.items };
+    ghost view = { λ r. rows_in r.txns r.versions r.bounds.items r.items.items };
 
-    ghost invariant = { λ r. All (IsSpanIn r.items.items) r.spans.items };
+    ghost invariant = { λ r. AreRowBounds r.txns r.versions r.bounds.items r.items.items };
 }
 
 /// No memory holds more numbers than there are.
@@ -41,36 +84,50 @@ pub(crate) fn number(place: usize) -> Result<u32, AllocError>
     u32::try_from(place).map_err(|_| AllocError)
 }
 
+/// The items of a range.
+fn between(items: &[u32], start: usize, end: usize) -> &[u32]
+    requires rising { start ≤ end }
+    requires within { end ≤ length items.now }
+    ensures { result.now ≡ slice_range items.now start end }
+{
+    &items[start..end]
+}
+
 impl Rows {
-    /// The rows at these places of the list.
-    pub fn new(spans: Vec<Span>, items: Vec<u32>) -> Self
-        requires { All (IsSpanIn items.items) spans.items }
-        ensures { result ≡ map (row_in items.items) spans.items }
+    /// The rows between these bounds of the list.
+    pub fn new(txns: usize, versions: usize, bounds: Vec<u32>, items: Vec<u32>) -> Self
+        requires { AreRowBounds txns versions bounds.items items.items }
+        ensures { result ≡ rows_in txns versions bounds.items items.items }
     {
-        Rows { spans, items }
+        Rows {
+            txns,
+            versions,
+            bounds,
+            items,
+        }
     }
 
     /// How many vertices there are.
     pub fn len(&self) -> usize
         ensures { result ≡ length self.now }
     {
-        self.spans.len()
+        self.txns + self.versions
     }
 
     /// What a vertex leads to by these dependencies.
-    pub fn row(&self, vertex: usize, dependencies: Dependencies) -> &[u32]
+    pub fn row(&self, vertex: usize, followed: &Followed) -> &[u32]
         requires { vertex < length self.now }
-        ensures { result.now ≡ led_to dependencies (row_at self.now vertex) }
+        ensures { result.now ≡ led_to followed.now (row_at self.now vertex) }
     {
-        let span = self.spans[vertex];
-        let (start, end) = match dependencies {
-            Dependencies::None => (0, 0),
-            Dependencies::Ww => (span.ww, span.end),
-            Dependencies::Wr => (span.wr, span.ww),
-            Dependencies::Rw => (span.start, span.wr),
-            Dependencies::WrAndWw => (span.wr, span.end),
-            Dependencies::All => (span.start, span.end),
+        let (first, last) = if vertex < self.txns {
+            (3 * vertex + followed.first, 3 * vertex + followed.last)
+        } else if followed.from_versions {
+            let part = 2 * self.txns + vertex;
+            (part, part + 1)
+        } else {
+            (0, 0)
         };
-        &self.items[start as usize..end as usize]
+        let (start, end) = (self.bounds[first], self.bounds[last]);
+        between(&self.items, start as usize, end as usize)
     }
 }

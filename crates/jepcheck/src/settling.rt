@@ -1,11 +1,12 @@
-//! Histories that settle without a graph, and such that don't.
+//! What is told of histories without a graph.
 
 ghost use Rattle.std.specs.Prelude.{◌≡◌};
 ghost use Rattle.hist_types.specs.Journal.{KeepsRules};
 ghost use Rattle.hist_types.specs.Transactions.{transactions_of};
 
 use block_reader::one_block::block_of_text;
-use clean_order::settles;
+use clean_order::{settles, settles_plain, settles_writes};
+use cycle_find::single::{single_at_plain, single_in_process};
 use dep_edges::edges;
 use hist_types::types::{Fault, KeyOrder};
 use journal_core::journal::Core;
@@ -44,8 +45,39 @@ const STALE: &[u8] = b"{:type :invoke, :process 0, :value [[:w :x 1]]}
 {:type :ok, :process 1, :value [[:r :x nil]]}
 ";
 
-/// Whether transactions of events that keep the rules settle.
-fn do_settle<'a>(alloc: Global, prefix: &Prefix<'a>, txns: &Txns<'a>) -> Result<bool, Fault>
+/// A transaction that saw one write of another one, and not the other.
+const FRACTURED: &[u8] = b"{:type :invoke, :process 0, :value [[:w :x 1] [:w :y 1]]}
+{:type :invoke, :process 1, :value [[:r :x nil] [:r :y nil]]}
+{:type :ok, :process 0, :value [[:w :x 1] [:w :y 1]]}
+{:type :ok, :process 1, :value [[:r :x 1] [:r :y nil]]}
+";
+
+/// A process that doesn't see what it wrote.
+const FORGETFUL: &[u8] = b"{:type :invoke, :process 0, :value [[:w :x 1]]}
+{:type :ok, :process 0, :value [[:w :x 1]]}
+{:type :invoke, :process 0, :value [[:r :x nil]]}
+{:type :ok, :process 0, :value [[:r :x nil]]}
+";
+
+/// Two transactions that saw each other's writes.
+const MUTUAL: &[u8] = b"{:type :invoke, :process 0, :value [[:w :x 1] [:r :y nil]]}
+{:type :invoke, :process 1, :value [[:w :y 1] [:r :x nil]]}
+{:type :ok, :process 0, :value [[:w :x 1] [:r :y 1]]}
+{:type :ok, :process 1, :value [[:w :y 1] [:r :x 1]]}
+";
+
+/// What is told of a history without a graph.
+#[derive(Clone, Copy)]
+struct Told {
+    settles: bool,
+    settles_writes: bool,
+    settles_plain: bool,
+    has_single_at_plain: bool,
+    has_single_in_process: bool,
+}
+
+/// What is told of transactions of events that keep the rules.
+fn told_of<'a>(alloc: Global, prefix: &Prefix<'a>, txns: &Txns<'a>) -> Result<Told, Fault>
     requires { txns.now ≡ transactions_of prefix.now }
 {
     // Called for its clause that the events keep the rules, which the proof cites.
@@ -57,13 +89,26 @@ fn do_settle<'a>(alloc: Global, prefix: &Prefix<'a>, txns: &Txns<'a>) -> Result<
         KeyOrder::Basic,
     )?;
     let deps = edges(alloc, txns, &versions)?;
-    Ok(settles(alloc, &deps)?)
+    Ok(Told {
+        settles: settles(alloc, &deps)?,
+        settles_writes: settles_writes(alloc, &deps)?,
+        settles_plain: settles_plain(alloc, &deps)?,
+        has_single_at_plain: single_at_plain(alloc, &deps)?.is_some(),
+        has_single_in_process: single_in_process(alloc, &deps)?.is_some(),
+    })
 }
 
 #[test]
-fn clean_histories_settle(rt: HostRuntime) -> Result<(), Fail> {
+fn histories_are_told_without_a_graph(rt: HostRuntime) -> Result<(), Fail> {
     let alloc = rt.alloc();
-    for (text, clean) in [(CLEAN, true), (SKEWED, false), (STALE, false)] {
+    for (text, settles, writes, plain, at_plain, in_process) in [
+        (CLEAN, true, true, true, false, false),
+        (SKEWED, false, true, false, false, false),
+        (STALE, false, true, true, false, false),
+        (FRACTURED, false, true, false, true, false),
+        (FORGETFUL, false, true, true, false, true),
+        (MUTUAL, false, false, false, false, false),
+    ] {
         let block = block_of_text(alloc, text, Stamp { seat: 0, call: 0 })?;
         let mut core = Core::new(alloc);
         core.judge(&block)?;
@@ -71,7 +116,12 @@ fn clean_histories_settle(rt: HostRuntime) -> Result<(), Fail> {
         core.take(&block);
         let prefix = core.prefix()?;
         let txns = pair(alloc, prefix.as_events())?;
-        assert_eq!(rt; do_settle(alloc, &prefix, &txns)?, clean);
+        let told = told_of(alloc, &prefix, &txns)?;
+        assert_eq!(rt; told.settles, settles);
+        assert_eq!(rt; told.settles_writes, writes);
+        assert_eq!(rt; told.settles_plain, plain);
+        assert_eq!(rt; told.has_single_at_plain, at_plain);
+        assert_eq!(rt; told.has_single_in_process, in_process);
     }
     Ok(())
 }

@@ -1,5 +1,5 @@
 -- The operations of a block by their index.
-use Rattle.std.specs.Prelude.{ℕ, List, []}
+use Rattle.std.specs.Prelude.{◌≡◌, ℕ, ◌<◌, List, [], length}
 use Rattle.std.specs.List.{slice_get}
 use Rattle.std.specs.Option.{option_map_or}
 use Rattle.hist_types.specs.Entries.{operation_of}
@@ -14,3 +14,8 @@ no_operation = record { kind = Invoke; process = 0; mops = [] }
 -- the operation at an index
 abbrev pub operation_in : List BlockOperation → ℕ → Operation
 operation_in os index = option_map_or (λ (o : BlockOperation). operation_of o.placed) (slice_get os index) no_operation
+
+-- the operation is the one at the index
+pub record IsPlaceOf (os : List BlockOperation) (index : ℕ) (operation : Operation) : Type 0 where
+  pub within : index < length os
+  pub there : operation ≡ operation_in os index

@@ -2,6 +2,7 @@
 
 ghost use Rattle.std.specs.Prelude.{◌≡◌, ◌<◌, length, slice_get, IfSome};
 ghost use Rattle.hist_types.specs.Entries.{operation_of};
+ghost use Rattle.op_view.specs.Operations.{IsPlaceOf};
 
 use crate::mops::Mops;
 use hist_types::types::{OpKind, Process};
@@ -49,6 +50,15 @@ impl<'a> OpView<'a> {
             block: self.block,
             index: self.index,
         }
+    }
+
+    /// Its block and its index in that, from which `of` makes the same operation. A block has at most 1,024 operations.
+    pub fn place(&self) -> (&'a Block, u16)
+        ensures { IsPlaceOf result.0.now.operations result.1 self.now }
+    {
+        // The length of a block tells how few operations it has.
+        prove!(self.index < self.block.len());
+        (self.block, self.index as u16)
     }
 
     pub fn kind(&self) -> OpKind

@@ -9,7 +9,7 @@ use std::collections::HashMap;
 use std::marker::Model;
 
 /// How many process numbers are small.
-const SMALL: u64 = 1_024;
+const SMALL: u64 = 16_384;
 
 /// A value for each of some processes.
 ///

@@ -7,7 +7,7 @@ use Rattle.hist_types.specs.Transactions.{Transaction, Indexed, completion_in, t
 use Rattle.hist_types.specs.declared.types.OpKind.{OpKind}
 use Rattle.hist_types.specs.declared.types.OpKind.TheVariants as kinds
 use Rattle.hist_types.specs.declared.types.Outcome.{Outcome}
-use Rattle.txn_pairs.specs.Endings.{outcome_by}
+use Rattle.txn_pairs.specs.Outcomes.{outcome_by}
 use Rattle.txn_pairs.specs.Growth.{TakesEvent}
 use Rattle.txn_pairs.specs.Places.{is_open, has_process, open_place, completed, with_completed}
 use Rattle.txn_pairs.proofs.Places.{cond-same, status_by-open, open_place-unseen, with_completed-behind, open_place-more, open_place-completed}

@@ -1,5 +1,5 @@
 pub mod Statuses
-pub mod Endings
+pub mod Outcomes
 pub mod Places
 pub mod Completions
 pub mod Growth

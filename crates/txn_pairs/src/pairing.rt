@@ -3,7 +3,7 @@
 ghost use Rattle.std.specs.Prelude.{◌≡◌, ◌<◌, [], length, true, Some, IfSome, IfOk, OnOk, OnErr};
 ghost use Rattle.hist_types.specs.Journal.{is_invoke};
 ghost use Rattle.hist_types.specs.declared.limits.TheConstants.{MAX_EVENTS};
-ghost use Rattle.txn_pairs.specs.Endings.{outcome_by};
+ghost use Rattle.txn_pairs.specs.Outcomes.{outcome_by};
 ghost use Rattle.txn_pairs.specs.Growth.{TakesEvent, BeginsOne, CompletesIfOpen, IsChange};
 
 use crate::types::{Txn, Txns};

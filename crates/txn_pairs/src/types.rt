@@ -3,11 +3,12 @@
 ghost use Rattle.std.specs.Prelude.{◌≡◌, ◌<◌, [], length, Some, None};
 ghost use Rattle.hist_types.specs.Transactions.{transaction_by};
 ghost use Rattle.hist_types.specs.declared.limits.TheConstants.{MAX_EVENTS};
-ghost use Rattle.txn_pairs.specs.Endings.{outcome_by};
+ghost use Rattle.txn_pairs.specs.Outcomes.{outcome_by};
 ghost use Rattle.txn_pairs.specs.Places.{completed, completed_at};
 ghost use Rattle.txn_pairs.specs.Statuses.{status_of};
 
 use hist_types::types::Outcome;
+use op_block::block::Block;
 use op_view::mops::Mops;
 use op_view::op::OpView;
 use std::alloc::{AllocError, Global};
@@ -23,24 +24,21 @@ pub enum Status {
     Open,
 }
 
-/// How a transaction ended, with the index of its completion.
-#[derive(Clone, Copy, Debug)]
-enum Ending {
-    Open,
-    Ok(u32),
-    Fail(u32),
-    Info(u32),
-}
-
 /// A transaction, named by the index of its invocation. It borrows the block that its micro-operations are in.
 #[derive(Drop)]
 pub struct Txn<'a> {
-    /// The operation that has its micro-operations: an ok if that completed it, else its invocation.
-    op: OpView<'a>,
+    /// The block of the operation that has its micro-operations: an ok if that completed it, else its invocation.
+    block: &'a Block,
     process: u32,
     invocation: u32,
-    ending: Ending,
+    /// The index of its completion. An open one has none, and 0 here.
+    completion: u32,
+    /// The operation's index in its block.
+    op_index: u16,
+    status: Status,
 }
+
+const _: () = prove!(size_of::<Txn>() <= 24);
 
 impl<'a> Model for Txn<'a> {
     ghost use Rattle.hist_types.specs.Transactions.{Transaction};
@@ -50,15 +48,19 @@ impl<'a> Model for Txn<'a> {
 
     ghost coded = { coded_transaction };
 
-    ghost use Rattle.txn_pairs.specs.Endings.{ending_index, ending_status};
+    ghost use Rattle.std.specs.Prelude.{◌<◌, length};
+    ghost use Rattle.op_view.specs.Operations.{operation_in};
+    ghost use Rattle.txn_pairs.specs.Statuses.{status_of, completion_by};
 
     ghost view = { λ t. record {
       process = t.process;
       invocation = t.invocation;
-      completion = ending_index t.ending;
-      status = ending_status t.ending;
-      mops = t.op.mops;
+      completion = completion_by t.status t.completion;
+      status = status_of t.status;
+      mops = (operation_in t.block.now.operations t.op_index).mops;
     } };
+
+    ghost invariant = { λ t. t.op_index < length t.block.now.operations };
 }
 
 impl<'a> Txn<'a> {
@@ -68,11 +70,14 @@ impl<'a> Txn<'a> {
         ensures { result ≡ transaction_by index op.entry None }
     {
         let process = op.process().number() as u32;
+        let (block, op_index) = op.place();
         Txn {
-            op,
+            block,
             process,
             invocation: index as u32,
-            ending: Ending::Open,
+            completion: 0,
+            op_index,
+            status: Status::Open,
         }
     }
 
@@ -82,14 +87,14 @@ impl<'a> Txn<'a> {
         requires outcome { outcome_by op.kind ≡ Some outcome }
         ensures { self.new ≡ completed self.old index op.entry }
     {
-        let index = index as u32;
+        self.completion = index as u32;
         match outcome {
             Outcome::Ok => {
-                self.op = op;
-                self.ending = Ending::Ok(index);
+                (self.block, self.op_index) = op.place();
+                self.status = Status::Ok;
             }
-            Outcome::Fail => self.ending = Ending::Fail(index),
-            Outcome::Info => self.ending = Ending::Info(index),
+            Outcome::Fail => self.status = Status::Fail,
+            Outcome::Info => self.status = Status::Info,
         }
     }
 
@@ -111,28 +116,23 @@ impl<'a> Txn<'a> {
     pub fn completion(&self) -> Option<u64>
         ensures { result ≡ self.now.completion }
     {
-        match self.ending {
-            Ending::Open => None,
-            Ending::Ok(index) | Ending::Fail(index) | Ending::Info(index) => Some(u64::from(index)),
+        match self.status {
+            Status::Open => None,
+            Status::Ok | Status::Fail | Status::Info => Some(u64::from(self.completion)),
         }
     }
 
     pub fn status(&self) -> Status
         ensures { status_of result ≡ self.now.status }
     {
-        match self.ending {
-            Ending::Open => Status::Open,
-            Ending::Ok(_) => Status::Ok,
-            Ending::Fail(_) => Status::Fail,
-            Ending::Info(_) => Status::Info,
-        }
+        self.status
     }
 
     /// The completion's micro-operations if that is an ok, else the invocation's.
     pub fn mops(&self) -> Mops<'a>
         ensures { result ≡ self.now.mops }
     {
-        self.op.mops()
+        OpView::of(self.block, usize::from(self.op_index)).mops()
     }
 }
 
@@ -187,5 +187,3 @@ impl<'a> Txns<'a> {
         &self.list
     }
 }
-
-const _: () = prove!(size_of::<Txn>() <= 32);

@@ -134,6 +134,41 @@ fewest_at g phenomenon level walk told thinned fewest fewer other shows =
     let few : dependencies_in walk ≤ dependencies_in other = of_all other (subst (λ ts. Shows phenomenon (edges_at g.keys level ts) other) same shows) in
     omega (arith, fewer, few)
 
+-- what a walk shows at the level and at none below it, where it is reduced
+pub found_lowest :
+    (keys : KeyOrder) (ts : List Transaction) (phenomenon : Phenomenon) (level : Level) (walk : List Edge) (f : Finding)
+    → AreOfHistory ts
+    → ShowsByFewest phenomenon (edges_at keys level ts) walk
+    → ((lower : Level) → height lower < height level → ¬ IsThere keys phenomenon lower ts)
+    → IsReducedTo level walk f
+    → IsFinding keys phenomenon ts (Some f)
+found_lowest keys ts phenomenon level walk f (events, kept, same) is below reduced =
+    let of_events : Shows phenomenon (edges_at keys level (transactions_of events)) walk =
+    subst (λ vs. Shows phenomenon (edges_at keys level vs) walk) same is.shows in
+    let told : IsWitness keys phenomenon level ts f.walk =
+    subst (λ vs. IsWitness keys phenomenon level vs f.walk) (sym same) (reduced.witness keys phenomenon level events of_events) in
+    let fewest : HasFewest phenomenon (edges_at keys level ts) f.walk = λ other shows. (
+    let few : dependencies_in walk ≤ dependencies_in other = is.fewest other shows in
+    omega (arith, reduced.fewer, few)) in
+    let lowest : IsLowestLevel keys phenomenon ts (Some level) = ((walk, is.shows), below) in (
+      subst (λ l. IsLowestLevel keys phenomenon ts (Some l)) (sym reduced.level_is) lowest,
+      (
+        subst (λ l. IsWitness keys phenomenon l ts f.walk) (sym reduced.level_is) told,
+        subst (λ l. HasFewest phenomenon (edges_at keys l ts) f.walk) (sym reduced.level_is) fewest,
+      ),
+    )
+
+-- below process there is plain alone
+pub none_below_process :
+    (keys : KeyOrder) (ts : List Transaction)
+    → ((phenomenon : Phenomenon) → ¬ IsThere keys phenomenon Plain ts)
+    → (phenomenon : Phenomenon) (lower : Level)
+    → height lower < height Process
+    → ¬ IsThere keys phenomenon lower ts
+none_below_process keys ts none phenomenon Plain h = none phenomenon
+none_below_process keys ts none phenomenon Process h = absurd (omega (arith, h))
+none_below_process keys ts none phenomenon Realtime h = absurd (omega (arith, h))
+
 -- what is shown there first
 pub found_at :
     (g : Parts) (phenomenon : Phenomenon) (level : Level) (walk : List Edge) (f : Finding)

@@ -1,6 +1,6 @@
 //! Searches for the lowest level of each phenomenon that cycles show.
 
-ghost use Rattle.std.specs.Prelude.{◌≡◌, ◌+◌, ℕ, None, IfOk};
+ghost use Rattle.std.specs.Prelude.{◌≡◌, ◌+◌, ℕ, None, IfOk, IfSome};
 ghost use Rattle.std.specs.Bool.{OnTrue, OnFalse};
 ghost use Rattle.dep_edges.specs.Histories.{AreOfHistory};
 ghost use Rattle.hist_types.specs.Phenomena.{height};
@@ -8,14 +8,15 @@ ghost use Rattle.hist_types.specs.declared.types.Level.TheVariants.{Plain};
 ghost use Rattle.hist_types.specs.Reports.{AreFindings};
 ghost use Rattle.hist_types.specs.Witness.{IsFinding};
 ghost use Rattle.order_frontier.specs.Predecessors.{IsThinnedOrder};
-ghost use Rattle.verdict.specs.Lowest.{IsThinned, IsReducedTo, IsFoundBelow, AreFoundBelow};
+ghost use Rattle.verdict.specs.Lowest.{IsThinned, IsReducedTo, IsLowestSingle, IsFoundBelow, AreFoundBelow};
 ghost use Rattle.verdict.specs.Tables.{AreTables, history_of};
 
 use crate::pairs::{Pair, Pairs};
 use crate::tables::Tables;
-use clean_order::{settles, settles_wide};
+use clean_order::{settles, settles_plain, settles_wide, settles_writes};
 use cycle_find::ranked_graph::RankedGraph;
 use cycle_find::ranked_level::RankedLevel;
+use cycle_find::single::{single_at_plain, single_in_process};
 use cycle_find::types::Walk;
 use cycle_show::types::Witness;
 use dep_edges::deps::Deps;
@@ -215,7 +216,54 @@ fn findings_in_graph_wide<'a, R: Threads>(
     find_each(alloc, &graph, pairs)
 }
 
-/// What is found of the phenomena that cycles show. Where the history settles, no order is thinned and no graph is made.
+/// A closed walk that shows G-single and G2-item at the lowest level at which they are there, with this level, if one look at each
+/// version finds one and neither is there below it.
+fn lowest_single<'a>(
+    alloc: Global,
+    deps: &Deps<'_, 'a>,
+) -> Result<Option<(Level, Walk<'a>)>, AllocError>
+    ensures { IfOk result (λ found. IfSome found
+        (λ f. IsLowestSingle deps.now.table.keys deps.now.txns f.0 f.1)) }
+{
+    if let Some(walk) = single_at_plain(alloc, deps)? {
+        return Ok(Some((Level::Plain, walk)));
+    }
+    let Some(walk) = single_in_process(alloc, deps)? else {
+        return Ok(None);
+    };
+    if settles_plain(alloc, deps)? {
+        Ok(Some((Level::Process, walk)))
+    } else {
+        Ok(None)
+    }
+}
+
+/// What is found of each phenomenon, where looks at each version settle that there is no G0 and no G1c at any level, and find the
+/// others. So it is in most histories of databases that promise less than serializability. No order is thinned and no graph is made.
+fn findings_without_graph<'a>(
+    alloc: Global,
+    deps: &Deps<'_, 'a>,
+) -> Result<Option<Findings<'a>>, AllocError>
+    requires { AreOfHistory deps.now.txns }
+    ensures { IfOk result (λ found. IfSome found
+        (AreFindings deps.now.table.keys deps.now.txns)) }
+{
+    let Some((level, walk)) = lowest_single(alloc, deps)? else {
+        return Ok(None);
+    };
+    if !settles_writes(alloc, deps)? {
+        return Ok(None);
+    }
+    Ok(Some(Findings {
+        g0: None,
+        g1c: None,
+        single: Some(reduced(alloc, level, &walk)?),
+        item: Some(reduced(alloc, level, &walk)?),
+    }))
+}
+
+/// What is found of the phenomena that cycles show. Where the history settles, or looks at each version find what there is, no order
+/// is thinned and no graph is made.
 pub fn findings_of<'a>(
     alloc: Global,
     tables: &Tables<'_, 'a>,
@@ -227,6 +275,9 @@ pub fn findings_of<'a>(
 {
     if settles(alloc, deps)? {
         return Ok(Findings::none());
+    }
+    if let Some(found) = findings_without_graph(alloc, deps)? {
+        return Ok(found);
     }
     match tables.thinned {
         Some(order) => findings_in_graph(alloc, deps, order, &tables.pairs),
@@ -252,6 +303,9 @@ pub fn findings_of_wide<'a, R: Threads>(
 {
     if settles_wide(rt, alloc, deps)? {
         return Ok(Findings::none());
+    }
+    if let Some(found) = findings_without_graph(alloc, deps)? {
+        return Ok(found);
     }
     match tables.thinned {
         Some(order) => findings_in_graph_wide(rt, alloc, deps, order, &tables.pairs),

@@ -5,4 +5,4 @@ use Rattle.clean_order.specs.Ranked.{RisesAtVersion}
 use Rattle.clean_order.proofs.rising.rises_at_each.Given as goal
 
 abbrev pub invariant-loop-number : goal.invariant-loop-number
-invariant-loop-number l = (number : ℕ) → number < l.number → RisesAtVersion l.history.table.keys l.history.txns l.ranks (version_at l.history.table number)
+invariant-loop-number l = (number : ℕ) → number < l.number → RisesAtVersion l.history.table.keys l.reads l.history.txns l.ranks (version_at l.history.table number)

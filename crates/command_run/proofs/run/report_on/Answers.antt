@@ -1,10 +1,12 @@
-use Rattle.std.proofs.Common.{◌≡◌, ◌∙◌, IfOk, inl, List, sym, ap, subst}
+use Rattle.std.proofs.Common.{◌≡◌, ◌∙◌, IfOk, IfSome, inl, List, Option, None, Some, Bor, sym, ap, subst}
 use Rattle.std.specs.List.{list_any}
+use Rattle.std.specs.Option.{option_copied}
 use Rattle.std.proofs.lemmas.Result.{IfErr-weaker}
 use Rattle.hist_types.specs.Journal.{write_eq, written}
 use Rattle.hist_types.specs.Operations.{Operation}
 use Rattle.hist_types.specs.declared.types.KeyOrder.{KeyOrder}
 use Rattle.history_laws.specs.Writers.{writes_of_all}
+use Rattle.order_frontier.specs.Predecessors.{IsThinnedOrder}
 use Rattle.verdict.specs.Tables.{AreTablesOf, keys_in}
 use Rattle.command_line.specs.declared.types.Command.TheVariants.{Edges, Check}
 use Rattle.command_run.specs.Answers.{Reports, IsVerdict, keys_of}
@@ -16,6 +18,16 @@ versions_and_order-requires-clause-written g c w =
     let same : writes_of_all c.transactions-txns.result ≡ written judged.core.events =
     ap writes_of_all (c.transactions-txns.ensures ∙ judged.paired) ∙ c.versions_written_once.ensures.invoked judged.core.events judged.kept in
     c.into_written.ensures w ∙ ap (list_any (write_eq w)) (sym same)
+
+-- what holds of a value holds of the one that a reference is to
+behind : {X : Type 0} (P : X → Type 0) (r : Option (Bor X)) → IfSome (option_copied r) P → IfSome r (λ x. P x.now)
+behind P None is = tt
+behind P (Some x) is = is
+
+pub with_order-tables-requires-clause-thinned : goal.with_order-tables-requires-clause-thinned
+with_order-tables-requires-clause-thinned g c =
+    behind (IsThinnedOrder c.transactions-txns.result) c.as_ref.result
+    (subst (λ made. IfSome made (IsThinnedOrder c.transactions-txns.result)) (sym c.as_ref.ensures.value) c.in_ok-versions.ensures.order)
 
 pub returns-in-Reads-clause-ok : goal.returns-in-Reads-clause-ok
 returns-in-Reads-clause-ok g c =

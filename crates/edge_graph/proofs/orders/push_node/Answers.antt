@@ -1,10 +1,10 @@
 use Rattle.std.proofs.Common.{◌≡◌, ◌∙◌, ◌<◌, ◌++◌, ◌∷◌, [], All, set, length, ap, sym, subst, get_or}
 use Rattle.std.proofs.lemmas.List.{append-nil, get_or_default}
 use Rattle.order_frontier.specs.declared.types.Predecessor.{Predecessor}
-use Rattle.edge_graph.specs.Runs.{lists_in, IsRunIn, IsExtended}
+use Rattle.edge_graph.specs.Runs.{lists_in, empty_run, IsRunIn, IsExtended}
 use Rattle.edge_graph.specs.Successors.{place_of, list_at}
 use Rattle.edge_graph.proofs.Pushed.{next_pushed}
-use Rattle.edge_graph.proofs.RunSteps.{empty_run, still_runs, same_list, still_set, set_here, set_elsewhere}
+use Rattle.edge_graph.proofs.RunSteps.{still_runs, same_list, still_set, set_here, set_elsewhere}
 use Rattle.edge_graph.proofs.orders.push_node.Goals as goal
 
 pub loop-predecessor-init : goal.loop-predecessor-init

@@ -5,12 +5,11 @@ use Rattle.hist_types.proofs.Members.{In}
 use Rattle.dep_edges.specs.Tables.{txn_at}
 use Rattle.order_frontier.specs.Predecessors.{Before, before_at}
 use Rattle.order_frontier.specs.declared.types.Predecessor.{Predecessor}
-use Rattle.edge_graph.specs.Runs.{run_in, lists_in, IsRunIn}
+use Rattle.edge_graph.specs.Runs.{run_in, lists_in, empty_run, IsRunIn}
 use Rattle.edge_graph.specs.Successors.{AreFirstSuccessors, HavePlaces, HaveOwnPlaces, AddsNode, predecessors_at, has_place, has_invocation, is_successor, list_at}
-use Rattle.edge_graph.specs.declared.runs.Run.{Run}
 use Rattle.edge_graph.proofs.OrderTo.{before_there}
 use Rattle.edge_graph.proofs.Ordered.{long, have_places, have_own_places, places_tell, next_successors}
-use Rattle.edge_graph.proofs.RunSteps.{empty_run, empty_runs, empty_list}
+use Rattle.edge_graph.proofs.RunSteps.{empty_runs, empty_list}
 use Rattle.edge_graph.proofs.orders.turned.Goals as goal
 use Rattle.edge_graph.proofs.orders.turned.Goals.{then-is_node+in_ok-number+in_ok-push_node, else-is_node}
 
@@ -18,12 +17,10 @@ pub loop-place-init : goal.loop-place-init
 loop-place-init c =
     let ts = c.args.deps.now.txns in
     let order = c.args.order.now in
-    let n = c.len.result in
-    let run : ℕ → ℕ → Run = λ start end. record { start = start; end = end } in
-    let default : c.default.result ≡ empty_run = ap (λ start. run start c.default.result.end) c.default.ensures.0 ∙ ap (run 0) c.default.ensures.1 in
-    let runs = c.in_ok-runs.runs.items in
-    let all : n ≡ length ts = c.len.ensures ∙ long ts order c.requires.kept c.requires.order in
-    let runs_are : runs ≡ replicate n empty_run = c.in_ok-runs.ensures.items_if_clones_equal (λ run same. same) ∙ ap (replicate n) default in
+    let n = length order in
+    let all : n ≡ length ts = long ts order c.requires.kept c.requires.order in
+    let runs = c.args.runs.items in
+    let runs_are : runs ≡ replicate n empty_run = c.requires.runs in
     let none = c.new-nodes.ensures.items in
     record {
       runs = subst (λ xs. All (IsRunIn xs) runs) (sym none) (subst (All (IsRunIn [])) (sym runs_are) (empty_runs n));

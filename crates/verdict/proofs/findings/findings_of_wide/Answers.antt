@@ -3,7 +3,7 @@ use Rattle.verdict.proofs.findings.findings_of_wide.Goals as goal
 
 pub findings_in_graph_wide-requires-clause-order : goal.findings_in_graph_wide-requires-clause-order
 findings_in_graph_wide-requires-clause-order g c =
-    kept_order c.args.deps.now c.args.tables.now c.requires.deps c.in-Some.order c.requires.tables c.in-Some.is
+    kept_order c.args.deps.now c.args.tables.now c.requires.deps c.in-Some-thinned.order c.requires.tables c.in-Some-thinned.is
 
 pub findings_in_graph_wide-requires-in-None-clause-order : goal.findings_in_graph_wide-requires-in-None-clause-order
 findings_in_graph_wide-requires-in-None-clause-order g c =

@@ -15,15 +15,14 @@ returns-then-not-is_node c =
     let node : false ≡ is_node ts (txn_at ts place) =
     sym c.if-not-is_node.true ∙ c.is_node.ensures ∙ ap (λ (xs : List Transaction). is_node xs (txn_at xs place)) (sym c.args.self.now.of_one) in
     let one : (before ++ vertices) ++ [] ≡ before ++ vertices = append-nil (before ++ vertices) in
-    let end : c.in_ok-wr.wr ≡ length c.push_read.new.out.items = omega (arith, c.in_ok-wr.ensures, c.len-2.ensures, c.push_read.new.out.ok.0) in (
+    let end : c.in_ok-rw.rw ≡ length c.push_read.new.out.items = omega (arith, c.in_ok-rw.ensures, c.len.ensures, c.push_read.new.out.ok.0) in (
       record { rw = vertices; wr = []; ww = [] },
       record { rw = are; wr = ap (λ b. if b then readers_behind ts place else []) node; ww = ap (λ b. if b then writers_behind keys ts place else []) node },
       record {
         items = read ∙ sym one ∙ sym (append-nil ((before ++ vertices) ++ []));
-        start = omega (arith, c.in_ok-start.ensures, c.len.ensures, c.args.items.now.ok.0);
-        wr = end ∙ ap length read;
-        ww = end ∙ ap length (read ∙ sym one);
-        end = end;
+        rw = end ∙ ap length read;
+        wr = end ∙ ap length (read ∙ sym one);
+        ww = end;
       },
     )
 
@@ -44,9 +43,8 @@ returns c =
       record { rw = are; wr = ap (λ b. if b then readers else []) node; ww = ap (λ b. if b then writers else []) node },
       record {
         items = all;
-        start = omega (arith, c.in_ok-start.ensures, c.len.ensures, c.args.items.now.ok.0);
-        wr = omega (arith, c.in_ok-wr.ensures, c.len-2.ensures, c.push_read.new.out.ok.0, ap length read);
-        ww = omega (arith, c.in_ok-ww.ensures, c.len-3.ensures, c.push_readers.new.out.ok.0, ap length behind);
-        end = omega (arith, c.in_ok-end.ensures, c.len-4.ensures, c.push_writers.new.out.ok.0);
+        rw = omega (arith, c.in_ok-rw.ensures, c.len.ensures, c.push_read.new.out.ok.0, ap length read);
+        wr = omega (arith, c.in_ok-wr.ensures, c.len-2.ensures, c.push_readers.new.out.ok.0, ap length behind);
+        ww = omega (arith, c.in_ok-ww.ensures, c.len-3.ensures, c.push_writers.new.out.ok.0);
       },
     )

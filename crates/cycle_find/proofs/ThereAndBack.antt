@@ -1,0 +1,144 @@
+-- An rw edge, and one edge back that is none, are a walk that shows G-single with the fewest dependency edges.
+use Rattle.std.proofs.Common.{◌≡◌, ◌∙◌, ◌≤◌, ◌+◌, ℕ, List, [], ◌∷◌, if◌then◌else◌, true, false, not, inl, inr, Contains, refl, sym, ap, subst, arith}
+use Rattle.std.specs.List.{AllByRecursion}
+use Rattle.std.proofs.lemmas.Bool.{false≢true, and_from, not_from_false, ne_eqb}
+use Rattle.std.proofs.lemmas.List.Elements.{All-cons, All-nil}
+use Rattle.hist_types.specs.Edges.{Label, ww, wr, rw, process, realtime, Edge, edge, dependency_edges, order_edges, order_labels, edges_at}
+use Rattle.hist_types.specs.Phenomena.{Shows, is_rw_label, is_rw, is_order}
+use Rattle.hist_types.specs.ThinnedOrder.{is_ordered}
+use Rattle.hist_types.specs.Transactions.{Transaction, is_node, nodes}
+use Rattle.hist_types.specs.Witness.{dependencies_in}
+use Rattle.hist_types.specs.declared.types.KeyOrder.{KeyOrder}
+use Rattle.hist_types.specs.declared.types.Level.{Level}
+use Rattle.hist_types.specs.declared.types.Level.TheVariants.{Plain, Process}
+use Rattle.hist_types.specs.declared.types.Phenomenon.{Phenomenon}
+use Rattle.hist_types.specs.declared.types.Phenomenon.TheVariants.{GSingle, G2Item}
+use Rattle.hist_types.proofs.Members.{In, in_from_Contains, Contains_from_in, in_front, in_back, in_append, in_filtered}
+use Rattle.history_laws.specs.WaysBack.{is_needed, may_lead_back}
+use Rattle.history_laws.proofs.Fewest.{some_dependency}
+use Rattle.history_laws.proofs.ThinningCycles.{closed_by_edge}
+use Rattle.history_laws.proofs.OrderEdges.{order_edges-between}
+use Rattle.history_laws.proofs.ThinningPaths.{ends_of}
+use Rattle.history_laws.proofs.ThinningWalks.{count_yes, count_no}
+use Rattle.history_laws.proofs.ThinningWitnesses.{is_dependency, dependency_edge}
+use Rattle.dep_edges.specs.Histories.{AreOfHistory, History}
+use Rattle.dep_edges.specs.OutEdges.{AddsEdgesFrom}
+use Rattle.dep_edges.specs.Tables.{IsPlace, txn_at}
+use Rattle.edge_graph.specs.Kinds.{includes, kinds_of}
+use Rattle.edge_graph.specs.declared.types.Dependencies.TheVariants.{Rw, WrAndWw}
+use Rattle.edge_graph.specs.declared.types.Kinds.{Kinds}
+use Rattle.edge_graph.proofs.Txns.{txn_in}
+use Rattle.cycle_find.specs.Found.{ShowsSingle}
+use Rattle.cycle_find.specs.Single.{IsDependencyBetween, IsProcessEdgeBetween}
+use Rattle.cycle_find.proofs.ClosedByOrder.{invoked_before}
+use Rattle.cycle_find.proofs.OrderBack.{all_nodes}
+use Rattle.cycle_find.proofs.TwoEdges.{all_counted, two_at_least}
+
+-- ---- kinds
+
+rw_by_label : (from to : ℕ) (label : Label) → includes (kinds_of Rw Plain) label ≡ true → is_order (record { from = from; to = to; label = label }) ≡ false → is_rw_label label ≡ true
+rw_by_label from to (ww a b) is other = absurd (false≢true is)
+rw_by_label from to (wr a) is other = absurd (false≢true is)
+rw_by_label from to (rw a b) is other = refl
+rw_by_label from to (process n) is other = absurd (false≢true (sym other))
+rw_by_label from to (realtime m n) is other = absurd (false≢true (sym other))
+
+direct_by_label : (label : Label) → includes (kinds_of WrAndWw Plain) label ≡ true → is_rw_label label ≡ false
+direct_by_label (ww a b) is = refl
+direct_by_label (wr a) is = refl
+direct_by_label (rw a b) is = absurd (false≢true is)
+direct_by_label (process n) is = refl
+direct_by_label (realtime m n) is = refl
+
+-- ---- two edges
+
+module _ (es : List Edge) (e back : Edge) (among : Contains es e) (is : is_rw e ≡ true) (among_back : Contains es back) (other : is_rw back ≡ false) (meets : back.from ≡ e.to) (closes : back.to ≡ e.from) where
+  shows : (phenomenon : Phenomenon) → is_needed phenomenon e ≡ true → may_lead_back phenomenon back ≡ true → Shows phenomenon es (e ∷ back ∷ [])
+  shows phenomenon needs may =
+      closed_by_edge phenomenon es e (back ∷ []) among needs (record {
+        leads = (meets, closes);
+        within = All-cons (Contains es) back [] among_back (All-nil (Contains es));
+        kinds = and_from (may_lead_back phenomenon back) true may refl;
+      })
+
+  shows_both : (n : ℕ) → dependencies_in (e ∷ back ∷ []) ≡ n → ((phenomenon : Phenomenon) (walk : List Edge) → Shows phenomenon es walk → n ≤ dependencies_in walk) → ShowsSingle es (e ∷ back ∷ [])
+  shows_both n count least = record {
+    single = record { shows = shows GSingle is (not_from_false (is_rw back) other); fewest = λ walk shown. omega (arith, count, least GSingle walk shown) };
+    item = record { shows = shows G2Item is refl; fewest = λ walk shown. omega (arith, count, least G2Item walk shown) };
+  }
+
+-- ---- edges of a history
+
+abbrev process_edge : (from to number : ℕ) → Edge
+process_edge from to number = record { from = from; to = to; label = process number }
+
+pub same_edge :
+    (t u : Transaction) (from to number : ℕ) → from ≡ t.invocation → to ≡ u.invocation → number ≡ t.process → process_edge from to number ≡ edge t u (process t.process)
+same_edge t u from to number begins ends same =
+    ap (λ n. process_edge n to number) begins ∙ ap (λ n. process_edge t.invocation n number) ends ∙ ap (process_edge t.invocation u.invocation) same
+
+module _ (h : History) where
+  abbrev keys : KeyOrder
+  keys = h.table.keys
+
+  abbrev ts : List Transaction
+  ts = h.txns
+
+  -- what leaves the transaction at the one place and leads to that at the other
+  pub leaving :
+      (kinds : Kinds) (from to : ℕ) (es : List Edge) (e : Edge) → AddsEdgesFrom keys ts (txn_at ts from) [] es → Contains es e → e.to ≡ (txn_at ts to).invocation → includes kinds e.label ≡ true
+      → IsDependencyBetween h kinds from to e
+  leaving kinds from to es e (found, same, are) among ends kind =
+      let (depends, begins) = (are.exactly e).0 (subst (λ (es : List Edge). Contains es e) same among) in
+      record { among = depends; kind = kind; joins = record { begins = begins; ends = ends } }
+
+  pub ordered :
+      AreOfHistory ts → (from to : ℕ) → IsPlace ts from → IsPlace ts to → is_ordered Process (txn_at ts from) (txn_at ts to) ≡ true → is_node ts (txn_at ts to) ≡ true
+      → IsProcessEdgeBetween ts from to (edge (txn_at ts from) (txn_at ts to) (process (txn_at ts from).process))
+  ordered kept from to first last before node =
+      let t = txn_at ts from in
+      let u = txn_at ts to in
+      let i = txn_in ts from first in
+      let low = invoked_before ts (all_nodes ts kept) Process t u i before in
+      let labelled : In (process t.process) (order_labels Process t u) = subst (λ b. In (process t.process) (if b then process t.process ∷ [] else [])) (sym before) (inl refl) in
+      record {
+        among =
+            order_edges-between Process ts t u (process t.process) (Contains_from_in t ts i) (Contains_from_in u (nodes ts) (in_filtered (is_node ts) u ts (txn_in ts to last) node))
+            (ne_eqb t.invocation u.invocation (λ same. omega (arith, low, same))) (Contains_from_in _ _ labelled);
+        label = refl;
+        joins = record { begins = refl; ends = refl };
+      }
+
+  depend : (e : Edge) → In e (edges_at keys Plain ts) → In e (dependency_edges keys ts)
+  depend e i = elim (in_append e (dependency_edges keys ts) (order_edges Plain ts) i) [
+    | inl j ↦ j
+    | inr j ↦
+        let (t, u, label, ends) = ends_of (nodes ts) (order_labels Plain) e j in
+        absurd ends.labelled
+  ]
+
+  rw_there : (from to : ℕ) (e : Edge) → IsDependencyBetween h (kinds_of Rw Plain) from to e → is_rw e ≡ true
+  rw_there from to e is = rw_by_label e.from e.to e.label is.kind (dependency_edge keys ts e (in_from_Contains e _ is.among))
+
+  among_all : (level : Level) (e : Edge) → Contains (dependency_edges keys ts) e → Contains (edges_at keys level ts) e
+  among_all level e among = Contains_from_in e _ (in_front e (dependency_edges keys ts) (order_edges level ts) (in_from_Contains e _ among))
+
+  pub at_plain : (from to : ℕ) (e back : Edge) → IsDependencyBetween h (kinds_of Rw Plain) from to e → IsDependencyBetween h (kinds_of WrAndWw Plain) to from back → ShowsSingle (edges_at keys Plain ts) (e ∷ back ∷ [])
+  at_plain from to e back is direct =
+      let es = edges_at keys Plain ts in
+      let there = among_all Plain e is.among in
+      let here = among_all Plain back direct.among in
+      let both : AllByRecursion (λ (d : Edge). In d es) (e ∷ back ∷ []) = (in_from_Contains e es there, (in_from_Contains back es here, tt)) in
+      shows_both es e back there (rw_there from to e is) here (direct_by_label back.label direct.kind) (direct.joins.begins ∙ sym is.joins.ends) (direct.joins.ends ∙ sym is.joins.begins) 2
+      (all_counted keys ts es depend (e ∷ back ∷ []) both) (two_at_least keys ts es depend)
+
+  pub in_process : (from to : ℕ) (e back : Edge) → IsDependencyBetween h (kinds_of Rw Plain) from to e → IsProcessEdgeBetween ts to from back → ShowsSingle (edges_at keys Process ts) (e ∷ back ∷ [])
+  in_process from to e back is by_process =
+      let es = edges_at keys Process ts in
+      let there = among_all Process e is.among in
+      let here = Contains_from_in back es (in_back back (dependency_edges keys ts) (order_edges Process ts) (in_from_Contains back _ by_process.among)) in
+      let no_rw : is_rw back ≡ false = ap is_rw_label by_process.label in
+      let order : is_order back ≡ true = subst (λ (label : Label). is_order (record { from = back.from; to = back.to; label = label }) ≡ true) (sym by_process.label) refl in
+      let one = count_yes is_dependency e (back ∷ []) (ap not (dependency_edge keys ts e (in_from_Contains e _ is.among))) in
+      let none = count_no is_dependency back [] (ap not order) in
+      shows_both es e back there (rw_there from to e is) here no_rw (by_process.joins.begins ∙ sym is.joins.ends) (by_process.joins.ends ∙ sym is.joins.begins) 1 (one ∙ ap (λ n. 1 + n) none) (λ phenomenon walk shown. some_dependency phenomenon es walk shown)

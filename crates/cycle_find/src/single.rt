@@ -1,0 +1,116 @@
+//! Closed walks with one rw edge that are found without a graph.
+//!
+//! Such a walk has two edges: the rw edge, and one edge back. A history of a database that lets transactions read old versions
+//! mostly has many of them, and then no graph need be built. Where none is found, there may be one all the same.
+
+ghost use Rattle.std.specs.Prelude.{IfOk, IfSome};
+ghost use Rattle.hist_types.specs.Edges.{edges_at};
+ghost use Rattle.hist_types.specs.declared.types.Level.TheVariants.{Plain, Process};
+ghost use Rattle.cycle_find.specs.Found.{ShowsSingle};
+ghost use Rattle.cycle_find.specs.Single.{IsDependencyBetween, IsProcessEdgeBetween};
+
+use crate::completions::is_before;
+use crate::single_ends::{in_process, mutual};
+use crate::types::Walk;
+use dep_edges::deps::Deps;
+use dep_edges::edge::{Edge, Label};
+use edge_graph::types::{Dependencies, Kinds};
+use hist_types::types::Level;
+use std::alloc::{AllocError, Global};
+
+/// A dependency edge of the kinds from one transaction to another, if there is one. It looks through all that leave the first.
+fn dependency<'a>(
+    alloc: Global,
+    deps: &Deps<'_, 'a>,
+    from: usize,
+    to: usize,
+    kinds: Kinds,
+) -> Result<Option<Edge<'a>>, AllocError>
+    ensures { IfOk result (λ found. IfSome found (IsDependencyBetween deps.now kinds from to)) }
+{
+    let history = deps.history();
+    let count = history.txns().len();
+    if from >= count || to >= count {
+        return Ok(None);
+    }
+    let invocation = history.txn(to).invocation();
+    let mut leaving = Vec::new(alloc);
+    deps.edges_from(from, &mut leaving)?;
+    for edge in &leaving {
+        if edge.to() == invocation && kinds.includes(edge.label()) {
+            return Ok(Some(edge.copy()));
+        }
+    }
+    Ok(None)
+}
+
+/// The process edge from one transaction to another, if there is one.
+fn process_edge<'a>(deps: &Deps<'_, 'a>, from: usize, to: usize) -> Option<Edge<'a>>
+    ensures { IfSome result (IsProcessEdgeBetween deps.now.txns from to) }
+{
+    let history = deps.history();
+    let count = history.txns().len();
+    if from >= count || to >= count {
+        return None;
+    }
+    let first = history.txn(from);
+    let second = history.txn(to);
+    if is_before(Level::Process, first, second) && deps.is_node(to) {
+        let label = Label::Process {
+            process: first.process(),
+        };
+        return Some(Edge::new(first.invocation(), second.invocation(), label));
+    }
+    None
+}
+
+/// A closed walk along an rw edge and a ww or wr edge back, if one look at each version finds one: two transactions of which each
+/// depends on the other.
+///
+/// `verdict` asks for it before it builds a graph. It takes linear time, and a number for each transaction.
+pub fn single_at_plain<'a>(
+    alloc: Global,
+    deps: &Deps<'_, 'a>,
+) -> Result<Option<Walk<'a>>, AllocError>
+    ensures { IfOk result (λ found.
+        IfSome found (ShowsSingle (edges_at deps.now.table.keys Plain deps.now.txns))) }
+{
+    let Some(ends) = mutual(alloc, deps)? else {
+        return Ok(None);
+    };
+    let rw = Kinds::of(Dependencies::Rw, Level::Plain);
+    let Some(edge) = dependency(alloc, deps, ends.from, ends.to, rw)? else {
+        return Ok(None);
+    };
+    let direct = Kinds::of(Dependencies::WrAndWw, Level::Plain);
+    let Some(back) = dependency(alloc, deps, ends.to, ends.from, direct)? else {
+        return Ok(None);
+    };
+    let rest = vec![in alloc; back]?;
+    Ok(Some(Walk::closing(alloc, edge, rest)?))
+}
+
+/// A closed walk along an rw edge and a process edge back, if one look at each version finds one: a process reads an older version
+/// than one that it wrote.
+///
+/// `verdict` asks for it before it builds a graph. It takes linear time, and two numbers for each process.
+pub fn single_in_process<'a>(
+    alloc: Global,
+    deps: &Deps<'_, 'a>,
+) -> Result<Option<Walk<'a>>, AllocError>
+    ensures { IfOk result (λ found.
+        IfSome found (ShowsSingle (edges_at deps.now.table.keys Process deps.now.txns))) }
+{
+    let Some(ends) = in_process(alloc, deps)? else {
+        return Ok(None);
+    };
+    let rw = Kinds::of(Dependencies::Rw, Level::Plain);
+    let Some(edge) = dependency(alloc, deps, ends.from, ends.to, rw)? else {
+        return Ok(None);
+    };
+    let Some(back) = process_edge(deps, ends.to, ends.from) else {
+        return Ok(None);
+    };
+    let rest = vec![in alloc; back]?;
+    Ok(Some(Walk::closing(alloc, edge, rest)?))
+}

@@ -1,0 +1,216 @@
+//! Where a closed walk with one rw edge may be: two transactions, by one look at each version. Nothing is claimed of them here:
+//! their edges are looked up afterwards.
+
+ghost use Rattle.dep_edges.specs.Tables.{IsNumber};
+
+use crate::completions::is_before;
+use crate::one_dependency::Ends;
+use dep_edges::deps::Deps;
+use dep_edges::history::History;
+use hist_types::types::Level;
+use key_versions::types::Follower;
+use process_map::map::ProcessMap;
+use std::alloc::{AllocError, Global};
+
+/// How many arcs are looked at, at most, for each transaction and version. Most histories have fewer. Without a limit, the time
+/// would grow with how many versions a transaction installs, since each of them is looked at for each version that it follows.
+const LOOKS: usize = 32;
+
+/// A search for two transactions of which each depends on the other: the second follows a version that the first reads, and leads
+/// back to it by a ww or wr edge.
+#[derive(Drop)]
+struct MutualSearch<'r, 'v, 'a> {
+    deps: &'r Deps<'v, 'a>,
+    /// For each transaction the number, from 1 on, of the last version so far that it reads. 0 is none.
+    marks: Vec<u32>,
+    /// How many arcs may still be looked at.
+    looks: usize,
+}
+
+impl<'r, 'v, 'a> MutualSearch<'r, 'v, 'a> {
+    fn new(alloc: Global, deps: &'r Deps<'v, 'a>) -> Result<Self, AllocError> {
+        let txns = deps.history().txns().len();
+        let versions = deps.history().versions();
+        Ok(MutualSearch {
+            deps,
+            marks: vec![in alloc; 0; txns]?,
+            looks: txns.saturating_add(versions).saturating_mul(LOOKS),
+        })
+    }
+
+    fn find(&mut self) -> Option<Ends> {
+        for number in 0..self.deps.history().versions() {
+            let found = self.by_version(number);
+            if found.is_some() {
+                return found;
+            }
+        }
+        None
+    }
+
+    /// Two of which the first reads the version.
+    fn by_version(&mut self, number: usize) -> Option<Ends> {
+        let history = self.deps.history();
+        if number >= history.versions() {
+            return None;
+        }
+        let readers = history.readers(number);
+        let followers = history.followers(number);
+        if readers.is_empty() || followers.is_empty() {
+            return None;
+        }
+        let mark = u32::try_from(number.checked_add(1)?).ok()?;
+        self.mark(readers, mark);
+        for follower in followers {
+            let to = follower.txn as usize;
+            if let Some(from) = self.back_from(to, mark) {
+                return Some(Ends { from, to });
+            }
+        }
+        None
+    }
+
+    fn mark(&mut self, readers: &[u32], mark: u32) {
+        for reader in readers {
+            if let Some(last) = self.marks.get_mut(*reader as usize) {
+                *last = mark;
+            }
+        }
+    }
+
+    /// A transaction with the mark to which the one at the place leads by a ww or wr edge.
+    fn back_from(&mut self, to: usize, mark: u32) -> Option<usize> {
+        let history = self.deps.history();
+        if self.looks == 0 || to >= history.txns().len() || !self.deps.is_node(to) {
+            return None;
+        }
+        for number in history.installs(to) {
+            let found = self.back_by(to, *number as usize, mark);
+            if found.is_some() {
+                return found;
+            }
+        }
+        None
+    }
+
+    /// One by way of a version that the transaction installs.
+    fn back_by(&mut self, to: usize, number: usize, mark: u32) -> Option<usize> {
+        let history = self.deps.history();
+        if number >= history.versions() {
+            return None;
+        }
+        match self.marked_reader(history.readers(number), to, mark) {
+            Some(place) => Some(place),
+            None => self.marked_follower(history.followers(number), to, mark),
+        }
+    }
+
+    fn marked_reader(&mut self, readers: &[u32], other: usize, mark: u32) -> Option<usize> {
+        self.count(readers.len());
+        for reader in readers {
+            let place = *reader as usize;
+            if place != other && self.is_marked(place, mark) {
+                return Some(place);
+            }
+        }
+        None
+    }
+
+    fn marked_follower(
+        &mut self,
+        followers: &[Follower],
+        other: usize,
+        mark: u32,
+    ) -> Option<usize> {
+        self.count(followers.len());
+        for follower in followers {
+            let place = follower.txn as usize;
+            if place != other && self.is_marked(place, mark) {
+                return Some(place);
+            }
+        }
+        None
+    }
+
+    /// Counts a look at the version and these arcs.
+    fn count(&mut self, arcs: usize) {
+        self.looks = self.looks.saturating_sub(arcs.saturating_add(1));
+    }
+
+    fn is_marked(&self, place: usize, mark: u32) -> bool {
+        self.marks.get(place) == Some(&mark)
+    }
+}
+
+/// Two transactions of which the second follows a version that the first reads, and leads back to it by a ww or wr edge, if they
+/// are found.
+pub(crate) fn mutual(alloc: Global, deps: &Deps<'_, '_>) -> Result<Option<Ends>, AllocError> {
+    let mut search = MutualSearch::new(alloc, deps)?;
+    Ok(search.find())
+}
+
+/// The last reader of a version in a process.
+#[derive(Clone, Copy)]
+struct LastReader {
+    version: usize,
+    place: u32,
+}
+
+/// Notes for each process which of its transactions is the last that reads the version.
+fn note_readers(
+    history: &History<'_, '_>,
+    version: usize,
+    last: &mut ProcessMap<LastReader>,
+) -> Result<(), AllocError>
+    requires { IsNumber history.now.table version }
+{
+    for reader in history.readers(version) {
+        let place = *reader;
+        let process = history.txn(place as usize).process();
+        last.insert(process, LastReader { version, place })?;
+    }
+    Ok(())
+}
+
+/// The last reader of the version in a process, and a follower of the version that the process completed before.
+fn stale_reader(
+    history: &History<'_, '_>,
+    version: usize,
+    last: &ProcessMap<LastReader>,
+) -> Option<Ends>
+    requires { IsNumber history.now.table version }
+{
+    for follower in history.followers(version) {
+        let to = follower.txn as usize;
+        let txn = history.txn(to);
+        match last.get(txn.process()) {
+            Some(reader) if reader.version == version => {
+                let from = reader.place as usize;
+                if from < history.txns().len()
+                    && is_before(Level::Process, txn, history.txn(from))
+                {
+                    return Some(Ends { from, to });
+                }
+            }
+            _ => {}
+        }
+    }
+    None
+}
+
+/// Two transactions of a process of which the second follows a version that the first reads, and completed before the first was
+/// invoked, if there are any.
+pub(crate) fn in_process(alloc: Global, deps: &Deps<'_, '_>) -> Result<Option<Ends>, AllocError> {
+    let history = deps.history();
+    let mut last = ProcessMap::new(alloc);
+    for version in 0..history.versions() {
+        if !history.readers(version).is_empty() && !history.followers(version).is_empty() {
+            note_readers(history, version, &mut last)?;
+            let found = stale_reader(history, version, &last);
+            if found.is_some() {
+                return Ok(found);
+            }
+        }
+    }
+    Ok(None)
+}
