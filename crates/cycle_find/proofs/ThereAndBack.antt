@@ -28,7 +28,7 @@ use Rattle.edge_graph.specs.Kinds.{includes, kinds_of}
 use Rattle.edge_graph.specs.declared.types.Dependencies.TheVariants.{Rw, WrAndWw}
 use Rattle.edge_graph.specs.declared.types.Kinds.{Kinds}
 use Rattle.edge_graph.proofs.Txns.{txn_in}
-use Rattle.cycle_find.specs.Found.{ShowsSingle}
+use Rattle.cycle_find.specs.Found.{ShowsByFewest, ShowsSingle}
 use Rattle.cycle_find.specs.Single.{IsDependencyBetween, IsProcessEdgeBetween}
 use Rattle.cycle_find.proofs.ClosedByOrder.{invoked_before}
 use Rattle.cycle_find.proofs.OrderBack.{all_nodes}
@@ -65,6 +65,19 @@ module _ (es : List Edge) (e back : Edge) (among : Contains es e) (is : is_rw e 
   shows_both n count least = record {
     single = record { shows = shows GSingle is (not_from_false (is_rw back) other); fewest = λ walk shown. omega (arith, count, least GSingle walk shown) };
     item = record { shows = shows G2Item is refl; fewest = λ walk shown. omega (arith, count, least G2Item walk shown) };
+  }
+
+-- an rw edge and any edge back
+module _ (es : List Edge) (e back : Edge) (among : Contains es e) (is : is_rw e ≡ true) (among_back : Contains es back) (meets : back.from ≡ e.to) (closes : back.to ≡ e.from) where
+  shows_item : (n : ℕ) → dependencies_in (e ∷ back ∷ []) ≡ n → ((walk : List Edge) → Shows G2Item es walk → n ≤ dependencies_in walk) → ShowsByFewest G2Item es (e ∷ back ∷ [])
+  shows_item n count least = record {
+    shows =
+        closed_by_edge G2Item es e (back ∷ []) among is (record {
+          leads = (meets, closes);
+          within = All-cons (Contains es) back [] among_back (All-nil (Contains es));
+          kinds = refl;
+        });
+    fewest = λ walk shown. omega (arith, count, least walk shown);
   }
 
 -- ---- edges of a history
@@ -131,6 +144,15 @@ module _ (h : History) where
       let both : AllByRecursion (λ (d : Edge). In d es) (e ∷ back ∷ []) = (in_from_Contains e es there, (in_from_Contains back es here, tt)) in
       shows_both es e back there (rw_there from to e is) here (direct_by_label back.label direct.kind) (direct.joins.begins ∙ sym is.joins.ends) (direct.joins.ends ∙ sym is.joins.begins) 2
       (all_counted keys ts es depend (e ∷ back ∷ []) both) (two_at_least keys ts es depend)
+
+  pub there_and_back : (from to : ℕ) (e back : Edge) → IsDependencyBetween h (kinds_of Rw Plain) from to e → IsDependencyBetween h (kinds_of Rw Plain) to from back → ShowsByFewest G2Item (edges_at keys Plain ts) (e ∷ back ∷ [])
+  there_and_back from to e back is also =
+      let es = edges_at keys Plain ts in
+      let there = among_all Plain e is.among in
+      let here = among_all Plain back also.among in
+      let both : AllByRecursion (λ (d : Edge). In d es) (e ∷ back ∷ []) = (in_from_Contains e es there, (in_from_Contains back es here, tt)) in
+      shows_item es e back there (rw_there from to e is) here (also.joins.begins ∙ sym is.joins.ends) (also.joins.ends ∙ sym is.joins.begins) 2
+      (all_counted keys ts es depend (e ∷ back ∷ []) both) (two_at_least keys ts es depend G2Item)
 
   pub in_process : (from to : ℕ) (e back : Edge) → IsDependencyBetween h (kinds_of Rw Plain) from to e → IsProcessEdgeBetween ts to from back → ShowsSingle (edges_at keys Process ts) (e ∷ back ∷ [])
   in_process from to e back is by_process =

@@ -6,11 +6,12 @@
 ghost use Rattle.std.specs.Prelude.{IfOk, IfSome};
 ghost use Rattle.hist_types.specs.Edges.{edges_at};
 ghost use Rattle.hist_types.specs.declared.types.Level.TheVariants.{Plain, Process};
-ghost use Rattle.cycle_find.specs.Found.{ShowsSingle};
+ghost use Rattle.hist_types.specs.declared.types.Phenomenon.TheVariants.{G2Item};
+ghost use Rattle.cycle_find.specs.Found.{ShowsByFewest, ShowsSingle};
 ghost use Rattle.cycle_find.specs.Single.{IsDependencyBetween, IsProcessEdgeBetween};
 
 use crate::completions::is_before;
-use crate::single_ends::{in_process, mutual};
+use crate::single_ends::{in_process, losing, mutual};
 use crate::types::Walk;
 use dep_edges::deps::Deps;
 use dep_edges::edge::{Edge, Label};
@@ -84,6 +85,28 @@ pub fn single_at_plain<'a>(
     };
     let direct = Kinds::of(Dependencies::WrAndWw, Level::Plain);
     let Some(back) = dependency(alloc, deps, ends.to, ends.from, direct)? else {
+        return Ok(None);
+    };
+    let rest = vec![in alloc; back]?;
+    Ok(Some(Walk::closing(alloc, edge, rest)?))
+}
+
+/// A closed walk along two rw edges, if one look at each version finds one: two transactions that read a version, and each wrote over
+/// it, so that one of the updates is lost.
+///
+/// `verdict` asks for it before it builds a graph. It takes linear time.
+pub fn lost_update<'a>(alloc: Global, deps: &Deps<'_, 'a>) -> Result<Option<Walk<'a>>, AllocError>
+    ensures { IfOk result (λ found.
+        IfSome found (ShowsByFewest G2Item (edges_at deps.now.table.keys Plain deps.now.txns))) }
+{
+    let Some(ends) = losing(deps) else {
+        return Ok(None);
+    };
+    let rw = Kinds::of(Dependencies::Rw, Level::Plain);
+    let Some(edge) = dependency(alloc, deps, ends.from, ends.to, rw)? else {
+        return Ok(None);
+    };
+    let Some(back) = dependency(alloc, deps, ends.to, ends.from, rw)? else {
         return Ok(None);
     };
     let rest = vec![in alloc; back]?;

@@ -149,6 +149,37 @@ pub(crate) fn mutual(alloc: Global, deps: &Deps<'_, '_>) -> Result<Option<Ends>,
     Ok(search.find())
 }
 
+/// Whether the transaction at the place reads the version.
+fn is_read(history: &History<'_, '_>, place: usize, version: usize) -> bool {
+    if place >= history.txns().len() {
+        return false;
+    }
+    for number in history.reads(place) {
+        if *number as usize == version {
+            return true;
+        }
+    }
+    false
+}
+
+/// Two transactions that read a version and install one after it, if there are any.
+pub(crate) fn losing(deps: &Deps<'_, '_>) -> Option<Ends> {
+    let history = deps.history();
+    for version in 0..history.versions() {
+        let mut first = None;
+        for follower in history.followers(version) {
+            let to = follower.txn as usize;
+            if is_read(history, to, version) {
+                match first {
+                    Some(from) if from != to => return Some(Ends { from, to }),
+                    _ => first = Some(to),
+                }
+            }
+        }
+    }
+    None
+}
+
 /// The last reader of a version in a process.
 #[derive(Clone, Copy)]
 struct LastReader {

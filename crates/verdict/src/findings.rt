@@ -1,6 +1,7 @@
 //! Searches for the lowest level of each phenomenon that cycles show.
 
-ghost use Rattle.std.specs.Prelude.{◌≡◌, ◌+◌, ℕ, None, IfOk, IfSome};
+ghost use Rattle.std.specs.Prelude.{◌≡◌, ◌+◌, ℕ, None, Some, IfOk, IfSome};
+ghost use Rattle.hist_types.specs.declared.types.Phenomenon.TheVariants.{G2Item};
 ghost use Rattle.std.specs.Bool.{OnTrue, OnFalse};
 ghost use Rattle.dep_edges.specs.Histories.{AreOfHistory};
 ghost use Rattle.hist_types.specs.Phenomena.{height};
@@ -16,7 +17,7 @@ use crate::tables::Tables;
 use clean_order::{settles, settles_plain, settles_wide, settles_writes};
 use cycle_find::ranked_graph::RankedGraph;
 use cycle_find::ranked_level::RankedLevel;
-use cycle_find::single::{single_at_plain, single_in_process};
+use cycle_find::single::{lost_update, single_at_plain, single_in_process};
 use cycle_find::types::Walk;
 use cycle_show::types::Witness;
 use dep_edges::deps::Deps;
@@ -238,6 +239,27 @@ fn lowest_single<'a>(
     }
 }
 
+/// What is found of G2-item, where this walk shows it at its lowest level. At plain a lost update tells a reader more, if there is
+/// one.
+fn item_found<'a>(
+    alloc: Global,
+    deps: &Deps<'_, 'a>,
+    level: Level,
+    walk: &Walk<'a>,
+) -> Result<Finding<'a>, AllocError>
+    requires history { AreOfHistory deps.now.txns }
+    requires lowest { IsLowestSingle deps.now.table.keys deps.now.txns level walk.now }
+    ensures { IfOk result (λ found.
+        IsFinding deps.now.table.keys G2Item deps.now.txns (Some found)) }
+{
+    if level == Level::Plain {
+        if let Some(lost) = lost_update(alloc, deps)? {
+            return reduced(alloc, Level::Plain, &lost);
+        }
+    }
+    reduced(alloc, level, walk)
+}
+
 /// What is found of each phenomenon, where looks at each version settle that there is no G0 and no G1c at any level, and find the
 /// others. So it is in most histories of databases that promise less than serializability. No order is thinned and no graph is made.
 fn findings_without_graph<'a>(
@@ -258,7 +280,7 @@ fn findings_without_graph<'a>(
         g0: None,
         g1c: None,
         single: Some(reduced(alloc, level, &walk)?),
-        item: Some(reduced(alloc, level, &walk)?),
+        item: Some(item_found(alloc, deps, level, &walk)?),
     }))
 }
 
