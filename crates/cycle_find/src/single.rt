@@ -1,7 +1,7 @@
-//! Closed walks with one rw edge that are found without a graph.
+//! Closed walks of an rw edge and one edge back, found without a graph.
 //!
-//! Such a walk has two edges: the rw edge, and one edge back. A history of a database that lets transactions read old versions
-//! mostly has many of them, and then no graph need be built. Where none is found, there may be one all the same.
+//! A history of a database that lets transactions read old versions mostly has many of them, and then no graph need be built.
+//! Where none is found, there may be one all the same.
 
 ghost use Rattle.std.specs.Prelude.{IfOk, IfSome};
 ghost use Rattle.hist_types.specs.Edges.{edges_at};
@@ -94,7 +94,8 @@ pub fn single_at_plain<'a>(
 /// A closed walk along two rw edges, if one look at each version finds one: two transactions that read a version, and each wrote over
 /// it, so that one of the updates is lost.
 ///
-/// `verdict` asks for it before it builds a graph. It takes linear time.
+/// `verdict` asks for it before it builds a graph. It looks through what a transaction reads once for each version that the
+/// transaction follows.
 pub fn lost_update<'a>(alloc: Global, deps: &Deps<'_, 'a>) -> Result<Option<Walk<'a>>, AllocError>
     ensures { IfOk result (λ found.
         IfSome found (ShowsByFewest G2Item (edges_at deps.now.table.keys Plain deps.now.txns))) }

@@ -1,5 +1,5 @@
-//! Where a closed walk with one rw edge may be: two transactions, by one look at each version. Nothing is claimed of them here:
-//! their edges are looked up afterwards.
+//! Where a closed walk of an rw edge and one edge back may be: two transactions, by one look at each version. Nothing is claimed of
+//! them here: their edges are looked up afterwards.
 
 ghost use Rattle.dep_edges.specs.Tables.{IsNumber};
 
