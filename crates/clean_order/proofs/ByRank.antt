@@ -1,5 +1,5 @@
--- Where ranks rise at each version and in time, they rise along each edge.
-use Rattle.std.proofs.Common.{◌≡◌, ◌∙◌, ◌<◌, ◌+◌, inl, inr, ℕ, zero, suc, List, [], ◌∷◌, map, Bool, true, false, if◌then◌else◌, nat_eq, Option, Some, None, unwrap_or, slice_index, All, Contains, pos, refl, sym, ap, subst, arith}
+-- Where starts and commits rise at each version and in time, they rise along each edge.
+use Rattle.std.proofs.Common.{◌≡◌, ◌∙◌, ◌<◌, ◌+◌, inl, inr, ℕ, zero, suc, List, [], ◌∷◌, map, Bool, true, false, ◌≤◌, if◌then◌else◌, nat_eq, Option, Some, None, unwrap_or, slice_index, All, Contains, pos, refl, sym, ap, subst, arith}
 use Rattle.std.specs.Prelude.{slice_get}
 use Rattle.std.specs.Option.{is_some}
 use Rattle.std.specs.List.{list_any}
@@ -22,6 +22,7 @@ use Rattle.history_laws.specs.Times.{AreInvokedInOrder}
 use Rattle.history_laws.proofs.DependencyEdges.{edges_by_versions}
 use Rattle.history_laws.proofs.ThinningPaths.{any_passes, ends_of, ordered_from_label, ordered_in_time}
 use Rattle.history_laws.proofs.ThinningTimes.{invoked_in_order}
+use Rattle.history_laws.proofs.ThinningWalks.{uncounted_edge}
 use Rattle.history_laws.proofs.VersionMembers.{in_from_has, has_from_in}
 use Rattle.history_laws.proofs.WrittenOnce.{installed_or_over, one_writer}
 use Rattle.key_versions.specs.Histories.{known_in, named_in, named_by, is_named, installs_behind, writer_of, readers_of, followers_of}
@@ -32,9 +33,9 @@ use Rattle.dep_edges.specs.Tables.{IsNumber, txn_at, version_at}
 use Rattle.dep_edges.proofs.Marks.{place_in, to_some_place}
 use Rattle.dep_edges.proofs.Out.{pair_is_behind}
 use Rattle.dep_edges.proofs.Writers.{has_writer, WroteAt, writer_wrote}
-use Rattle.clean_order.specs.Rising.{RisesAlong, ShowsNoWrites, ShowsNothingAtPlain}
-use Rattle.clean_order.specs.Ranked.{IsLower, IsLowerIfOther, users, counted, RisesToReaders, RisesToNode, RisesAtVersion, RisesInTime}
-use Rattle.clean_order.proofs.Walks.{none_found, no_writes_found, show_nothing}
+use Rattle.clean_order.specs.Rising.{RisesAlong, ShowsNoWrites, ShowsNoneButItem, ShowsNoSingleAtPlain, ShowsNothingAtPlain}
+use Rattle.clean_order.specs.Ranked.{IsBefore, IsBeforeIfOther, StartFirst, writers, counted, RisesToReaders, RisesToNode, RisesAtVersion, RisesInTime}
+use Rattle.clean_order.proofs.Walks.{RisesFor, RisesBetween, none_found, no_writes_found, show_nothing, show_no_single, none_but_item_found}
 
 -- ---- members and places
 
@@ -134,10 +135,6 @@ is_named_by_write ts v t i wrote =
     any_passes (λ (x : Transaction). has_version (named_by x) v) t ts i
     (has_from_in v (named_by t) (named_by_write (is_ok t) v t.mops (in_from_has v (map version_of (writes_of t.mops)) wrote)))
 
-reader_is_user : (o : Option Writer) (readers : List ℕ) (place : ℕ) → In place readers → In place (users o readers)
-reader_is_user None readers place i = i
-reader_is_user (Some w) readers place i = inr i
-
 -- ---- dependency edges
 
 one_that_writes : (ts : List Transaction) → AreOfHistory ts → (t u : Transaction) (v : Version) → In t ts → In u ts → writes t v ≡ true → writes u v ≡ true → t ≡ u
@@ -155,17 +152,22 @@ different : (ts : List Transaction) (t u : Transaction) (j k : ℕ) → AreEnds 
 different ts t u j k ends same =
     ends.other (ap (λ (x : Transaction). x.invocation) (same_Some t u (sym ends.first ∙ ap (slice_get ts) same ∙ ends.second)))
 
-module _ (keys : KeyOrder) (ts : List Transaction) (table : Table) (reads : Bool) (ranks : List ℕ) (kept : AreOfHistory ts) (is : IsTableOf keys ts table)
-    (versions : (number : ℕ) → IsNumber table number → RisesAtVersion keys reads ts ranks (version_at table number)) where
-  rises_at_read : (v : Version) (t : Transaction) → In t ts → is_known_to_read t v ≡ true → RisesAtVersion keys reads ts ranks v
+-- from the start to the commit along an rw edge, and from the commit to the start along another one
+abbrev RisesOver : (is_rw : Bool) → (starts commits : List ℕ) → (j k : ℕ) → Type 0
+RisesOver true starts commits j k = IsBefore starts commits j k
+RisesOver false starts commits j k = IsBefore commits starts j k
+
+module _ (keys : KeyOrder) (ts : List Transaction) (table : Table) (reads : Bool) (starts commits : List ℕ) (kept : AreOfHistory ts) (is : IsTableOf keys ts table)
+    (versions : (number : ℕ) → IsNumber table number → RisesAtVersion keys reads ts starts commits (version_at table number)) where
+  rises_at_read : (v : Version) (t : Transaction) → In t ts → is_known_to_read t v ≡ true → RisesAtVersion keys reads ts starts commits v
   rises_at_read v t i known =
       let (number, at) = place_in table.versions v (in_from_has v table.versions (is.named v ∙ is_named_by_read ts v t i known)) in
-      subst (RisesAtVersion keys reads ts ranks) (version_of_number table number v at) (versions number (slice_get_within table.versions number v at))
+      subst (RisesAtVersion keys reads ts starts commits) (version_of_number table number v at) (versions number (slice_get_within table.versions number v at))
 
-  rises_at_written : (v : Version) (t : Transaction) → In t ts → writes t v ≡ true → RisesAtVersion keys reads ts ranks v
+  rises_at_written : (v : Version) (t : Transaction) → In t ts → writes t v ≡ true → RisesAtVersion keys reads ts starts commits v
   rises_at_written v t i wrote =
       let (number, at) = place_in table.versions v (in_from_has v table.versions (is.named v ∙ is_named_by_write ts v t i wrote)) in
-      subst (RisesAtVersion keys reads ts ranks) (version_of_number table number v at) (versions number (slice_get_within table.versions number v at))
+      subst (RisesAtVersion keys reads ts starts commits) (version_of_number table number v at) (versions number (slice_get_within table.versions number v at))
 
   -- who installs a version is the one that wrote it
   writer_at : (t : Transaction) (j : ℕ) (v : Version) → slice_get ts j ≡ Some t → installs t v ≡ true → (w : Writer) × (writer_of ts v ≡ Some w) × (w.txn ≡ j)
@@ -179,46 +181,55 @@ module _ (keys : KeyOrder) (ts : List Transaction) (table : Table) (reads : Bool
       (w, e, sym (placed ts (in_order ts kept) w.txn t (at.place ∙ ap Some one)) ∙ placed ts (in_order ts kept) j t first)
 
   -- from who installs a version to who reads it
-  from_writer : (t u : Transaction) (j k : ℕ) (v : Version) → AreEnds ts t u j k → installs t v ≡ true → is_known_to_read u v ≡ true → IsLower ranks j k
+  from_writer : (t u : Transaction) (j k : ℕ) (v : Version) → AreEnds ts t u j k → installs t v ≡ true → is_known_to_read u v ≡ true → IsBefore commits starts j k
   from_writer t u j k v ends installed known =
       let reader : In k (readers_of ts v) = reader_there ts v k u ends.second known in
       let (w, e, same) = writer_at t j v ends.first installed in
-      let rises : RisesToReaders ranks (writer_of ts v) (readers_of ts v) = (rises_at_read v u (in_at ts k u ends.second) known).readers in
-      let all : All (IsLowerIfOther ranks w.txn) (readers_of ts v) = subst (λ o. RisesToReaders ranks o (readers_of ts v)) e rises in
-      subst (λ n. IsLowerIfOther ranks n k) same (all_in (IsLowerIfOther ranks w.txn) (readers_of ts v) k all reader) (different ts t u j k ends)
+      let rises : RisesToReaders starts commits (writer_of ts v) (readers_of ts v) = (rises_at_read v u (in_at ts k u ends.second) known).readers in
+      let all : All (IsBeforeIfOther commits starts w.txn) (readers_of ts v) = subst (λ o. RisesToReaders starts commits o (readers_of ts v)) e rises in
+      subst (λ n. IsBeforeIfOther commits starts n k) same (all_in (IsBeforeIfOther commits starts w.txn) (readers_of ts v) k all reader) (different ts t u j k ends)
 
-  -- from who wrote a version or reads it to who installs one after it
-  from_user :
-      (t u : Transaction) (j k : ℕ) (v w : Version) → AreEnds ts t u j k → RisesAtVersion keys reads ts ranks v
-      → In j (users (writer_of ts v) (counted reads (readers_of ts v))) → Contains (version_pairs keys ts) (pair v w) → installs u w ≡ true → IsLower ranks j k
-  from_user t u j k v w ends rises user paired installed =
-      let places = users (writer_of ts v) (counted reads (readers_of ts v)) in
+  -- from one of these to who installs a version after this one
+  to_follower :
+      (ranks others places : List ℕ) (t u : Transaction) (j k : ℕ) (v w : Version) → AreEnds ts t u j k
+      → All (λ (p : ℕ × Version). RisesToNode ts ranks others places p.0) (followers_of keys ts v)
+      → In j places → Contains (version_pairs keys ts) (pair v w) → installs u w ≡ true → IsBefore ranks others j k
+  to_follower ranks others places t u j k v w ends rises user paired installed =
       let behind : In w (installs_behind (process_pairs keys ts) u v) = pair_is_behind keys ts kept u v w (in_at ts k u ends.second) installed paired in
       let p : ℕ × Version = (k, w) in
       let follower : In p (followers_of keys ts v) = follower_there keys ts v w k u ends.second behind in
-      let above : RisesToNode ts ranks places k =
-      all_in (λ (p : ℕ × Version). RisesToNode ts ranks places p.0) (followers_of keys ts v) p rises.followers follower in
+      let above : RisesToNode ts ranks others places k =
+      all_in (λ (p : ℕ × Version). RisesToNode ts ranks others places p.0) (followers_of keys ts v) p rises follower in
       let node : is_node ts (txn_at ts k) ≡ true = ap (is_node ts) (txn_of ts k u ends.second) ∙ ends.node in
-      all_in (λ n. IsLowerIfOther ranks n k) places j (above node) user (different ts t u j k ends)
+      all_in (λ n. IsBeforeIfOther ranks others n k) places j (above node) user (different ts t u j k ends)
 
-  by_label : (t u : Transaction) (j k : ℕ) (label : Label) → AreEnds ts t u j k → Depends keys ts t u label → (is_rw_label label ≡ true → reads ≡ true) → IsLower ranks j k
+  by_label :
+      (t u : Transaction) (j k : ℕ) (label : Label) → AreEnds ts t u j k → Depends keys ts t u label → (is_rw_label label ≡ true → reads ≡ true)
+      → RisesOver (is_rw_label label) starts commits j k
   by_label t u j k (ww v w) ends d counts =
       let (writer, e, same) = writer_at t j v ends.first d.1 in
-      let user : In j (users (writer_of ts v) (counted reads (readers_of ts v))) = subst (λ o. In j (users o (counted reads (readers_of ts v)))) (sym e) (inl same) in
-      from_user t u j k v w ends (rises_at_written v t (in_at ts j t ends.first) ((installed_or_over t v).1 (inl d.1))) user d.0 d.2
+      let user : In j (writers (writer_of ts v)) = subst (λ o. In j (writers o)) (sym e) (inl same) in
+      to_follower commits starts (writers (writer_of ts v)) t u j k v w ends
+      (rises_at_written v t (in_at ts j t ends.first) ((installed_or_over t v).1 (inl d.1))).from_writer user d.0 d.2
   by_label t u j k (wr v) ends d counts = from_writer t u j k v ends d.0 d.1
   by_label t u j k (rw v w) ends d counts =
       let reader : In j (readers_of ts v) = reader_there ts v j t ends.first d.1 in
       let read : In j (counted reads (readers_of ts v)) = subst (λ b. In j (counted b (readers_of ts v))) (sym (counts refl)) reader in
-      from_user t u j k v w ends (rises_at_read v t (in_at ts j t ends.first) d.1)
-      (reader_is_user (writer_of ts v) (counted reads (readers_of ts v)) j read) d.0 d.2
+      to_follower starts commits (counted reads (readers_of ts v)) t u j k v w ends
+      (rises_at_read v t (in_at ts j t ends.first) d.1).from_readers read d.0 d.2
   by_label t u j k (process p) ends d counts = elim d [ ]
   by_label t u j k (realtime c i) ends d counts = elim d [ ]
 
-  by_places : (e : Edge) (t u : Transaction) (j k : ℕ) → AreEnds ts t u j k → e.from ≡ t.invocation → e.to ≡ u.invocation → IsLower ranks j k → RisesAlong (rank_by ts ranks) e
-  by_places e t u j k ends from to lower =
-      let first : rank_by ts ranks e.from ≡ slice_index ranks j = ap (rank_by ts ranks) from ∙ rank_at_place ts ranks kept j t ends.first in
-      let second : rank_by ts ranks e.to ≡ slice_index ranks k = ap (rank_by ts ranks) to ∙ rank_at_place ts ranks kept k u ends.second in
+  by_places :
+      (e : Edge) (t u : Transaction) (j k : ℕ) → AreEnds ts t u j k → e.from ≡ t.invocation → e.to ≡ u.invocation → (is_rw : Bool)
+      → RisesOver is_rw starts commits j k → RisesFor is_rw (rank_by ts starts) (rank_by ts commits) e
+  by_places e t u j k ends from to true lower =
+      let first : rank_by ts starts e.from ≡ slice_index starts j = ap (rank_by ts starts) from ∙ rank_at_place ts starts kept j t ends.first in
+      let second : rank_by ts commits e.to ≡ slice_index commits k = ap (rank_by ts commits) to ∙ rank_at_place ts commits kept k u ends.second in
+      (omega (arith, first, second, lower), λ same. ends.other (sym from ∙ same ∙ to))
+  by_places e t u j k ends from to false lower =
+      let first : rank_by ts commits e.from ≡ slice_index commits j = ap (rank_by ts commits) from ∙ rank_at_place ts commits kept j t ends.first in
+      let second : rank_by ts starts e.to ≡ slice_index starts k = ap (rank_by ts starts) to ∙ rank_at_place ts starts kept k u ends.second in
       omega (arith, first, second, lower)
 
   ends_at : (t u : Transaction) → In t (nodes ts) → In u (nodes ts) → ¬ (t.invocation ≡ u.invocation) → (j : ℕ) × (k : ℕ) × AreEnds ts t u j k
@@ -227,38 +238,11 @@ module _ (keys : KeyOrder) (ts : List Transaction) (table : Table) (reads : Bool
       let (k, there) = place_in ts u (in_filter (is_node ts) u ts second) in
       (j, k, record { first = at; second = there; node = passes_filter (is_node ts) u ts second; other = other })
 
-  dependency_rises : (e : Edge) → Contains (dependency_edges keys ts) e → (is_rw e ≡ true → reads ≡ true) → RisesAlong (rank_by ts ranks) e
+  dependency_rises : (e : Edge) → Contains (dependency_edges keys ts) e → (is_rw e ≡ true → reads ≡ true) → RisesBetween (rank_by ts starts) (rank_by ts commits) e
   dependency_rises e c counts =
       let (t, u, first, second, apart, same, depends) = (edges_by_versions keys ts e).0 c in
       let (j, k, ends) = ends_at t u (in_from_Contains t (nodes ts) first) (in_from_Contains u (nodes ts) second) apart in
-      by_places e t u j k ends (ap (λ (d : Edge). d.from) same) (ap (λ (d : Edge). d.to) same) (by_label t u j k e.label ends depends counts)
-
-  -- ---- order edges
-
-  module _ (time : RisesInTime ts ranks) where
-    order_rises : (level : Level) (e : Edge) → Contains (order_edges level ts) e → RisesAlong (rank_by ts ranks) e
-    order_rises level e c =
-        let (t, u, label, found) = ends_of (nodes ts) (order_labels level) e (in_from_Contains e (order_edges level ts) c) in
-        let before : is_ok_before t u ≡ true = ordered_in_time level t u (ordered_from_label level t u label found.labelled) in
-        let (j, k, ends) = ends_at t u found.first found.second found.other in
-        let at : txn_at ts j ≡ t = txn_of ts j t ends.first in
-        let there : txn_at ts k ≡ u = txn_of ts k u ends.second in
-        let node : is_node ts (txn_at ts k) ≡ true = ap (is_node ts) there ∙ ends.node in
-        let timely : is_ok_before (txn_at ts j) (txn_at ts k) ≡ true = ap (λ x. is_ok_before x (txn_at ts k)) at ∙ ap (is_ok_before t) there ∙ before in
-        by_places e t u j k ends (ap (λ (d : Edge). d.from) found.is) (ap (λ (d : Edge). d.to) found.is)
-        (time j k (slice_get_within ts j t ends.first) (slice_get_within ts k u ends.second) node timely)
-
-    rises_along : (level : Level) (e : Edge) → Contains (edges_at keys level ts) e → (is_rw e ≡ true → reads ≡ true) → RisesAlong (rank_by ts ranks) e
-    rises_along level e c counts = elim (in_append e (dependency_edges keys ts) (order_edges level ts) (in_from_Contains e (edges_at keys level ts) c)) [
-      | inl i ↦ dependency_rises e (Contains_from_in e (dependency_edges keys ts) i) counts
-      | inr i ↦ order_rises level e (Contains_from_in e (order_edges level ts) i)
-    ]
-
-    pub nothing_found : reads ≡ true → AreFindings keys ts no_findings
-    nothing_found all = none_found keys (rank_by ts ranks) ts (λ level e c. rises_along level e c (λ _. all))
-
-    pub no_writes : ShowsNoWrites keys ts
-    no_writes = no_writes_found keys (rank_by ts ranks) ts (λ level e c none. rises_along level e c (λ is. elim (false≢true (sym none ∙ is)) [ ]))
+      by_places e t u j k ends (ap (λ (d : Edge). d.from) same) (ap (λ (d : Edge). d.to) same) (is_rw e) (by_label t u j k e.label ends depends counts)
 
   -- ---- the level plain
 
@@ -267,11 +251,71 @@ module _ (keys : KeyOrder) (ts : List Transaction) (table : Table) (reads : Bool
       let (t, u, label, found) = ends_of (nodes ts) (order_labels Plain) e i in
       found.labelled
 
-  pub nothing_at_plain : reads ≡ true → ShowsNothingAtPlain keys ts
-  nothing_at_plain all =
-      let rises : (e : Edge) → Contains (edges_at keys Plain ts) e → RisesAlong (rank_by ts ranks) e =
-      λ e c. elim (in_append e (dependency_edges keys ts) (order_edges Plain ts) (in_from_Contains e (edges_at keys Plain ts) c)) [
-        | inl i ↦ dependency_rises e (Contains_from_in e (dependency_edges keys ts) i) (λ _. all)
-        | inr i ↦ absurd (none_in_order e i)
-      ] in
-      show_nothing (rank_by ts ranks) (edges_at keys Plain ts) rises
+  plain_rises : (e : Edge) → Contains (edges_at keys Plain ts) e → (is_rw e ≡ true → reads ≡ true) → RisesBetween (rank_by ts starts) (rank_by ts commits) e
+  plain_rises e c counts = elim (in_append e (dependency_edges keys ts) (order_edges Plain ts) (in_from_Contains e (edges_at keys Plain ts) c)) [
+    | inl i ↦ dependency_rises e (Contains_from_in e (dependency_edges keys ts) i) counts
+    | inr i ↦ absurd (none_in_order e i)
+  ]
+
+  -- ---- order edges
+
+  -- ---- order edges
+
+  module _ (time : RisesInTime ts starts commits) where
+    order_rises : (level : Level) (e : Edge) → In e (order_edges level ts) → RisesBetween (rank_by ts starts) (rank_by ts commits) e
+    order_rises level e i =
+        let (t, u, label, found) = ends_of (nodes ts) (order_labels level) e i in
+        let before : is_ok_before t u ≡ true = ordered_in_time level t u (ordered_from_label level t u label found.labelled) in
+        let (j, k, ends) = ends_at t u found.first found.second found.other in
+        let at : txn_at ts j ≡ t = txn_of ts j t ends.first in
+        let there : txn_at ts k ≡ u = txn_of ts k u ends.second in
+        let node : is_node ts (txn_at ts k) ≡ true = ap (is_node ts) there ∙ ends.node in
+        let timely : is_ok_before (txn_at ts j) (txn_at ts k) ≡ true = ap (λ x. is_ok_before x (txn_at ts k)) at ∙ ap (is_ok_before t) there ∙ before in
+        let other : is_rw e ≡ false = (uncounted_edge level (nodes ts) e i).no_rw in
+        subst (λ b. RisesFor b (rank_by ts starts) (rank_by ts commits) e) (sym other)
+        (by_places e t u j k ends (ap (λ (d : Edge). d.from) found.is) (ap (λ (d : Edge). d.to) found.is) false
+        (time j k (slice_get_within ts j t ends.first) (slice_get_within ts k u ends.second) node timely))
+
+    rises_between : (level : Level) (e : Edge) → Contains (edges_at keys level ts) e → (is_rw e ≡ true → reads ≡ true) → RisesBetween (rank_by ts starts) (rank_by ts commits) e
+    rises_between level e c counts = elim (in_append e (dependency_edges keys ts) (order_edges level ts) (in_from_Contains e (edges_at keys level ts) c)) [
+      | inl i ↦ dependency_rises e (Contains_from_in e (dependency_edges keys ts) i) counts
+      | inr i ↦ order_rises level e i
+    ]
+
+-- ---- what is found
+
+first_by : (ts : List Transaction) (starts commits : List ℕ) → StartFirst starts commits → (n : ℕ) → rank_by ts starts n ≤ rank_by ts commits n
+first_by ts starts commits first n = first (place n ts)
+
+-- where both lists are one
+along : (b : Bool) (rank : ℕ → ℕ) (e : Edge) → RisesFor b rank rank e → RisesAlong rank e
+along true rank e rises = rises.0
+along false rank e rises = rises
+
+module _ (keys : KeyOrder) (ts : List Transaction) (table : Table) (kept : AreOfHistory ts) (is : IsTableOf keys ts table) where
+  abbrev RiseAtEach : (reads : Bool) → (starts commits : List ℕ) → Type 0
+  RiseAtEach reads starts commits = (number : ℕ) → IsNumber table number → RisesAtVersion keys reads ts starts commits (version_at table number)
+
+  pub nothing_found : (ranks : List ℕ) → RiseAtEach true ranks ranks → RisesInTime ts ranks ranks → AreFindings keys ts no_findings
+  nothing_found ranks versions time =
+      none_found keys (rank_by ts ranks) ts (λ level e c. along (is_rw e) (rank_by ts ranks) e (rises_between keys ts table true ranks ranks kept is versions time level e c (λ _. refl)))
+
+  pub no_writes : (ranks : List ℕ) → RiseAtEach false ranks ranks → RisesInTime ts ranks ranks → ShowsNoWrites keys ts
+  no_writes ranks versions time =
+      no_writes_found keys (rank_by ts ranks) ts (λ level e c none. along (is_rw e) (rank_by ts ranks) e
+      (rises_between keys ts table false ranks ranks kept is versions time level e c (λ is. elim (false≢true (sym none ∙ is)) [ ])))
+
+  pub nothing_at_plain : (ranks : List ℕ) → RiseAtEach true ranks ranks → ShowsNothingAtPlain keys ts
+  nothing_at_plain ranks versions =
+      show_nothing (rank_by ts ranks) (edges_at keys Plain ts) (λ e c. along (is_rw e) (rank_by ts ranks) e (plain_rises keys ts table true ranks ranks kept is versions e c (λ _. refl)))
+
+  module _ (starts commits : List ℕ) (first : StartFirst starts commits) (versions : RiseAtEach true starts commits) where
+    pub none_but_item : RisesInTime ts starts commits → ShowsNoneButItem keys ts
+    none_but_item time =
+        none_but_item_found (rank_by ts starts) (rank_by ts commits) (first_by ts starts commits first) keys ts
+        (λ level e c. rises_between keys ts table true starts commits kept is versions time level e c (λ _. refl))
+
+    pub no_single_at_plain : ShowsNoSingleAtPlain keys ts
+    no_single_at_plain =
+        show_no_single (rank_by ts starts) (rank_by ts commits) (first_by ts starts commits first) (edges_at keys Plain ts)
+        (λ e c. plain_rises keys ts table true starts commits kept is versions e c (λ _. refl))

@@ -1,7 +1,7 @@
 -- A walk along edges along which a rank rises is not closed.
-use Rattle.std.proofs.Common.{◌≡◌, ◌<◌, ◌≤◌, ℕ, List, [], ◌∷◌, Bool, true, false, ◌||◌, not, Contains, refl, ap, subst, arith}
+use Rattle.std.proofs.Common.{◌≡◌, ◌⊎◌, inl, inr, ◌<◌, ◌≤◌, ℕ, List, [], ◌∷◌, Bool, true, false, ◌||◌, not, Contains, count_by, refl, sym, ◌∙◌, ap, subst, arith}
 use Rattle.std.specs.List.{AllByRecursion, list_all, list_any}
-use Rattle.std.proofs.lemmas.Bool.{false≢true, and_parts}
+use Rattle.std.proofs.lemmas.Bool.{false≢true, and_parts, cases_Bool, eqb-true}
 use Rattle.hist_types.specs.Edges.{Label, ww, wr, rw, process, realtime, Edge, edges_at}
 use Rattle.hist_types.specs.Phenomena.{Leads, IsClosedWalk, is_ww_label, is_wr_label, is_rw_label, is_ww, is_wr, is_rw, is_order, IsShownBy}
 use Rattle.hist_types.specs.Reports.{AreFindings, no_findings}
@@ -11,8 +11,8 @@ use Rattle.hist_types.specs.declared.types.Phenomenon.TheVariants.{G0, G1c, GSin
 use Rattle.hist_types.specs.declared.types.KeyOrder.{KeyOrder}
 use Rattle.hist_types.specs.declared.types.Level.{Level}
 use Rattle.hist_types.proofs.Members.{In, Contains_from_in}
-use Rattle.history_laws.proofs.ThinningWalks.{within_in}
-use Rattle.clean_order.specs.Rising.{RisesAlong, Rises, RisesAtEachLevel, ShowsNoWrites}
+use Rattle.history_laws.proofs.ThinningWalks.{one_if, count-cons, within_in}
+use Rattle.clean_order.specs.Rising.{RisesAlong, Rises, RisesAtEachLevel, ShowsNoWrites, ShowsNoneButItem}
 
 walk_rises : (rank : ℕ → ℕ) (from to : ℕ) (walk : List Edge) → Leads from walk to → AllByRecursion (RisesAlong rank) walk → rank from ≤ rank to
 walk_rises rank from to [] leads all = subst (λ n. rank from ≤ rank n) leads (omega arith)
@@ -88,3 +88,118 @@ no_writes_found keys rank ts rises = (
   (λ level. show_no_G0 rank (edges_at keys level ts) (rises level), tt),
   (λ level. show_no_G1c rank (edges_at keys level ts) (rises level), tt),
 )
+
+-- ---- walks with one rw edge, by the starts and the commits of transactions
+
+-- along an rw edge from the start to the commit, and along another one from the commit to the start
+abbrev pub RisesFor : (is_rw : Bool) → (start commit : ℕ → ℕ) → Edge → Type 0
+RisesFor true start commit e = (start e.from < commit e.to) × ¬ (e.from ≡ e.to)
+RisesFor false start commit e = commit e.from < start e.to
+
+abbrev pub RisesBetween : (start commit : ℕ → ℕ) → Edge → Type 0
+RisesBetween start commit e = RisesFor (is_rw e) start commit e
+
+-- the transaction is the same, or commits before the other one starts
+abbrev Follows : (start commit : ℕ → ℕ) → (from to : ℕ) → Type 0
+Follows start commit from to = (from ≡ to) ⊎ (commit from < start to)
+
+-- with one rw edge on the way
+record FollowsOnce (start commit : ℕ → ℕ) (from to : ℕ) : Type 0 where
+  reader : ℕ
+  writer : ℕ
+  before : Follows start commit from reader
+  rises : start reader < commit writer
+  other : ¬ (reader ≡ writer)
+  behind : Follows start commit writer to
+
+module _ (start commit : ℕ → ℕ) (first : (n : ℕ) → start n ≤ commit n) where
+  further : (from via to : ℕ) → commit from < start via → Follows start commit via to → commit from < start to
+  further from via to rises (inl same) = subst (λ n. commit from < start n) same rises
+  further from via to rises (inr later) = let spans = first via in omega (arith, rises, later, spans)
+
+  without_rw :
+      (from to : ℕ) (walk : List Edge) → Leads from walk to → AllByRecursion (RisesBetween start commit) walk → count_by is_rw walk ≡ 0
+      → Follows start commit from to
+  without_rw from to [] leads all none = inl leads
+  without_rw from to (e ∷ es) leads all none = elim (cases_Bool (is_rw e)) [
+    | inl is ↦ let one : one_if (is_rw e) ≡ 1 = ap one_if is in absurd (omega (arith, none, one, count-cons is_rw e es))
+    | inr none_here ↦ (
+        let rises : commit e.from < start e.to = subst (λ b. RisesFor b start commit e) none_here all.0 in
+        let rest : count_by is_rw es ≡ 0 = omega (arith, none, count-cons is_rw e es) in
+        inr (subst (λ n. commit n < start to) leads.0 (further e.from e.to to rises (without_rw e.to to es leads.1 all.1 rest)))
+        )
+  ]
+
+  with_one_rw :
+      (from to : ℕ) (walk : List Edge) → Leads from walk to → AllByRecursion (RisesBetween start commit) walk → count_by is_rw walk ≡ 1
+      → FollowsOnce start commit from to
+  with_one_rw from to [] leads all one = absurd (omega (arith, one))
+  with_one_rw from to (e ∷ es) leads all one = elim (cases_Bool (is_rw e)) [
+    | inl is ↦ (
+        let this : one_if (is_rw e) ≡ 1 = ap one_if is in
+        let rises : (start e.from < commit e.to) × ¬ (e.from ≡ e.to) = subst (λ b. RisesFor b start commit e) is all.0 in
+        let rest : count_by is_rw es ≡ 0 = omega (arith, one, this, count-cons is_rw e es) in
+        record {
+          reader = e.from;
+          writer = e.to;
+          before = inl (sym leads.0);
+          rises = rises.0;
+          other = rises.1;
+          behind = without_rw e.to to es leads.1 all.1 rest;
+        }
+        )
+    | inr none_here ↦ (
+        let this : one_if (is_rw e) ≡ 0 = ap one_if none_here in
+        let rises : commit e.from < start e.to = subst (λ b. RisesFor b start commit e) none_here all.0 in
+        let rest : count_by is_rw es ≡ 1 = omega (arith, one, this, count-cons is_rw e es) in
+        let once : FollowsOnce start commit e.to to = with_one_rw e.to to es leads.1 all.1 rest in
+        record {
+          reader = once.reader;
+          writer = once.writer;
+          before = inr (subst (λ n. commit n < start once.reader) leads.0 (further e.from e.to once.reader rises once.before));
+          rises = once.rises;
+          other = once.other;
+          behind = once.behind;
+        }
+        )
+  ]
+
+  never_back : (n reader writer : ℕ) → start reader < commit writer → ¬ (reader ≡ writer) → Follows start commit n reader → Follows start commit writer n → ⊥
+  never_back n reader writer rises other (inl same) (inl again) = other (sym same ∙ sym again)
+  never_back n reader writer rises other (inl same) (inr later) =
+      let at : start n ≡ start reader = ap start same in
+      absurd (omega (arith, rises, at, later))
+  never_back n reader writer rises other (inr before) (inl again) =
+      let at : commit writer ≡ commit n = ap commit again in
+      absurd (omega (arith, rises, at, before))
+  never_back n reader writer rises other (inr before) (inr later) =
+      let spans = first n in
+      absurd (omega (arith, rises, before, later, spans))
+
+  never_closed_once : (walk : List Edge) → IsClosedWalk walk → AllByRecursion (RisesBetween start commit) walk → count_by is_rw walk ≡ 1 → ⊥
+  never_closed_once [] closed all one = closed
+  never_closed_once (e ∷ es) closed all one =
+      let once : FollowsOnce start commit e.from e.from = with_one_rw e.from e.from (e ∷ es) (refl, closed) all one in
+      never_back e.from once.reader once.writer once.rises once.other once.before once.behind
+
+  all_between : (es walk : List Edge) → ((e : Edge) → Contains es e → RisesBetween start commit e) → AllByRecursion (λ e. In e es) walk → AllByRecursion (RisesBetween start commit) walk
+  all_between es [] rises all = tt
+  all_between es (e ∷ walk) rises all = (rises e (Contains_from_in e es all.0), all_between es walk rises all.1)
+
+  pub show_no_single : (es : List Edge) → ((e : Edge) → Contains es e → RisesBetween start commit e) → ¬ IsShownBy GSingle es
+  show_no_single es rises (walk, shows) =
+      never_closed_once walk shows.closed (all_between es walk rises (within_in es walk shows.within)) (eqb-true (count_by is_rw walk) 1 shows.kinds)
+
+  commits_rise : (es : List Edge) → ((e : Edge) → Contains es e → RisesBetween start commit e) → RisesWithoutRw commit es
+  commits_rise es rises e c none =
+      let lower : commit e.from < start e.to = subst (λ b. RisesFor b start commit e) none (rises e c) in
+      let spans = first e.to in
+      omega (arith, lower, spans)
+
+  pub none_but_item_found :
+      (keys : KeyOrder) (ts : List Transaction) → ((level : Level) (e : Edge) → Contains (edges_at keys level ts) e → RisesBetween start commit e)
+      → ShowsNoneButItem keys ts
+  none_but_item_found keys ts rises = (
+    no_writes_found keys commit ts (λ level. commits_rise (edges_at keys level ts) (rises level)),
+    (λ level. show_no_single (edges_at keys level ts) (rises level), tt),
+  )

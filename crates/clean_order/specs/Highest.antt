@@ -1,8 +1,7 @@
 -- The highest rank of some transactions, and the highest of the others.
-use Rattle.std.specs.Prelude.{◌≡◌, ◌≤◌, ℕ, List, slice_index, All, IsTrue}
+use Rattle.std.specs.Prelude.{◌≡◌, ◌<◌, ◌≤◌, ℕ, List, slice_index, All, IsTrue}
 use Rattle.hist_types.specs.Transactions.{Transaction, is_node}
 use Rattle.dep_edges.specs.Tables.{txn_at}
-use Rattle.clean_order.specs.Ranked.{IsLowerIfOther}
 use Rattle.clean_order.specs.declared.rising.Highest.{Highest}
 
 -- a transaction with this rank is among them
@@ -19,6 +18,7 @@ AreCounted highest ranks places =
 abbrev pub RisesAbove : List Transaction → (ranks : List ℕ) → Highest → (place : ℕ) → Type 0
 RisesAbove ts ranks highest place =
     IsTrue (is_node ts (txn_at ts place))
-    → (other : ℕ)
-    → IsCounted highest other (slice_index ranks other)
-    → IsLowerIfOther ranks other place
+    → (other rank : ℕ)
+    → IsCounted highest other rank
+    → ¬ (other ≡ place)
+    → rank < slice_index ranks place

@@ -1,4 +1,5 @@
--- A rank for each transaction of a history, by its place, and along what it rises.
+-- Ranks for the starts and for the commits of a history's transactions, by place, and along what they
+-- rise. Where each transaction has one rank alone, both lists are the same one.
 use Rattle.std.specs.Prelude.{◌≡◌, ◌<◌, ◌≤◌, ℕ, List, ◌∷◌, slice_index, slice_get, Bool, if◌then◌else◌, [], Option, Some, None, All, IsTrue, ⊤}
 use Rattle.hist_types.specs.Edges.{is_ok_before}
 use Rattle.hist_types.specs.Transactions.{Transaction, Version, is_ok, is_node}
@@ -8,65 +9,78 @@ use Rattle.key_versions.specs.declared.types.Writer.{Writer}
 use Rattle.dep_edges.specs.Histories.{History}
 use Rattle.dep_edges.specs.Tables.{IsPlace, IsNumber, txn_at, version_at}
 
--- the transaction at the one place has a lower rank than the one at the other
-abbrev pub IsLower : (ranks : List ℕ) → (place other : ℕ) → Type 0
-IsLower ranks place other = slice_index ranks place < slice_index ranks other
+-- the transaction at the one place has a lower rank in the one list than the other one in the other
+abbrev pub IsBefore : (ranks others : List ℕ) → (place other : ℕ) → Type 0
+IsBefore ranks others place other = slice_index ranks place < slice_index others other
 
 -- unless they are one transaction
+abbrev pub IsBeforeIfOther : (ranks others : List ℕ) → (place other : ℕ) → Type 0
+IsBeforeIfOther ranks others place other = ¬ (place ≡ other) → IsBefore ranks others place other
+
+-- where both lists are one
 abbrev pub IsLowerIfOther : (ranks : List ℕ) → (place other : ℕ) → Type 0
-IsLowerIfOther ranks place other = ¬ (place ≡ other) → IsLower ranks place other
+IsLowerIfOther ranks place other = IsBeforeIfOther ranks ranks place other
+
+-- no transaction commits before it starts
+abbrev pub StartFirst : (starts commits : List ℕ) → Type 0
+StartFirst starts commits = (place : ℕ) → slice_index starts place ≤ slice_index commits place
 
 -- ---- versions
 
--- the one that wrote a version has a lower rank than each other one that reads it
-abbrev pub RisesToReaders : (ranks : List ℕ) → Option Writer → (readers : List ℕ) → Type 0
-RisesToReaders ranks None readers = ⊤
-RisesToReaders ranks (Some w) readers = All (IsLowerIfOther ranks w.txn) readers
+-- the one that wrote a version commits before each other one that reads it starts
+abbrev pub RisesToReaders :
+    (starts commits : List ℕ) → Option Writer → (readers : List ℕ) → Type 0
+RisesToReaders starts commits None readers = ⊤
+RisesToReaders starts commits (Some w) readers = All (IsBeforeIfOther commits starts w.txn) readers
 
--- who wrote a version, if somebody did, and those that read it
-abbrev pub users : Option Writer → (readers : List ℕ) → List ℕ
-users None readers = readers
-users (Some w) readers = w.txn ∷ readers
+-- who wrote a version, if somebody did
+abbrev pub writers : Option Writer → List ℕ
+writers None = []
+writers (Some w) = w.txn ∷ []
 
 -- those that read it, where reads count
 abbrev pub counted : (reads : Bool) → (readers : List ℕ) → List ℕ
 counted reads readers = if reads then readers else []
 
--- each of these has a lower rank than the other one, if that is a node
-abbrev pub RisesToNode : (ts : List Transaction) → (ranks places : List ℕ) → (place : ℕ) → Type 0
-RisesToNode ts ranks places place =
+-- each of these is before the other one, if that is a node
+abbrev pub RisesToNode :
+    (ts : List Transaction) → (ranks others places : List ℕ) → (place : ℕ) → Type 0
+RisesToNode ts ranks others places place =
     IsTrue (is_node ts (txn_at ts place))
-    → All (λ user. IsLowerIfOther ranks user place) places
+    → All (λ user. IsBeforeIfOther ranks others user place) places
 
--- Ranks rise from who wrote the version to who reads it and to the nodes that install a version
--- after it, and, where reads count, from who reads it to these nodes.
-pub record RisesAtVersion (keys : KeyOrder) (reads : Bool) (ts : List Transaction) (ranks : List ℕ)
-    (v : Version) : Type 0 where
-  pub readers : RisesToReaders ranks (writer_of ts v) (readers_of ts v)
-  pub followers :
+-- Who wrote the version commits before those that read it start, and before the nodes that install a
+-- version after it start. Where reads count, those that read it start before these nodes commit.
+pub record RisesAtVersion (keys : KeyOrder) (reads : Bool) (ts : List Transaction)
+    (starts commits : List ℕ) (v : Version) : Type 0 where
+  pub readers : RisesToReaders starts commits (writer_of ts v) (readers_of ts v)
+  pub from_writer :
       All
-      (λ (p : ℕ × Version).
-      RisesToNode ts ranks (users (writer_of ts v) (counted reads (readers_of ts v))) p.0)
+      (λ (p : ℕ × Version). RisesToNode ts commits starts (writers (writer_of ts v)) p.0)
+      (followers_of keys ts v)
+  pub from_readers :
+      All
+      (λ (p : ℕ × Version). RisesToNode ts starts commits (counted reads (readers_of ts v)) p.0)
       (followers_of keys ts v)
 
 -- so they do at each version that the history's table has
-abbrev pub RisesAtEach : History → (reads : Bool) → (ranks : List ℕ) → Type 0
-RisesAtEach h reads ranks =
+abbrev pub RisesAtEach : History → (reads : Bool) → (starts commits : List ℕ) → Type 0
+RisesAtEach h reads starts commits =
     (number : ℕ)
     → IsNumber h.table number
-    → RisesAtVersion h.table.keys reads h.txns ranks (version_at h.table number)
+    → RisesAtVersion h.table.keys reads h.txns starts commits (version_at h.table number)
 
 -- ---- time
 
--- an ok transaction has a lower rank than each node that was invoked after its completion
-abbrev pub RisesInTime : List Transaction → (ranks : List ℕ) → Type 0
-RisesInTime ts ranks =
+-- an ok transaction commits before each node starts that was invoked after its completion
+abbrev pub RisesInTime : List Transaction → (starts commits : List ℕ) → Type 0
+RisesInTime ts starts commits =
     (place other : ℕ)
     → IsPlace ts place
     → IsPlace ts other
     → IsTrue (is_node ts (txn_at ts other))
     → IsTrue (is_ok_before (txn_at ts place) (txn_at ts other))
-    → IsLower ranks place other
+    → IsBefore commits starts place other
 
 -- an ok transaction's place is listed at the index of its completion
 abbrev pub IsListed : (ends : List ℕ) → Transaction → (place : ℕ) → Type 0

@@ -9,7 +9,7 @@ use Rattle.hist_types.specs.declared.types.Level.{Level}
 use Rattle.hist_types.specs.declared.types.Level.TheVariants.{Plain}
 use Rattle.hist_types.specs.declared.types.KeyOrder.{KeyOrder}
 use Rattle.hist_types.specs.declared.types.Phenomenon.{Phenomenon}
-use Rattle.hist_types.specs.declared.types.Phenomenon.TheVariants.{G0, G1c}
+use Rattle.hist_types.specs.declared.types.Phenomenon.TheVariants.{G0, G1c, GSingle}
 
 -- the rank of what the edge leads to is higher than that of what it leaves
 abbrev pub RisesAlong : (rank : ℕ → ℕ) → Edge → Type 0
@@ -27,6 +27,14 @@ RisesAtEachLevel keys rank ts = (level : Level) → Rises rank (edges_at keys le
 abbrev pub ShowsNoWrites : KeyOrder → List Transaction → Type 0
 ShowsNoWrites keys ts = IsFinding keys G0 ts None × IsFinding keys G1c ts None
 
+-- no cycle shows G0, G1c or G-single at any level
+abbrev pub ShowsNoneButItem : KeyOrder → List Transaction → Type 0
+ShowsNoneButItem keys ts = ShowsNoWrites keys ts × IsFinding keys GSingle ts None
+
 -- no cycle shows any phenomenon at the level plain
 abbrev pub ShowsNothingAtPlain : KeyOrder → List Transaction → Type 0
 ShowsNothingAtPlain keys ts = (phenomenon : Phenomenon) → ¬ IsThere keys phenomenon Plain ts
+
+-- no cycle shows G-single at the level plain
+abbrev pub ShowsNoSingleAtPlain : KeyOrder → List Transaction → Type 0
+ShowsNoSingleAtPlain keys ts = ¬ IsThere keys GSingle Plain ts

@@ -22,12 +22,16 @@ pub struct Earlier {
     links: Vec<Link>,
 }
 
-/// Whether what follows the version may be installed by others than its readers: where it is nil, and where keys are sequential.
-fn leads_on(history: &History<'_, '_>, number: usize) -> bool {
+/// Whether what follows the version may be installed by others than its readers, as where it is nil, and where keys are sequential,
+/// or by several, of which each reads it. These have no order, unless their starts and their commits are put apart.
+fn leads_on(history: &History<'_, '_>, apart: bool, number: usize) -> bool {
     if history.keys() == KeyOrder::Sequential {
         return true;
     }
-    number < history.versions() && history.version(number).value().is_none()
+    if number >= history.versions() {
+        return false;
+    }
+    history.version(number).value().is_none() || (apart && history.followers(number).len() > 1)
 }
 
 /// The place from which on transactions were invoked after all that wrote or read the version had completed. It may be no place.
@@ -56,6 +60,7 @@ impl Earlier {
     pub fn of(
         alloc: Global,
         history: &History<'_, '_>,
+        apart: bool,
         invoked: &[u32],
     ) -> Result<Self, AllocError> {
         let mut earlier = Earlier {
@@ -63,7 +68,7 @@ impl Earlier {
             links: Vec::with_capacity(alloc, history.txns().len())?,
         };
         for number in 0..history.versions() {
-            if leads_on(history, number) {
+            if leads_on(history, apart, number) {
                 earlier.add_followers(history, invoked, number)?;
             }
         }

@@ -4,7 +4,7 @@
 ghost use Rattle.std.specs.Prelude.{IfOk};
 ghost use Rattle.std.specs.Bool.{OnTrue};
 ghost use Rattle.hist_types.specs.Reports.{AreFindings, no_findings};
-ghost use Rattle.clean_order.specs.Rising.{ShowsNoWrites, ShowsNothingAtPlain};
+ghost use Rattle.clean_order.specs.Rising.{ShowsNoWrites, ShowsNoneButItem, ShowsNoSingleAtPlain, ShowsNothingAtPlain};
 
 mod earlier;
 mod ends;
@@ -13,8 +13,10 @@ mod putting;
 mod rising;
 
 use crate::ends::ends;
-use crate::putting::ranks;
-use crate::rising::{dependencies_rise, rises, rises_wide, writes_rise};
+use crate::putting::{Snapshots, ranks};
+use crate::rising::{
+    dependencies_rise, rises, rises_wide, snapshots_rise, snapshots_rise_at_plain, writes_rise,
+};
 use dep_edges::deps::Deps;
 use std::alloc::{AllocError, Global};
 use std::thread::Threads;
@@ -83,5 +85,40 @@ pub fn settles_plain(alloc: Global, deps: &Deps<'_, '_>) -> Result<bool, AllocEr
     match ranks(alloc, history, true, &ends)? {
         None => Ok(false),
         Some(ranks) => Ok(dependencies_rise(deps, history, ranks.as_slice())),
+    }
+}
+
+/// True only if no cycle shows G0, G1c or G-single at any level. False says nothing.
+///
+/// It is what `settles` does, with two ranks for each transaction: one of its start, when its snapshot was taken, and one of its
+/// commit. A transaction starts after the commits of those that it depends on otherwise than by an rw edge, and commits after the
+/// starts of those that read what it wrote over. It is true of each history whose starts and commits can be ordered so, thus of
+/// those of strong snapshot isolation, also where they have write skew.
+///
+/// It takes twice the numbers for each transaction that `settles` takes, and linear time.
+pub fn settles_snapshots(alloc: Global, deps: &Deps<'_, '_>) -> Result<bool, AllocError>
+    ensures { IfOk result (λ settled. OnTrue settled
+        (ShowsNoneButItem deps.now.table.keys deps.now.txns)) }
+{
+    let history = deps.history();
+    let ends = ends(alloc, history)?;
+    match Snapshots::of(alloc, history, &ends)? {
+        None => Ok(false),
+        Some(ranks) => Ok(snapshots_rise(deps, history, ranks.starts(), ranks.commits(), &ends)),
+    }
+}
+
+/// True only if no cycle shows G-single at the level plain. False says nothing.
+///
+/// It is what `settles_snapshots` does, with the dependency edges alone.
+pub fn settles_single_at_plain(alloc: Global, deps: &Deps<'_, '_>) -> Result<bool, AllocError>
+    ensures { IfOk result (λ settled. OnTrue settled
+        (ShowsNoSingleAtPlain deps.now.table.keys deps.now.txns)) }
+{
+    let history = deps.history();
+    let ends = ends(alloc, history)?;
+    match Snapshots::of(alloc, history, &ends)? {
+        None => Ok(false),
+        Some(ranks) => Ok(snapshots_rise_at_plain(deps, history, ranks.starts(), ranks.commits())),
     }
 }

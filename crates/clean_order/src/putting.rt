@@ -1,4 +1,7 @@
 //! Ranks for transactions, one after the other. Nothing is claimed of them here: that they rise is looked at afterwards.
+//!
+//! Either a transaction is put once, or its start and its commit are put apart: what it depends on by a ww or wr edge commits
+//! before it starts, and those that read what it writes over start before it commits.
 
 use crate::earlier::Earlier;
 use crate::ends::invoked_before;
@@ -7,30 +10,32 @@ use dep_edges::history::History;
 use std::alloc::{AllocError, Global};
 use txn_pairs::types::Status;
 
-/// A transaction that others wait for.
+/// What others wait for.
 #[derive(Clone, Copy)]
 struct Frame {
-    place: u32,
-    /// How many of the versions that it reads and installs need no further look.
+    number: u32,
+    /// How many of the versions that the transaction reads and installs need no further look.
     looked: usize,
     /// At the next one of these the link with which the look at the versions before it goes on, where it has begun.
     link: Option<u32>,
 }
 
 impl Frame {
-    fn new(place: u32) -> Self {
+    fn new(number: u32) -> Self {
         Frame {
-            place,
+            number,
             looked: 0,
             link: None,
         }
     }
 }
 
-/// The transactions that were put so far. Transactions go by place, versions by number.
+/// What was put so far. A transaction that is put once, and the commit of one whose start is put apart, have its place as their
+/// number. The numbers of starts come after them. Versions go by number, too.
 #[derive(Drop)]
-struct Putting<'h, 'v, 'a> {
+struct Putting<'h, 'v, 'a, const APART: bool> {
     history: &'h History<'v, 'a>,
+    txns: u32,
     /// Whether those that read a version come before the others that install one after it.
     reads: bool,
     /// Which one it was that was put, from 1 on. 0 is one that wasn't put.
@@ -45,7 +50,7 @@ struct Putting<'h, 'v, 'a> {
     looked: Vec<u32>,
 }
 
-impl<'h, 'v, 'a> Putting<'h, 'v, 'a> {
+impl<'h, 'v, 'a, const APART: bool> Putting<'h, 'v, 'a, APART> {
     /// Nothing was put yet. It is given how many transactions were invoked before each one completed.
     fn new(
         alloc: Global,
@@ -53,23 +58,30 @@ impl<'h, 'v, 'a> Putting<'h, 'v, 'a> {
         reads: bool,
         invoked: &[u32],
     ) -> Result<Self, AllocError> {
-        let txns = history.txns().len();
+        let txns = u32::try_from(history.txns().len()).map_err(|_| AllocError)?;
+        let numbers = if APART {
+            txns.checked_mul(2).ok_or(AllocError)?
+        } else {
+            txns
+        };
         Ok(Putting {
             history,
+            txns,
             reads,
-            ranks: vec![in alloc; 0; txns]?,
+            ranks: vec![in alloc; 0; numbers as usize]?,
             put: 0,
-            begun: vec![in alloc; false; txns]?,
+            begun: vec![in alloc; false; numbers as usize]?,
             waiting: Vec::new(alloc),
-            earlier: Earlier::of(alloc, history, invoked)?,
+            earlier: Earlier::of(alloc, history, APART, invoked)?,
             looked: vec![in alloc; 0; history.versions()]?,
         })
     }
 
-    /// The ranks of the transactions, from 1 on.
+    /// The ranks by number, from 1 on.
     fn into_ranks(self) -> Vec<u32> {
         let Putting {
             history: _,
+            txns: _,
             reads: _,
             ranks,
             put: _,
@@ -81,30 +93,58 @@ impl<'h, 'v, 'a> Putting<'h, 'v, 'a> {
         ranks
     }
 
-    fn is_put(&self, place: u32) -> bool {
-        rank_at(&self.ranks, place as usize) > 0
+    fn is_put(&self, number: u32) -> bool {
+        rank_at(&self.ranks, number as usize) > 0
+    }
+
+    /// Whether it is a start that has the number.
+    fn is_start(&self, number: u32) -> bool {
+        APART && number >= self.txns
+    }
+
+    /// Whether it is a commit that has the number.
+    fn is_commit(&self, number: u32) -> bool {
+        APART && number < self.txns
+    }
+
+    /// The place of the transaction whose number it is.
+    fn place(&self, number: u32) -> u32 {
+        if self.is_start(number) {
+            number.wrapping_sub(self.txns)
+        } else {
+            number
+        }
+    }
+
+    /// The number of the start of the transaction at the place.
+    fn start(&self, place: u32) -> u32 {
+        if APART {
+            place.wrapping_add(self.txns)
+        } else {
+            place
+        }
     }
 
     /// Puts each of the transactions, and whatever has to come before. It is false if one can't be put.
     fn put_each(&mut self, places: &[u32]) -> Result<bool, AllocError> {
         for place in places {
-            if (*place as usize) < self.ranks.len() && !self.put(*place)? {
+            if *place < self.txns && !self.put(*place)? {
                 return Ok(false);
             }
         }
         Ok(true)
     }
 
-    /// Puts the transaction, and before it whatever has to come before it. It is false if one of these waits for another already.
-    fn put(&mut self, place: u32) -> Result<bool, AllocError> {
-        if self.is_put(place) {
+    /// Puts what has the number, and before it whatever has to come before it. It is false if one of these waits for another already.
+    fn put(&mut self, number: u32) -> Result<bool, AllocError> {
+        if self.is_put(number) {
             return Ok(true);
         }
-        if !self.begin(place) {
+        if !self.begin(number) {
             return Ok(false);
         }
-        let mut frame = Frame::new(place);
-        // Each turn puts a transaction or begins with one.
+        let mut frame = Frame::new(number);
+        // Each turn puts one or begins with one.
         for _ in 0..u64::MAX {
             match self.first_before(&mut frame) {
                 Some(before) => {
@@ -115,7 +155,7 @@ impl<'h, 'v, 'a> Putting<'h, 'v, 'a> {
                     frame = Frame::new(before);
                 }
                 None => {
-                    self.rank(frame.place)?;
+                    self.rank(frame.number)?;
                     match self.waiting.pop() {
                         Some(waiting) => frame = waiting,
                         None => return Ok(true),
@@ -126,9 +166,9 @@ impl<'h, 'v, 'a> Putting<'h, 'v, 'a> {
         Ok(false)
     }
 
-    /// Begins with the transaction. It is false if that was done before.
-    fn begin(&mut self, place: u32) -> bool {
-        match self.begun.get_mut(place as usize) {
+    /// Begins with what has the number. It is false if that was done before.
+    fn begin(&mut self, number: u32) -> bool {
+        match self.begun.get_mut(number as usize) {
             Some(begun) if !*begun => {
                 *begun = true;
                 true
@@ -137,18 +177,22 @@ impl<'h, 'v, 'a> Putting<'h, 'v, 'a> {
         }
     }
 
-    /// Gives the transaction the next rank.
-    fn rank(&mut self, place: u32) -> Result<(), AllocError> {
+    /// Gives the number the next rank.
+    fn rank(&mut self, number: u32) -> Result<(), AllocError> {
         self.put = self.put.checked_add(1).ok_or(AllocError)?;
-        if let Some(rank) = self.ranks.get_mut(place as usize) {
+        if let Some(rank) = self.ranks.get_mut(number as usize) {
             *rank = self.put;
         }
         Ok(())
     }
 
-    /// A transaction that has to be put before this one and wasn't.
+    /// The number of what has to be put before this one and wasn't.
     fn first_before(&mut self, frame: &mut Frame) -> Option<u32> {
-        let place = frame.place as usize;
+        let place = self.place(frame.number);
+        if self.is_commit(frame.number) && !self.is_put(self.start(place)) {
+            return Some(self.start(place));
+        }
+        let place = place as usize;
         if place >= self.history.txns().len() {
             return None;
         }
@@ -156,7 +200,7 @@ impl<'h, 'v, 'a> Putting<'h, 'v, 'a> {
         let installs = self.history.installs(place);
         for step in frame.looked..reads.len().saturating_add(installs.len()) {
             let before = match reads.get(step) {
-                Some(number) => self.before_read(frame.place, *number as usize),
+                Some(number) => self.before_read(frame.number, *number as usize),
                 None => match installs.get(step.saturating_sub(reads.len())) {
                     Some(number) => self.before_install(frame, *number as usize),
                     None => None,
@@ -171,29 +215,29 @@ impl<'h, 'v, 'a> Putting<'h, 'v, 'a> {
         None
     }
 
-    /// What has to be put before the transaction for what it reads: the one that wrote the version, and if it installs the next
-    /// one, the others that read it.
-    fn before_read(&mut self, place: u32, number: usize) -> Option<u32> {
-        if number >= self.history.versions() {
+    /// What has to be put before this one for what the transaction reads: the one that wrote the version, and if it installs the
+    /// next one, the others that read it.
+    fn before_read(&mut self, number: u32, version: usize) -> Option<u32> {
+        if version >= self.history.versions() {
             return None;
         }
-        if let Some(writer) = self.next_writer(place, number) {
+        if let Some(writer) = self.next_writer(number, version) {
             return Some(writer);
         }
-        match self.history.followers(number) {
-            [follower] if follower.txn == place => self.next_reader(place, number),
+        match self.history.followers(version) {
+            [follower] if follower.txn == self.place(number) => self.next_reader(number, version),
             _ => None,
         }
     }
 
-    /// What has to be put before the transaction for what it installs: those that wrote or read the versions before it.
-    fn before_install(&mut self, frame: &mut Frame, number: usize) -> Option<u32> {
-        let mut next = frame.link.unwrap_or(self.earlier.first(number));
+    /// What has to be put before this one for what the transaction installs: those that wrote or read the versions before it.
+    fn before_install(&mut self, frame: &mut Frame, version: usize) -> Option<u32> {
+        let mut next = frame.link.unwrap_or(self.earlier.first(version));
         for _ in 0..u64::MAX {
             let link = self.earlier.link(next)?;
             let before = self
-                .next_writer(frame.place, link.version as usize)
-                .or_else(|| self.next_reader(frame.place, link.version as usize));
+                .next_writer(frame.number, link.version as usize)
+                .or_else(|| self.next_reader(frame.number, link.version as usize));
             if before.is_some() {
                 frame.link = Some(next);
                 return before;
@@ -203,13 +247,14 @@ impl<'h, 'v, 'a> Putting<'h, 'v, 'a> {
         None
     }
 
-    /// The transaction that wrote the version, if it is another one that didn't fail and wasn't put.
-    fn next_writer(&self, place: u32, number: usize) -> Option<u32> {
-        if number >= self.history.versions() {
+    /// The transaction that wrote the version, if it is another one that didn't fail and wasn't put. A commit that waits for its
+    /// start needs no look at it.
+    fn next_writer(&self, number: u32, version: usize) -> Option<u32> {
+        if self.is_commit(number) || version >= self.history.versions() {
             return None;
         }
-        let writer = self.history.writer(number)?.txn;
-        if writer == place
+        let writer = self.history.writer(version)?.txn;
+        if writer == self.place(number)
             || self.is_put(writer)
             || self.history.txn(writer as usize).status() == Status::Fail
         {
@@ -218,27 +263,43 @@ impl<'h, 'v, 'a> Putting<'h, 'v, 'a> {
         Some(writer)
     }
 
-    /// A reader of the version, other than the transaction, that wasn't put, if readers count.
-    fn next_reader(&mut self, place: u32, number: usize) -> Option<u32> {
-        if !self.reads || number >= self.history.versions() {
+    /// The start of a reader of the version, other than the transaction, that wasn't put, if readers count. A start waits for none.
+    fn next_reader(&mut self, number: u32, version: usize) -> Option<u32> {
+        if !self.reads || self.is_start(number) || version >= self.history.versions() {
             return None;
         }
-        let readers = self.history.readers(number);
-        let first = self.looked.get(number).copied().unwrap_or(0);
+        let readers = self.history.readers(version);
+        let first = self.looked.get(version).copied().unwrap_or(0);
         let mut index = first;
         let mut found = None;
         for reader in readers.get(first as usize..)? {
-            if *reader != place && !self.is_put(*reader) {
-                found = Some(*reader);
+            let start = self.start(*reader);
+            if *reader != self.place(number) && !self.is_put(start) {
+                found = Some(start);
                 break;
             }
             index = index.saturating_add(1);
         }
-        if let Some(looked) = self.looked.get_mut(number) {
+        if let Some(looked) = self.looked.get_mut(version) {
             *looked = index;
         }
         found
     }
+}
+
+/// Ranks by number, by who completed when, if each number can be put after what has to come before it.
+fn put_all<const APART: bool>(
+    alloc: Global,
+    history: &History<'_, '_>,
+    reads: bool,
+    ends: &[u32],
+) -> Result<Option<Vec<u32>>, AllocError> {
+    let invoked = invoked_before(alloc, history.txns().len(), ends)?;
+    let mut putting = Putting::<'_, '_, '_, APART>::new(alloc, history, reads, &invoked)?;
+    if !putting.put_each(ends)? {
+        return Ok(None);
+    }
+    Ok(Some(putting.into_ranks()))
 }
 
 /// Ranks for the transactions of a history, by who completed when, if each can be put after what has to come before it: those whose
@@ -249,10 +310,40 @@ pub fn ranks(
     reads: bool,
     ends: &[u32],
 ) -> Result<Option<Vec<u32>>, AllocError> {
-    let invoked = invoked_before(alloc, history.txns().len(), ends)?;
-    let mut putting = Putting::new(alloc, history, reads, &invoked)?;
-    if !putting.put_each(ends)? {
-        return Ok(None);
+    put_all::<false>(alloc, history, reads, ends)
+}
+
+/// Ranks for the starts and for the commits of a history's transactions.
+#[derive(Drop)]
+pub struct Snapshots {
+    txns: usize,
+    /// Those of the commits, and after them those of the starts.
+    ranks: Vec<u32>,
+}
+
+impl Snapshots {
+    /// They are put by who completed when, if each can be put after what has to come before it: before a start the commits of those
+    /// whose writes the transaction read or wrote over, and before a commit its start and those of the others that read what it
+    /// wrote over.
+    pub fn of(
+        alloc: Global,
+        history: &History<'_, '_>,
+        ends: &[u32],
+    ) -> Result<Option<Self>, AllocError> {
+        match put_all::<true>(alloc, history, true, ends)? {
+            None => Ok(None),
+            Some(ranks) => Ok(Some(Snapshots {
+                txns: history.txns().len(),
+                ranks,
+            })),
+        }
     }
-    Ok(Some(putting.into_ranks()))
+
+    pub fn starts(&self) -> &[u32] {
+        self.ranks.get(self.txns..).unwrap_or(&[])
+    }
+
+    pub fn commits(&self) -> &[u32] {
+        self.ranks.get(..self.txns).unwrap_or(&[])
+    }
 }

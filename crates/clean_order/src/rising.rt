@@ -1,4 +1,7 @@
 //! One look at each version and at each transaction, which shows that ranks rise along all edges.
+//!
+//! There are two ranks for each transaction: one of its start, when its snapshot was taken, and one of its commit. Where a
+//! transaction has one rank alone, both lists of ranks are the same one.
 
 ghost use Rattle.std.specs.Prelude.{◌≡◌, ◌<◌, ◌≤◌, ℕ, length, slice_index, slice_get, All, Some, IsTrue, true};
 ghost use Rattle.hist_types.specs.Transactions.{is_node};
@@ -7,8 +10,8 @@ ghost use Rattle.hist_types.specs.Reports.{AreFindings, no_findings};
 ghost use Rattle.key_versions.specs.Tables.{IsTableOf};
 ghost use Rattle.dep_edges.specs.Histories.{AreOfHistory};
 ghost use Rattle.dep_edges.specs.Tables.{IsPlace, IsNumber, txn_at, version_at};
-ghost use Rattle.clean_order.specs.Rising.{ShowsNoWrites, ShowsNothingAtPlain};
-ghost use Rattle.clean_order.specs.Ranked.{IsLowerIfOther, users, counted, RisesToReaders, RisesAtVersion, RisesAtEach, RisesInTime, IsListed, AreAtMost};
+ghost use Rattle.clean_order.specs.Rising.{ShowsNoWrites, ShowsNoneButItem, ShowsNoSingleAtPlain, ShowsNothingAtPlain};
+ghost use Rattle.clean_order.specs.Ranked.{IsBeforeIfOther, StartFirst, writers, counted, RisesToReaders, RisesAtVersion, RisesAtEach, RisesInTime, IsListed, AreAtMost};
 ghost use Rattle.clean_order.specs.Highest.{IsCounted, AreCounted, RisesAbove};
 
 use dep_edges::deps::Deps;
@@ -27,16 +30,21 @@ pub fn rank_at(ranks: &[u32], place: usize) -> u32
     }
 }
 
-/// Whether the writer of a version has a lower rank than each other transaction that reads it.
-fn rises_to_readers(ranks: &[u32], writer: Option<Writer>, readers: &[u32]) -> bool
-    ensures { OnTrue result (RisesToReaders ranks.now writer readers.now) }
+/// Whether the writer of a version commits before each other transaction that reads it starts.
+fn rises_to_readers(
+    starts: &[u32],
+    commits: &[u32],
+    writer: Option<Writer>,
+    readers: &[u32],
+) -> bool
+    ensures { OnTrue result (RisesToReaders starts.now commits.now writer readers.now) }
 {
     let Some(writer) = writer else {
         return true;
     };
-    let rank = rank_at(ranks, writer.txn as usize);
+    let rank = rank_at(commits, writer.txn as usize);
     for reader in readers {
-        if *reader != writer.txn && rank_at(ranks, *reader as usize) <= rank {
+        if *reader != writer.txn && rank_at(starts, *reader as usize) <= rank {
             return false;
         }
     }
@@ -111,14 +119,21 @@ fn rises_above(deps: &Deps<'_, '_>, ranks: &[u32], highest: &Highest, place: u32
     rank_at(ranks, place as usize) > highest.without(place) || !deps.is_node(place as usize)
 }
 
-/// The highest of the ranks of who wrote a version and of those that read it.
-fn highest_at(ranks: &[u32], writer: Option<Writer>, readers: &[u32]) -> Highest
-    ensures { AreCounted result ranks.now (users writer readers.now) }
+/// The rank of who wrote a version, if somebody did, as the highest one.
+fn highest_of_writer(ranks: &[u32], writer: Option<Writer>) -> Highest
+    ensures { AreCounted result ranks.now (writers writer) }
 {
-    let highest = highest_of(ranks, readers);
     match writer {
-        None => highest,
-        Some(writer) => highest.with(writer.txn, rank_at(ranks, writer.txn as usize)),
+        None => Highest {
+            place: 0,
+            first: 0,
+            second: 0,
+        },
+        Some(writer) => Highest {
+            place: writer.txn,
+            first: rank_at(ranks, writer.txn as usize),
+            second: 0,
+        },
     }
 }
 
@@ -129,53 +144,96 @@ fn counted(reads: bool, readers: &[u32]) -> &[u32]
     if reads { readers } else { &[] }
 }
 
-/// Whether the transactions that wrote or read a version have lower ranks than the others that install one after it and are nodes.
+/// Whether those that wrote a version commit before the others that install one after it start, if these are nodes, and those that
+/// read it start before these commit.
 fn rises_to_followers(
     deps: &Deps<'_, '_>,
-    ranks: &[u32],
-    highest: &Highest,
+    starts: &[u32],
+    commits: &[u32],
+    written: &Highest,
+    read: &Highest,
     followers: &[Follower],
 ) -> bool
     requires { All (λ f. IsPlace deps.now.txns f.txn) followers.now }
-    ensures { OnTrue result
-        (All (λ f. RisesAbove deps.now.txns ranks.now highest.now f.txn) followers.now) }
+    ensures written { OnTrue result
+        (All (λ f. RisesAbove deps.now.txns starts.now written.now f.txn) followers.now) }
+    ensures read { OnTrue result
+        (All (λ f. RisesAbove deps.now.txns commits.now read.now f.txn) followers.now) }
 {
     for follower in followers {
-        if !rises_above(deps, ranks, highest, follower.txn) {
+        if !rises_above(deps, starts, written, follower.txn)
+            || !rises_above(deps, commits, read, follower.txn)
+        {
             return false;
         }
     }
     true
 }
 
-/// Whether ranks rise from who wrote the version to who reads it and to who installs one after it, and, if reads count, from who
-/// reads it to who installs one after it.
+/// Whether who wrote the version commits before those that read it start and before those that install one after it start, and,
+/// if reads count, those that read it start before those that install one after it commit.
+#[inline(always)]
 fn rises_at(
     deps: &Deps<'_, '_>,
     history: &History<'_, '_>,
     reads: bool,
-    ranks: &[u32],
+    starts: &[u32],
+    commits: &[u32],
     number: usize,
 ) -> bool
     requires history { deps.now ≡ history.now }
     requires number { IsNumber history.now.table number }
-    ensures { OnTrue result (RisesAtVersion history.now.table.keys reads history.now.txns ranks.now
-        (version_at history.now.table number)) }
+    ensures { OnTrue result (RisesAtVersion history.now.table.keys reads history.now.txns starts.now
+        commits.now (version_at history.now.table number)) }
 {
     let writer = history.writer(number);
     let readers = history.readers(number);
-    let highest = highest_at(ranks, writer, counted(reads, readers));
-    rises_to_readers(ranks, writer, readers)
-        && rises_to_followers(deps, ranks, &highest, history.followers(number))
+    let written = highest_of_writer(commits, writer);
+    let read = highest_of(starts, counted(reads, readers));
+    let followers = history.followers(number);
+    rises_to_readers(starts, commits, writer, readers)
+        && rises_to_followers(deps, starts, commits, &written, &read, followers)
 }
 
 /// Whether they do at each version.
-fn rises_at_each(deps: &Deps<'_, '_>, history: &History<'_, '_>, reads: bool, ranks: &[u32]) -> bool
+#[inline(always)]
+fn rises_at_each(
+    deps: &Deps<'_, '_>,
+    history: &History<'_, '_>,
+    reads: bool,
+    starts: &[u32],
+    commits: &[u32],
+) -> bool
     requires { deps.now ≡ history.now }
-    ensures { OnTrue result (RisesAtEach history.now reads ranks.now) }
+    ensures { OnTrue result (RisesAtEach history.now reads starts.now commits.now) }
 {
     for number in 0..history.versions() {
-        if !rises_at(deps, history, reads, ranks, number) {
+        if !rises_at(deps, history, reads, starts, commits, number) {
+            return false;
+        }
+    }
+    true
+}
+
+/// Whether they do where each transaction has one rank alone. This is compiled apart, so that each rank is looked up once.
+fn rank_rises_at_each(
+    deps: &Deps<'_, '_>,
+    history: &History<'_, '_>,
+    reads: bool,
+    ranks: &[u32],
+) -> bool
+    requires { deps.now ≡ history.now }
+    ensures { OnTrue result (RisesAtEach history.now reads ranks.now ranks.now) }
+{
+    rises_at_each(deps, history, reads, ranks, ranks)
+}
+
+/// Whether no transaction commits before it starts.
+fn start_first(starts: &[u32], commits: &[u32]) -> bool
+    ensures { OnTrue result (StartFirst starts.now commits.now) }
+{
+    for (place, start) in starts.iter().enumerate() {
+        if *start > rank_at(commits, place) {
             return false;
         }
     }
@@ -222,24 +280,25 @@ fn is_later(deps: &Deps<'_, '_>, ranks: &[u32], rank: u32, place: usize) -> bool
     rank_at(ranks, place) > rank || !deps.is_node(place)
 }
 
-/// Whether each ok transaction has a lower rank than each node that was invoked after its completion.
+/// Whether each ok transaction commits before each node starts that was invoked after its completion.
 fn rises_in_time(
     deps: &Deps<'_, '_>,
     history: &History<'_, '_>,
-    ranks: &[u32],
+    starts: &[u32],
+    commits: &[u32],
     ends: &[u32],
 ) -> bool
     requires { deps.now ≡ history.now }
-    ensures { OnTrue result (RisesInTime history.now.txns ranks.now) }
+    ensures { OnTrue result (RisesInTime history.now.txns starts.now commits.now) }
 {
     let mut before = 0;
     let mut highest = 0;
     for place in 0..history.txns().len() {
         let txn = history.txn(place);
         let invocation = txn.invocation() as usize;
-        highest = highest_before(ranks, ends, highest, before, invocation);
+        highest = highest_before(commits, ends, highest, before, invocation);
         before = before.max(invocation);
-        if !is_listed(ends, txn, place) || !is_later(deps, ranks, highest, place) {
+        if !is_listed(ends, txn, place) || !is_later(deps, starts, highest, place) {
             return false;
         }
     }
@@ -255,13 +314,13 @@ fn both_wide<R: Threads>(
     ends: &[u32],
 ) -> (bool, bool)
     requires { deps.now ≡ history.now }
-    ensures each { OnTrue result.0 (RisesAtEach history.now true ranks.now) }
-    ensures time { OnTrue result.1 (RisesInTime history.now.txns ranks.now) }
+    ensures each { OnTrue result.0 (RisesAtEach history.now true ranks.now ranks.now) }
+    ensures time { OnTrue result.1 (RisesInTime history.now.txns ranks.now ranks.now) }
 {
     join_mut(
         rt,
-        &mut || rises_at_each(deps, history, true, ranks),
-        &mut || rises_in_time(deps, history, ranks, ends),
+        &mut || rank_rises_at_each(deps, history, true, ranks),
+        &mut || rises_in_time(deps, history, ranks, ranks, ends),
     )
 }
 
@@ -272,7 +331,8 @@ pub fn rises(deps: &Deps<'_, '_>, history: &History<'_, '_>, ranks: &[u32], ends
     requires table { IsTableOf history.now.table.keys history.now.txns history.now.table }
     ensures { OnTrue result (AreFindings deps.now.table.keys deps.now.txns no_findings) }
 {
-    rises_at_each(deps, history, true, ranks) && rises_in_time(deps, history, ranks, ends)
+    rank_rises_at_each(deps, history, true, ranks)
+        && rises_in_time(deps, history, ranks, ranks, ends)
 }
 
 /// As `rises`, with two threads if another can be started.
@@ -304,7 +364,8 @@ pub fn writes_rise(
     requires table { IsTableOf history.now.table.keys history.now.txns history.now.table }
     ensures { OnTrue result (ShowsNoWrites deps.now.table.keys deps.now.txns) }
 {
-    rises_at_each(deps, history, false, ranks) && rises_in_time(deps, history, ranks, ends)
+    rank_rises_at_each(deps, history, false, ranks)
+        && rises_in_time(deps, history, ranks, ranks, ends)
 }
 
 /// Whether ranks rise along all dependency edges of the history.
@@ -314,5 +375,41 @@ pub fn dependencies_rise(deps: &Deps<'_, '_>, history: &History<'_, '_>, ranks: 
     requires table { IsTableOf history.now.table.keys history.now.txns history.now.table }
     ensures { OnTrue result (ShowsNothingAtPlain deps.now.table.keys deps.now.txns) }
 {
-    rises_at_each(deps, history, true, ranks)
+    rank_rises_at_each(deps, history, true, ranks)
+}
+
+/// Whether starts and commits rise along all edges of the history: along an rw edge from the start to the commit, and along the
+/// others from the commit to the start.
+pub fn snapshots_rise(
+    deps: &Deps<'_, '_>,
+    history: &History<'_, '_>,
+    starts: &[u32],
+    commits: &[u32],
+    ends: &[u32],
+) -> bool
+    requires history { deps.now ≡ history.now }
+    requires kept { AreOfHistory history.now.txns }
+    requires table { IsTableOf history.now.table.keys history.now.txns history.now.table }
+    ensures { OnTrue result (ShowsNoneButItem deps.now.table.keys deps.now.txns) }
+{
+    if !start_first(starts, commits) {
+        return false;
+    }
+    rises_at_each(deps, history, true, starts, commits)
+        && rises_in_time(deps, history, starts, commits, ends)
+}
+
+/// Whether they rise so along all dependency edges of the history.
+pub fn snapshots_rise_at_plain(
+    deps: &Deps<'_, '_>,
+    history: &History<'_, '_>,
+    starts: &[u32],
+    commits: &[u32],
+) -> bool
+    requires history { deps.now ≡ history.now }
+    requires kept { AreOfHistory history.now.txns }
+    requires table { IsTableOf history.now.table.keys history.now.txns history.now.table }
+    ensures { OnTrue result (ShowsNoSingleAtPlain deps.now.table.keys deps.now.txns) }
+{
+    start_first(starts, commits) && rises_at_each(deps, history, true, starts, commits)
 }

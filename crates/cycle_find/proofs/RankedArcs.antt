@@ -1,6 +1,8 @@
 -- Ranks along the arcs of a graph.
-use Rattle.std.proofs.Common.{◌≡◌, ◌∙◌, ◌<◌, ◌≤◌, ◌+◌, ◌-◌, ℕ, zero, suc, List, [], ◌∷◌, length, get_or, inl, inr, Result, Ok, Err, IfOk, Bool, if◌then◌else◌, Contains, IsTrue, ◌⊎◌, refl, ap, sym, subst, arith}
+use Rattle.std.proofs.Common.{◌≡◌, ◌∙◌, ◌<◌, ◌≤◌, ◌+◌, ◌-◌, ℕ, zero, suc, List, [], ◌∷◌, length, reverse, get_or, inl, inr, Result, Ok, Err, IfOk, Bool, if◌then◌else◌, Contains, IsTrue, ◌⊎◌, refl, ap, sym, subst, arith}
 use Rattle.std.proofs.lemmas.Bool.{false≢true}
+use Rattle.std.proofs.lemmas.List.{get_or-reverse, length-reverse}
+use Rattle.std.proofs.lemmas.List.Elements.{All-from_get_or, All-get_or}
 use Rattle.std.proofs.lemmas.Option.{slice_get_within}
 use Rattle.hist_types.specs.Edges.{Label, ww, wr, rw, process, realtime, edge}
 use Rattle.hist_types.specs.Transactions.{Transaction}
@@ -17,7 +19,7 @@ use Rattle.edge_graph.specs.declared.types.Kinds.{Kinds}
 use Rattle.edge_graph.proofs.EdgeArcs.{more_at_level, more_than_plain}
 use Rattle.edge_graph.proofs.EdgesIn.{dependency_of, listed}
 use Rattle.cycle_find.specs.Ranked.{AreRanksAtAll, AreRanksOver, AreRanksWithin}
-use Rattle.cycle_find.specs.Sharing.{AreSharing, leaving}
+use Rattle.cycle_find.specs.Sharing.{AreListed, AreSharing, leaving}
 
 -- ---- vertices of arcs
 
@@ -131,6 +133,10 @@ at_level g dependencies Plain ranks are = fewer_plain g dependencies All Realtim
 at_level g dependencies Process ranks are = fewer g dependencies All Process ranks (among_all dependencies) are.process
 at_level g dependencies Realtime ranks are = fewer g dependencies All Realtime ranks (among_all dependencies) are.realtime
 
+-- they are ranks within themselves
+pub ranks_within_themselves : (g : Parts) (kinds : Kinds) (ranks : List ℕ) → AreRanksOver g kinds ranks → AreRanksWithin g kinds ranks ranks
+ranks_within_themselves g kinds ranks are = record { one_each = are.one_each; rising = λ v w arc same. are.rising v w arc }
+
 -- one rank for all vertices falls along no arc
 flat_over : (g : Parts) (kinds : Kinds) (n : ℕ) (ranks : List ℕ) → n ≡ length g.txns + length g.versions → ((graph : Graph) → graph.count ≡ n → AreRanks graph ranks) → AreRanksOver g kinds ranks
 flat_over g kinds n ranks count each = record {
@@ -182,4 +188,17 @@ ranks_within g kinds lists coarse ranks shared arcs over sharing are = record {
             let arc = (arcs.arcs v w).1 h in
             are.rising v w (arc.0, subst (λ (b : Bool). Contains (if b then get_or lists v [] else []) w) (sym is) arc.1)
       ];
+}
+
+-- a list of vertices, the last one first
+pub listed_reverse : (flags : List Bool) (list : List ℕ) → AreListed flags list → AreListed flags (reverse list)
+listed_reverse flags list are = record {
+  within =
+      All-from_get_or (λ v. v < length flags) (reverse list) 0 (λ k h.
+      let h' : k < length list = omega (arith, h, length-reverse list) in
+      subst (λ v. v < length flags) (sym (get_or-reverse list k 0 h')) (All-get_or (λ v. v < length flags) list (length list - 1 - k) 0 (omega (arith, h')) are.within));
+  each = λ v is.
+      let (k, h, same) = are.each v is in
+      let e : length list - 1 - (length list - 1 - k) ≡ k = omega (arith, h) in
+      (length list - 1 - k, omega (arith, h, length-reverse list), get_or-reverse list (length list - 1 - k) v (omega (arith, h)) ∙ ap (λ i. get_or list i v) e ∙ same);
 }

@@ -29,7 +29,7 @@ use Rattle.edge_graph.specs.declared.types.Dependencies.TheVariants.{Rw, WrAndWw
 use Rattle.edge_graph.specs.declared.types.Kinds.{Kinds}
 use Rattle.edge_graph.proofs.Txns.{txn_in}
 use Rattle.cycle_find.specs.Found.{ShowsByFewest, ShowsSingle}
-use Rattle.cycle_find.specs.Single.{IsDependencyBetween, IsProcessEdgeBetween}
+use Rattle.cycle_find.specs.Single.{GoesThereAndBack, IsDependencyBetween, IsProcessEdgeBetween}
 use Rattle.cycle_find.proofs.ClosedByOrder.{invoked_before}
 use Rattle.cycle_find.proofs.OrderBack.{all_nodes}
 use Rattle.cycle_find.proofs.TwoEdges.{all_counted, two_at_least}
@@ -136,23 +136,33 @@ module _ (h : History) where
   among_all : (level : Level) (e : Edge) → Contains (dependency_edges keys ts) e → Contains (edges_at keys level ts) e
   among_all level e among = Contains_from_in e _ (in_front e (dependency_edges keys ts) (order_edges level ts) (in_from_Contains e _ among))
 
-  pub at_plain : (from to : ℕ) (e back : Edge) → IsDependencyBetween h (kinds_of Rw Plain) from to e → IsDependencyBetween h (kinds_of WrAndWw Plain) to from back → ShowsSingle (edges_at keys Plain ts) (e ∷ back ∷ [])
-  at_plain from to e back is direct =
-      let es = edges_at keys Plain ts in
-      let there = among_all Plain e is.among in
-      let here = among_all Plain back direct.among in
-      let both : AllByRecursion (λ (d : Edge). In d es) (e ∷ back ∷ []) = (in_from_Contains e es there, (in_from_Contains back es here, tt)) in
-      shows_both es e back there (rw_there from to e is) here (direct_by_label back.label direct.kind) (direct.joins.begins ∙ sym is.joins.ends) (direct.joins.ends ∙ sym is.joins.begins) 2
-      (all_counted keys ts es depend (e ∷ back ∷ []) both) (two_at_least keys ts es depend)
+  -- there and back by dependency edges, of which the first one is an rw edge
+  module _ (kinds : Kinds) (from to : ℕ) (walk : List Edge) (goes : GoesThereAndBack h kinds from to walk) where
+    abbrev es : List Edge
+    es = edges_at keys Plain ts
 
-  pub there_and_back : (from to : ℕ) (e back : Edge) → IsDependencyBetween h (kinds_of Rw Plain) from to e → IsDependencyBetween h (kinds_of Rw Plain) to from back → ShowsByFewest G2Item (edges_at keys Plain ts) (e ∷ back ∷ [])
-  there_and_back from to e back is also =
-      let es = edges_at keys Plain ts in
-      let there = among_all Plain e is.among in
-      let here = among_all Plain back also.among in
-      let both : AllByRecursion (λ (d : Edge). In d es) (e ∷ back ∷ []) = (in_from_Contains e es there, (in_from_Contains back es here, tt)) in
-      shows_item es e back there (rw_there from to e is) here (also.joins.begins ∙ sym is.joins.ends) (also.joins.ends ∙ sym is.joins.begins) 2
-      (all_counted keys ts es depend (e ∷ back ∷ []) both) (two_at_least keys ts es depend G2Item)
+    there : Contains es goes.there
+    there = among_all Plain goes.there goes.rw.among
+
+    here : Contains es goes.back
+    here = among_all Plain goes.back goes.returns.among
+
+    meets : goes.back.from ≡ goes.there.to
+    meets = goes.returns.joins.begins ∙ sym goes.rw.joins.ends
+
+    closes : goes.back.to ≡ goes.there.from
+    closes = goes.returns.joins.ends ∙ sym goes.rw.joins.begins
+
+    two : dependencies_in (goes.there ∷ goes.back ∷ []) ≡ 2
+    two = all_counted keys ts es depend (goes.there ∷ goes.back ∷ []) (in_from_Contains goes.there es there, (in_from_Contains goes.back es here, tt))
+
+    pub by_rw : ShowsByFewest G2Item (edges_at keys Plain ts) walk
+    by_rw = subst (ShowsByFewest G2Item es) (sym goes.is) (shows_item es goes.there goes.back there (rw_there from to goes.there goes.rw) here meets closes 2 two (two_at_least keys ts es depend G2Item))
+
+    pub by_direct : kinds ≡ kinds_of WrAndWw Plain → ShowsSingle (edges_at keys Plain ts) walk
+    by_direct are =
+        let other : is_rw goes.back ≡ false = direct_by_label goes.back.label (subst (λ (kinds : Kinds). includes kinds goes.back.label ≡ true) are goes.returns.kind) in
+        subst (ShowsSingle es) (sym goes.is) (shows_both es goes.there goes.back there (rw_there from to goes.there goes.rw) here other meets closes 2 two (two_at_least keys ts es depend))
 
   pub in_process : (from to : ℕ) (e back : Edge) → IsDependencyBetween h (kinds_of Rw Plain) from to e → IsProcessEdgeBetween ts to from back → ShowsSingle (edges_at keys Process ts) (e ∷ back ∷ [])
   in_process from to e back is by_process =

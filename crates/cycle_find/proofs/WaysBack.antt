@@ -9,20 +9,20 @@ use Rattle.edge_graph.specs.declared.types.Kinds.{Kinds}
 use Rattle.cycle_find.specs.Ranked.{AreRanksOver, AreRanksWithin, not_above}
 use Rattle.cycle_find.proofs.RankedArcs.{along, to_last, within, IsArcWithin, rising_within}
 
-module _ (g : Parts) (kinds : Kinds) (lists : List (List ℕ)) (coarse ranks back far near : List ℕ) (arcs : AreArcs g kinds lists) (coarse_are : AreRanksOver g kinds coarse) (are : AreRanksWithin g kinds coarse ranks) (back_are : AreRanksWithin g kinds coarse back) (far_are : AreRanksWithin g kinds coarse far) (near_are : AreRanksWithin g kinds coarse near) (from to : ℕ) (no_lower : get_or coarse to 0 ≤ get_or coarse from 0) where
+module _ (g : Parts) (kinds : Kinds) (lists : List (List ℕ)) (coarse ranks back far late : List ℕ) (arcs : AreArcs g kinds lists) (coarse_are : AreRanksOver g kinds coarse) (are : AreRanksWithin g kinds coarse ranks) (back_are : AreRanksWithin g kinds coarse back) (far_are : AreRanksWithin g kinds coarse far) (late_are : AreRanksWithin g kinds coarse late) (from to : ℕ) (no_lower : get_or coarse to 0 ≤ get_or coarse from 0) where
   abbrev allowed : VertexSet
-  allowed = not_above coarse ranks back far near to
+  allowed = not_above coarse ranks back far late to
 
   abbrev below : List ℕ → ℕ → Bool
   below some v = nat_le (get_or some v 0) (get_or some to 0)
 
-  in_set : (v : ℕ) → get_or coarse v 0 ≤ get_or coarse to 0 → get_or ranks v 0 ≤ get_or ranks to 0 → get_or back v 0 ≤ get_or back to 0 → get_or far v 0 ≤ get_or far to 0 → get_or near v 0 ≤ get_or near to 0 → allowed.has v ≡ true
-  in_set v by_coarse by_ranks by_back by_far by_near =
+  in_set : (v : ℕ) → get_or coarse v 0 ≤ get_or coarse to 0 → get_or ranks v 0 ≤ get_or ranks to 0 → get_or back v 0 ≤ get_or back to 0 → get_or far v 0 ≤ get_or far to 0 → get_or late v 0 ≤ get_or late to 0 → allowed.has v ≡ true
+  in_set v by_coarse by_ranks by_back by_far by_late =
       let low : (some : List ℕ) → get_or some v 0 ≤ get_or some to 0 → below some v ≡ true = λ some h. le-leb (get_or some v 0) (get_or some to 0) h in
-      and_from (below back v && below far v && below near v && below ranks v) (below coarse v)
-      (and_from (below back v && below far v && below near v) (below ranks v)
-      (and_from (below back v && below far v) (below near v)
-      (and_from (below back v) (below far v) (low back by_back) (low far by_far)) (low near by_near)) (low ranks by_ranks)) (low coarse by_coarse)
+      and_from (below late v && below back v && below far v && below ranks v) (below coarse v)
+      (and_from (below late v && below back v && below far v) (below ranks v)
+      (and_from (below late v && below back v) (below far v)
+      (and_from (below late v) (below back v) (low late by_late) (low back by_back)) (low far by_far)) (low ranks by_ranks)) (low coarse by_coarse)
 
   -- all of a way is in the set
   on_way : (walk : List ℕ) → IsWalk (IsArc g kinds) from to walk → (k : ℕ) → k < length walk → allowed.has (get_or walk k 0) ≡ true
@@ -33,7 +33,7 @@ module _ (g : Parts) (kinds : Kinds) (lists : List (List ℕ)) (coarse ranks bac
       (to_last L ranks (rising_within g kinds coarse ranks are) from to walk inner k h)
       (to_last L back (rising_within g kinds coarse back back_are) from to walk inner k h)
       (to_last L far (rising_within g kinds coarse far far_are) from to walk inner k h)
-      (to_last L near (rising_within g kinds coarse near near_are) from to walk inner k h)
+      (to_last L late (rising_within g kinds coarse late late_are) from to walk inner k h)
 
   -- no way leads down
   pub none_above : allowed.has from ≡ false → (walk : List ℕ) → IsWalk (IsArc g kinds) from to walk → ⊥

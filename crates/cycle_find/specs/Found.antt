@@ -12,7 +12,7 @@ use Rattle.edge_graph.specs.Kinds.{AreAmong}
 use Rattle.edge_graph.specs.Parts.{Parts, edges_in}
 use Rattle.edge_graph.specs.declared.types.Dependencies.{Dependencies}
 use Rattle.cycle_find.specs.Dependencies.{whole}
-use Rattle.cycle_find.specs.Tasks.{Site, Task, site_of}
+use Rattle.cycle_find.specs.Tasks.{Task}
 
 -- a walk that shows the phenomenon and uses these edges only, or nothing where there is none
 abbrev pub IsFound : Phenomenon → List Edge → Option (List Edge) → Type 0
@@ -84,8 +84,3 @@ ShowNoneOver dependencies es =
 abbrev pub ShowNoneOverAny : Option Dependencies → List Edge → Type 0
 ShowNoneOverAny None es = ⊤
 ShowNoneOverAny (Some dependencies) es = ShowNoneOver dependencies es
-
--- the graph at a level, or nothing where its edges show no phenomenon there
-abbrev pub IsReadyIfAny : Parts → Level → Option Site → Type 0
-IsReadyIfAny g level None = ShowNothing (edges_in g level)
-IsReadyIfAny g level (Some site) = site ≡ site_of g level

@@ -3,9 +3,9 @@ use Rattle.std.specs.Prelude.{ℕ, List, Bool}
 use Rattle.dep_edges.specs.Histories.{AreOfHistory}
 use Rattle.edge_graph.specs.Kinds.{kinds_of}
 use Rattle.edge_graph.specs.Vertices.{AreArcs, RwByVersions}
-use Rattle.edge_graph.specs.declared.types.Dependencies.TheVariants.{WrAndWw, All}
+use Rattle.edge_graph.specs.declared.types.Dependencies.TheVariants.{All}
 use Rattle.hist_types.specs.declared.types.Level.TheVariants.{Plain}
-use Rattle.cycle_find.specs.Ranked.{Ranking, AreRanksOver, AreRanksWithin}
+use Rattle.cycle_find.specs.Ranked.{Ranking, AreRanksAtAll, AreRanksOver, AreRanksWithin}
 use Rattle.cycle_find.specs.Sharing.{AreSharing}
 use Rattle.cycle_find.specs.Tasks.{Site, Task, needed_kinds, back_kinds, whole_kinds}
 
@@ -24,7 +24,7 @@ AreBackRanks task coarse finer = AreRanksWithin task.graph (back_kinds task) coa
 -- the arcs of the needed edges and of the way back, and coarse ranks with ranks within them: over
 -- the whole walk, and three times over the way back
 pub record IsPrepared (task : Task) (needed back : List (List ℕ))
-    (coarse ranks finer far near : List ℕ) : Type 0 where
+    (coarse ranks finer far late : List ℕ) : Type 0 where
   pub kept : AreOfHistory task.graph.txns
   pub by_versions : RwByVersions task.graph
   pub needed_arcs : AreArcs task.graph (needed_kinds task) needed
@@ -33,7 +33,7 @@ pub record IsPrepared (task : Task) (needed back : List (List ℕ))
   pub whole_ranks : AreWholeRanks task coarse ranks
   pub back_ranks : AreBackRanks task coarse finer
   pub far_ranks : AreBackRanks task coarse far
-  pub near_ranks : AreBackRanks task coarse near
+  pub late_ranks : AreBackRanks task coarse late
 
 -- the arcs of the dependency edges, coarse ranks over them, and ranks within those
 pub record AreRanked (r : Ranking) (arcs : List (List ℕ)) : Type 0 where
@@ -41,10 +41,8 @@ pub record AreRanked (r : Ranking) (arcs : List (List ℕ)) : Type 0 where
   pub coarse_ranks : AreRanksOver r.graph (kinds_of r.dependencies Plain) r.coarse
   pub ranked : AreRanksWithin r.graph (kinds_of r.dependencies Plain) r.coarse r.ranks
 
--- coarse ranks, and finer ones over all arcs at the level and over those of ww, wr and the order
-pub record IsReady (site : Site) (coarse : List ℕ) (shared : List Bool) (ranks flow : List ℕ)
-    : Type 0 where
+-- coarse ranks, and what shares them
+pub record IsReady (site : Site) (coarse : List ℕ) (shared : List Bool) : Type 0 where
+  pub at_all : AreRanksAtAll site.graph coarse
   pub coarse_ranks : AreRanksOver site.graph (kinds_of All site.level) coarse
   pub sharing : AreSharing coarse shared
-  pub ranks_within : AreRanksWithin site.graph (kinds_of All site.level) coarse ranks
-  pub flow_within : AreRanksWithin site.graph (kinds_of WrAndWw site.level) coarse flow

@@ -46,13 +46,13 @@ ranking_of graph dependencies coarse ranks =
     record { graph = graph; dependencies = dependencies; coarse = coarse; ranks = ranks }
 
 -- the vertices that none of five rankings has above a certain one
-abbrev pub not_above : (coarse ranks back far near : List ℕ) (to : ℕ) → VertexSet
-not_above coarse ranks back far near to = record {
+abbrev pub not_above : (coarse ranks back far late : List ℕ) (to : ℕ) → VertexSet
+not_above coarse ranks back far late to = record {
   count = length coarse;
   has =
-      λ v. nat_le (slice_index back v) (slice_index back to)
+      λ v. nat_le (slice_index late v) (slice_index late to)
+      && nat_le (slice_index back v) (slice_index back to)
       && nat_le (slice_index far v) (slice_index far to)
-      && nat_le (slice_index near v) (slice_index near to)
       && nat_le (slice_index ranks v) (slice_index ranks to)
       && nat_le (slice_index coarse v) (slice_index coarse to);
 }

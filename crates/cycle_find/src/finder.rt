@@ -45,7 +45,7 @@ impl<'r, 'g, 'v, 'a> Model for Finder<'r, 'g, 'v, 'a> {
     ghost view = { λ f. task_of f.graph.now f.phenomenon f.level };
 
     ghost invariant = { λ f. IsPrepared (task_of f.graph.now f.phenomenon f.level)
-        f.needed f.back f.rankings.coarse.now f.rankings.ranks.now f.rankings.back.now f.rankings.far.now f.rankings.near.now };
+        f.needed f.back f.rankings.coarse.now f.rankings.ranks.now f.rankings.back.now f.rankings.far.now f.rankings.late.now };
 }
 
 impl<'r, 'g, 'v, 'a> Finder<'r, 'g, 'v, 'a> {
@@ -64,8 +64,8 @@ impl<'r, 'g, 'v, 'a> Finder<'r, 'g, 'v, 'a> {
             rankings.coarse.now rankings.back.now }
         requires far { AreBackRanks (task_of graph.now phenomenon level)
             rankings.coarse.now rankings.far.now }
-        requires near { AreBackRanks (task_of graph.now phenomenon level)
-            rankings.coarse.now rankings.near.now }
+        requires late { AreBackRanks (task_of graph.now phenomenon level)
+            rankings.coarse.now rankings.late.now }
         ensures { result ≡ task_of graph.now phenomenon level }
     {
         Finder {

@@ -5,9 +5,10 @@ ghost use Rattle.std.specs.Bool.{OnTrue};
 ghost use Rattle.hist_types.specs.Phenomena.{IsShownBy};
 ghost use Rattle.hist_types.specs.declared.types.Level.TheVariants.{Plain, Realtime};
 ghost use Rattle.edge_graph.specs.Parts.{edges_in};
-ghost use Rattle.cycle_find.specs.Found.{ShowNoneOverAny, IsReadyIfAny, ShowsByFewest};
+ghost use Rattle.cycle_find.specs.Found.{ShowNoneOverAny, ShowsByFewest};
 ghost use Rattle.cycle_find.specs.Ranked.{AreRanksAtAll};
 ghost use Rattle.cycle_find.specs.Sharing.{AreSharing};
+ghost use Rattle.cycle_find.specs.Tasks.{site_of};
 
 use crate::kinds::uses_only;
 use crate::ranked_level::RankedLevel;
@@ -141,10 +142,9 @@ impl<'r, 'g, 'v, 'a> RankedGraph<'r, 'g, 'v, 'a> {
         pairs.close(from, to)
     }
 
-    /// The graph ready for searches at a level, or none where one look at each edge settles that no phenomenon is shown there. It
-    /// takes a few numbers for each vertex.
-    pub fn at(&self, level: Level) -> Result<Option<RankedLevel<'_, 'g, 'v, 'a>>, AllocError>
-        ensures { IfOk result (IsReadyIfAny self.now level) }
+    /// The graph with what the searches at a level share.
+    pub fn at(&self, level: Level) -> RankedLevel<'_, 'g, 'v, 'a>
+        ensures { result ≡ site_of self.now level }
     {
         RankedLevel::new(self.alloc, self.graph, level, &self.ranks, &self.shared)
     }

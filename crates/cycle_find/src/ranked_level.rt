@@ -1,21 +1,22 @@
-//! Graphs that are ready for searches at one level.
+//! Searches for the cycles of a graph at one level.
 
 ghost use Rattle.std.specs.Prelude.{◌≡◌, IfOk};
 ghost use Rattle.edge_graph.specs.Parts.{edges_in};
-ghost use Rattle.edge_graph.specs.declared.types.Dependencies.TheVariants.{Ww};
-ghost use Rattle.hist_types.specs.declared.types.Phenomenon.TheVariants.{G0, GSingle};
+ghost use Rattle.hist_types.specs.declared.types.Phenomenon.TheVariants.{GSingle, G2Item};
 ghost use Rattle.hist_types.specs.Phenomena.{Shows};
 ghost use Rattle.hist_types.specs.Witness.{HasFewest};
-ghost use Rattle.cycle_find.specs.Found.{HasFewestIfAny, IsFound, IsFoundByFewest, IsReadyIfAny, NeedsMoreThan, floor_of};
+ghost use Rattle.cycle_find.specs.Dependencies as walks;
+ghost use Rattle.cycle_find.specs.Found.{HasFewestIfAny, IsFound, IsFoundByFewest, NeedsMoreThan, floor_of};
 ghost use Rattle.hist_types.specs.declared.types.Level.TheVariants.{Plain};
 ghost use Rattle.cycle_find.specs.Ranked.{AreRanksAtAll};
 ghost use Rattle.cycle_find.specs.Sharing.{AreSharing};
-ghost use Rattle.cycle_find.specs.Tasks.{task_of};
+ghost use Rattle.cycle_find.specs.Tasks.{site_of, task_of};
 
 use crate::fewest::Fewest;
 use crate::finder::Finder;
+use crate::kinds::whole;
 use crate::one_dependency::OneDependency;
-use crate::ranking::{Rankings, far_and_near, ranks_within};
+use crate::ranking::{Rankings, far_and_late, ranks_within};
 use crate::settle::shows_none;
 use crate::sharing::Shared;
 use crate::two_dependencies::TwoDependencies;
@@ -37,10 +38,6 @@ pub struct RankedLevel<'r, 'g, 'v, 'a> {
     coarse: &'r Ranks,
     /// Which vertices share their rank with another one. All cycles are among them.
     shared: &'r Shared,
-    /// Finer ranks, over the same arcs.
-    ranks: Ranks,
-    /// Ranks over ww and wr edges and the order of the level: finer still.
-    flow: Ranks,
 }
 
 impl<'r, 'g, 'v, 'a> Model for RankedLevel<'r, 'g, 'v, 'a> {
@@ -52,37 +49,28 @@ impl<'r, 'g, 'v, 'a> Model for RankedLevel<'r, 'g, 'v, 'a> {
     ghost view = { λ r. site_of r.graph.now r.level };
 
     ghost invariant = { λ r. IsReady (site_of r.graph.now r.level)
-        r.coarse.now r.shared.now r.ranks r.flow };
+        r.coarse.now r.shared.now };
 }
 
 impl<'r, 'g, 'v, 'a> RankedLevel<'r, 'g, 'v, 'a> {
-    /// None where one look at each edge settles that no phenomenon is shown at the level.
     pub(crate) fn new(
         alloc: Global,
         graph: &'r Graph<'g, 'v, 'a>,
         level: Level,
         coarse: &'r Ranks,
         shared: &'r Shared,
-    ) -> Result<Option<Self>, AllocError>
+    ) -> Self
         requires coarse { AreRanksAtAll graph.now coarse.now }
         requires shared { AreSharing coarse.now shared.now }
-        ensures { IfOk result (IsReadyIfAny graph.now level) }
+        ensures { result ≡ site_of graph.now level }
     {
-        let all = Dependencies::All;
-        let ranks = ranks_within(alloc, graph, coarse, shared, all, level)?;
-        if shows_none(graph, all, level, coarse, &ranks) {
-            return Ok(None);
-        }
-        let flow = ranks_within(alloc, graph, coarse, shared, Dependencies::WrAndWw, level)?;
-        Ok(Some(RankedLevel {
+        RankedLevel {
             alloc,
             graph,
             level,
             coarse,
             shared,
-            ranks,
-            flow,
-        }))
+        }
     }
 
     /// The level.
@@ -154,14 +142,11 @@ impl<'r, 'g, 'v, 'a> RankedLevel<'r, 'g, 'v, 'a> {
     fn find_first(&self, phenomenon: Phenomenon) -> Result<Option<Walk<'a>>, AllocError>
         ensures { IfOk result (IsFound phenomenon (edges_in self.now.graph self.now.level)) }
     {
-        let ranks = match phenomenon {
-            Phenomenon::G0 => return self.find_writes(),
-            Phenomenon::GSingle => return self.find_single(),
-            Phenomenon::G1c => &self.flow,
-            Phenomenon::G2Item => &self.ranks,
-        };
-        let rankings = Rankings::alike(self.coarse, ranks);
-        Finder::new(self.alloc, self.graph, phenomenon, self.level, rankings).find()
+        match phenomenon {
+            Phenomenon::G0 | Phenomenon::G1c => self.find_direct(phenomenon),
+            Phenomenon::GSingle => self.find_single(),
+            Phenomenon::G2Item => self.find_item(),
+        }
     }
 
     /// A closed walk with the fewest, by one that shows the phenomenon. Each has more than the floor.
@@ -179,44 +164,79 @@ impl<'r, 'g, 'v, 'a> RankedLevel<'r, 'g, 'v, 'a> {
         Fewest::new(self.alloc, self.graph, phenomenon, self.level)?.find(first, floor)
     }
 
-    /// A closed walk that shows G0, which goes along ww edges and the order alone.
-    fn find_writes(&self) -> Result<Option<Walk<'a>>, AllocError>
-        ensures { IfOk result (IsFound G0 (edges_in self.now.graph self.now.level)) }
+    /// A closed walk that shows G0 or G1c, with ranks over the edges that it may use.
+    fn find_direct(&self, phenomenon: Phenomenon) -> Result<Option<Walk<'a>>, AllocError>
+        requires { walks.way_back phenomenon ≡ walks.whole phenomenon }
+        ensures { IfOk result (IsFound phenomenon (edges_in self.now.graph self.now.level)) }
     {
-        let ww = Dependencies::Ww;
         let ranks = ranks_within(
             self.alloc,
             self.graph,
             self.coarse,
             self.shared,
-            ww,
+            whole(phenomenon),
             self.level,
         )?;
         let rankings = Rankings::alike(self.coarse, &ranks);
-        let finder = Finder::new(self.alloc, self.graph, Phenomenon::G0, self.level, rankings);
-        finder.find()
+        Finder::new(self.alloc, self.graph, phenomenon, self.level, rankings).find()
     }
 
-    /// A closed walk that shows G-single. Where there is none, each pair of a version's reader and follower is looked at, and the
-    /// three rankings over the arcs of the way back settle most of them without a search.
-    fn find_single(&self) -> Result<Option<Walk<'a>>, AllocError>
-        ensures { IfOk result (IsFound GSingle (edges_in self.now.graph self.now.level)) }
+    /// A closed walk that shows G2-item. One look at each edge, by ranks over all of them, mostly settles that there is none.
+    fn find_item(&self) -> Result<Option<Walk<'a>>, AllocError>
+        ensures { IfOk result (IsFound G2Item (edges_in self.now.graph self.now.level)) }
     {
-        let both = far_and_near(
+        let all = Dependencies::All;
+        let ranks = ranks_within(
             self.alloc,
             self.graph,
             self.coarse,
             self.shared,
-            &self.flow,
-            Dependencies::WrAndWw,
+            all,
+            self.level,
+        )?;
+        if shows_none(self.graph, all, self.level, self.coarse, &ranks) {
+            return Ok(None);
+        }
+        let rankings = Rankings::alike(self.coarse, &ranks);
+        let finder = Finder::new(
+            self.alloc,
+            self.graph,
+            Phenomenon::G2Item,
+            self.level,
+            rankings,
+        );
+        finder.find()
+    }
+
+    /// A closed walk that shows G-single. Where there is none, each pair of a version's reader and follower is looked at, and three
+    /// rankings over the arcs of the way back settle most of them without a search.
+    fn find_single(&self) -> Result<Option<Walk<'a>>, AllocError>
+        ensures { IfOk result (IsFound GSingle (edges_in self.now.graph self.now.level)) }
+    {
+        let direct = Dependencies::WrAndWw;
+        let back = ranks_within(
+            self.alloc,
+            self.graph,
+            self.coarse,
+            self.shared,
+            direct,
+            self.level,
+        )?;
+        let both = far_and_late(
+            self.alloc,
+            self.graph,
+            self.coarse,
+            self.shared,
+            &back,
+            direct,
             self.level,
         )?;
         let rankings = Rankings {
             coarse: self.coarse,
-            ranks: &self.ranks,
-            back: &self.flow,
+            ranks: self.coarse,
+            back: &back,
             far: &both.far,
-            near: &both.near,
+            late: &both.late,
         };
         let finder = Finder::new(
             self.alloc,

@@ -4,7 +4,7 @@ ghost use Rattle.std.specs.Prelude.{◌≡◌, ◌<◌, length, IfOk};
 ghost use Rattle.edge_graph.specs.Kinds.{kinds_of};
 ghost use Rattle.edge_graph.specs.Vertices.{graph_by};
 ghost use Rattle.cycle_find.specs.Ranked.{AreRanksOver, AreRanksWithin};
-ghost use Rattle.cycle_find.specs.Sharing.{AreSharing, leaving};
+ghost use Rattle.cycle_find.specs.Sharing.{AreListed, AreSharing, leaving};
 
 use crate::sharing::Shared;
 use edge_graph::arcs::GraphArcs;
@@ -48,17 +48,27 @@ pub(crate) fn ranks_within(
     Ranks::of_leaving(alloc, &arcs, shared.list())
 }
 
-/// Two more rankings of that kind.
-#[derive(Drop)]
-pub(crate) struct FarAndNear {
-    /// By the highest that a vertex leads to.
-    pub far: Ranks,
-    /// By the lowest that leads to a vertex.
-    pub near: Ranks,
+/// The vertices that share their rank, the last one first.
+fn from_last(alloc: Global, shared: &Shared) -> Result<Vec<u32>, AllocError>
+    ensures { IfOk result (λ list. AreListed shared.now list.items) }
+{
+    let mut vertices = shared.list().to_vec(alloc)?;
+    vertices.reverse();
+    Ok(vertices)
 }
 
-/// The two that ranks within the coarse ones give, over the same arcs.
-pub(crate) fn far_and_near(
+/// Two more rankings of that kind.
+#[derive(Drop)]
+pub(crate) struct FarAndLate {
+    /// By the highest that a vertex leads to.
+    pub far: Ranks,
+    /// By a search that begins at the last vertex. Of two transactions, neither of which leads to the other, it mostly ranks the
+    /// later one higher.
+    pub late: Ranks,
+}
+
+/// The two over the same arcs as ranks within the coarse ones, which give the first of them.
+pub(crate) fn far_and_late(
     alloc: Global,
     graph: &Graph<'_, '_, '_>,
     coarse: &Ranks,
@@ -66,22 +76,22 @@ pub(crate) fn far_and_near(
     ranks: &Ranks,
     dependencies: Dependencies,
     level: Level,
-) -> Result<FarAndNear, AllocError>
+) -> Result<FarAndLate, AllocError>
     requires coarse { AreRanksOver graph.now (kinds_of dependencies level) coarse.now }
     requires shared { AreSharing coarse.now shared.now }
     requires ranks { AreRanksWithin graph.now (kinds_of dependencies level) coarse.now ranks.now }
     ensures far { IfOk result
         (λ both. AreRanksWithin graph.now (kinds_of dependencies level) coarse.now both.far) }
-    ensures near { IfOk result
-        (λ both. AreRanksWithin graph.now (kinds_of dependencies level) coarse.now both.near) }
+    ensures late { IfOk result
+        (λ both. AreRanksWithin graph.now (kinds_of dependencies level) coarse.now both.late) }
 {
     let arcs = ArcsLeaving {
         arcs: graph.arcs(dependencies, level),
         some: shared,
     };
     let far = ranks.far_leaving(alloc, &arcs, shared.list())?;
-    let near = ranks.near_leaving(alloc, &arcs, shared.list())?;
-    Ok(FarAndNear { far, near })
+    let late = Ranks::of_leaving(alloc, &arcs, &from_last(alloc, shared)?)?;
+    Ok(FarAndLate { far, late })
 }
 
 /// The arcs of a graph that leave some of its vertices.
@@ -119,7 +129,7 @@ pub(crate) struct Rankings<'r> {
     pub back: &'r Ranks,
     /// Nor do these two. They may have vertices the other way round that `back` put in an order for no arc's sake.
     pub far: &'r Ranks,
-    pub near: &'r Ranks,
+    pub late: &'r Ranks,
 }
 
 impl<'r> Rankings<'r> {
@@ -129,14 +139,14 @@ impl<'r> Rankings<'r> {
         ensures ranks { result.ranks.now ≡ ranks.now }
         ensures back { result.back.now ≡ ranks.now }
         ensures far { result.far.now ≡ ranks.now }
-        ensures near { result.near.now ≡ ranks.now }
+        ensures late { result.late.now ≡ ranks.now }
     {
         Rankings {
             coarse,
             ranks,
             back: ranks,
             far: ranks,
-            near: ranks,
+            late: ranks,
         }
     }
 }
@@ -150,14 +160,14 @@ pub(crate) struct NotAbove<'r> {
     ghost ranks_each: { length rankings.ranks.now ≡ length rankings.coarse.now },
     ghost back_each: { length rankings.back.now ≡ length rankings.coarse.now },
     ghost far_each: { length rankings.far.now ≡ length rankings.coarse.now },
-    ghost near_each: { length rankings.near.now ≡ length rankings.coarse.now },
+    ghost late_each: { length rankings.late.now ≡ length rankings.coarse.now },
 }
 
 impl Vertices for NotAbove<'_> {
     ghost use Rattle.cycle_find.specs.Ranked.{not_above};
 
     ghost members = { λ set. not_above set.rankings.coarse.now set.rankings.ranks.now
-        set.rankings.back.now set.rankings.far.now set.rankings.near.now set.to };
+        set.rankings.back.now set.rankings.far.now set.rankings.late.now set.to };
 
     fn contains(&self, vertex: usize) -> bool {
         let Rankings {
@@ -165,11 +175,11 @@ impl Vertices for NotAbove<'_> {
             ranks,
             back,
             far,
-            near,
+            late,
         } = self.rankings;
-        back.rank(vertex) <= back.rank(self.to)
+        late.rank(vertex) <= late.rank(self.to)
+            && back.rank(vertex) <= back.rank(self.to)
             && far.rank(vertex) <= far.rank(self.to)
-            && near.rank(vertex) <= near.rank(self.to)
             && ranks.rank(vertex) <= ranks.rank(self.to)
             && coarse.rank(vertex) <= coarse.rank(self.to)
     }

@@ -1,16 +1,18 @@
 //! Closed walks of an rw edge and one edge back, found without a graph.
 //!
-//! A history of a database that lets transactions read old versions mostly has many of them, and then no graph need be built.
-//! Where none is found, there may be one all the same.
+//! A history of a database that promises less than serializability mostly has many of them, and then no graph need be built. Where
+//! none is found, there may be one all the same.
 
 ghost use Rattle.std.specs.Prelude.{IfOk, IfSome};
 ghost use Rattle.hist_types.specs.Edges.{edges_at};
 ghost use Rattle.hist_types.specs.declared.types.Level.TheVariants.{Plain, Process};
 ghost use Rattle.hist_types.specs.declared.types.Phenomenon.TheVariants.{G2Item};
 ghost use Rattle.cycle_find.specs.Found.{ShowsByFewest, ShowsSingle};
-ghost use Rattle.cycle_find.specs.Single.{IsDependencyBetween, IsProcessEdgeBetween};
+ghost use Rattle.edge_graph.specs.Kinds.{kinds_of};
+ghost use Rattle.cycle_find.specs.Single.{GoesThereAndBack, IsDependencyBetween, IsProcessEdgeBetween};
 
 use crate::completions::is_before;
+use crate::one_dependency::Ends;
 use crate::single_ends::{in_process, losing, mutual};
 use crate::types::Walk;
 use dep_edges::deps::Deps;
@@ -65,6 +67,28 @@ fn process_edge<'a>(deps: &Deps<'_, 'a>, from: usize, to: usize) -> Option<Edge<
     None
 }
 
+/// The closed walk along an rw edge from one transaction to another and a dependency edge back, if both are there.
+fn there_and_back<'a>(
+    alloc: Global,
+    deps: &Deps<'_, 'a>,
+    ends: Ends,
+    back: Dependencies,
+) -> Result<Option<Walk<'a>>, AllocError>
+    ensures { IfOk result (λ found. IfSome found
+        (GoesThereAndBack deps.now (kinds_of back Plain) ends.from ends.to)) }
+{
+    let rw = Kinds::of(Dependencies::Rw, Level::Plain);
+    let Some(edge) = dependency(alloc, deps, ends.from, ends.to, rw)? else {
+        return Ok(None);
+    };
+    let kinds = Kinds::of(back, Level::Plain);
+    let Some(edge_back) = dependency(alloc, deps, ends.to, ends.from, kinds)? else {
+        return Ok(None);
+    };
+    let rest = vec![in alloc; edge_back]?;
+    Ok(Some(Walk::closing(alloc, edge, rest)?))
+}
+
 /// A closed walk along an rw edge and a ww or wr edge back, if one look at each version finds one: two transactions of which each
 /// depends on the other.
 ///
@@ -76,19 +100,11 @@ pub fn single_at_plain<'a>(
     ensures { IfOk result (λ found.
         IfSome found (ShowsSingle (edges_at deps.now.table.keys Plain deps.now.txns))) }
 {
-    let Some(ends) = mutual(alloc, deps)? else {
-        return Ok(None);
-    };
-    let rw = Kinds::of(Dependencies::Rw, Level::Plain);
-    let Some(edge) = dependency(alloc, deps, ends.from, ends.to, rw)? else {
-        return Ok(None);
-    };
-    let direct = Kinds::of(Dependencies::WrAndWw, Level::Plain);
-    let Some(back) = dependency(alloc, deps, ends.to, ends.from, direct)? else {
-        return Ok(None);
-    };
-    let rest = vec![in alloc; back]?;
-    Ok(Some(Walk::closing(alloc, edge, rest)?))
+    let direct = Dependencies::WrAndWw;
+    match mutual(alloc, deps, direct)? {
+        Some(ends) => there_and_back(alloc, deps, ends, direct),
+        None => Ok(None),
+    }
 }
 
 /// A closed walk along two rw edges, if one look at each version finds one: two transactions that read a version, and each wrote over
@@ -100,18 +116,25 @@ pub fn lost_update<'a>(alloc: Global, deps: &Deps<'_, 'a>) -> Result<Option<Walk
     ensures { IfOk result (λ found.
         IfSome found (ShowsByFewest G2Item (edges_at deps.now.table.keys Plain deps.now.txns))) }
 {
-    let Some(ends) = losing(deps) else {
-        return Ok(None);
-    };
-    let rw = Kinds::of(Dependencies::Rw, Level::Plain);
-    let Some(edge) = dependency(alloc, deps, ends.from, ends.to, rw)? else {
-        return Ok(None);
-    };
-    let Some(back) = dependency(alloc, deps, ends.to, ends.from, rw)? else {
-        return Ok(None);
-    };
-    let rest = vec![in alloc; back]?;
-    Ok(Some(Walk::closing(alloc, edge, rest)?))
+    match losing(deps) {
+        Some(ends) => there_and_back(alloc, deps, ends, Dependencies::Rw),
+        None => Ok(None),
+    }
+}
+
+/// A closed walk along two rw edges, if one look at each version finds one: two transactions of which each wrote over what the other
+/// one read (write skew).
+///
+/// `verdict` asks for it before it builds a graph. It takes linear time, and a number for each transaction.
+pub fn write_skew<'a>(alloc: Global, deps: &Deps<'_, 'a>) -> Result<Option<Walk<'a>>, AllocError>
+    ensures { IfOk result (λ found.
+        IfSome found (ShowsByFewest G2Item (edges_at deps.now.table.keys Plain deps.now.txns))) }
+{
+    let rw = Dependencies::Rw;
+    match mutual(alloc, deps, rw)? {
+        Some(ends) => there_and_back(alloc, deps, ends, rw),
+        None => Ok(None),
+    }
 }
 
 /// A closed walk along an rw edge and a process edge back, if one look at each version finds one: a process reads an older version

@@ -7,20 +7,24 @@ use crate::completions::is_before;
 use crate::one_dependency::Ends;
 use dep_edges::deps::Deps;
 use dep_edges::history::History;
+use edge_graph::types::Dependencies;
 use hist_types::types::Level;
 use key_versions::types::Follower;
 use process_map::map::ProcessMap;
 use std::alloc::{AllocError, Global};
 
 /// How many arcs are looked at, at most, for each transaction and version. Most histories have fewer. Without a limit, the time
-/// would grow with how many versions a transaction installs, since each of them is looked at for each version that it follows.
+/// would grow with how many versions a transaction reads or installs, since each of them is looked at for each version that it
+/// follows.
 const LOOKS: usize = 32;
 
-/// A search for two transactions of which each depends on the other: the second follows a version that the first reads, and leads
-/// back to it by a ww or wr edge.
+/// A search for two transactions of which each depends on the other: the second follows a version that the first reads, and an edge
+/// leads back.
 #[derive(Drop)]
 struct MutualSearch<'r, 'v, 'a> {
     deps: &'r Deps<'v, 'a>,
+    /// Whether that is an rw edge, and not a ww or wr edge.
+    by_rw: bool,
     /// For each transaction the number, from 1 on, of the last version so far that it reads. 0 is none.
     marks: Vec<u32>,
     /// How many arcs may still be looked at.
@@ -28,11 +32,12 @@ struct MutualSearch<'r, 'v, 'a> {
 }
 
 impl<'r, 'v, 'a> MutualSearch<'r, 'v, 'a> {
-    fn new(alloc: Global, deps: &'r Deps<'v, 'a>) -> Result<Self, AllocError> {
+    fn new(alloc: Global, deps: &'r Deps<'v, 'a>, by_rw: bool) -> Result<Self, AllocError> {
         let txns = deps.history().txns().len();
         let versions = deps.history().versions();
         Ok(MutualSearch {
             deps,
+            by_rw,
             marks: vec![in alloc; 0; txns]?,
             looks: txns.saturating_add(versions).saturating_mul(LOOKS),
         })
@@ -78,13 +83,18 @@ impl<'r, 'v, 'a> MutualSearch<'r, 'v, 'a> {
         }
     }
 
-    /// A transaction with the mark to which the one at the place leads by a ww or wr edge.
+    /// A transaction with the mark to which the one at the place leads by the edge back.
     fn back_from(&mut self, to: usize, mark: u32) -> Option<usize> {
         let history = self.deps.history();
         if self.looks == 0 || to >= history.txns().len() || !self.deps.is_node(to) {
             return None;
         }
-        for number in history.installs(to) {
+        let numbers = if self.by_rw {
+            history.reads(to)
+        } else {
+            history.installs(to)
+        };
+        for number in numbers {
             let found = self.back_by(to, *number as usize, mark);
             if found.is_some() {
                 return found;
@@ -93,13 +103,18 @@ impl<'r, 'v, 'a> MutualSearch<'r, 'v, 'a> {
         None
     }
 
-    /// One by way of a version that the transaction installs.
+    /// One by way of a version that the transaction reads or installs.
     fn back_by(&mut self, to: usize, number: usize, mark: u32) -> Option<usize> {
         let history = self.deps.history();
         if number >= history.versions() {
             return None;
         }
-        match self.marked_reader(history.readers(number), to, mark) {
+        let reader = if self.by_rw {
+            None
+        } else {
+            self.marked_reader(history.readers(number), to, mark)
+        };
+        match reader {
             Some(place) => Some(place),
             None => self.marked_follower(history.followers(number), to, mark),
         }
@@ -142,10 +157,14 @@ impl<'r, 'v, 'a> MutualSearch<'r, 'v, 'a> {
     }
 }
 
-/// Two transactions of which the second follows a version that the first reads, and leads back to it by a ww or wr edge, if they
-/// are found.
-pub(crate) fn mutual(alloc: Global, deps: &Deps<'_, '_>) -> Result<Option<Ends>, AllocError> {
-    let mut search = MutualSearch::new(alloc, deps)?;
+/// Two transactions of which the second follows a version that the first reads, and leads back to it by an edge of these
+/// dependencies, if they are found. They are rw edges, or ww and wr edges.
+pub(crate) fn mutual(
+    alloc: Global,
+    deps: &Deps<'_, '_>,
+    back: Dependencies,
+) -> Result<Option<Ends>, AllocError> {
+    let mut search = MutualSearch::new(alloc, deps, back == Dependencies::Rw)?;
     Ok(search.find())
 }
 

@@ -6,7 +6,7 @@ ghost use Rattle.graph_search.specs.Graphs.{Graph, AllLeave, AreRanks, NeverFall
 
 use crate::arcs::{Arcs, Vertices};
 use crate::components::{component_ranks, component_ranks_from};
-use crate::sweeps::{far_numbers, near_numbers};
+use crate::sweeps::far_numbers;
 use std::alloc::{AllocError, Global};
 use std::marker::Model;
 
@@ -56,8 +56,8 @@ impl Ranks {
     /// greatest of these ranks is that it leads to.
     ///
     /// These ranks put any two components in an order, also where neither leads to the other. Where
-    /// this ranking or `near_leaving` has them the other way round, no search is needed. As with
-    /// `of`, it is only part of the contract that ranks don't fall along any arc.
+    /// this ranking has them the other way round, no search is needed. As with `of`, it is only part
+    /// of the contract that ranks don't fall along any arc.
     pub fn far_leaving<G: Arcs>(
         &self,
         alloc: Global,
@@ -70,23 +70,6 @@ impl Ranks {
         ensures { IfOk result (AreRanks (G.graph graph.now)) }
     {
         let numbers = far_numbers(alloc, graph, &self.ranks, vertices)?;
-        Ok(Ranks::checked_leaving(graph, numbers, vertices))
-    }
-
-    /// A third ranking of the same graph, in linear time: a vertex ranks higher, the lower the least
-    /// of these ranks is that leads to it. Its contract and its use are those of `far_leaving`.
-    pub fn near_leaving<G: Arcs>(
-        &self,
-        alloc: Global,
-        graph: &G,
-        vertices: &[u32],
-    ) -> Result<Ranks, AllocError>
-        requires ranks { length self.now ≡ (G.graph graph.now).count }
-        requires within { All (λ v. v < (G.graph graph.now).count) vertices.now }
-        requires leave { AllLeave (G.graph graph.now) vertices.now }
-        ensures { IfOk result (AreRanks (G.graph graph.now)) }
-    {
-        let numbers = near_numbers(alloc, graph, &self.ranks, vertices)?;
         Ok(Ranks::checked_leaving(graph, numbers, vertices))
     }
 

@@ -59,17 +59,24 @@ fn all_of_eight() -> [u32; 8]
     [0, 1, 2, 3, 4, 5, 6, 7]
 }
 
-/// The rankings by what ranks the vertices lead to and are led to by, of a graph of eight.
-fn far_and_near(alloc: Global, graph: &Lists, ranks: &Ranks) -> Result<(Ranks, Ranks), AllocError>
+/// The same, the last one first.
+fn eight_from_last() -> [u32; 8]
+    ensures within { All (λ v. v < 8) result }
+    ensures all { (v : ℕ) → v < 8 → Contains result v }
+{
+    [7, 6, 5, 4, 3, 2, 1, 0]
+}
+
+/// The rankings by what ranks the vertices lead to, and by a search that begins at the last one, of a graph of eight.
+fn far_and_late(alloc: Global, graph: &Lists, ranks: &Ranks) -> Result<(Ranks, Ranks), AllocError>
     requires graph { length graph.now.lists.items ≡ 8 }
     requires ranks { length ranks.now ≡ 8 }
     ensures far { IfOk result (λ both. length both.0 ≡ 8) }
-    ensures near { IfOk result (λ both. length both.1 ≡ 8) }
+    ensures late { IfOk result (λ both. length both.1 ≡ 8) }
 {
-    let vertices = all_of_eight();
-    let far = ranks.far_leaving(alloc, graph, &vertices)?;
-    let near = ranks.near_leaving(alloc, graph, &vertices)?;
-    Ok((far, near))
+    let far = ranks.far_leaving(alloc, graph, &all_of_eight())?;
+    let late = Ranks::of_leaving(alloc, graph, &eight_from_last())?;
+    Ok((far, late))
 }
 
 /// All of eight vertices.
@@ -106,26 +113,19 @@ fn distances(arcs: &[[bool; 8]; 8]) -> [[usize; 8]; 8] {
     distances
 }
 
-/// Whether two further rankings go by the greatest rank that each vertex leads to and by the least that leads to it.
-fn go_by_walks(ranks: &Ranks, far: &Ranks, near: &Ranks, distances: &[[usize; 8]; 8]) -> bool
+/// Whether a further ranking goes by the greatest rank that each vertex leads to.
+fn goes_by_walks(ranks: &Ranks, far: &Ranks, distances: &[[usize; 8]; 8]) -> bool
     requires ranks { length ranks.now ≡ 8 }
     requires far { length far.now ≡ 8 }
-    requires near { length near.now ≡ 8 }
 {
     for v in 0..8 {
         let mut farthest = 0;
-        let mut nearest = 8;
         for w in 0..8 {
             if distances[v][w] < 8 {
                 farthest = usize::max(farthest, ranks.rank(w));
             }
-            if distances[w][v] < 8 {
-                nearest = usize::min(nearest, ranks.rank(w));
-            }
         }
-        let far = far.rank(v).saturating_add(farthest);
-        let near = near.rank(v).saturating_add(nearest);
-        if far != 8 || near != 8 {
+        if far.rank(v).saturating_add(farthest) != 8 {
             return false;
         }
     }
@@ -154,13 +154,14 @@ fn ranks_tell_components_and_walks_are_shortest(rt: HostRuntime) {
         let distances = distances(&arcs);
         assert_eq!(rt; graph.vertices(), 8);
         let ranks = Ranks::of(rt.alloc(), &graph).expect(&rt, "memory");
-        let rankings = far_and_near(rt.alloc(), &graph, &ranks);
-        let (far, near) = rankings.expect(&rt, "memory");
-        assert_eq!(rt; go_by_walks(&ranks, &far, &near, &distances), true);
+        let rankings = far_and_late(rt.alloc(), &graph, &ranks);
+        let (far, late) = rankings.expect(&rt, "memory");
+        assert_eq!(rt; goes_by_walks(&ranks, &far, &distances), true);
         for v in 0..8 {
             for w in 0..8 {
                 let in_cycle = distances[v][w] < 8 && distances[w][v] < 8;
                 assert_eq!(rt; ranks.rank(v) == ranks.rank(w), in_cycle);
+                assert_eq!(rt; late.rank(v) == late.rank(w), in_cycle);
                 let found = search.walk(rt.alloc(), &graph, &Eight, v, w);
                 let walk = found.expect(&rt, "memory");
                 let steps = walk.map_or(8, |walk| walk.len().saturating_sub(1));
@@ -180,15 +181,15 @@ fn three_rankings_settle_what_one_leaves_open(rt: HostRuntime) {
     }
     assert_eq!(rt; graph.vertices(), 8);
     let ranks = Ranks::of(rt.alloc(), &graph).expect(&rt, "memory");
-    let rankings = far_and_near(rt.alloc(), &graph, &ranks);
-    let (far, near) = rankings.expect(&rt, "memory");
+    let rankings = far_and_late(rt.alloc(), &graph, &ranks);
+    let (far, late) = rankings.expect(&rt, "memory");
     let mut open = 0;
     let mut open_to_all = 0;
     for v in 0..8 {
         for w in 0..8 {
             if ranks.rank(v) <= ranks.rank(w) {
                 open = usize::saturating_add(open, 1);
-                if far.rank(v) <= far.rank(w) && near.rank(v) <= near.rank(w) {
+                if far.rank(v) <= far.rank(w) && late.rank(v) <= late.rank(w) {
                     open_to_all = usize::saturating_add(open_to_all, 1);
                 }
             }

@@ -5,8 +5,10 @@ ghost use Rattle.hist_types.specs.Journal.{KeepsRules};
 ghost use Rattle.hist_types.specs.Transactions.{transactions_of};
 
 use block_reader::one_block::block_of_text;
-use clean_order::{settles, settles_plain, settles_writes};
-use cycle_find::single::{single_at_plain, single_in_process};
+use clean_order::{
+    settles, settles_plain, settles_single_at_plain, settles_snapshots, settles_writes,
+};
+use cycle_find::single::{lost_update, single_at_plain, single_in_process, write_skew};
 use dep_edges::edges;
 use hist_types::types::{Fault, KeyOrder};
 use journal_core::journal::Core;
@@ -38,6 +40,13 @@ const SKEWED: &[u8] = b"{:type :invoke, :process 0, :value [[:w :x 1] [:r :y nil
 {:type :ok, :process 1, :value [[:w :y 1] [:r :x nil]]}
 ";
 
+/// Two transactions that read a version, and each wrote over it.
+const LOST: &[u8] = b"{:type :invoke, :process 0, :value [[:r :x nil] [:w :x 1]]}
+{:type :invoke, :process 1, :value [[:r :x nil] [:w :x 2]]}
+{:type :ok, :process 0, :value [[:r :x nil] [:w :x 1]]}
+{:type :ok, :process 1, :value [[:r :x nil] [:w :x 2]]}
+";
+
 /// A transaction that didn't see what was written before its invocation.
 const STALE: &[u8] = b"{:type :invoke, :process 0, :value [[:w :x 1]]}
 {:type :ok, :process 0, :value [[:w :x 1]]}
@@ -67,14 +76,31 @@ const MUTUAL: &[u8] = b"{:type :invoke, :process 0, :value [[:w :x 1] [:r :y nil
 ";
 
 /// What is told of a history without a graph.
-#[derive(Clone, Copy)]
+#[derive(Clone, Copy, Debug, PartialEq, Eq)]
 struct Told {
     settles: bool,
     settles_writes: bool,
     settles_plain: bool,
+    settles_snapshots: bool,
+    settles_single_at_plain: bool,
     has_single_at_plain: bool,
     has_single_in_process: bool,
+    has_lost_update: bool,
+    has_write_skew: bool,
 }
+
+/// Of a history with cycles of each kind that no look finds.
+const NOTHING: Told = Told {
+    settles: false,
+    settles_writes: false,
+    settles_plain: false,
+    settles_snapshots: false,
+    settles_single_at_plain: false,
+    has_single_at_plain: false,
+    has_single_in_process: false,
+    has_lost_update: false,
+    has_write_skew: false,
+};
 
 /// What is told of transactions of events that keep the rules.
 fn told_of<'a>(alloc: Global, prefix: &Prefix<'a>, txns: &Txns<'a>) -> Result<Told, Fault>
@@ -93,21 +119,60 @@ fn told_of<'a>(alloc: Global, prefix: &Prefix<'a>, txns: &Txns<'a>) -> Result<To
         settles: settles(alloc, &deps)?,
         settles_writes: settles_writes(alloc, &deps)?,
         settles_plain: settles_plain(alloc, &deps)?,
+        settles_snapshots: settles_snapshots(alloc, &deps)?,
+        settles_single_at_plain: settles_single_at_plain(alloc, &deps)?,
         has_single_at_plain: single_at_plain(alloc, &deps)?.is_some(),
         has_single_in_process: single_in_process(alloc, &deps)?.is_some(),
+        has_lost_update: lost_update(alloc, &deps)?.is_some(),
+        has_write_skew: write_skew(alloc, &deps)?.is_some(),
     })
 }
 
 #[test]
 fn histories_are_told_without_a_graph(rt: HostRuntime) -> Result<(), Fail> {
     let alloc = rt.alloc();
-    for (text, settles, writes, plain, at_plain, in_process) in [
-        (CLEAN, true, true, true, false, false),
-        (SKEWED, false, true, false, false, false),
-        (STALE, false, true, true, false, false),
-        (FRACTURED, false, true, false, true, false),
-        (FORGETFUL, false, true, true, false, true),
-        (MUTUAL, false, false, false, false, false),
+    let clean = Told {
+        settles: true,
+        settles_writes: true,
+        settles_plain: true,
+        settles_snapshots: true,
+        settles_single_at_plain: true,
+        ..NOTHING
+    };
+    let skewed = Told {
+        settles_writes: true,
+        settles_snapshots: true,
+        settles_single_at_plain: true,
+        has_write_skew: true,
+        ..NOTHING
+    };
+    let lost = Told {
+        has_lost_update: true,
+        ..skewed
+    };
+    let stale = Told {
+        settles_writes: true,
+        settles_plain: true,
+        settles_single_at_plain: true,
+        ..NOTHING
+    };
+    let fractured = Told {
+        settles_writes: true,
+        has_single_at_plain: true,
+        ..NOTHING
+    };
+    let forgetful = Told {
+        has_single_in_process: true,
+        ..stale
+    };
+    for (text, expected) in [
+        (CLEAN, clean),
+        (SKEWED, skewed),
+        (LOST, lost),
+        (STALE, stale),
+        (FRACTURED, fractured),
+        (FORGETFUL, forgetful),
+        (MUTUAL, NOTHING),
     ] {
         let block = block_of_text(alloc, text, Stamp { seat: 0, call: 0 })?;
         let mut core = Core::new(alloc);
@@ -117,11 +182,7 @@ fn histories_are_told_without_a_graph(rt: HostRuntime) -> Result<(), Fail> {
         let prefix = core.prefix()?;
         let txns = pair(alloc, prefix.as_events())?;
         let told = told_of(alloc, &prefix, &txns)?;
-        assert_eq!(rt; told.settles, settles);
-        assert_eq!(rt; told.settles_writes, writes);
-        assert_eq!(rt; told.settles_plain, plain);
-        assert_eq!(rt; told.has_single_at_plain, at_plain);
-        assert_eq!(rt; told.has_single_in_process, in_process);
+        assert_eq!(rt; told, expected);
     }
     Ok(())
 }

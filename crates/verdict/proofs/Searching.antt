@@ -1,9 +1,11 @@
 -- What searches in the graph of a history over its thinned order say of the history's phenomena.
-use Rattle.std.proofs.Common.{◌≡◌, ◌⊎◌, inl, inr, ◌<◌, ◌≤◌, ◌+◌, ◌↔◌, List, ◌++◌, Option, Some, None, ℕ, refl, sym, subst, arith, Contains}
+use Rattle.std.proofs.Common.{◌≡◌, ◌⊎◌, inl, inr, ◌<◌, ◌≤◌, ◌+◌, ◌↔◌, List, ◌++◌, Option, Some, None, ℕ, false, count_by, refl, sym, subst, arith, Contains}
+use Rattle.std.specs.Option.{is_some}
+use Rattle.std.proofs.lemmas.Bool.{false≢true, eqb-true}
 use Rattle.std.proofs.lemmas.List.Elements.{All-weaker}
 use Rattle.hist_types.specs.Edges.{Edge, dependency_edges, order_edges, edges_at}
 use Rattle.hist_types.specs.ThinnedOrder.{thinned_edges}
-use Rattle.hist_types.specs.Phenomena.{height, Shows, IsThere, IsShownBy, IsLowestLevel}
+use Rattle.hist_types.specs.Phenomena.{height, is_rw, Shows, IsThere, IsShownBy, IsLowestLevel}
 use Rattle.hist_types.specs.Transactions.{Transaction, transactions_of}
 use Rattle.hist_types.specs.Witness.{Finding, IsWitness, IsFinding, dependencies_in, HasFewest}
 use Rattle.hist_types.specs.declared.types.Level.{Level}
@@ -14,7 +16,7 @@ use Rattle.hist_types.proofs.Members.{in_from_Contains, Contains_from_in, in_fro
 use Rattle.history_laws.proofs.Fewest.{fewest_of_thinned}
 use Rattle.history_laws.proofs.OrderEdges.{thinned_edges-order}
 use Rattle.history_laws.proofs.ThinningCycles.{has_above}
-use Rattle.history_laws.proofs.ThinningWalks.{has_thinned}
+use Rattle.history_laws.proofs.ThinningWalks.{any_counted, has_thinned}
 use Rattle.dep_edges.specs.Histories.{AreOfHistory}
 use Rattle.order_frontier.specs.Predecessors.{Before, AreOfEvents, IsThinnedOrder}
 use Rattle.cycle_find.specs.Found.{ShowsByFewest, HasFewestIfAny}
@@ -135,7 +137,7 @@ fewest_at g phenomenon level walk told thinned fewest fewer other shows =
     omega (arith, fewer, few)
 
 -- what a walk shows at the level and at none below it, where it is reduced
-pub found_lowest :
+found_lowest :
     (keys : KeyOrder) (ts : List Transaction) (phenomenon : Phenomenon) (level : Level) (walk : List Edge) (f : Finding)
     → AreOfHistory ts
     → ShowsByFewest phenomenon (edges_at keys level ts) walk
@@ -158,16 +160,37 @@ found_lowest keys ts phenomenon level walk f (events, kept, same) is below reduc
       ),
     )
 
+-- what is shown at plain is at its lowest level
+pub found_at_plain :
+    (keys : KeyOrder) (ts : List Transaction) (phenomenon : Phenomenon) (walk : List Edge) (f : Finding)
+    → AreOfHistory ts
+    → ShowsByFewest phenomenon (edges_at keys Plain ts) walk
+    → IsReducedTo Plain walk f
+    → IsFinding keys phenomenon ts (Some f)
+found_at_plain keys ts phenomenon walk f history is =
+    found_lowest keys ts phenomenon Plain walk f history is (λ lower (h : height lower < height Plain) has. absurd (omega (arith, h)))
+
 -- below process there is plain alone
-pub none_below_process :
-    (keys : KeyOrder) (ts : List Transaction)
-    → ((phenomenon : Phenomenon) → ¬ IsThere keys phenomenon Plain ts)
-    → (phenomenon : Phenomenon) (lower : Level)
+none_below_process :
+    (keys : KeyOrder) (ts : List Transaction) (phenomenon : Phenomenon)
+    → ¬ IsThere keys phenomenon Plain ts
+    → (lower : Level)
     → height lower < height Process
     → ¬ IsThere keys phenomenon lower ts
-none_below_process keys ts none phenomenon Plain h = none phenomenon
-none_below_process keys ts none phenomenon Process h = absurd (omega (arith, h))
-none_below_process keys ts none phenomenon Realtime h = absurd (omega (arith, h))
+none_below_process keys ts phenomenon none Plain h = none
+none_below_process keys ts phenomenon none Process h = absurd (omega (arith, h))
+none_below_process keys ts phenomenon none Realtime h = absurd (omega (arith, h))
+
+-- what is shown at process, and isn't there at plain
+pub found_in_process :
+    (keys : KeyOrder) (ts : List Transaction) (phenomenon : Phenomenon) (walk : List Edge) (f : Finding)
+    → AreOfHistory ts
+    → ShowsByFewest phenomenon (edges_at keys Process ts) walk
+    → ¬ IsThere keys phenomenon Plain ts
+    → IsReducedTo Process walk f
+    → IsFinding keys phenomenon ts (Some f)
+found_in_process keys ts phenomenon walk f history is none =
+    found_lowest keys ts phenomenon Process walk f history is (none_below_process keys ts phenomenon none)
 
 -- what is shown there first
 pub found_at :
@@ -220,6 +243,22 @@ pub absent_next :
     → IsFoundBelow (height site.level + 1) g phenomenon before
 absent_next g site phenomenon before thinned same below none =
     absent_at g phenomenon site.level before thinned below (subst (λ (p : Parts). ¬ IsShownBy phenomenon (edges_in p site.level)) same none)
+
+-- what shows G-single shows G2-item
+item_by_single : (keys : KeyOrder) (level : Level) (ts : List Transaction) → IsThere keys GSingle level ts → IsThere keys G2Item level ts
+item_by_single keys level ts (walk, shows) =
+    let one : count_by is_rw walk ≡ 1 = eqb-true (count_by is_rw walk) 1 shows.kinds in
+    (walk, record { closed = shows.closed; within = shows.within; kinds = any_counted is_rw walk (omega (arith, one)) })
+
+pub none_without_item :
+    (top : ℕ) (g : Parts) (found item : Option Finding)
+    → IsFoundBelow top g GSingle found
+    → IsFoundBelow (top + 1) g G2Item item
+    → is_some item ≡ false
+    → IsFoundBelow (top + 1) g GSingle found
+none_without_item top g None None below none e = λ level h single. none level h (item_by_single g.keys level g.txns single)
+none_without_item top g None (Some f) below none e = absurd (false≢true (sym e))
+none_without_item top g (Some f) item below none e = below
 
 -- a search's graph is the one at the level
 pub at_site :

@@ -1,6 +1,6 @@
 -- The lowest level of a phenomenon, searched for in the graph of a history over its thinned order.
 use Rattle.std.specs.Prelude.{◌≡◌, ◌↔◌, ◌<◌, ◌≤◌, ℕ, List, ◌++◌, Contains, Option, Some, None}
-use Rattle.hist_types.specs.Edges.{Edge, dependency_edges, edges_at}
+use Rattle.hist_types.specs.Edges.{Edge, dependency_edges}
 use Rattle.hist_types.specs.ThinnedOrder.{thinned_edges}
 use Rattle.hist_types.specs.Phenomena.{height, IsThere}
 use Rattle.hist_types.specs.Reports.{Findings, finding}
@@ -11,7 +11,6 @@ use Rattle.hist_types.specs.declared.types.Level.{Level}
 use Rattle.hist_types.specs.declared.types.Phenomenon.{Phenomenon}
 use Rattle.order_frontier.specs.Predecessors.{AreOfEvents}
 use Rattle.edge_graph.specs.Parts.{Parts, edges_in}
-use Rattle.cycle_find.specs.Found.{ShowsSingle}
 use Rattle.cycle_show.specs.Reductions.{IsWitnessOf}
 
 -- the graph of some events' transactions, with their dependency edges and at each level the thinned
@@ -28,16 +27,6 @@ pub record IsReducedTo (level : Level) (walk : List Edge) (found : Finding) : Ty
   pub level_is : found.level ≡ level
   pub witness : IsWitnessOf walk found.walk
   pub fewer : dependencies_in found.walk ≤ dependencies_in walk
-
--- the walk shows G-single and G2-item at the level, each with the fewest dependency edges, and neither
--- is there below it
-pub record IsLowestSingle (keys : KeyOrder) (ts : List Transaction) (level : Level)
-    (walk : List Edge) : Type 0 where
-  pub shows : ShowsSingle (edges_at keys level ts) walk
-  pub below :
-      (phenomenon : Phenomenon) (lower : Level)
-      → height lower < height level
-      → ¬ IsThere keys phenomenon lower ts
 
 -- the phenomenon is found at its lowest level, or is there at no level below this height
 abbrev pub IsFoundBelow : (top : ℕ) → Parts → Phenomenon → Option Finding → Type 0

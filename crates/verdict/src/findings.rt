@@ -1,23 +1,28 @@
 //! Searches for the lowest level of each phenomenon that cycles show.
 
 ghost use Rattle.std.specs.Prelude.{◌≡◌, ◌+◌, ℕ, None, Some, IfOk, IfSome};
-ghost use Rattle.hist_types.specs.declared.types.Phenomenon.TheVariants.{G2Item};
+ghost use Rattle.hist_types.specs.declared.types.Phenomenon.TheVariants.{GSingle, G2Item};
 ghost use Rattle.std.specs.Bool.{OnTrue, OnFalse};
 ghost use Rattle.dep_edges.specs.Histories.{AreOfHistory};
 ghost use Rattle.hist_types.specs.Phenomena.{height};
-ghost use Rattle.hist_types.specs.declared.types.Level.TheVariants.{Plain};
+ghost use Rattle.hist_types.specs.Edges.{edges_at};
+ghost use Rattle.hist_types.specs.declared.types.Level.TheVariants.{Plain, Process};
 ghost use Rattle.hist_types.specs.Reports.{AreFindings};
 ghost use Rattle.hist_types.specs.Witness.{IsFinding};
 ghost use Rattle.order_frontier.specs.Predecessors.{IsThinnedOrder};
-ghost use Rattle.verdict.specs.Lowest.{IsThinned, IsReducedTo, IsLowestSingle, IsFoundBelow, AreFoundBelow};
+ghost use Rattle.cycle_find.specs.Found.{ShowsByFewest, ShowsSingle};
+ghost use Rattle.verdict.specs.Lowest.{IsThinned, IsReducedTo, IsFoundBelow, AreFoundBelow};
 ghost use Rattle.verdict.specs.Tables.{AreTables, history_of};
 
 use crate::pairs::{Pair, Pairs};
 use crate::tables::Tables;
-use clean_order::{settles, settles_plain, settles_wide, settles_writes};
+use clean_order::{
+    settles, settles_plain, settles_single_at_plain, settles_snapshots, settles_wide,
+    settles_writes,
+};
 use cycle_find::ranked_graph::RankedGraph;
 use cycle_find::ranked_level::RankedLevel;
-use cycle_find::single::{lost_update, single_at_plain, single_in_process};
+use cycle_find::single::{lost_update, single_at_plain, single_in_process, write_skew};
 use cycle_find::types::Walk;
 use cycle_show::types::Witness;
 use dep_edges::deps::Deps;
@@ -73,6 +78,27 @@ fn find_at<'a>(
     }
 }
 
+/// What is found of G-single up to a level, by what was found of it below, and of G2-item up to the level. What shows G-single shows
+/// G2-item too, so where there is none of these, nothing is searched for.
+fn single_at<'a>(
+    alloc: Global,
+    graph: &RankedGraph<'_, '_, '_, '_>,
+    ranked: &RankedLevel<'_, '_, '_, 'a>,
+    found: Option<Finding<'a>>,
+    item: &Option<Finding<'a>>,
+) -> Result<Option<Finding<'a>>, AllocError>
+    requires thinned { IsThinned graph.now }
+    requires same { ranked.now.graph ≡ graph.now }
+    requires below { IsFoundBelow (height ranked.now.level) graph.now GSingle found }
+    requires item { IsFoundBelow (height ranked.now.level + 1) graph.now G2Item item.now }
+    ensures { IfOk result (IsFoundBelow (height ranked.now.level + 1) graph.now GSingle) }
+{
+    if item.is_none() {
+        return Ok(found);
+    }
+    find_at(alloc, graph, ranked, Phenomenon::GSingle, found)
+}
+
 /// Whether one of the phenomena is neither found nor ruled out.
 fn is_one_open(graph: &RankedGraph<'_, '_, '_, '_>, found: &Findings<'_>) -> bool
     requires { IsThinned graph.now }
@@ -105,14 +131,16 @@ fn find_up_to<'a>(
     if !is_one_open(graph, &found) {
         return Ok(found);
     }
-    let Some(ranked) = graph.at(level)? else {
-        return Ok(found);
-    };
+    let ranked = graph.at(level);
+    let g0 = find_at(alloc, graph, &ranked, Phenomenon::G0, found.g0)?;
+    let g1c = find_at(alloc, graph, &ranked, Phenomenon::G1c, found.g1c)?;
+    let item = find_at(alloc, graph, &ranked, Phenomenon::G2Item, found.item)?;
+    let single = single_at(alloc, graph, &ranked, found.single, &item)?;
     Ok(Findings {
-        g0: find_at(alloc, graph, &ranked, Phenomenon::G0, found.g0)?,
-        g1c: find_at(alloc, graph, &ranked, Phenomenon::G1c, found.g1c)?,
-        single: find_at(alloc, graph, &ranked, Phenomenon::GSingle, found.single)?,
-        item: find_at(alloc, graph, &ranked, Phenomenon::G2Item, found.item)?,
+        g0,
+        g1c,
+        single,
+        item,
     })
 }
 
@@ -217,51 +245,121 @@ fn findings_in_graph_wide<'a, R: Threads>(
     find_each(alloc, &graph, pairs)
 }
 
-/// A closed walk that shows G-single and G2-item at the lowest level at which they are there, with this level, if one look at each
-/// version finds one and neither is there below it.
-fn lowest_single<'a>(
+/// What is found of each phenomenon, where these are found of G-single and G2-item, if looks at each version settle that there is no
+/// G0 and no G1c.
+fn with_both<'a>(
     alloc: Global,
     deps: &Deps<'_, 'a>,
-) -> Result<Option<(Level, Walk<'a>)>, AllocError>
+    single: Finding<'a>,
+    item: Finding<'a>,
+) -> Result<Option<Findings<'a>>, AllocError>
+    requires single { IsFinding deps.now.table.keys GSingle deps.now.txns (Some single) }
+    requires item { IsFinding deps.now.table.keys G2Item deps.now.txns (Some item) }
     ensures { IfOk result (λ found. IfSome found
-        (λ f. IsLowestSingle deps.now.table.keys deps.now.txns f.0 f.1)) }
+        (AreFindings deps.now.table.keys deps.now.txns)) }
 {
-    if let Some(walk) = single_at_plain(alloc, deps)? {
-        return Ok(Some((Level::Plain, walk)));
-    }
-    let Some(walk) = single_in_process(alloc, deps)? else {
+    if !settles_writes(alloc, deps)? {
         return Ok(None);
-    };
-    if settles_plain(alloc, deps)? {
-        Ok(Some((Level::Process, walk)))
-    } else {
-        Ok(None)
     }
+    Ok(Some(Findings {
+        g0: None,
+        g1c: None,
+        single: Some(single),
+        item: Some(item),
+    }))
 }
 
-/// What is found of G2-item, where this walk shows it at its lowest level. At plain a lost update tells a reader more, if there is
-/// one.
-fn item_found<'a>(
+/// What is found of G2-item, where this walk shows it at plain. A lost update tells a reader more, if there is one.
+fn item_at_plain<'a>(
     alloc: Global,
     deps: &Deps<'_, 'a>,
-    level: Level,
     walk: &Walk<'a>,
 ) -> Result<Finding<'a>, AllocError>
     requires history { AreOfHistory deps.now.txns }
-    requires lowest { IsLowestSingle deps.now.table.keys deps.now.txns level walk.now }
+    requires shows { ShowsByFewest G2Item (edges_at deps.now.table.keys Plain deps.now.txns) walk.now }
     ensures { IfOk result (λ found.
         IsFinding deps.now.table.keys G2Item deps.now.txns (Some found)) }
 {
-    if level == Level::Plain {
-        if let Some(lost) = lost_update(alloc, deps)? {
-            return reduced(alloc, Level::Plain, &lost);
-        }
+    match lost_update(alloc, deps)? {
+        Some(lost) => reduced(alloc, Level::Plain, &lost),
+        None => reduced(alloc, Level::Plain, walk),
     }
-    reduced(alloc, level, walk)
 }
 
-/// What is found of each phenomenon, where looks at each version settle that there is no G0 and no G1c at any level, and find the
-/// others. So it is in most histories of databases that promise less than serializability. No order is thinned and no graph is made.
+/// What is found of each phenomenon, where this walk shows G-single at plain, if looks at each version settle the others.
+fn with_single_at_plain<'a>(
+    alloc: Global,
+    deps: &Deps<'_, 'a>,
+    walk: &Walk<'a>,
+) -> Result<Option<Findings<'a>>, AllocError>
+    requires history { AreOfHistory deps.now.txns }
+    requires shows { ShowsSingle (edges_at deps.now.table.keys Plain deps.now.txns) walk.now }
+    ensures { IfOk result (λ found. IfSome found
+        (AreFindings deps.now.table.keys deps.now.txns)) }
+{
+    let single = reduced(alloc, Level::Plain, walk)?;
+    let item = item_at_plain(alloc, deps, walk)?;
+    with_both(alloc, deps, single, item)
+}
+
+/// The same where the walk shows G-single at process, and the other one, if there is one, G2-item at plain.
+fn with_single_in_process<'a>(
+    alloc: Global,
+    deps: &Deps<'_, 'a>,
+    walk: &Walk<'a>,
+    skew: &Option<Walk<'a>>,
+) -> Result<Option<Findings<'a>>, AllocError>
+    requires history { AreOfHistory deps.now.txns }
+    requires shows { ShowsSingle (edges_at deps.now.table.keys Process deps.now.txns) walk.now }
+    requires skew { IfSome skew.now
+        (ShowsByFewest G2Item (edges_at deps.now.table.keys Plain deps.now.txns)) }
+    ensures { IfOk result (λ found. IfSome found
+        (AreFindings deps.now.table.keys deps.now.txns)) }
+{
+    let single = reduced(alloc, Level::Process, walk)?;
+    match skew {
+        Some(skew) => {
+            if !settles_single_at_plain(alloc, deps)? {
+                return Ok(None);
+            }
+            let item = reduced(alloc, Level::Plain, skew)?;
+            with_both(alloc, deps, single, item)
+        }
+        None => {
+            if !settles_plain(alloc, deps)? {
+                return Ok(None);
+            }
+            let item = reduced(alloc, Level::Process, walk)?;
+            with_both(alloc, deps, single, item)
+        }
+    }
+}
+
+/// What is found of each phenomenon, where this walk shows G2-item at plain, if looks at each version settle that there is nothing
+/// else. So it is in histories of snapshot isolation.
+fn with_skew_alone<'a>(
+    alloc: Global,
+    deps: &Deps<'_, 'a>,
+    skew: &Walk<'a>,
+) -> Result<Option<Findings<'a>>, AllocError>
+    requires history { AreOfHistory deps.now.txns }
+    requires shows { ShowsByFewest G2Item (edges_at deps.now.table.keys Plain deps.now.txns) skew.now }
+    ensures { IfOk result (λ found. IfSome found
+        (AreFindings deps.now.table.keys deps.now.txns)) }
+{
+    if !settles_snapshots(alloc, deps)? {
+        return Ok(None);
+    }
+    Ok(Some(Findings {
+        g0: None,
+        g1c: None,
+        single: None,
+        item: Some(reduced(alloc, Level::Plain, skew)?),
+    }))
+}
+
+/// What is found of each phenomenon, where looks at each version settle what there is. So it is in most histories of databases that
+/// promise less than serializability. No order is thinned and no graph is made.
 fn findings_without_graph<'a>(
     alloc: Global,
     deps: &Deps<'_, 'a>,
@@ -270,18 +368,17 @@ fn findings_without_graph<'a>(
     ensures { IfOk result (λ found. IfSome found
         (AreFindings deps.now.table.keys deps.now.txns)) }
 {
-    let Some((level, walk)) = lowest_single(alloc, deps)? else {
-        return Ok(None);
-    };
-    if !settles_writes(alloc, deps)? {
-        return Ok(None);
+    if let Some(walk) = single_at_plain(alloc, deps)? {
+        return with_single_at_plain(alloc, deps, &walk);
     }
-    Ok(Some(Findings {
-        g0: None,
-        g1c: None,
-        single: Some(reduced(alloc, level, &walk)?),
-        item: Some(item_found(alloc, deps, level, &walk)?),
-    }))
+    let skew = write_skew(alloc, deps)?;
+    if let Some(walk) = single_in_process(alloc, deps)? {
+        return with_single_in_process(alloc, deps, &walk, &skew);
+    }
+    match skew {
+        Some(skew) => with_skew_alone(alloc, deps, &skew),
+        None => Ok(None),
+    }
 }
 
 /// What is found of the phenomena that cycles show. Where the history settles, or looks at each version find what there is, no order

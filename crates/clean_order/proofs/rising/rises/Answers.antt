@@ -1,15 +1,15 @@
-use Rattle.std.proofs.Common.{sym, subst, refl, true}
+use Rattle.std.proofs.Common.{sym, subst}
 use Rattle.std.proofs.lemmas.Bool.{OnTrue_at, OnTrue_from}
 use Rattle.hist_types.specs.Reports.{AreFindings, no_findings}
 use Rattle.dep_edges.specs.Histories.{History}
 use Rattle.clean_order.proofs.ByRank.{nothing_found}
 use Rattle.clean_order.proofs.rising.rises.Goals as goal
 
-pub returns-then-rises_at_each : goal.returns-then-rises_at_each
-returns-then-rises_at_each c =
+pub returns-then-rank_rises_at_each : goal.returns-then-rank_rises_at_each
+returns-then-rank_rises_at_each c =
     let h : History = c.args.history.now in
     let d : History = c.args.deps.now in
     OnTrue_from c.rises_in_time.result (AreFindings d.table.keys d.txns no_findings) (λ e.
     subst (λ (h : History). AreFindings h.table.keys h.txns no_findings) (sym c.requires.history)
-    (nothing_found h.table.keys h.txns h.table true c.args.ranks.now c.requires.kept c.requires.table
-    (OnTrue_at c.if-rises_at_each.true c.rises_at_each.ensures) (OnTrue_at e c.rises_in_time.ensures) refl))
+    (nothing_found h.table.keys h.txns h.table c.requires.kept c.requires.table c.args.ranks.now
+    (OnTrue_at c.if-rank_rises_at_each.true c.rank_rises_at_each.ensures) (OnTrue_at e c.rises_in_time.ensures)))

@@ -1,4 +1,4 @@
-use Rattle.std.proofs.Common.{sym, subst, refl, true}
+use Rattle.std.proofs.Common.{sym, subst}
 use Rattle.std.proofs.lemmas.Bool.{OnTrue_at, OnTrue_from}
 use Rattle.hist_types.specs.Reports.{AreFindings, no_findings}
 use Rattle.dep_edges.specs.Histories.{History}
@@ -11,5 +11,5 @@ returns-then-at_each g c =
     let d : History = c.args.deps.now in
     OnTrue_from c.both_wide-at_each.result.1 (AreFindings d.table.keys d.txns no_findings) (λ e.
     subst (λ (h : History). AreFindings h.table.keys h.txns no_findings) (sym c.requires.history)
-    (nothing_found h.table.keys h.txns h.table true c.args.ranks.now c.requires.kept c.requires.table
-    (OnTrue_at c.if-at_each.true c.both_wide-at_each.ensures.each) (OnTrue_at e c.both_wide-at_each.ensures.time) refl))
+    (nothing_found h.table.keys h.txns h.table c.requires.kept c.requires.table c.args.ranks.now
+    (OnTrue_at c.if-at_each.true c.both_wide-at_each.ensures.each) (OnTrue_at e c.both_wide-at_each.ensures.time)))

@@ -19,6 +19,6 @@ pub returns : goal.returns
 returns c =
     let a = c.self.inside in
     let task : Task = c.args.self.now in
-    let prepared : IsPrepared task a.needed a.back a.rankings.coarse.now a.rankings.ranks.now a.rankings.back.now a.rankings.far.now a.rankings.near.now = subst (λ task. IsPrepared task a.needed a.back a.rankings.coarse.now a.rankings.ranks.now a.rankings.back.now a.rankings.far.now a.rankings.near.now) c.self.view_is c.self.invariant in
+    let prepared : IsPrepared task a.needed a.back a.rankings.coarse.now a.rankings.ranks.now a.rankings.back.now a.rankings.far.now a.rankings.late.now = subst (λ task. IsPrepared task a.needed a.back a.rankings.coarse.now a.rankings.ranks.now a.rankings.back.now a.rankings.far.now a.rankings.late.now) c.self.view_is c.self.invariant in
     let count : length a.graph.now.txns ≡ length task.graph.txns = ap (λ (t : Task). length t.graph.txns) c.self.view_is in
     none_over task prepared.kept prepared.by_versions (λ from place. c.loop-from.invariant.passed from (omega (arith, place, c.loop-from-test.false, c.len-from-end.ensures, count)))

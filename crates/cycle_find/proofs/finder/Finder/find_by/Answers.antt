@@ -10,7 +10,7 @@ pub returns-then-above-clause-found : goal.returns-then-above-clause-found
 returns-then-above-clause-found c =
     let a = c.self.inside in
     let task : Task = c.args.self.now in
-    let prepared : IsPrepared task a.needed a.back a.rankings.coarse.now a.rankings.ranks.now a.rankings.back.now a.rankings.far.now a.rankings.near.now = subst (λ task. IsPrepared task a.needed a.back a.rankings.coarse.now a.rankings.ranks.now a.rankings.back.now a.rankings.far.now a.rankings.near.now) c.self.view_is c.self.invariant in
+    let prepared : IsPrepared task a.needed a.back a.rankings.coarse.now a.rankings.ranks.now a.rankings.back.now a.rankings.far.now a.rankings.late.now = subst (λ task. IsPrepared task a.needed a.back a.rankings.coarse.now a.rankings.ranks.now a.rankings.back.now a.rankings.far.now a.rankings.late.now) c.self.view_is c.self.invariant in
     elim c.if-rank.branch [
       | then-rank w ↦
           none_from_above task a.rankings.coarse.now c.args.from c.args.by prepared.coarse_ranks (omega (arith, w.if-rank.true, c.rank.ensures, c.rank-2.ensures))

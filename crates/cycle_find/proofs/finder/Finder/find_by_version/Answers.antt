@@ -14,7 +14,7 @@ close-requires-clause-to c =
     let all : c.successors-successors.result.to ≡ get_or a.needed c.args.version [] = ap (λ (s : Leaving). s.to) c.successors-successors.ensures in
     let task : Task = c.args.self.now in
     let kinds = needed_kinds task in
-    let prepared : IsPrepared task a.needed a.back a.rankings.coarse.now a.rankings.ranks.now a.rankings.back.now a.rankings.far.now a.rankings.near.now = subst (λ task. IsPrepared task a.needed a.back a.rankings.coarse.now a.rankings.ranks.now a.rankings.back.now a.rankings.far.now a.rankings.near.now) c.self.view_is c.self.invariant in
+    let prepared : IsPrepared task a.needed a.back a.rankings.coarse.now a.rankings.ranks.now a.rankings.back.now a.rankings.far.now a.rankings.late.now = subst (λ task. IsPrepared task a.needed a.back a.rankings.coarse.now a.rankings.ranks.now a.rankings.back.now a.rankings.far.now a.rankings.late.now) c.self.view_is c.self.invariant in
     let there : c.args.version < length task.graph.txns + length task.graph.versions = arc_to_within task.graph kinds c.args.from c.args.version c.requires.by in
     let at : c.loop-index.index < length (get_or a.needed c.args.version []) = omega (arith, c.loop-index-test.true, c.len-index-end.ensures, ap length all) in
     subst (IsPlace task.graph.txns) (sym (c.at-to.ensures.successor ∙ ap (λ to. get_or to c.loop-index.index 0) all))
@@ -27,7 +27,7 @@ close-requires-clause-rising c =
     let all : c.successors-successors.result.to ≡ get_or a.needed c.args.version [] = ap (λ (s : Leaving). s.to) c.successors-successors.ensures in
     let task : Task = c.args.self.now in
     let kinds = needed_kinds task in
-    let prepared : IsPrepared task a.needed a.back a.rankings.coarse.now a.rankings.ranks.now a.rankings.back.now a.rankings.far.now a.rankings.near.now = subst (λ task. IsPrepared task a.needed a.back a.rankings.coarse.now a.rankings.ranks.now a.rankings.back.now a.rankings.far.now a.rankings.near.now) c.self.view_is c.self.invariant in
+    let prepared : IsPrepared task a.needed a.back a.rankings.coarse.now a.rankings.ranks.now a.rankings.back.now a.rankings.far.now a.rankings.late.now = subst (λ task. IsPrepared task a.needed a.back a.rankings.coarse.now a.rankings.ranks.now a.rankings.back.now a.rankings.far.now a.rankings.late.now) c.self.view_is c.self.invariant in
     let there : c.args.version < length task.graph.txns + length task.graph.versions = arc_to_within task.graph kinds c.args.from c.args.version c.requires.by in
     let at : c.loop-index.index < length (get_or a.needed c.args.version []) = omega (arith, c.loop-index-test.true, c.len-index-end.ensures, ap length all) in
     subst (NeverFalls task.graph (whole_kinds task) c.args.from) (sym (c.at-to.ensures.successor ∙ ap (λ to. get_or to c.loop-index.index 0) all))
@@ -39,7 +39,7 @@ returns-clause-found c =
     let a = c.self.inside in
     let all : c.successors-successors.result.to ≡ get_or a.needed c.args.version [] = ap (λ (s : Leaving). s.to) c.successors-successors.ensures in
     let task : Task = c.args.self.now in
-    let prepared : IsPrepared task a.needed a.back a.rankings.coarse.now a.rankings.ranks.now a.rankings.back.now a.rankings.far.now a.rankings.near.now = subst (λ task. IsPrepared task a.needed a.back a.rankings.coarse.now a.rankings.ranks.now a.rankings.back.now a.rankings.far.now a.rankings.near.now) c.self.view_is c.self.invariant in
+    let prepared : IsPrepared task a.needed a.back a.rankings.coarse.now a.rankings.ranks.now a.rankings.back.now a.rankings.far.now a.rankings.late.now = subst (λ task. IsPrepared task a.needed a.back a.rankings.coarse.now a.rankings.ranks.now a.rankings.back.now a.rankings.far.now a.rankings.late.now) c.self.view_is c.self.invariant in
     none_by_version task a.needed c.args.from c.args.version prepared.needed_arcs c.requires.version
     (λ k h other.
     subst (λ to. ¬ HasReturnBetween task c.args.from (get_or to k 0)) all

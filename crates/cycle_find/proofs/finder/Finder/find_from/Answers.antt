@@ -12,7 +12,7 @@ find_by-requires-clause-by c =
     let all : c.successors-successors.result.to ≡ get_or a.needed c.args.from [] = ap (λ (s : Leaving). s.to) c.successors-successors.ensures in
     let task : Task = c.args.self.now in
     let kinds = needed_kinds task in
-    let prepared : IsPrepared task a.needed a.back a.rankings.coarse.now a.rankings.ranks.now a.rankings.back.now a.rankings.far.now a.rankings.near.now = subst (λ task. IsPrepared task a.needed a.back a.rankings.coarse.now a.rankings.ranks.now a.rankings.back.now a.rankings.far.now a.rankings.near.now) c.self.view_is c.self.invariant in
+    let prepared : IsPrepared task a.needed a.back a.rankings.coarse.now a.rankings.ranks.now a.rankings.back.now a.rankings.far.now a.rankings.late.now = subst (λ task. IsPrepared task a.needed a.back a.rankings.coarse.now a.rankings.ranks.now a.rankings.back.now a.rankings.far.now a.rankings.late.now) c.self.view_is c.self.invariant in
     let there : c.args.from < length task.graph.txns + length task.graph.versions = omega (arith, c.requires.from) in
     let at : c.loop-index.index < length (get_or a.needed c.args.from []) = omega (arith, c.loop-index-test.true, c.len-index-end.ensures, ap length all) in
     subst (IsArc task.graph kinds c.args.from) (sym (c.at-by.ensures.successor ∙ ap (λ to. get_or to c.loop-index.index 0) all))
@@ -37,7 +37,7 @@ returns-clause-found c =
     let a = c.self.inside in
     let all : c.successors-successors.result.to ≡ get_or a.needed c.args.from [] = ap (λ (s : Leaving). s.to) c.successors-successors.ensures in
     let task : Task = c.args.self.now in
-    let prepared : IsPrepared task a.needed a.back a.rankings.coarse.now a.rankings.ranks.now a.rankings.back.now a.rankings.far.now a.rankings.near.now = subst (λ task. IsPrepared task a.needed a.back a.rankings.coarse.now a.rankings.ranks.now a.rankings.back.now a.rankings.far.now a.rankings.near.now) c.self.view_is c.self.invariant in
+    let prepared : IsPrepared task a.needed a.back a.rankings.coarse.now a.rankings.ranks.now a.rankings.back.now a.rankings.far.now a.rankings.late.now = subst (λ task. IsPrepared task a.needed a.back a.rankings.coarse.now a.rankings.ranks.now a.rankings.back.now a.rankings.far.now a.rankings.late.now) c.self.view_is c.self.invariant in
     none_from task a.needed c.args.from prepared.needed_arcs (λ k h.
     subst (λ to. NoneBy task c.args.from (get_or to k 0)) all
     (c.loop-index.invariant.passed k (omega (arith, h, c.loop-index-test.false, c.len-index-end.ensures, ap length all))))

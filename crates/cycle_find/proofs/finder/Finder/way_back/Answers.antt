@@ -14,10 +14,10 @@ returns-then-not-contains-clause-way c =
     let task : Task = c.args.self.now in
     let g = task.graph in
     let ph = task.phenomenon in
-    let prepared : IsPrepared task a.needed a.back a.rankings.coarse.now a.rankings.ranks.now a.rankings.back.now a.rankings.far.now a.rankings.near.now = subst (λ task. IsPrepared task a.needed a.back a.rankings.coarse.now a.rankings.ranks.now a.rankings.back.now a.rankings.far.now a.rankings.near.now) c.self.view_is c.self.invariant in
+    let prepared : IsPrepared task a.needed a.back a.rankings.coarse.now a.rankings.ranks.now a.rankings.back.now a.rankings.far.now a.rankings.late.now = subst (λ task. IsPrepared task a.needed a.back a.rankings.coarse.now a.rankings.ranks.now a.rankings.back.now a.rankings.far.now a.rankings.late.now) c.self.view_is c.self.invariant in
     let coarse_are = fewer g (way_back ph) (whole ph) task.level a.rankings.coarse.now (back_of_whole ph) prepared.coarse_ranks in
     let ranks_are = fewer_within g (way_back ph) (whole ph) task.level a.rankings.coarse.now a.rankings.ranks.now (back_of_whole ph) prepared.whole_ranks in
-    none_above g (back_kinds task) a.back a.rankings.coarse.now a.rankings.ranks.now a.rankings.back.now a.rankings.far.now a.rankings.near.now prepared.back_arcs coarse_are ranks_are prepared.back_ranks prepared.far_ranks prepared.near_ranks c.args.from c.args.to
+    none_above g (back_kinds task) a.back a.rankings.coarse.now a.rankings.ranks.now a.rankings.back.now a.rankings.far.now a.rankings.late.now prepared.back_arcs coarse_are ranks_are prepared.back_ranks prepared.far_ranks prepared.late_ranks c.args.from c.args.to
     (c.requires.rising a.rankings.coarse.now prepared.coarse_ranks) (sym c.contains.ensures ∙ c.if-not-contains.true)
 
 pub returns-clause-way : goal.returns-clause-way
@@ -26,11 +26,11 @@ returns-clause-way c =
     let task : Task = c.args.self.now in
     let g = task.graph in
     let ph = task.phenomenon in
-    let prepared : IsPrepared task a.needed a.back a.rankings.coarse.now a.rankings.ranks.now a.rankings.back.now a.rankings.far.now a.rankings.near.now = subst (λ task. IsPrepared task a.needed a.back a.rankings.coarse.now a.rankings.ranks.now a.rankings.back.now a.rankings.far.now a.rankings.near.now) c.self.view_is c.self.invariant in
+    let prepared : IsPrepared task a.needed a.back a.rankings.coarse.now a.rankings.ranks.now a.rankings.back.now a.rankings.far.now a.rankings.late.now = subst (λ task. IsPrepared task a.needed a.back a.rankings.coarse.now a.rankings.ranks.now a.rankings.back.now a.rankings.far.now a.rankings.late.now) c.self.view_is c.self.invariant in
     let coarse_are = fewer g (way_back ph) (whole ph) task.level a.rankings.coarse.now (back_of_whole ph) prepared.coarse_ranks in
     let ranks_are = fewer_within g (way_back ph) (whole ph) task.level a.rankings.coarse.now a.rankings.ranks.now (back_of_whole ph) prepared.whole_ranks in
     IfOk-weaker c.walk.result _ _
     (λ way is.
-    found g (back_kinds task) a.back a.rankings.coarse.now a.rankings.ranks.now a.rankings.back.now a.rankings.far.now a.rankings.near.now prepared.back_arcs coarse_are ranks_are prepared.back_ranks prepared.far_ranks prepared.near_ranks c.args.from c.args.to
+    found g (back_kinds task) a.back a.rankings.coarse.now a.rankings.ranks.now a.rankings.back.now a.rankings.far.now a.rankings.late.now prepared.back_arcs coarse_are ranks_are prepared.back_ranks prepared.far_ranks prepared.late_ranks c.args.from c.args.to
     (c.requires.rising a.rankings.coarse.now prepared.coarse_ranks) (option_map (λ walk. walk.items) way) is)
     c.walk.ensures.walk

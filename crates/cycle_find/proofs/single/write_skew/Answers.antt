@@ -1,0 +1,14 @@
+use Rattle.std.proofs.lemmas.Result.{IfOk-weaker}
+use Rattle.std.proofs.lemmas.Option.{IfSome_then}
+use Rattle.edge_graph.specs.Kinds.{kinds_of}
+use Rattle.edge_graph.specs.declared.types.Dependencies.TheVariants.{Rw}
+use Rattle.hist_types.specs.declared.types.Level.TheVariants.{Plain}
+use Rattle.cycle_find.proofs.ThereAndBack.{by_rw}
+use Rattle.cycle_find.proofs.single.write_skew.Goals as goal
+
+pub returns-in-Some : goal.returns-in-Some
+returns-in-Some c =
+    IfOk-weaker c.there_and_back.result _ _
+    (λ found goes. IfSome_then found goes
+    (λ walk. by_rw c.args.deps.now (kinds_of Rw Plain) c.in-Some.ends.from c.in-Some.ends.to walk))
+    c.there_and_back.ensures
