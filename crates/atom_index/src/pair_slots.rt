@@ -4,17 +4,17 @@ ghost use Rattle.std.specs.Prelude.{◌≡◌, ◌≤◌, ◌<◌, [], length, I
 ghost use Rattle.atom_index.specs.declared.table.TheConstants.{MAX_NUMBERS};
 ghost use Rattle.atom_index.specs.Slots.{HoldsPairs, slot_of_pair};
 
-use crate::table::Table;
+use crate::table::{MAX_NUMBERS, Table};
 use std::alloc::{AllocError, Global};
 
-/// How many values of a key have slots at most: those with the smallest numbers.
-const MOST_VALUES: usize = 64;
+/// How many values of a key have slots while keys are few: those with the smallest numbers.
+const FIRST_VALUES: usize = 64;
 
 /// How many keys are few.
 const FEW_KEYS: usize = 64;
 
-/// How many keys have rows at least.
-const LEAST_KEYS: usize = 16;
+/// How many pairs there is room for at least.
+const LEAST_PAIRS: usize = 1024;
 
 /// The numbers of pairs. Each key has a row, with a slot for nil and for each of its first values. How wide the rows are is
 /// chosen when the table is made, by how many pairs a key has.
@@ -23,25 +23,35 @@ pub(crate) struct PairTable {
     pub numbers: Table,
     /// How many slots a row has.
     pub width: u32,
-    /// How many pairs it was made for.
-    pub pairs: usize,
+    /// How many pairs there are outside of it before a new one is worth making.
+    pub outside: usize,
 }
 
-/// How many values of a key have slots where n keys have these pairs: half as many again as a key has pairs, and as many as can be
-/// while keys are few.
-fn values_of_key(keys: usize, pairs: usize) -> usize
-    ensures { result ≤ MOST_VALUES }
+/// How many values of a key have slots where n keys have these pairs, and may come to have as many as are wanted: half as many again
+/// as a key has pairs, and no fewer than the first ones while keys are few. Where keys have more pairs, each has its share of all.
+fn values_of_key(keys: usize, pairs: usize, wanted: usize) -> usize
+    ensures { result < MAX_NUMBERS }
 {
-    if keys <= FEW_KEYS {
-        return MOST_VALUES;
+    if keys == 0 {
+        return FIRST_VALUES;
     }
     let average = pairs.div_ceil(keys);
-    average.saturating_add(average / 2).min(MOST_VALUES)
+    let with_half = average.saturating_add(average / 2);
+    if average > FIRST_VALUES {
+        with_half.max(wanted / keys).min(MAX_NUMBERS - 1)
+    } else if keys > FEW_KEYS {
+        with_half.min(FIRST_VALUES)
+    } else {
+        FIRST_VALUES
+    }
 }
 
-/// How many keys need rows where n keys have these pairs: no more than there are pairs, and no fewer than whose rows the pairs fill.
-fn rows_for(keys: usize, pairs: usize) -> usize {
-    keys.min(pairs).max(pairs / MOST_VALUES).max(LEAST_KEYS)
+/// How many keys need rows of this width where n keys have these pairs: no more than there are pairs, and no fewer than whose rows
+/// the pairs fill.
+fn rows_for(keys: usize, pairs: usize, width: usize) -> usize
+    requires { 0 < width }
+{
+    keys.min(pairs).max(pairs.max(LEAST_PAIRS) / width)
 }
 
 impl PairTable {
@@ -53,27 +63,30 @@ impl PairTable {
         PairTable {
             numbers: Table::new(alloc),
             width: 1,
-            pairs: 0,
+            outside: 0,
         }
     }
 
-    /// A table with the numbers of these pairs, for `wanted` pairs. Twice as many keys have rows as need them.
+    /// A table with the numbers of these pairs, for `wanted` pairs, where n pairs were outside of the one before. Twice as many keys
+    /// have rows as need them.
     pub fn with_pairs(
         alloc: Global,
         pairs: &[(u32, Option<u32>)],
         keys: usize,
         wanted: usize,
+        outside: usize,
     ) -> Result<Self, AllocError>
         requires { length pairs.now ≤ MAX_NUMBERS }
         ensures width { IfOk result (λ table. 0 < table.width) }
         ensures places { IfOk result (λ table. HoldsPairs table.width table.numbers pairs.now) }
     {
-        let width = values_of_key(keys, pairs.len()) + 1;
-        let rows = rows_for(keys, wanted).saturating_mul(2);
+        let width = values_of_key(keys, pairs.len(), wanted) + 1;
+        let rows = rows_for(keys, wanted, width).saturating_mul(2);
+        let more = (pairs.len() / 2).max(wanted / 32);
         let mut table = PairTable {
             numbers: Table::with_slots(alloc, rows.saturating_mul(width))?,
             width: width as u32,
-            pairs: wanted,
+            outside: outside.saturating_add(more),
         };
         table.fill(pairs);
         Ok(table)
@@ -117,9 +130,12 @@ impl PairTable {
     }
 
     /// Whether a new table is worth making where n keys have these pairs, and others of them are outside of the table: keys that
-    /// need rows have none, or more than twice as many pairs are outside as the table was made for.
-    pub fn is_outgrown(&self, keys: usize, pairs: usize, others: usize) -> bool {
-        let slots = rows_for(keys, pairs).saturating_mul(self.width as usize);
-        self.numbers.len() < slots || others / 2 > self.pairs
+    /// need rows have none, or too many pairs are outside.
+    pub fn is_outgrown(&self, keys: usize, pairs: usize, others: usize) -> bool
+        requires { 0 < self.now.width }
+    {
+        let width = self.width as usize;
+        let slots = rows_for(keys, pairs, width).saturating_mul(width);
+        self.numbers.len() < slots || others > self.outside
     }
 }
