@@ -72,11 +72,7 @@ HasFewestIfAny task (Some walk) =
 
 -- ---- no walk
 
--- the edges show no phenomenon at all
-abbrev pub ShowNothing : List Edge → Type 0
-ShowNothing es = (phenomenon : Phenomenon) → ¬ IsShownBy phenomenon es
-
--- they show no phenomenon whose walks go along these dependencies alone
+-- the edges show no phenomenon whose walks go along these dependencies alone
 abbrev pub ShowNoneOver : Dependencies → List Edge → Type 0
 ShowNoneOver dependencies es =
     (phenomenon : Phenomenon) → AreAmong (whole phenomenon) dependencies → ¬ IsShownBy phenomenon es
