@@ -89,6 +89,24 @@ impl<'a> AtomIndex<'a> {
 }
 
 impl<'a, S: BuildHasher> AtomIndex<'a, S> {
+    /// No atom has a number yet, and the list of atoms has room for n.
+    pub fn with_capacity_and_hasher(
+        alloc: Global,
+        atoms: usize,
+        hasher: S,
+    ) -> Result<Self, AllocError>
+    where
+        S: Copy,
+        ensures { IfOk result (λ index. index.items ≡ []) }
+    {
+        Ok(AtomIndex {
+            alloc,
+            atoms: Vec::with_capacity(alloc, atoms)?,
+            small: Table::new(alloc),
+            others: IndexMap::with_hasher(alloc, hasher),
+        })
+    }
+
     /// No atom has a number yet. Atoms are hashed by `hasher`.
     pub fn with_hasher(alloc: Global, hasher: S) -> Self
         ensures { result.items ≡ [] }
@@ -143,9 +161,33 @@ impl<'a, S: BuildHasher> AtomIndex<'a, S> {
         }
     }
 
+    /// How many more atoms can be numbered without asking for memory.
+    fn spare(&self) -> usize
+        ensures { result ≡ self.now.spare }
+    {
+        let numbers = MAX_NUMBERS.saturating_sub(self.atoms.len());
+        let atoms = self.atoms.capacity() - self.atoms.len();
+        let others = self.others.capacity() - self.others.len();
+        numbers.min(atoms.min(others))
+    }
+
     /// Makes room for `additional` more atoms. Out of memory, as where there would be more than 4,294,967,295 atoms, leaves the
     /// atoms as they are, and no less room than before.
     pub fn reserve(&mut self, additional: usize) -> Result<(), AllocError>
+        ensures items { self.new.items ≡ self.old.items }
+        ensures room { OnOk result (additional ≤ self.new.spare) }
+        ensures kept { self.old.spare ≤ self.new.spare }
+    {
+        let wanted = self.atoms.len().saturating_add(additional);
+        if wanted <= self.small.len() && additional <= self.spare() {
+            return Ok(());
+        }
+        self.grow(additional)
+    }
+
+    /// Makes room where it isn't known that there is as much, or that the table is large enough.
+    #[inline(never)]
+    fn grow(&mut self, additional: usize) -> Result<(), AllocError>
         ensures items { self.new.items ≡ self.old.items }
         ensures room { OnOk result (additional ≤ self.new.spare) }
         ensures kept { self.old.spare ≤ self.new.spare }

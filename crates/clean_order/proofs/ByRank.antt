@@ -6,7 +6,7 @@ use Rattle.std.specs.List.{list_any}
 use Rattle.std.proofs.lemmas.Bool.{false≢true, and_parts, eq-eqb, ne_eqb}
 use Rattle.std.proofs.lemmas.Option.{none-some, same_Some, slice_get_within, get_or_from_slice_get}
 use Rattle.hist_types.specs.Edges.{Label, ww, wr, rw, process, realtime, Edge, is_ok_before, order_labels, dependency_edges, order_edges, edges_at}
-use Rattle.hist_types.specs.Phenomena.{is_rw_label, is_rw}
+use Rattle.hist_types.specs.Phenomena.{is_wr_label, is_rw_label, is_wr, is_rw}
 use Rattle.hist_types.specs.Reports.{AreFindings, no_findings}
 use Rattle.hist_types.specs.Transactions.{Transaction, Version, version_of, Open, is_ok, external_reads, reads_after, has_version, installs, writes, is_known_to_read, is_node, nodes, transactions_of}
 use Rattle.hist_types.specs.Atoms.{Atom, integer, atom_eq}
@@ -33,9 +33,10 @@ use Rattle.dep_edges.specs.Tables.{IsNumber, txn_at, version_at}
 use Rattle.dep_edges.proofs.Marks.{place_in, to_some_place}
 use Rattle.dep_edges.proofs.Out.{pair_is_behind}
 use Rattle.dep_edges.proofs.Writers.{has_writer, WroteAt, writer_wrote}
-use Rattle.clean_order.specs.Rising.{RisesAlong, ShowsNoWrites, ShowsNoneButItem, ShowsNoSingleAtPlain, ShowsNothingAtPlain}
+use Rattle.clean_order.specs.declared.rising.Reads.{Reads}
+use Rattle.clean_order.specs.Rising.{RisesAlong, ShowsNoDirtyWrites, ShowsNoWrites, ShowsNoneButItem, ShowsNoSingleAtPlain, ShowsNothingAtPlain}
 use Rattle.clean_order.specs.Ranked.{IsBefore, IsBeforeIfOther, StartFirst, writers, counted, RisesToReaders, RisesToNode, RisesAtVersion, RisesInTime}
-use Rattle.clean_order.proofs.Walks.{RisesFor, RisesBetween, none_found, no_writes_found, show_nothing, show_no_single, none_but_item_found}
+use Rattle.clean_order.proofs.Walks.{RisesFor, RisesBetween, none_found, no_dirty_writes_found, no_writes_found, show_nothing, show_no_single, none_but_item_found}
 
 -- ---- members and places
 
@@ -152,12 +153,16 @@ different : (ts : List Transaction) (t u : Transaction) (j k : ℕ) → AreEnds 
 different ts t u j k ends same =
     ends.other (ap (λ (x : Transaction). x.invocation) (same_Some t u (sym ends.first ∙ ap (slice_get ts) same ∙ ends.second)))
 
+-- where the edge is a wr or an rw edge, such edges count
+abbrev Counts : Reads → Label → Type 0
+Counts reads label = (is_wr_label label ≡ true → reads.to_readers ≡ true) × (is_rw_label label ≡ true → reads.from_readers ≡ true)
+
 -- from the start to the commit along an rw edge, and from the commit to the start along another one
 abbrev RisesOver : (is_rw : Bool) → (starts commits : List ℕ) → (j k : ℕ) → Type 0
 RisesOver true starts commits j k = IsBefore starts commits j k
 RisesOver false starts commits j k = IsBefore commits starts j k
 
-module _ (keys : KeyOrder) (ts : List Transaction) (table : Table) (reads : Bool) (starts commits : List ℕ) (kept : AreOfHistory ts) (is : IsTableOf keys ts table)
+module _ (keys : KeyOrder) (ts : List Transaction) (table : Table) (reads : Reads) (starts commits : List ℕ) (kept : AreOfHistory ts) (is : IsTableOf keys ts table)
     (versions : (number : ℕ) → IsNumber table number → RisesAtVersion keys reads ts starts commits (version_at table number)) where
   rises_at_read : (v : Version) (t : Transaction) → In t ts → is_known_to_read t v ≡ true → RisesAtVersion keys reads ts starts commits v
   rises_at_read v t i known =
@@ -180,14 +185,15 @@ module _ (keys : KeyOrder) (ts : List Transaction) (table : Table) (reads : Bool
       let one : txn_at ts w.txn ≡ t = one_that_writes ts kept (txn_at ts w.txn) t v (in_from_Contains (txn_at ts w.txn) ts at.among) there at.wrote wrote in
       (w, e, sym (placed ts (in_order ts kept) w.txn t (at.place ∙ ap Some one)) ∙ placed ts (in_order ts kept) j t first)
 
-  -- from who installs a version to who reads it
-  from_writer : (t u : Transaction) (j k : ℕ) (v : Version) → AreEnds ts t u j k → installs t v ≡ true → is_known_to_read u v ≡ true → IsBefore commits starts j k
-  from_writer t u j k v ends installed known =
-      let reader : In k (readers_of ts v) = reader_there ts v k u ends.second known in
+  -- from who installs a version to who reads it, if those count
+  from_writer : reads.to_readers ≡ true → (t u : Transaction) (j k : ℕ) (v : Version) → AreEnds ts t u j k → installs t v ≡ true → is_known_to_read u v ≡ true → IsBefore commits starts j k
+  from_writer count t u j k v ends installed known =
+      let readers : List ℕ = counted reads.to_readers (readers_of ts v) in
+      let reader : In k readers = subst (λ b. In k (counted b (readers_of ts v))) (sym count) (reader_there ts v k u ends.second known) in
       let (w, e, same) = writer_at t j v ends.first installed in
-      let rises : RisesToReaders starts commits (writer_of ts v) (readers_of ts v) = (rises_at_read v u (in_at ts k u ends.second) known).readers in
-      let all : All (IsBeforeIfOther commits starts w.txn) (readers_of ts v) = subst (λ o. RisesToReaders starts commits o (readers_of ts v)) e rises in
-      subst (λ n. IsBeforeIfOther commits starts n k) same (all_in (IsBeforeIfOther commits starts w.txn) (readers_of ts v) k all reader) (different ts t u j k ends)
+      let rises : RisesToReaders starts commits (writer_of ts v) readers = (rises_at_read v u (in_at ts k u ends.second) known).readers in
+      let all : All (IsBeforeIfOther commits starts w.txn) readers = subst (λ o. RisesToReaders starts commits o readers) e rises in
+      subst (λ n. IsBeforeIfOther commits starts n k) same (all_in (IsBeforeIfOther commits starts w.txn) readers k all reader) (different ts t u j k ends)
 
   -- from one of these to who installs a version after this one
   to_follower :
@@ -204,18 +210,18 @@ module _ (keys : KeyOrder) (ts : List Transaction) (table : Table) (reads : Bool
       all_in (λ n. IsBeforeIfOther ranks others n k) places j (above node) user (different ts t u j k ends)
 
   by_label :
-      (t u : Transaction) (j k : ℕ) (label : Label) → AreEnds ts t u j k → Depends keys ts t u label → (is_rw_label label ≡ true → reads ≡ true)
+      (t u : Transaction) (j k : ℕ) (label : Label) → AreEnds ts t u j k → Depends keys ts t u label → Counts reads label
       → RisesOver (is_rw_label label) starts commits j k
   by_label t u j k (ww v w) ends d counts =
       let (writer, e, same) = writer_at t j v ends.first d.1 in
       let user : In j (writers (writer_of ts v)) = subst (λ o. In j (writers o)) (sym e) (inl same) in
       to_follower commits starts (writers (writer_of ts v)) t u j k v w ends
       (rises_at_written v t (in_at ts j t ends.first) ((installed_or_over t v).1 (inl d.1))).from_writer user d.0 d.2
-  by_label t u j k (wr v) ends d counts = from_writer t u j k v ends d.0 d.1
+  by_label t u j k (wr v) ends d counts = from_writer (counts.0 refl) t u j k v ends d.0 d.1
   by_label t u j k (rw v w) ends d counts =
       let reader : In j (readers_of ts v) = reader_there ts v j t ends.first d.1 in
-      let read : In j (counted reads (readers_of ts v)) = subst (λ b. In j (counted b (readers_of ts v))) (sym (counts refl)) reader in
-      to_follower starts commits (counted reads (readers_of ts v)) t u j k v w ends
+      let read : In j (counted reads.from_readers (readers_of ts v)) = subst (λ b. In j (counted b (readers_of ts v))) (sym (counts.1 refl)) reader in
+      to_follower starts commits (counted reads.from_readers (readers_of ts v)) t u j k v w ends
       (rises_at_read v t (in_at ts j t ends.first) d.1).from_readers read d.0 d.2
   by_label t u j k (process p) ends d counts = elim d [ ]
   by_label t u j k (realtime c i) ends d counts = elim d [ ]
@@ -238,7 +244,7 @@ module _ (keys : KeyOrder) (ts : List Transaction) (table : Table) (reads : Bool
       let (k, there) = place_in ts u (in_filter (is_node ts) u ts second) in
       (j, k, record { first = at; second = there; node = passes_filter (is_node ts) u ts second; other = other })
 
-  dependency_rises : (e : Edge) → Contains (dependency_edges keys ts) e → (is_rw e ≡ true → reads ≡ true) → RisesBetween (rank_by ts starts) (rank_by ts commits) e
+  dependency_rises : (e : Edge) → Contains (dependency_edges keys ts) e → Counts reads e.label → RisesBetween (rank_by ts starts) (rank_by ts commits) e
   dependency_rises e c counts =
       let (t, u, first, second, apart, same, depends) = (edges_by_versions keys ts e).0 c in
       let (j, k, ends) = ends_at t u (in_from_Contains t (nodes ts) first) (in_from_Contains u (nodes ts) second) apart in
@@ -251,13 +257,11 @@ module _ (keys : KeyOrder) (ts : List Transaction) (table : Table) (reads : Bool
       let (t, u, label, found) = ends_of (nodes ts) (order_labels Plain) e i in
       found.labelled
 
-  plain_rises : (e : Edge) → Contains (edges_at keys Plain ts) e → (is_rw e ≡ true → reads ≡ true) → RisesBetween (rank_by ts starts) (rank_by ts commits) e
+  plain_rises : (e : Edge) → Contains (edges_at keys Plain ts) e → Counts reads e.label → RisesBetween (rank_by ts starts) (rank_by ts commits) e
   plain_rises e c counts = elim (in_append e (dependency_edges keys ts) (order_edges Plain ts) (in_from_Contains e (edges_at keys Plain ts) c)) [
     | inl i ↦ dependency_rises e (Contains_from_in e (dependency_edges keys ts) i) counts
     | inr i ↦ absurd (none_in_order e i)
   ]
-
-  -- ---- order edges
 
   -- ---- order edges
 
@@ -276,7 +280,7 @@ module _ (keys : KeyOrder) (ts : List Transaction) (table : Table) (reads : Bool
         (by_places e t u j k ends (ap (λ (d : Edge). d.from) found.is) (ap (λ (d : Edge). d.to) found.is) false
         (time j k (slice_get_within ts j t ends.first) (slice_get_within ts k u ends.second) node timely))
 
-    rises_between : (level : Level) (e : Edge) → Contains (edges_at keys level ts) e → (is_rw e ≡ true → reads ≡ true) → RisesBetween (rank_by ts starts) (rank_by ts commits) e
+    rises_between : (level : Level) (e : Edge) → Contains (edges_at keys level ts) e → Counts reads e.label → RisesBetween (rank_by ts starts) (rank_by ts commits) e
     rises_between level e c counts = elim (in_append e (dependency_edges keys ts) (order_edges level ts) (in_from_Contains e (edges_at keys level ts) c)) [
       | inl i ↦ dependency_rises e (Contains_from_in e (dependency_edges keys ts) i) counts
       | inr i ↦ order_rises level e i
@@ -287,35 +291,45 @@ module _ (keys : KeyOrder) (ts : List Transaction) (table : Table) (reads : Bool
 first_by : (ts : List Transaction) (starts commits : List ℕ) → StartFirst starts commits → (n : ℕ) → rank_by ts starts n ≤ rank_by ts commits n
 first_by ts starts commits first n = first (place n ts)
 
+-- all edges of those that read a version count
+abbrev all : Reads
+all = record { to_readers = true; from_readers = true }
+
 -- where both lists are one
 along : (b : Bool) (rank : ℕ → ℕ) (e : Edge) → RisesFor b rank rank e → RisesAlong rank e
 along true rank e rises = rises.0
 along false rank e rises = rises
 
 module _ (keys : KeyOrder) (ts : List Transaction) (table : Table) (kept : AreOfHistory ts) (is : IsTableOf keys ts table) where
-  abbrev RiseAtEach : (reads : Bool) → (starts commits : List ℕ) → Type 0
+  abbrev RiseAtEach : Reads → (starts commits : List ℕ) → Type 0
   RiseAtEach reads starts commits = (number : ℕ) → IsNumber table number → RisesAtVersion keys reads ts starts commits (version_at table number)
 
-  pub nothing_found : (ranks : List ℕ) → RiseAtEach true ranks ranks → RisesInTime ts ranks ranks → AreFindings keys ts no_findings
+  pub nothing_found : (ranks : List ℕ) → RiseAtEach all ranks ranks → RisesInTime ts ranks ranks → AreFindings keys ts no_findings
   nothing_found ranks versions time =
-      none_found keys (rank_by ts ranks) ts (λ level e c. along (is_rw e) (rank_by ts ranks) e (rises_between keys ts table true ranks ranks kept is versions time level e c (λ _. refl)))
+      none_found keys (rank_by ts ranks) ts (λ level e c. along (is_rw e) (rank_by ts ranks) e (rises_between keys ts table all ranks ranks kept is versions time level e c (λ _. refl, λ _. refl)))
 
-  pub no_writes : (ranks : List ℕ) → RiseAtEach false ranks ranks → RisesInTime ts ranks ranks → ShowsNoWrites keys ts
+  pub no_writes : (ranks : List ℕ) → RiseAtEach (record { to_readers = true; from_readers = false }) ranks ranks → RisesInTime ts ranks ranks → ShowsNoWrites keys ts
   no_writes ranks versions time =
       no_writes_found keys (rank_by ts ranks) ts (λ level e c none. along (is_rw e) (rank_by ts ranks) e
-      (rises_between keys ts table false ranks ranks kept is versions time level e c (λ is. elim (false≢true (sym none ∙ is)) [ ])))
+      (rises_between keys ts table (record { to_readers = true; from_readers = false }) ranks ranks kept is versions time level e c (λ _. refl, λ is. absurd (false≢true (sym none ∙ is)))))
 
-  pub nothing_at_plain : (ranks : List ℕ) → RiseAtEach true ranks ranks → ShowsNothingAtPlain keys ts
+  pub no_dirty_writes : (ranks : List ℕ) → RiseAtEach (record { to_readers = false; from_readers = false }) ranks ranks → RisesInTime ts ranks ranks → ShowsNoDirtyWrites keys ts
+  no_dirty_writes ranks versions time =
+      no_dirty_writes_found keys (rank_by ts ranks) ts (λ level e c no_wr no_rw. along (is_rw e) (rank_by ts ranks) e
+      (rises_between keys ts table (record { to_readers = false; from_readers = false }) ranks ranks kept is versions time level e c
+      (λ is. absurd (false≢true (sym no_wr ∙ is)), λ is. absurd (false≢true (sym no_rw ∙ is)))))
+
+  pub nothing_at_plain : (ranks : List ℕ) → RiseAtEach all ranks ranks → ShowsNothingAtPlain keys ts
   nothing_at_plain ranks versions =
-      show_nothing (rank_by ts ranks) (edges_at keys Plain ts) (λ e c. along (is_rw e) (rank_by ts ranks) e (plain_rises keys ts table true ranks ranks kept is versions e c (λ _. refl)))
+      show_nothing (rank_by ts ranks) (edges_at keys Plain ts) (λ e c. along (is_rw e) (rank_by ts ranks) e (plain_rises keys ts table all ranks ranks kept is versions e c (λ _. refl, λ _. refl)))
 
-  module _ (starts commits : List ℕ) (first : StartFirst starts commits) (versions : RiseAtEach true starts commits) where
+  module _ (starts commits : List ℕ) (first : StartFirst starts commits) (versions : RiseAtEach all starts commits) where
     pub none_but_item : RisesInTime ts starts commits → ShowsNoneButItem keys ts
     none_but_item time =
         none_but_item_found (rank_by ts starts) (rank_by ts commits) (first_by ts starts commits first) keys ts
-        (λ level e c. rises_between keys ts table true starts commits kept is versions time level e c (λ _. refl))
+        (λ level e c. rises_between keys ts table all starts commits kept is versions time level e c (λ _. refl, λ _. refl))
 
     pub no_single_at_plain : ShowsNoSingleAtPlain keys ts
     no_single_at_plain =
         show_no_single (rank_by ts starts) (rank_by ts commits) (first_by ts starts commits first) (edges_at keys Plain ts)
-        (λ e c. plain_rises keys ts table true starts commits kept is versions e c (λ _. refl))
+        (λ e c. plain_rises keys ts table all starts commits kept is versions e c (λ _. refl, λ _. refl))

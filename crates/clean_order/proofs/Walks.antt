@@ -12,7 +12,7 @@ use Rattle.hist_types.specs.declared.types.KeyOrder.{KeyOrder}
 use Rattle.hist_types.specs.declared.types.Level.{Level}
 use Rattle.hist_types.proofs.Members.{In, Contains_from_in}
 use Rattle.history_laws.proofs.ThinningWalks.{one_if, count-cons, within_in}
-use Rattle.clean_order.specs.Rising.{RisesAlong, Rises, RisesAtEachLevel, ShowsNoWrites, ShowsNoneButItem}
+use Rattle.clean_order.specs.Rising.{RisesAlong, Rises, RisesAtEachLevel, ShowsNoDirtyWrites, ShowsNoWrites, ShowsNoneButItem}
 
 walk_rises : (rank : ℕ → ℕ) (from to : ℕ) (walk : List Edge) → Leads from walk to → AllByRecursion (RisesAlong rank) walk → rank from ≤ rank to
 walk_rises rank from to [] leads all = subst (λ n. rank from ≤ rank n) leads (omega arith)
@@ -53,6 +53,13 @@ none_found keys rank ts rises G2Item = (λ level. show_nothing rank (edges_at ke
 
 -- ---- walks without rw edges
 
+no_wr_in_G0 : (l : Label) → (is_ww_label l || not (is_ww_label l || is_wr_label l || is_rw_label l)) ≡ true → is_wr_label l ≡ false
+no_wr_in_G0 (ww v w) e = refl
+no_wr_in_G0 (wr v) e = elim (false≢true e) [ ]
+no_wr_in_G0 (rw v w) e = refl
+no_wr_in_G0 (process p) e = refl
+no_wr_in_G0 (realtime c i) e = refl
+
 no_rw_in_G0 : (l : Label) → (is_ww_label l || not (is_ww_label l || is_wr_label l || is_rw_label l)) ≡ true → is_rw_label l ≡ false
 no_rw_in_G0 (ww v w) e = refl
 no_rw_in_G0 (wr v) e = refl
@@ -71,11 +78,15 @@ no_rw_in_G1c (realtime c i) e = refl
 abbrev pub RisesWithoutRw : (rank : ℕ → ℕ) → List Edge → Type 0
 RisesWithoutRw rank es = (e : Edge) → Contains es e → is_rw e ≡ false → RisesAlong rank e
 
-show_no_G0 : (rank : ℕ → ℕ) (es : List Edge) → RisesWithoutRw rank es → ¬ IsShownBy G0 es
+-- a rank rises along each edge that is no wr and no rw edge
+abbrev pub RisesWithoutReads : (rank : ℕ → ℕ) → List Edge → Type 0
+RisesWithoutReads rank es = (e : Edge) → Contains es e → is_wr e ≡ false → is_rw e ≡ false → RisesAlong rank e
+
+show_no_G0 : (rank : ℕ → ℕ) (es : List Edge) → RisesWithoutReads rank es → ¬ IsShownBy G0 es
 show_no_G0 rank es rises (walk, shows) =
     let among : list_all (λ e. is_ww e || is_order e) walk ≡ true = (and_parts (list_all (λ e. is_ww e || is_order e) walk) (list_any is_ww walk) shows.kinds).0 in
     never_closed rank walk shows.closed
-    (all_rise_if rank (λ e. is_ww e || is_order e) es walk (λ e c pass. rises e c (no_rw_in_G0 e.label pass)) (within_in es walk shows.within) among)
+    (all_rise_if rank (λ e. is_ww e || is_order e) es walk (λ e c pass. rises e c (no_wr_in_G0 e.label pass) (no_rw_in_G0 e.label pass)) (within_in es walk shows.within) among)
 
 show_no_G1c : (rank : ℕ → ℕ) (es : List Edge) → RisesWithoutRw rank es → ¬ IsShownBy G1c es
 show_no_G1c rank es rises (walk, shows) =
@@ -83,9 +94,12 @@ show_no_G1c rank es rises (walk, shows) =
     never_closed rank walk shows.closed
     (all_rise_if rank (λ e. is_ww e || is_wr e || is_order e) es walk (λ e c pass. rises e c (no_rw_in_G1c e.label pass)) (within_in es walk shows.within) among)
 
+pub no_dirty_writes_found : (keys : KeyOrder) (rank : ℕ → ℕ) (ts : List Transaction) → ((level : Level) → RisesWithoutReads rank (edges_at keys level ts)) → ShowsNoDirtyWrites keys ts
+no_dirty_writes_found keys rank ts rises = (λ level. show_no_G0 rank (edges_at keys level ts) (rises level), tt)
+
 pub no_writes_found : (keys : KeyOrder) (rank : ℕ → ℕ) (ts : List Transaction) → ((level : Level) → RisesWithoutRw rank (edges_at keys level ts)) → ShowsNoWrites keys ts
 no_writes_found keys rank ts rises = (
-  (λ level. show_no_G0 rank (edges_at keys level ts) (rises level), tt),
+  no_dirty_writes_found keys rank ts (λ level e c _ no_rw. rises level e c no_rw),
   (λ level. show_no_G1c rank (edges_at keys level ts) (rises level), tt),
 )
 

@@ -8,6 +8,7 @@ use Rattle.key_versions.specs.Histories.{writer_of, readers_of, followers_of}
 use Rattle.key_versions.specs.declared.types.Writer.{Writer}
 use Rattle.dep_edges.specs.Histories.{History}
 use Rattle.dep_edges.specs.Tables.{IsPlace, IsNumber, txn_at, version_at}
+use Rattle.clean_order.specs.declared.rising.Reads.{Reads}
 
 -- the transaction at the one place has a lower rank in the one list than the other one in the other
 abbrev pub IsBefore : (ranks others : List ℕ) → (place other : ℕ) → Type 0
@@ -38,9 +39,9 @@ abbrev pub writers : Option Writer → List ℕ
 writers None = []
 writers (Some w) = w.txn ∷ []
 
--- those that read it, where reads count
-abbrev pub counted : (reads : Bool) → (readers : List ℕ) → List ℕ
-counted reads readers = if reads then readers else []
+-- those that read it, where they count
+abbrev pub counted : (count : Bool) → (readers : List ℕ) → List ℕ
+counted count readers = if count then readers else []
 
 -- each of these is before the other one, if that is a node
 abbrev pub RisesToNode :
@@ -49,22 +50,25 @@ RisesToNode ts ranks others places place =
     IsTrue (is_node ts (txn_at ts place))
     → All (λ user. IsBeforeIfOther ranks others user place) places
 
--- Who wrote the version commits before those that read it start, and before the nodes that install a
--- version after it start. Where reads count, those that read it start before these nodes commit.
-pub record RisesAtVersion (keys : KeyOrder) (reads : Bool) (ts : List Transaction)
+-- Who wrote the version commits before the nodes start that install a version after it. Where wr edges
+-- count, it commits before those that read it start. Where rw edges count, those that read it start
+-- before these nodes commit.
+pub record RisesAtVersion (keys : KeyOrder) (reads : Reads) (ts : List Transaction)
     (starts commits : List ℕ) (v : Version) : Type 0 where
-  pub readers : RisesToReaders starts commits (writer_of ts v) (readers_of ts v)
+  pub readers :
+      RisesToReaders starts commits (writer_of ts v) (counted reads.to_readers (readers_of ts v))
   pub from_writer :
       All
       (λ (p : ℕ × Version). RisesToNode ts commits starts (writers (writer_of ts v)) p.0)
       (followers_of keys ts v)
   pub from_readers :
       All
-      (λ (p : ℕ × Version). RisesToNode ts starts commits (counted reads (readers_of ts v)) p.0)
+      (λ (p : ℕ × Version).
+      RisesToNode ts starts commits (counted reads.from_readers (readers_of ts v)) p.0)
       (followers_of keys ts v)
 
 -- so they do at each version that the history's table has
-abbrev pub RisesAtEach : History → (reads : Bool) → (starts commits : List ℕ) → Type 0
+abbrev pub RisesAtEach : History → Reads → (starts commits : List ℕ) → Type 0
 RisesAtEach h reads starts commits =
     (number : ℕ)
     → IsNumber h.table number

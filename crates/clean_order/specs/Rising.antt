@@ -23,9 +23,13 @@ Rises rank es = (e : Edge) → Contains es e → RisesAlong rank e
 abbrev pub RisesAtEachLevel : (keys : KeyOrder) (rank : ℕ → ℕ) → List Transaction → Type 0
 RisesAtEachLevel keys rank ts = (level : Level) → Rises rank (edges_at keys level ts)
 
+-- no cycle shows G0 at any level
+abbrev pub ShowsNoDirtyWrites : KeyOrder → List Transaction → Type 0
+ShowsNoDirtyWrites keys ts = IsFinding keys G0 ts None
+
 -- no cycle shows G0 or G1c at any level
 abbrev pub ShowsNoWrites : KeyOrder → List Transaction → Type 0
-ShowsNoWrites keys ts = IsFinding keys G0 ts None × IsFinding keys G1c ts None
+ShowsNoWrites keys ts = ShowsNoDirtyWrites keys ts × IsFinding keys G1c ts None
 
 -- no cycle shows G0, G1c or G-single at any level
 abbrev pub ShowsNoneButItem : KeyOrder → List Transaction → Type 0

@@ -4,7 +4,7 @@
 ghost use Rattle.std.specs.Prelude.{IfOk};
 ghost use Rattle.std.specs.Bool.{OnTrue};
 ghost use Rattle.hist_types.specs.Reports.{AreFindings, no_findings};
-ghost use Rattle.clean_order.specs.Rising.{ShowsNoWrites, ShowsNoneButItem, ShowsNoSingleAtPlain, ShowsNothingAtPlain};
+ghost use Rattle.clean_order.specs.Rising.{ShowsNoDirtyWrites, ShowsNoWrites, ShowsNoneButItem, ShowsNoSingleAtPlain, ShowsNothingAtPlain};
 
 mod earlier;
 mod ends;
@@ -15,7 +15,8 @@ mod rising;
 use crate::ends::ends;
 use crate::putting::{Snapshots, ranks};
 use crate::rising::{
-    dependencies_rise, rises, rises_wide, snapshots_rise, snapshots_rise_at_plain, writes_rise,
+    Reads, dependencies_rise, dirty_writes_rise, rises, rises_wide, snapshots_rise,
+    snapshots_rise_at_plain, writes_rise,
 };
 use dep_edges::deps::Deps;
 use std::alloc::{AllocError, Global};
@@ -35,7 +36,7 @@ pub fn settles(alloc: Global, deps: &Deps<'_, '_>) -> Result<bool, AllocError>
 {
     let history = deps.history();
     let ends = ends(alloc, history)?;
-    match ranks(alloc, history, true, &ends)? {
+    match ranks(alloc, history, Reads::ALL, &ends)? {
         None => Ok(false),
         Some(ranks) => Ok(rises(deps, history, ranks.as_slice(), &ends)),
     }
@@ -52,7 +53,7 @@ pub fn settles_wide<R: Threads>(
 {
     let history = deps.history();
     let ends = ends(alloc, history)?;
-    match ranks(alloc, history, true, &ends)? {
+    match ranks(alloc, history, Reads::ALL, &ends)? {
         None => Ok(false),
         Some(ranks) => Ok(rises_wide(rt, deps, history, ranks.as_slice(), &ends)),
     }
@@ -67,9 +68,24 @@ pub fn settles_writes(alloc: Global, deps: &Deps<'_, '_>) -> Result<bool, AllocE
 {
     let history = deps.history();
     let ends = ends(alloc, history)?;
-    match ranks(alloc, history, false, &ends)? {
+    match ranks(alloc, history, Reads::WR, &ends)? {
         None => Ok(false),
         Some(ranks) => Ok(writes_rise(deps, history, ranks.as_slice(), &ends)),
+    }
+}
+
+/// True only if no cycle shows G0 at any level. False says nothing.
+///
+/// It is what `settles` does, with the ww edges and the order edges alone.
+pub fn settles_dirty_writes(alloc: Global, deps: &Deps<'_, '_>) -> Result<bool, AllocError>
+    ensures { IfOk result (λ settled. OnTrue settled
+        (ShowsNoDirtyWrites deps.now.table.keys deps.now.txns)) }
+{
+    let history = deps.history();
+    let ends = ends(alloc, history)?;
+    match ranks(alloc, history, Reads::NONE, &ends)? {
+        None => Ok(false),
+        Some(ranks) => Ok(dirty_writes_rise(deps, history, ranks.as_slice(), &ends)),
     }
 }
 
@@ -82,7 +98,7 @@ pub fn settles_plain(alloc: Global, deps: &Deps<'_, '_>) -> Result<bool, AllocEr
 {
     let history = deps.history();
     let ends = ends(alloc, history)?;
-    match ranks(alloc, history, true, &ends)? {
+    match ranks(alloc, history, Reads::ALL, &ends)? {
         None => Ok(false),
         Some(ranks) => Ok(dependencies_rise(deps, history, ranks.as_slice())),
     }

@@ -5,8 +5,9 @@
 
 use crate::earlier::Earlier;
 use crate::ends::invoked_before;
-use crate::rising::rank_at;
+use crate::rising::{Reads, rank_at};
 use dep_edges::history::History;
+use key_versions::types::Follower;
 use std::alloc::{AllocError, Global};
 use txn_pairs::types::Status;
 
@@ -30,14 +31,22 @@ impl Frame {
     }
 }
 
+/// Whether the transaction at the place is one of these, which come in the order of their places.
+fn is_among(followers: &[Follower], place: u32) -> bool {
+    let index = followers.partition_point(|follower| follower.txn < place);
+    match followers.get(index) {
+        Some(follower) => follower.txn == place,
+        None => false,
+    }
+}
+
 /// What was put so far. A transaction that is put once, and the commit of one whose start is put apart, have its place as their
 /// number. The numbers of starts come after them. Versions go by number, too.
 #[derive(Drop)]
 struct Putting<'h, 'v, 'a, const APART: bool> {
     history: &'h History<'v, 'a>,
     txns: u32,
-    /// Whether those that read a version come before the others that install one after it.
-    reads: bool,
+    reads: Reads,
     /// Which one it was that was put, from 1 on. 0 is one that wasn't put.
     ranks: Vec<u32>,
     put: u32,
@@ -55,7 +64,7 @@ impl<'h, 'v, 'a, const APART: bool> Putting<'h, 'v, 'a, APART> {
     fn new(
         alloc: Global,
         history: &'h History<'v, 'a>,
-        reads: bool,
+        reads: Reads,
         invoked: &[u32],
     ) -> Result<Self, AllocError> {
         let txns = u32::try_from(history.txns().len()).map_err(|_| AllocError)?;
@@ -215,19 +224,33 @@ impl<'h, 'v, 'a, const APART: bool> Putting<'h, 'v, 'a, APART> {
         None
     }
 
-    /// What has to be put before this one for what the transaction reads: the one that wrote the version, and if it installs the
-    /// next one, the others that read it.
+    /// What has to be put before this one for what the transaction reads: the one that wrote the version, if wr edges count or it
+    /// installs the next one, and if it alone installs that, the others that read it.
     fn before_read(&mut self, number: u32, version: usize) -> Option<u32> {
         if version >= self.history.versions() {
             return None;
         }
+        let followers = self.history.followers(version);
         if let Some(writer) = self.next_writer(number, version) {
-            return Some(writer);
+            if self.waits(self.place(number), followers, writer) {
+                return Some(writer);
+            }
         }
-        match self.history.followers(version) {
+        match followers {
             [follower] if follower.txn == self.place(number) => self.next_reader(number, version),
             _ => None,
         }
+    }
+
+    /// Whether the transaction at the place, which reads a version with these followers, waits for the one that wrote it: where wr
+    /// edges count, or it is one of the followers, or the other one isn't ok, and so is put where others wait for it alone.
+    fn waits(&self, place: u32, followers: &[Follower], writer: u32) -> bool {
+        self.reads.to_readers || is_among(followers, place) || !self.is_ok(writer)
+    }
+
+    fn is_ok(&self, place: u32) -> bool {
+        let place = place as usize;
+        place < self.history.txns().len() && self.history.txn(place).status() == Status::Ok
     }
 
     /// What has to be put before this one for what the transaction installs: those that wrote or read the versions before it.
@@ -263,9 +286,9 @@ impl<'h, 'v, 'a, const APART: bool> Putting<'h, 'v, 'a, APART> {
         Some(writer)
     }
 
-    /// The start of a reader of the version, other than the transaction, that wasn't put, if readers count. A start waits for none.
+    /// The start of a reader of the version, other than the transaction, that wasn't put, if rw edges count. A start waits for none.
     fn next_reader(&mut self, number: u32, version: usize) -> Option<u32> {
-        if !self.reads || self.is_start(number) || version >= self.history.versions() {
+        if !self.reads.from_readers || self.is_start(number) || version >= self.history.versions() {
             return None;
         }
         let readers = self.history.readers(version);
@@ -291,7 +314,7 @@ impl<'h, 'v, 'a, const APART: bool> Putting<'h, 'v, 'a, APART> {
 fn put_all<const APART: bool>(
     alloc: Global,
     history: &History<'_, '_>,
-    reads: bool,
+    reads: Reads,
     ends: &[u32],
 ) -> Result<Option<Vec<u32>>, AllocError> {
     let invoked = invoked_before(alloc, history.txns().len(), ends)?;
@@ -303,11 +326,11 @@ fn put_all<const APART: bool>(
 }
 
 /// Ranks for the transactions of a history, by who completed when, if each can be put after what has to come before it: those whose
-/// writes it read or wrote over and, if reads count, those that read what it wrote over.
+/// writes it wrote over and, as far as their edges count, those whose writes it read and those that read what it wrote over.
 pub fn ranks(
     alloc: Global,
     history: &History<'_, '_>,
-    reads: bool,
+    reads: Reads,
     ends: &[u32],
 ) -> Result<Option<Vec<u32>>, AllocError> {
     put_all::<false>(alloc, history, reads, ends)
@@ -330,7 +353,7 @@ impl Snapshots {
         history: &History<'_, '_>,
         ends: &[u32],
     ) -> Result<Option<Self>, AllocError> {
-        match put_all::<true>(alloc, history, true, ends)? {
+        match put_all::<true>(alloc, history, Reads::ALL, ends)? {
             None => Ok(None),
             Some(ranks) => Ok(Some(Snapshots {
                 txns: history.txns().len(),

@@ -10,7 +10,7 @@ ghost use Rattle.hist_types.specs.Reports.{AreFindings, no_findings};
 ghost use Rattle.key_versions.specs.Tables.{IsTableOf};
 ghost use Rattle.dep_edges.specs.Histories.{AreOfHistory};
 ghost use Rattle.dep_edges.specs.Tables.{IsPlace, IsNumber, txn_at, version_at};
-ghost use Rattle.clean_order.specs.Rising.{ShowsNoWrites, ShowsNoneButItem, ShowsNoSingleAtPlain, ShowsNothingAtPlain};
+ghost use Rattle.clean_order.specs.Rising.{ShowsNoDirtyWrites, ShowsNoWrites, ShowsNoneButItem, ShowsNoSingleAtPlain, ShowsNothingAtPlain};
 ghost use Rattle.clean_order.specs.Ranked.{IsBeforeIfOther, StartFirst, writers, counted, RisesToReaders, RisesAtVersion, RisesAtEach, RisesInTime, IsListed, AreAtMost};
 ghost use Rattle.clean_order.specs.Highest.{IsCounted, AreCounted, RisesAbove};
 
@@ -19,6 +19,31 @@ use dep_edges::history::History;
 use key_versions::types::{Follower, Writer};
 use std::thread::{Threads, join_mut};
 use txn_pairs::types::{Status, Txn};
+
+/// Which edges of those that read a version count: the wr edges to them, and the rw edges from them.
+#[derive(Clone, Copy)]
+pub struct Reads {
+    pub to_readers: bool,
+    pub from_readers: bool,
+}
+
+impl Reads {
+    /// All of them count.
+    pub const ALL: Self = Reads {
+        to_readers: true,
+        from_readers: true,
+    };
+    /// Only wr edges do.
+    pub const WR: Self = Reads {
+        to_readers: true,
+        from_readers: false,
+    };
+    /// None of them do.
+    pub const NONE: Self = Reads {
+        to_readers: false,
+        from_readers: false,
+    };
+}
 
 /// The rank of the transaction at the place.
 pub fn rank_at(ranks: &[u32], place: usize) -> u32
@@ -137,11 +162,11 @@ fn highest_of_writer(ranks: &[u32], writer: Option<Writer>) -> Highest
     }
 }
 
-/// Those that read a version, if reads count.
-fn counted(reads: bool, readers: &[u32]) -> &[u32]
-    ensures { result.now ≡ counted reads readers.now }
+/// Those that read a version, if they count.
+fn counted(count: bool, readers: &[u32]) -> &[u32]
+    ensures { result.now ≡ counted count readers.now }
 {
-    if reads { readers } else { &[] }
+    if count { readers } else { &[] }
 }
 
 /// Whether those that wrote a version commit before the others that install one after it start, if these are nodes, and those that
@@ -170,13 +195,13 @@ fn rises_to_followers(
     true
 }
 
-/// Whether who wrote the version commits before those that read it start and before those that install one after it start, and,
-/// if reads count, those that read it start before those that install one after it commit.
+/// Whether who wrote the version commits before those that install one after it start, and, if wr edges count, before those that
+/// read it start, and, if rw edges count, those that read it start before those that install one after it commit.
 #[inline(always)]
 fn rises_at(
     deps: &Deps<'_, '_>,
     history: &History<'_, '_>,
-    reads: bool,
+    reads: Reads,
     starts: &[u32],
     commits: &[u32],
     number: usize,
@@ -189,9 +214,9 @@ fn rises_at(
     let writer = history.writer(number);
     let readers = history.readers(number);
     let written = highest_of_writer(commits, writer);
-    let read = highest_of(starts, counted(reads, readers));
+    let read = highest_of(starts, counted(reads.from_readers, readers));
     let followers = history.followers(number);
-    rises_to_readers(starts, commits, writer, readers)
+    rises_to_readers(starts, commits, writer, counted(reads.to_readers, readers))
         && rises_to_followers(deps, starts, commits, &written, &read, followers)
 }
 
@@ -200,7 +225,7 @@ fn rises_at(
 fn rises_at_each(
     deps: &Deps<'_, '_>,
     history: &History<'_, '_>,
-    reads: bool,
+    reads: Reads,
     starts: &[u32],
     commits: &[u32],
 ) -> bool
@@ -219,7 +244,7 @@ fn rises_at_each(
 fn rank_rises_at_each(
     deps: &Deps<'_, '_>,
     history: &History<'_, '_>,
-    reads: bool,
+    reads: Reads,
     ranks: &[u32],
 ) -> bool
     requires { deps.now ≡ history.now }
@@ -314,12 +339,13 @@ fn both_wide<R: Threads>(
     ends: &[u32],
 ) -> (bool, bool)
     requires { deps.now ≡ history.now }
-    ensures each { OnTrue result.0 (RisesAtEach history.now true ranks.now ranks.now) }
+    ensures each { OnTrue result.0 (RisesAtEach history.now (record { to_readers = true; from_readers = true })
+        ranks.now ranks.now) }
     ensures time { OnTrue result.1 (RisesInTime history.now.txns ranks.now ranks.now) }
 {
     join_mut(
         rt,
-        &mut || rank_rises_at_each(deps, history, true, ranks),
+        &mut || rank_rises_at_each(deps, history, Reads::ALL, ranks),
         &mut || rises_in_time(deps, history, ranks, ranks, ends),
     )
 }
@@ -331,7 +357,7 @@ pub fn rises(deps: &Deps<'_, '_>, history: &History<'_, '_>, ranks: &[u32], ends
     requires table { IsTableOf history.now.table.keys history.now.txns history.now.table }
     ensures { OnTrue result (AreFindings deps.now.table.keys deps.now.txns no_findings) }
 {
-    rank_rises_at_each(deps, history, true, ranks)
+    rank_rises_at_each(deps, history, Reads::ALL, ranks)
         && rises_in_time(deps, history, ranks, ranks, ends)
 }
 
@@ -364,7 +390,23 @@ pub fn writes_rise(
     requires table { IsTableOf history.now.table.keys history.now.txns history.now.table }
     ensures { OnTrue result (ShowsNoWrites deps.now.table.keys deps.now.txns) }
 {
-    rank_rises_at_each(deps, history, false, ranks)
+    rank_rises_at_each(deps, history, Reads::WR, ranks)
+        && rises_in_time(deps, history, ranks, ranks, ends)
+}
+
+/// Whether ranks rise along all edges of the history that are no wr and no rw edges.
+pub fn dirty_writes_rise(
+    deps: &Deps<'_, '_>,
+    history: &History<'_, '_>,
+    ranks: &[u32],
+    ends: &[u32],
+) -> bool
+    requires history { deps.now ≡ history.now }
+    requires kept { AreOfHistory history.now.txns }
+    requires table { IsTableOf history.now.table.keys history.now.txns history.now.table }
+    ensures { OnTrue result (ShowsNoDirtyWrites deps.now.table.keys deps.now.txns) }
+{
+    rank_rises_at_each(deps, history, Reads::NONE, ranks)
         && rises_in_time(deps, history, ranks, ranks, ends)
 }
 
@@ -375,7 +417,7 @@ pub fn dependencies_rise(deps: &Deps<'_, '_>, history: &History<'_, '_>, ranks: 
     requires table { IsTableOf history.now.table.keys history.now.txns history.now.table }
     ensures { OnTrue result (ShowsNothingAtPlain deps.now.table.keys deps.now.txns) }
 {
-    rank_rises_at_each(deps, history, true, ranks)
+    rank_rises_at_each(deps, history, Reads::ALL, ranks)
 }
 
 /// Whether starts and commits rise along all edges of the history: along an rw edge from the start to the commit, and along the
@@ -395,7 +437,7 @@ pub fn snapshots_rise(
     if !start_first(starts, commits) {
         return false;
     }
-    rises_at_each(deps, history, true, starts, commits)
+    rises_at_each(deps, history, Reads::ALL, starts, commits)
         && rises_in_time(deps, history, starts, commits, ends)
 }
 
@@ -411,5 +453,5 @@ pub fn snapshots_rise_at_plain(
     requires table { IsTableOf history.now.table.keys history.now.txns history.now.table }
     ensures { OnTrue result (ShowsNoSingleAtPlain deps.now.table.keys deps.now.txns) }
 {
-    start_first(starts, commits) && rises_at_each(deps, history, true, starts, commits)
+    start_first(starts, commits) && rises_at_each(deps, history, Reads::ALL, starts, commits)
 }

@@ -2,11 +2,10 @@
 use Rattle.std.specs.Prelude.{◌≡◌, ℕ, List, [], ◌∷◌, IsTrue, Contains}
 use Rattle.hist_types.specs.Edges.{process, Edge, dependency_edges, order_edges}
 use Rattle.hist_types.specs.Transactions.{Transaction}
-use Rattle.hist_types.specs.declared.types.Level.TheVariants.{Plain, Process}
+use Rattle.hist_types.specs.declared.types.Level.TheVariants.{Process}
 use Rattle.dep_edges.specs.Histories.{History}
 use Rattle.dep_edges.specs.Tables.{txn_at}
-use Rattle.edge_graph.specs.Kinds.{includes, kinds_of}
-use Rattle.edge_graph.specs.declared.types.Dependencies.TheVariants.{Rw}
+use Rattle.edge_graph.specs.Kinds.{includes}
 use Rattle.edge_graph.specs.declared.types.Kinds.{Kinds}
 
 -- the edge leads from the transaction at the one place to that at the other
@@ -26,11 +25,12 @@ pub record IsProcessEdgeBetween (ts : List Transaction) (from to : ℕ) (e : Edg
   pub label : e.label ≡ process (txn_at ts from).process
   pub joins : Joins ts from to e
 
--- the walk is an rw edge from one transaction to another, and a dependency edge of the kinds back
-pub record GoesThereAndBack (h : History) (kinds : Kinds) (from to : ℕ) (walk : List Edge)
+-- the walk is a dependency edge of the one kinds from one transaction to another, and one of the other
+-- kinds back
+pub record GoesThereAndBack (h : History) (out back_kinds : Kinds) (from to : ℕ) (walk : List Edge)
     : Type 0 where
   pub there : Edge
   pub back : Edge
   pub is : walk ≡ there ∷ back ∷ []
-  pub rw : IsDependencyBetween h (kinds_of Rw Plain) from to there
-  pub returns : IsDependencyBetween h kinds to from back
+  pub goes : IsDependencyBetween h out from to there
+  pub returns : IsDependencyBetween h back_kinds to from back

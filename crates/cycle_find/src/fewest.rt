@@ -454,6 +454,6 @@ impl<'r, 'g, 'v, 'a> Fewest<'r, 'g, 'v, 'a> {
         let back = self
             .graph
             .edges_along(way, way_back(self.phenomenon), self.level)?;
-        Ok(Some(Walk::closing(self.alloc, edge, back)?))
+        Ok(Some(Walk::closing(edge, back)?))
     }
 }

@@ -188,7 +188,7 @@ impl<'r, 'g, 'v, 'a> Finder<'r, 'g, 'v, 'a> {
         let back = self
             .graph
             .edges_along(&way, way_back(self.phenomenon), self.level)?;
-        Ok(Some(Walk::closing(self.alloc, edge, back)?))
+        Ok(Some(Walk::closing(edge, back)?))
     }
 
     /// A walk over the arcs of a way back, from one vertex to another, if there is one.

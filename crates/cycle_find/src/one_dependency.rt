@@ -276,7 +276,7 @@ impl<'r, 'g, 'v, 'a> OneDependency<'r, 'g, 'v, 'a> {
         let back = self
             .graph
             .edges_along(&path, Dependencies::None, self.level)?;
-        Ok(Some(Walk::closing(self.alloc, edge, back)?))
+        Ok(Some(Walk::closing(edge, back)?))
     }
 
     /// A walk over the arcs of the level's order, from one transaction to another, if there is one.

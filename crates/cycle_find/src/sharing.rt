@@ -69,7 +69,7 @@ fn flags(alloc: Global, ranks: &Ranks) -> Result<Vec<bool>, AllocError>
 fn list_of(alloc: Global, flags: &[bool]) -> Result<Vec<u32>, AllocError>
     ensures { IfOk result (λ list. AreListed flags.now list.items) }
 {
-    let mut list = Vec::new(alloc);
+    let mut list = Vec::with_capacity(alloc, flags.len())?;
     for (vertex, flag) in flags.iter().enumerate() {
         if *flag {
             list.push(number(vertex)?)?;

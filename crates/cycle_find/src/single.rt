@@ -1,4 +1,4 @@
-//! Closed walks of an rw edge and one edge back, found without a graph.
+//! Closed walks of two edges, found without a graph.
 //!
 //! A history of a database that promises less than serializability mostly has many of them, and then no graph need be built. Where
 //! none is found, there may be one all the same.
@@ -6,7 +6,7 @@
 ghost use Rattle.std.specs.Prelude.{IfOk, IfSome};
 ghost use Rattle.hist_types.specs.Edges.{edges_at};
 ghost use Rattle.hist_types.specs.declared.types.Level.TheVariants.{Plain, Process};
-ghost use Rattle.hist_types.specs.declared.types.Phenomenon.TheVariants.{G2Item};
+ghost use Rattle.hist_types.specs.declared.types.Phenomenon.TheVariants.{G1c, G2Item};
 ghost use Rattle.cycle_find.specs.Found.{ShowsByFewest, ShowsSingle};
 ghost use Rattle.edge_graph.specs.Kinds.{kinds_of};
 ghost use Rattle.cycle_find.specs.Single.{GoesThereAndBack, IsDependencyBetween, IsProcessEdgeBetween};
@@ -67,18 +67,19 @@ fn process_edge<'a>(deps: &Deps<'_, 'a>, from: usize, to: usize) -> Option<Edge<
     None
 }
 
-/// The closed walk along an rw edge from one transaction to another and a dependency edge back, if both are there.
+/// The closed walk along an edge of these dependencies from one transaction to another and one of the others back, if both are there.
 fn there_and_back<'a>(
     alloc: Global,
     deps: &Deps<'_, 'a>,
     ends: Ends,
+    there: Dependencies,
     back: Dependencies,
 ) -> Result<Option<Walk<'a>>, AllocError>
     ensures { IfOk result (λ found. IfSome found
-        (GoesThereAndBack deps.now (kinds_of back Plain) ends.from ends.to)) }
+        (GoesThereAndBack deps.now (kinds_of there Plain) (kinds_of back Plain) ends.from ends.to)) }
 {
-    let rw = Kinds::of(Dependencies::Rw, Level::Plain);
-    let Some(edge) = dependency(alloc, deps, ends.from, ends.to, rw)? else {
+    let out = Kinds::of(there, Level::Plain);
+    let Some(edge) = dependency(alloc, deps, ends.from, ends.to, out)? else {
         return Ok(None);
     };
     let kinds = Kinds::of(back, Level::Plain);
@@ -86,7 +87,7 @@ fn there_and_back<'a>(
         return Ok(None);
     };
     let rest = vec![in alloc; edge_back]?;
-    Ok(Some(Walk::closing(alloc, edge, rest)?))
+    Ok(Some(Walk::closing(edge, rest)?))
 }
 
 /// A closed walk along an rw edge and a ww or wr edge back, if one look at each version finds one: two transactions of which each
@@ -100,9 +101,26 @@ pub fn single_at_plain<'a>(
     ensures { IfOk result (λ found.
         IfSome found (ShowsSingle (edges_at deps.now.table.keys Plain deps.now.txns))) }
 {
+    let rw = Dependencies::Rw;
     let direct = Dependencies::WrAndWw;
-    match mutual(alloc, deps, direct)? {
-        Some(ends) => there_and_back(alloc, deps, ends, direct),
+    match mutual(alloc, deps, rw, direct)? {
+        Some(ends) => there_and_back(alloc, deps, ends, rw, direct),
+        None => Ok(None),
+    }
+}
+
+/// A closed walk along a wr edge and a ww or wr edge back, if one look at each version finds one: two transactions of which each
+/// reads or writes over what the other one wrote (circular information flow).
+///
+/// `verdict` asks for it before it builds a graph. It takes linear time, and a number for each transaction.
+pub fn circular_flow<'a>(alloc: Global, deps: &Deps<'_, 'a>) -> Result<Option<Walk<'a>>, AllocError>
+    ensures { IfOk result (λ found.
+        IfSome found (ShowsByFewest G1c (edges_at deps.now.table.keys Plain deps.now.txns))) }
+{
+    let wr = Dependencies::Wr;
+    let direct = Dependencies::WrAndWw;
+    match mutual(alloc, deps, wr, direct)? {
+        Some(ends) => there_and_back(alloc, deps, ends, wr, direct),
         None => Ok(None),
     }
 }
@@ -116,8 +134,9 @@ pub fn lost_update<'a>(alloc: Global, deps: &Deps<'_, 'a>) -> Result<Option<Walk
     ensures { IfOk result (λ found.
         IfSome found (ShowsByFewest G2Item (edges_at deps.now.table.keys Plain deps.now.txns))) }
 {
+    let rw = Dependencies::Rw;
     match losing(deps) {
-        Some(ends) => there_and_back(alloc, deps, ends, Dependencies::Rw),
+        Some(ends) => there_and_back(alloc, deps, ends, rw, rw),
         None => Ok(None),
     }
 }
@@ -131,8 +150,8 @@ pub fn write_skew<'a>(alloc: Global, deps: &Deps<'_, 'a>) -> Result<Option<Walk<
         IfSome found (ShowsByFewest G2Item (edges_at deps.now.table.keys Plain deps.now.txns))) }
 {
     let rw = Dependencies::Rw;
-    match mutual(alloc, deps, rw)? {
-        Some(ends) => there_and_back(alloc, deps, ends, rw),
+    match mutual(alloc, deps, rw, rw)? {
+        Some(ends) => there_and_back(alloc, deps, ends, rw, rw),
         None => Ok(None),
     }
 }
@@ -159,5 +178,5 @@ pub fn single_in_process<'a>(
         return Ok(None);
     };
     let rest = vec![in alloc; back]?;
-    Ok(Some(Walk::closing(alloc, edge, rest)?))
+    Ok(Some(Walk::closing(edge, rest)?))
 }

@@ -1,4 +1,4 @@
-//! Where a closed walk of an rw edge and one edge back may be: two transactions, by one look at each version. Nothing is claimed of
+//! Where a closed walk of two edges may be: two transactions, by one look at each version. Nothing is claimed of
 //! them here: their edges are looked up afterwards.
 
 ghost use Rattle.dep_edges.specs.Tables.{IsNumber};
@@ -18,26 +18,35 @@ use std::alloc::{AllocError, Global};
 /// follows.
 const LOOKS: usize = 32;
 
-/// A search for two transactions of which each depends on the other: the second follows a version that the first reads, and an edge
-/// leads back.
+/// A search for two transactions of which each depends on the other: the second follows a version that the first reads, or reads
+/// one that the first wrote, and an edge leads back.
 #[derive(Drop)]
 struct MutualSearch<'r, 'v, 'a> {
     deps: &'r Deps<'v, 'a>,
-    /// Whether that is an rw edge, and not a ww or wr edge.
-    by_rw: bool,
-    /// For each transaction the number, from 1 on, of the last version so far that it reads. 0 is none.
+    /// Whether the second reads what the first wrote.
+    there_by_wr: bool,
+    /// Whether the edge back is an rw edge, and not a ww or wr edge.
+    back_by_rw: bool,
+    /// For each transaction the number, from 1 on, of the last version so far that it reads or, if the second reads it, that it
+    /// wrote. 0 is none.
     marks: Vec<u32>,
     /// How many arcs may still be looked at.
     looks: usize,
 }
 
 impl<'r, 'v, 'a> MutualSearch<'r, 'v, 'a> {
-    fn new(alloc: Global, deps: &'r Deps<'v, 'a>, by_rw: bool) -> Result<Self, AllocError> {
+    fn new(
+        alloc: Global,
+        deps: &'r Deps<'v, 'a>,
+        there: Dependencies,
+        back: Dependencies,
+    ) -> Result<Self, AllocError> {
         let txns = deps.history().txns().len();
         let versions = deps.history().versions();
         Ok(MutualSearch {
             deps,
-            by_rw,
+            there_by_wr: there == Dependencies::Wr,
+            back_by_rw: back == Dependencies::Rw,
             marks: vec![in alloc; 0; txns]?,
             looks: txns.saturating_add(versions).saturating_mul(LOOKS),
         })
@@ -45,7 +54,11 @@ impl<'r, 'v, 'a> MutualSearch<'r, 'v, 'a> {
 
     fn find(&mut self) -> Option<Ends> {
         for number in 0..self.deps.history().versions() {
-            let found = self.by_version(number);
+            let found = if self.there_by_wr {
+                self.from_writer(number)
+            } else {
+                self.from_reader(number)
+            };
             if found.is_some() {
                 return found;
             }
@@ -53,8 +66,27 @@ impl<'r, 'v, 'a> MutualSearch<'r, 'v, 'a> {
         None
     }
 
-    /// Two of which the first reads the version.
-    fn by_version(&mut self, number: usize) -> Option<Ends> {
+    /// Two of which the first wrote the version and the second reads it.
+    fn from_writer(&mut self, number: usize) -> Option<Ends> {
+        let history = self.deps.history();
+        if number >= history.versions() {
+            return None;
+        }
+        let writer = history.writer(number)?.txn;
+        let readers = history.readers(number);
+        let mark = u32::try_from(number.checked_add(1)?).ok()?;
+        self.mark(&[writer], mark);
+        for reader in readers {
+            let to = *reader as usize;
+            if let Some(from) = self.back_from(to, mark) {
+                return Some(Ends { from, to });
+            }
+        }
+        None
+    }
+
+    /// Two of which the first reads the version and the second follows it.
+    fn from_reader(&mut self, number: usize) -> Option<Ends> {
         let history = self.deps.history();
         if number >= history.versions() {
             return None;
@@ -75,9 +107,9 @@ impl<'r, 'v, 'a> MutualSearch<'r, 'v, 'a> {
         None
     }
 
-    fn mark(&mut self, readers: &[u32], mark: u32) {
-        for reader in readers {
-            if let Some(last) = self.marks.get_mut(*reader as usize) {
+    fn mark(&mut self, places: &[u32], mark: u32) {
+        for place in places {
+            if let Some(last) = self.marks.get_mut(*place as usize) {
                 *last = mark;
             }
         }
@@ -89,7 +121,7 @@ impl<'r, 'v, 'a> MutualSearch<'r, 'v, 'a> {
         if self.looks == 0 || to >= history.txns().len() || !self.deps.is_node(to) {
             return None;
         }
-        let numbers = if self.by_rw {
+        let numbers = if self.back_by_rw {
             history.reads(to)
         } else {
             history.installs(to)
@@ -109,7 +141,7 @@ impl<'r, 'v, 'a> MutualSearch<'r, 'v, 'a> {
         if number >= history.versions() {
             return None;
         }
-        let reader = if self.by_rw {
+        let reader = if self.back_by_rw {
             None
         } else {
             self.marked_reader(history.readers(number), to, mark)
@@ -157,14 +189,15 @@ impl<'r, 'v, 'a> MutualSearch<'r, 'v, 'a> {
     }
 }
 
-/// Two transactions of which the second follows a version that the first reads, and leads back to it by an edge of these
-/// dependencies, if they are found. They are rw edges, or ww and wr edges.
+/// Two transactions of which the first leads to the second by an edge of these dependencies, rw or wr edges, and the second back by one
+/// of those, rw edges or ww and wr edges, if they are found.
 pub(crate) fn mutual(
     alloc: Global,
     deps: &Deps<'_, '_>,
+    there: Dependencies,
     back: Dependencies,
 ) -> Result<Option<Ends>, AllocError> {
-    let mut search = MutualSearch::new(alloc, deps, back == Dependencies::Rw)?;
+    let mut search = MutualSearch::new(alloc, deps, there, back)?;
     Ok(search.find())
 }
 

@@ -481,6 +481,6 @@ impl<'r, 'g, 'v, 'a> TwoDependencies<'r, 'g, 'v, 'a> {
             return Ok(None);
         };
         let rest = vec![in self.alloc; back]?;
-        Ok(Some(Walk::closing(self.alloc, edge, rest)?))
+        Ok(Some(Walk::closing(edge, rest)?))
     }
 }

@@ -30,17 +30,11 @@ impl<'a> Walk<'a> {
     }
 
     /// An edge, and then a way back from its second end to its first.
-    pub(crate) fn closing(
-        alloc: Global,
-        edge: Edge<'a>,
-        mut way_back: Vec<Edge<'a>>,
-    ) -> Result<Self, AllocError>
+    pub(crate) fn closing(edge: Edge<'a>, mut way_back: Vec<Edge<'a>>) -> Result<Self, AllocError>
         ensures { IfOk result (λ walk. walk ≡ edge.entry ∷ way_back.entry.items) }
     {
-        let mut edges = Vec::new(alloc);
-        edges.push(edge)?;
-        edges.append(&mut way_back)?;
-        Ok(Walk::new(edges))
+        way_back.insert(0, edge)?;
+        Ok(Walk::new(way_back))
     }
 
     /// How many of its edges are no order edges.

@@ -28,13 +28,14 @@ fn ends_in_order(edges: &[Edge<'_>]) -> bool
 }
 
 impl<'a> Path<'a> {
-    fn new(alloc: Global) -> Self
-        ensures { result.edges.items ≡ [] }
+    /// An empty one, with room for n edges.
+    fn with_capacity(alloc: Global, edges: usize) -> Result<Self, AllocError>
+        ensures { IfOk result (λ path. path.edges.items ≡ []) }
     {
-        Path {
-            edges: Vec::new(alloc),
-            places: HashMap::new(alloc),
-        }
+        Ok(Path {
+            edges: Vec::with_capacity(alloc, edges)?,
+            places: HashMap::with_capacity(alloc, edges)?,
+        })
     }
 
     /// Goes back to the transaction, if the path has been there.
@@ -96,7 +97,7 @@ pub fn short_round<'a>(alloc: Global, walk: &[Edge<'a>]) -> Result<Vec<Edge<'a>>
 {
     let behind = needed(walk).map_or(0, |place| place + 1);
     let (front, back) = walk.split_at(behind);
-    let mut path = Path::new(alloc);
+    let mut path = Path::with_capacity(alloc, walk.len())?;
     path.follow_all(back)?;
     path.follow_all(front)?;
     let Path { edges, places: _ } = path;

@@ -347,7 +347,7 @@ impl<'g, 'v, 'a> Graph<'g, 'v, 'a> {
             (λ es. AreAsCheap self.now dependencies level walk.now es.items) }
     {
         let kinds = Kinds::of(dependencies, level);
-        let mut edges = Vec::new(self.alloc);
+        let mut edges = Vec::with_capacity(self.alloc, walk.len())?;
         let mut from = walk[0];
         for vertex in walk {
             // Behind the transactions are the versions, which lead on to the end of an rw edge.

@@ -51,8 +51,8 @@ impl Components {
         let rank = number_of(vertices)?;
         Ok(Components {
             numbers: vec![in alloc; UNSEEN; vertices]?,
-            pending: Vec::new(alloc),
-            path: Vec::new(alloc),
+            pending: Vec::with_capacity(alloc, vertices)?,
+            path: Vec::with_capacity(alloc, vertices)?,
             rank,
         })
     }

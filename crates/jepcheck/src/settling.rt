@@ -6,9 +6,12 @@ ghost use Rattle.hist_types.specs.Transactions.{transactions_of};
 
 use block_reader::one_block::block_of_text;
 use clean_order::{
-    settles, settles_plain, settles_single_at_plain, settles_snapshots, settles_writes,
+    settles, settles_dirty_writes, settles_plain, settles_single_at_plain, settles_snapshots,
+    settles_writes,
 };
-use cycle_find::single::{lost_update, single_at_plain, single_in_process, write_skew};
+use cycle_find::single::{
+    circular_flow, lost_update, single_at_plain, single_in_process, write_skew,
+};
 use dep_edges::edges;
 use hist_types::types::{Fault, KeyOrder};
 use journal_core::journal::Core;
@@ -75,14 +78,23 @@ const MUTUAL: &[u8] = b"{:type :invoke, :process 0, :value [[:w :x 1] [:r :y nil
 {:type :ok, :process 1, :value [[:w :y 1] [:r :x 1]]}
 ";
 
+/// Two transactions of which each wrote over what the other wrote.
+const DIRTY: &[u8] = b"{:type :invoke, :process 0, :value [[:r :y nil] [:w :y 1] [:w :x 1]]}
+{:type :invoke, :process 1, :value [[:r :x nil] [:w :x 2] [:w :y 2]]}
+{:type :ok, :process 0, :value [[:r :y 2] [:w :y 1] [:w :x 1]]}
+{:type :ok, :process 1, :value [[:r :x 1] [:w :x 2] [:w :y 2]]}
+";
+
 /// What is told of a history without a graph.
 #[derive(Clone, Copy, Debug, PartialEq, Eq)]
 struct Told {
     settles: bool,
     settles_writes: bool,
+    settles_dirty_writes: bool,
     settles_plain: bool,
     settles_snapshots: bool,
     settles_single_at_plain: bool,
+    has_circular_flow: bool,
     has_single_at_plain: bool,
     has_single_in_process: bool,
     has_lost_update: bool,
@@ -93,9 +105,11 @@ struct Told {
 const NOTHING: Told = Told {
     settles: false,
     settles_writes: false,
+    settles_dirty_writes: false,
     settles_plain: false,
     settles_snapshots: false,
     settles_single_at_plain: false,
+    has_circular_flow: false,
     has_single_at_plain: false,
     has_single_in_process: false,
     has_lost_update: false,
@@ -118,9 +132,11 @@ fn told_of<'a>(alloc: Global, prefix: &Prefix<'a>, txns: &Txns<'a>) -> Result<To
     Ok(Told {
         settles: settles(alloc, &deps)?,
         settles_writes: settles_writes(alloc, &deps)?,
+        settles_dirty_writes: settles_dirty_writes(alloc, &deps)?,
         settles_plain: settles_plain(alloc, &deps)?,
         settles_snapshots: settles_snapshots(alloc, &deps)?,
         settles_single_at_plain: settles_single_at_plain(alloc, &deps)?,
+        has_circular_flow: circular_flow(alloc, &deps)?.is_some(),
         has_single_at_plain: single_at_plain(alloc, &deps)?.is_some(),
         has_single_in_process: single_in_process(alloc, &deps)?.is_some(),
         has_lost_update: lost_update(alloc, &deps)?.is_some(),
@@ -134,6 +150,7 @@ fn histories_are_told_without_a_graph(rt: HostRuntime) -> Result<(), Fail> {
     let clean = Told {
         settles: true,
         settles_writes: true,
+        settles_dirty_writes: true,
         settles_plain: true,
         settles_snapshots: true,
         settles_single_at_plain: true,
@@ -141,6 +158,7 @@ fn histories_are_told_without_a_graph(rt: HostRuntime) -> Result<(), Fail> {
     };
     let skewed = Told {
         settles_writes: true,
+        settles_dirty_writes: true,
         settles_snapshots: true,
         settles_single_at_plain: true,
         has_write_skew: true,
@@ -152,13 +170,24 @@ fn histories_are_told_without_a_graph(rt: HostRuntime) -> Result<(), Fail> {
     };
     let stale = Told {
         settles_writes: true,
+        settles_dirty_writes: true,
         settles_plain: true,
         settles_single_at_plain: true,
         ..NOTHING
     };
     let fractured = Told {
         settles_writes: true,
+        settles_dirty_writes: true,
         has_single_at_plain: true,
+        ..NOTHING
+    };
+    let mutual = Told {
+        settles_dirty_writes: true,
+        has_circular_flow: true,
+        ..NOTHING
+    };
+    let dirty = Told {
+        has_circular_flow: true,
         ..NOTHING
     };
     let forgetful = Told {
@@ -172,7 +201,8 @@ fn histories_are_told_without_a_graph(rt: HostRuntime) -> Result<(), Fail> {
         (STALE, stale),
         (FRACTURED, fractured),
         (FORGETFUL, forgetful),
-        (MUTUAL, NOTHING),
+        (MUTUAL, mutual),
+        (DIRTY, dirty),
     ] {
         let block = block_of_text(alloc, text, Stamp { seat: 0, call: 0 })?;
         let mut core = Core::new(alloc);

@@ -17,12 +17,14 @@ ghost use Rattle.verdict.specs.Tables.{AreTables, history_of};
 use crate::pairs::{Pair, Pairs};
 use crate::tables::Tables;
 use clean_order::{
-    settles, settles_plain, settles_single_at_plain, settles_snapshots, settles_wide,
-    settles_writes,
+    settles, settles_dirty_writes, settles_plain, settles_single_at_plain, settles_snapshots,
+    settles_wide, settles_writes,
 };
 use cycle_find::ranked_graph::RankedGraph;
 use cycle_find::ranked_level::RankedLevel;
-use cycle_find::single::{lost_update, single_at_plain, single_in_process, write_skew};
+use cycle_find::single::{
+    circular_flow, lost_update, single_at_plain, single_in_process, write_skew,
+};
 use cycle_find::types::Walk;
 use cycle_show::types::Witness;
 use dep_edges::deps::Deps;
@@ -246,24 +248,37 @@ fn findings_in_graph_wide<'a, R: Threads>(
 }
 
 /// What is found of each phenomenon, where these are found of G-single and G2-item, if looks at each version settle that there is no
-/// G0 and no G1c.
+/// G0, and find G1c at plain or settle that there is none.
 fn with_both<'a>(
     alloc: Global,
     deps: &Deps<'_, 'a>,
     single: Finding<'a>,
     item: Finding<'a>,
 ) -> Result<Option<Findings<'a>>, AllocError>
+    requires history { AreOfHistory deps.now.txns }
     requires single { IsFinding deps.now.table.keys GSingle deps.now.txns (Some single) }
     requires item { IsFinding deps.now.table.keys G2Item deps.now.txns (Some item) }
     ensures { IfOk result (λ found. IfSome found
         (AreFindings deps.now.table.keys deps.now.txns)) }
 {
-    if !settles_writes(alloc, deps)? {
+    if settles_writes(alloc, deps)? {
+        return Ok(Some(Findings {
+            g0: None,
+            g1c: None,
+            single: Some(single),
+            item: Some(item),
+        }));
+    }
+    let Some(walk) = circular_flow(alloc, deps)? else {
+        return Ok(None);
+    };
+    if !settles_dirty_writes(alloc, deps)? {
         return Ok(None);
     }
+    let flow = reduced(alloc, Level::Plain, &walk)?;
     Ok(Some(Findings {
         g0: None,
-        g1c: None,
+        g1c: Some(flow),
         single: Some(single),
         item: Some(item),
     }))

@@ -33,21 +33,21 @@ returns-then-rises_to_readers c =
     let starts = c.args.starts.now in
     let commits = c.args.commits.now in
     let v = version_at h.table c.args.number in
-    let readers = c.readers-readers.result.now in
     let followers = c.followers-followers.result.now in
     let written = c.highest_of_writer-written.result in
     let read = c.highest_of-read.result in
     let wrote = c.writer-writer.ensures.value in
-    let seen : readers ≡ readers_of h.txns v = c.readers-readers.ensures.value in
-    let few : c.counted.result.now ≡ counted c.args.reads (readers_of h.txns v) = c.counted.ensures ∙ ap (counted c.args.reads) seen in
+    let seen : c.readers-readers.result.now ≡ readers_of h.txns v = c.readers-readers.ensures.value in
+    let counts : c.counted.result.now ≡ counted c.args.reads.from_readers (readers_of h.txns v) = c.counted.ensures ∙ ap (counted c.args.reads.from_readers) seen in
+    let reading : c.counted-2.result.now ≡ counted c.args.reads.to_readers (readers_of h.txns v) = c.counted-2.ensures ∙ ap (counted c.args.reads.to_readers) seen in
     OnTrue_from c.rises_to_followers.result (RisesAtVersion h.table.keys c.args.reads h.txns starts commits v) (λ e. record {
       readers =
-          subst (λ rs. RisesToReaders starts commits (writer_of h.txns v) rs) seen
-          (subst (λ o. RisesToReaders starts commits o readers) wrote (OnTrue_at c.if-rises_to_readers.true c.rises_to_readers.ensures));
+          subst (λ rs. RisesToReaders starts commits (writer_of h.txns v) rs) reading
+          (subst (λ o. RisesToReaders starts commits o c.counted-2.result.now) wrote (OnTrue_at c.if-rises_to_readers.true c.rises_to_readers.ensures));
       from_writer =
           to_followers h d v commits starts (writers (writer_of h.txns v)) written followers c.requires.history c.followers-followers.ensures.value
           (subst (λ o. AreCounted written commits (writers o)) wrote c.highest_of_writer-written.ensures) (OnTrue_at e c.rises_to_followers.ensures.written);
       from_readers =
-          to_followers h d v starts commits (counted c.args.reads (readers_of h.txns v)) read followers c.requires.history c.followers-followers.ensures.value
-          (subst (AreCounted read starts) few c.highest_of-read.ensures) (OnTrue_at e c.rises_to_followers.ensures.read);
+          to_followers h d v starts commits (counted c.args.reads.from_readers (readers_of h.txns v)) read followers c.requires.history c.followers-followers.ensures.value
+          (subst (AreCounted read starts) counts c.highest_of-read.ensures) (OnTrue_at e c.rises_to_followers.ensures.read);
     })

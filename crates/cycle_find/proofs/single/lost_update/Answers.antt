@@ -1,3 +1,4 @@
+use Rattle.std.proofs.Common.{refl}
 use Rattle.std.proofs.lemmas.Result.{IfOk-weaker}
 use Rattle.std.proofs.lemmas.Option.{IfSome_then}
 use Rattle.edge_graph.specs.Kinds.{kinds_of}
@@ -10,5 +11,5 @@ pub returns-in-Some : goal.returns-in-Some
 returns-in-Some c =
     IfOk-weaker c.there_and_back.result _ _
     (λ found goes. IfSome_then found goes
-    (λ walk. by_rw c.args.deps.now (kinds_of Rw Plain) c.in-Some.ends.from c.in-Some.ends.to walk))
+    (λ walk goes. by_rw c.args.deps.now (kinds_of Rw Plain) (kinds_of Rw Plain) c.in-Some.ends.from c.in-Some.ends.to walk goes refl))
     c.there_and_back.ensures

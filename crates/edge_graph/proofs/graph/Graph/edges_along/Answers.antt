@@ -27,9 +27,9 @@ loop-vertex-init c =
     let place : IsPlace g.txns from = subst (IsPlace g.txns) (sym is.steps.begins) is.first in
     record {
       place = place;
-      so_far = subst (AreEdgesBetween g kinds from from) (sym c.new-edges.ensures.items) (no_edges g kinds from);
+      so_far = subst (AreEdgesBetween g kinds from from) (sym c.in_ok-edges.ensures.items) (no_edges g kinds from);
       reached = inl refl;
-      cheap = subst (λ (es : List Edge). IsCheapTo g d level walk 0 (dependencies_in es)) (sym c.new-edges.ensures.items) (cheap_start g d level walk place);
+      cheap = subst (λ (es : List Edge). IsCheapTo g d level walk 0 (dependencies_in es)) (sym c.in_ok-edges.ensures.items) (cheap_start g d level walk place);
     }
 
 pub edge_between-requires-clause-from : goal.edge_between-requires-clause-from
