@@ -383,15 +383,18 @@ fn findings_without_graph<'a>(
     ensures { IfOk result (λ found. IfSome found
         (AreFindings deps.now.table.keys deps.now.txns)) }
 {
+    let skew = write_skew(alloc, deps)?;
+    if let Some(skew) = &skew {
+        let found = with_skew_alone(alloc, deps, skew)?;
+        if found.is_some() {
+            return Ok(found);
+        }
+    }
     if let Some(walk) = single_at_plain(alloc, deps)? {
         return with_single_at_plain(alloc, deps, &walk);
     }
-    let skew = write_skew(alloc, deps)?;
-    if let Some(walk) = single_in_process(alloc, deps)? {
-        return with_single_in_process(alloc, deps, &walk, &skew);
-    }
-    match skew {
-        Some(skew) => with_skew_alone(alloc, deps, &skew),
+    match single_in_process(alloc, deps)? {
+        Some(walk) => with_single_in_process(alloc, deps, &walk, &skew),
         None => Ok(None),
     }
 }
