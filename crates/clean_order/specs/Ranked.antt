@@ -1,6 +1,6 @@
 -- Ranks for the starts and for the commits of a history's transactions, by place, and along what they
 -- rise. Where each transaction has one rank alone, both lists are the same one.
-use Rattle.std.specs.Prelude.{◌≡◌, ◌<◌, ◌≤◌, ℕ, List, ◌∷◌, slice_index, slice_get, Bool, if◌then◌else◌, [], Option, Some, None, All, IsTrue, ⊤}
+use Rattle.std.specs.Prelude.{◌≡◌, ◌<◌, ◌≤◌, ℕ, List, ◌∷◌, slice_index, slice_get, Bool, true, if◌then◌else◌, [], Option, Some, None, All, IsTrue, ⊤}
 use Rattle.hist_types.specs.Edges.{is_ok_before}
 use Rattle.hist_types.specs.Transactions.{Transaction, Version, is_ok, is_node}
 use Rattle.hist_types.specs.declared.types.KeyOrder.{KeyOrder}
@@ -73,6 +73,11 @@ RisesAtEach h reads starts commits =
     (number : ℕ)
     → IsNumber h.table number
     → RisesAtVersion h.table.keys reads h.txns starts commits (version_at h.table number)
+
+-- so they do where each transaction has one rank alone and all edges count
+abbrev pub RankRisesAtEach : History → (ranks : List ℕ) → Type 0
+RankRisesAtEach h ranks =
+    RisesAtEach h (record { to_readers = true; from_readers = true }) ranks ranks
 
 -- ---- time
 

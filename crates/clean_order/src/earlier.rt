@@ -3,6 +3,7 @@
 use dep_edges::history::History;
 use hist_types::types::KeyOrder;
 use std::alloc::{AllocError, Global};
+use txn_pairs::types::Status;
 
 /// No link's number.
 const NONE: u32 = u32::MAX;
@@ -24,7 +25,7 @@ pub struct Earlier {
 
 /// Whether what follows the version may be installed by others than its readers, as where it is nil, and where keys are sequential,
 /// or by several, of which each reads it. These have no order, unless their starts and their commits are put apart.
-fn leads_on(history: &History<'_, '_>, apart: bool, number: usize) -> bool {
+pub fn leads_on(history: &History<'_, '_>, apart: bool, number: usize) -> bool {
     if history.keys() == KeyOrder::Sequential {
         return true;
     }
@@ -34,42 +35,51 @@ fn leads_on(history: &History<'_, '_>, apart: bool, number: usize) -> bool {
     history.version(number).value().is_none() || (apart && history.followers(number).len() > 1)
 }
 
-/// The place from which on transactions were invoked after all that wrote or read the version had completed. It may be no place.
-fn first_after(history: &History<'_, '_>, invoked: &[u32], number: usize) -> u32 {
+/// The index of the event that completed the transaction at the place, if it is ok, and else one that no event has.
+fn end_of(history: &History<'_, '_>, place: u32) -> u64 {
+    let place = place as usize;
+    if place >= history.txns().len() {
+        return u64::MAX;
+    }
+    let txn = history.txn(place);
+    match (txn.status(), txn.completion()) {
+        (Status::Ok, Some(index)) => index,
+        _ => u64::MAX,
+    }
+}
+
+/// The index of the event with which all that wrote or read the version had completed. It may be one that no event has.
+fn last_end(history: &History<'_, '_>, number: usize) -> u64 {
     if number >= history.versions() {
         return 0;
     }
-    let mut first = match history.writer(number) {
+    let mut last = match history.writer(number) {
         None => 0,
-        Some(writer) => count_at(invoked, writer.txn),
+        Some(writer) => end_of(history, writer.txn),
     };
     for reader in history.readers(number) {
-        first = first.max(count_at(invoked, *reader));
+        last = last.max(end_of(history, *reader));
     }
-    first
+    last
 }
 
-/// How many transactions were invoked before the one at the place completed.
-fn count_at(invoked: &[u32], place: u32) -> u32 {
-    invoked.get(place as usize).copied().unwrap_or(NONE)
+/// Whether the transaction at the place was invoked after the event with this index.
+fn is_invoked_after(history: &History<'_, '_>, place: u32, index: u64) -> bool {
+    let place = place as usize;
+    place < history.txns().len() && history.txn(place).invocation() > index
 }
 
 impl Earlier {
-    /// It is given how many transactions were invoked before each one completed. A transaction that was invoked after all that wrote
-    /// or read a version had completed is put after them in any case, so what it installs needs no link.
-    pub fn of(
-        alloc: Global,
-        history: &History<'_, '_>,
-        apart: bool,
-        invoked: &[u32],
-    ) -> Result<Self, AllocError> {
+    /// A transaction that was invoked after all that wrote or read a version had completed is put after them in any case, so what it
+    /// installs needs no link.
+    pub fn of(alloc: Global, history: &History<'_, '_>, apart: bool) -> Result<Self, AllocError> {
         let mut earlier = Earlier {
             firsts: vec![in alloc; NONE; history.versions()]?,
             links: Vec::with_capacity(alloc, history.txns().len())?,
         };
         for number in 0..history.versions() {
             if leads_on(history, apart, number) {
-                earlier.add_followers(history, invoked, number)?;
+                earlier.add_followers(history, number)?;
             }
         }
         Ok(earlier)
@@ -79,7 +89,6 @@ impl Earlier {
     fn add_followers(
         &mut self,
         history: &History<'_, '_>,
-        invoked: &[u32],
         number: usize,
     ) -> Result<(), AllocError> {
         if number >= history.versions() {
@@ -90,9 +99,9 @@ impl Earlier {
         if followers.is_empty() {
             return Ok(());
         }
-        let first = first_after(history, invoked, number);
+        let last = last_end(history, number);
         for follower in followers {
-            if follower.txn >= first {
+            if is_invoked_after(history, follower.txn, last) {
                 break;
             }
             let link = u32::try_from(self.links.len()).map_err(|_| AllocError)?;

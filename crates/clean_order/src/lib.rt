@@ -6,13 +6,14 @@ ghost use Rattle.std.specs.Bool.{OnTrue};
 ghost use Rattle.hist_types.specs.Reports.{AreFindings, no_findings};
 ghost use Rattle.clean_order.specs.Rising.{ShowsNoDirtyWrites, ShowsNoWrites, ShowsNoneButItem, ShowsNoSingleAtPlain, ShowsNothingAtPlain};
 
+pub mod attempt;
 mod earlier;
 mod ends;
 pub mod laws;
 mod putting;
 mod rising;
 
-use crate::ends::ends;
+use crate::attempt::Attempt;
 use crate::putting::{Snapshots, ranks};
 use crate::rising::{
     Reads, dependencies_rise, dirty_writes_rise, rises, rises_wide, snapshots_rise,
@@ -30,16 +31,16 @@ use std::thread::Threads;
 /// wrote over was read.
 ///
 /// It takes a few numbers for each transaction and each version, and linear time.
-pub fn settles(alloc: Global, deps: &Deps<'_, '_>) -> Result<bool, AllocError>
+pub fn settles(
+    alloc: Global,
+    deps: &Deps<'_, '_>,
+    attempt: &mut Attempt,
+) -> Result<bool, AllocError>
     ensures { IfOk result (λ settled.
         OnTrue settled (AreFindings deps.now.table.keys deps.now.txns no_findings)) }
 {
     let history = deps.history();
-    let ends = ends(alloc, history)?;
-    match ranks(alloc, history, Reads::ALL, &ends)? {
-        None => Ok(false),
-        Some(ranks) => Ok(rises(deps, history, ranks.as_slice(), &ends)),
-    }
+    Ok(attempt.put(alloc, history)? && rises(deps, history, attempt.ranks(), attempt.ends()))
 }
 
 /// As `settles`, with two threads if another can be started.
@@ -47,61 +48,57 @@ pub fn settles_wide<R: Threads>(
     rt: &R,
     alloc: Global,
     deps: &Deps<'_, '_>,
+    attempt: &mut Attempt,
 ) -> Result<bool, AllocError>
     ensures { IfOk result (λ settled.
         OnTrue settled (AreFindings deps.now.table.keys deps.now.txns no_findings)) }
 {
     let history = deps.history();
-    let ends = ends(alloc, history)?;
-    match ranks(alloc, history, Reads::ALL, &ends)? {
-        None => Ok(false),
-        Some(ranks) => Ok(rises_wide(rt, deps, history, ranks.as_slice(), &ends)),
-    }
+    Ok(
+        attempt.put(alloc, history)?
+            && rises_wide(rt, deps, history, attempt.ranks(), attempt.ends()),
+    )
 }
 
 /// True only if no cycle shows G0 or G1c at any level. False says nothing.
 ///
 /// It is what `settles` does, with the ww and wr edges and the order edges alone.
-pub fn settles_writes(alloc: Global, deps: &Deps<'_, '_>) -> Result<bool, AllocError>
+pub fn settles_writes(
+    alloc: Global,
+    deps: &Deps<'_, '_>,
+    attempt: &Attempt,
+) -> Result<bool, AllocError>
     ensures { IfOk result (λ settled. OnTrue settled
         (ShowsNoWrites deps.now.table.keys deps.now.txns)) }
 {
     let history = deps.history();
-    let ends = ends(alloc, history)?;
-    match ranks(alloc, history, Reads::WR, &ends)? {
-        None => Ok(false),
-        Some(ranks) => Ok(writes_rise(deps, history, ranks.as_slice(), &ends)),
-    }
+    let put = ranks(alloc, history, Reads::WR, attempt.ends())?;
+    Ok(put.is_all && writes_rise(deps, history, &put.ranks, attempt.ends()))
 }
 
 /// True only if no cycle shows G0 at any level. False says nothing.
 ///
 /// It is what `settles` does, with the ww edges and the order edges alone.
-pub fn settles_dirty_writes(alloc: Global, deps: &Deps<'_, '_>) -> Result<bool, AllocError>
+pub fn settles_dirty_writes(
+    alloc: Global,
+    deps: &Deps<'_, '_>,
+    attempt: &Attempt,
+) -> Result<bool, AllocError>
     ensures { IfOk result (λ settled. OnTrue settled
         (ShowsNoDirtyWrites deps.now.table.keys deps.now.txns)) }
 {
     let history = deps.history();
-    let ends = ends(alloc, history)?;
-    match ranks(alloc, history, Reads::NONE, &ends)? {
-        None => Ok(false),
-        Some(ranks) => Ok(dirty_writes_rise(deps, history, ranks.as_slice(), &ends)),
-    }
+    let put = ranks(alloc, history, Reads::NONE, attempt.ends())?;
+    Ok(put.is_all && dirty_writes_rise(deps, history, &put.ranks, attempt.ends()))
 }
 
 /// True only if no cycle shows any phenomenon at the level plain. False says nothing.
 ///
-/// It is what `settles` does, with the dependency edges alone.
-pub fn settles_plain(alloc: Global, deps: &Deps<'_, '_>) -> Result<bool, AllocError>
-    ensures { IfOk result (λ settled. OnTrue settled
-        (ShowsNothingAtPlain deps.now.table.keys deps.now.txns)) }
+/// It looks at the dependency edges alone, along the ranks that `settles` gave.
+pub fn settles_plain(deps: &Deps<'_, '_>, attempt: &Attempt) -> bool
+    ensures { OnTrue result (ShowsNothingAtPlain deps.now.table.keys deps.now.txns) }
 {
-    let history = deps.history();
-    let ends = ends(alloc, history)?;
-    match ranks(alloc, history, Reads::ALL, &ends)? {
-        None => Ok(false),
-        Some(ranks) => Ok(dependencies_rise(deps, history, ranks.as_slice())),
-    }
+    dependencies_rise(deps, deps.history(), attempt.ranks())
 }
 
 /// True only if no cycle shows G0, G1c or G-single at any level. False says nothing.
@@ -109,31 +106,56 @@ pub fn settles_plain(alloc: Global, deps: &Deps<'_, '_>) -> Result<bool, AllocEr
 /// It is what `settles` does, with two ranks for each transaction: one of its start, when its snapshot was taken, and one of its
 /// commit. A transaction starts after the commits of those that it depends on otherwise than by an rw edge, and commits after the
 /// starts of those that read what it wrote over. It is true of each history whose starts and commits can be ordered so, thus of
-/// those of strong snapshot isolation, also where they have write skew.
+/// those of strong snapshot isolation, also where they have write skew. A transaction that `settles` gave a rank starts and commits
+/// at that rank.
 ///
 /// It takes twice the numbers for each transaction that `settles` takes, and linear time.
-pub fn settles_snapshots(alloc: Global, deps: &Deps<'_, '_>) -> Result<bool, AllocError>
+pub fn settles_snapshots(
+    alloc: Global,
+    deps: &Deps<'_, '_>,
+    attempt: &Attempt,
+) -> Result<bool, AllocError>
     ensures { IfOk result (λ settled. OnTrue settled
         (ShowsNoneButItem deps.now.table.keys deps.now.txns)) }
 {
     let history = deps.history();
-    let ends = ends(alloc, history)?;
-    match Snapshots::of(alloc, history, &ends)? {
+    match Snapshots::of(
+        alloc,
+        history,
+        attempt.ranks(),
+        attempt.timely(),
+        attempt.ends(),
+    )? {
         None => Ok(false),
-        Some(ranks) => Ok(snapshots_rise(deps, history, ranks.starts(), ranks.commits(), &ends)),
+        Some(ranks) => Ok(snapshots_rise(
+            deps,
+            history,
+            ranks.starts(),
+            ranks.commits(),
+            attempt.ends(),
+        )),
     }
 }
 
 /// True only if no cycle shows G-single at the level plain. False says nothing.
 ///
 /// It is what `settles_snapshots` does, with the dependency edges alone.
-pub fn settles_single_at_plain(alloc: Global, deps: &Deps<'_, '_>) -> Result<bool, AllocError>
+pub fn settles_single_at_plain(
+    alloc: Global,
+    deps: &Deps<'_, '_>,
+    attempt: &Attempt,
+) -> Result<bool, AllocError>
     ensures { IfOk result (λ settled. OnTrue settled
         (ShowsNoSingleAtPlain deps.now.table.keys deps.now.txns)) }
 {
     let history = deps.history();
-    let ends = ends(alloc, history)?;
-    match Snapshots::of(alloc, history, &ends)? {
+    match Snapshots::of(
+        alloc,
+        history,
+        attempt.ranks(),
+        attempt.timely(),
+        attempt.ends(),
+    )? {
         None => Ok(false),
         Some(ranks) => Ok(snapshots_rise_at_plain(deps, history, ranks.starts(), ranks.commits())),
     }

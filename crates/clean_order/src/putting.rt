@@ -3,13 +3,16 @@
 //! Either a transaction is put once, or its start and its commit are put apart: what it depends on by a ww or wr edge commits
 //! before it starts, and those that read what it writes over start before it commits.
 
-use crate::earlier::Earlier;
-use crate::ends::invoked_before;
+use crate::earlier::{Earlier, leads_on};
+use crate::ends::BEYOND;
 use crate::rising::{Reads, rank_at};
 use dep_edges::history::History;
 use key_versions::types::Follower;
 use std::alloc::{AllocError, Global};
 use txn_pairs::types::Status;
+
+/// In place of a rank: it was begun with, and not put.
+const BEGUN: u32 = u32::MAX;
 
 /// What others wait for.
 #[derive(Clone, Copy)]
@@ -19,6 +22,8 @@ struct Frame {
     looked: usize,
     /// At the next one of these the link with which the look at the versions before it goes on, where it has begun.
     link: Option<u32>,
+    /// How many of the first readers of the version that is looked at need no further look.
+    readers: u32,
 }
 
 impl Frame {
@@ -27,6 +32,7 @@ impl Frame {
             number,
             looked: 0,
             link: None,
+            readers: 0,
         }
     }
 }
@@ -41,37 +47,36 @@ fn is_among(followers: &[Follower], place: u32) -> bool {
 }
 
 /// What was put so far. A transaction that is put once, and the commit of one whose start is put apart, have its place as their
-/// number. The numbers of starts come after them. Versions go by number, too.
+/// number. The numbers of starts come after them, and after two numbers that mean nothing. Versions go by number, too.
 #[derive(Drop)]
 struct Putting<'h, 'v, 'a, const APART: bool> {
     history: &'h History<'v, 'a>,
     txns: u32,
     reads: Reads,
-    /// Which one it was that was put, from 1 on. 0 is one that wasn't put.
+    /// Which one it was that was put, from 1 on. 0 is one that wasn't begun with.
     ranks: Vec<u32>,
     put: u32,
-    /// Whether it was begun with.
-    begun: Vec<bool>,
+    /// How many transactions were invoked so far.
+    invoked: u32,
+    /// The last rank before one was begun with that wasn't invoked yet. What has a later rank may come before what completed before
+    /// its invocation.
+    timely: u32,
     /// Those that were begun with and not put, each waiting for the one after it.
     waiting: Vec<Frame>,
     earlier: Earlier,
-    /// How many of the version's first readers need no further look.
+    /// How many of the version's first readers were put.
     looked: Vec<u32>,
 }
 
 impl<'h, 'v, 'a, const APART: bool> Putting<'h, 'v, 'a, APART> {
-    /// Nothing was put yet. It is given how many transactions were invoked before each one completed.
-    fn new(
-        alloc: Global,
-        history: &'h History<'v, 'a>,
-        reads: Reads,
-        invoked: &[u32],
-    ) -> Result<Self, AllocError> {
+    /// Nothing was put yet.
+    fn new(alloc: Global, history: &'h History<'v, 'a>, reads: Reads) -> Result<Self, AllocError> {
         let txns = u32::try_from(history.txns().len()).map_err(|_| AllocError)?;
+        let width = txns.checked_add(BEYOND).ok_or(AllocError)?;
         let numbers = if APART {
-            txns.checked_mul(2).ok_or(AllocError)?
+            width.checked_mul(2).ok_or(AllocError)?
         } else {
-            txns
+            width
         };
         Ok(Putting {
             history,
@@ -79,11 +84,23 @@ impl<'h, 'v, 'a, const APART: bool> Putting<'h, 'v, 'a, APART> {
             reads,
             ranks: vec![in alloc; 0; numbers as usize]?,
             put: 0,
-            begun: vec![in alloc; false; numbers as usize]?,
+            invoked: 0,
+            timely: BEGUN - 1,
             waiting: Vec::new(alloc),
-            earlier: Earlier::of(alloc, history, APART, invoked)?,
+            earlier: Earlier::of(alloc, history, APART)?,
             looked: vec![in alloc; 0; history.versions()]?,
         })
+    }
+
+    /// Puts the transactions that have a rank up to this one, their starts and their commits alike.
+    fn put_before(&mut self, ranks: &[u32], timely: u32) {
+        for (place, rank) in ranks.iter().enumerate() {
+            if *rank <= timely && place < self.txns as usize {
+                self.put = self.put.max(*rank);
+                self.set_rank(place as u32, *rank);
+                self.set_rank(self.start(place as u32), *rank);
+            }
+        }
     }
 
     /// The ranks by number, from 1 on.
@@ -94,7 +111,8 @@ impl<'h, 'v, 'a, const APART: bool> Putting<'h, 'v, 'a, APART> {
             reads: _,
             ranks,
             put: _,
-            begun: _,
+            invoked: _,
+            timely: _,
             waiting: _,
             earlier: _,
             looked: _,
@@ -103,12 +121,13 @@ impl<'h, 'v, 'a, const APART: bool> Putting<'h, 'v, 'a, APART> {
     }
 
     fn is_put(&self, number: u32) -> bool {
-        rank_at(&self.ranks, number as usize) > 0
+        let rank = rank_at(&self.ranks, number as usize);
+        rank != 0 && rank != BEGUN
     }
 
     /// Whether it is a start that has the number.
     fn is_start(&self, number: u32) -> bool {
-        APART && number >= self.txns
+        APART && number >= self.txns.wrapping_add(BEYOND)
     }
 
     /// Whether it is a commit that has the number.
@@ -119,7 +138,7 @@ impl<'h, 'v, 'a, const APART: bool> Putting<'h, 'v, 'a, APART> {
     /// The place of the transaction whose number it is.
     fn place(&self, number: u32) -> u32 {
         if self.is_start(number) {
-            number.wrapping_sub(self.txns)
+            number.wrapping_sub(self.txns).wrapping_sub(BEYOND)
         } else {
             number
         }
@@ -128,15 +147,17 @@ impl<'h, 'v, 'a, const APART: bool> Putting<'h, 'v, 'a, APART> {
     /// The number of the start of the transaction at the place.
     fn start(&self, place: u32) -> u32 {
         if APART {
-            place.wrapping_add(self.txns)
+            place.wrapping_add(self.txns).wrapping_add(BEYOND)
         } else {
             place
         }
     }
 
-    /// Puts each of the transactions, and whatever has to come before. It is false if one can't be put.
-    fn put_each(&mut self, places: &[u32]) -> Result<bool, AllocError> {
-        for place in places {
+    /// Puts each of the transactions, and whatever has to come before, by who completed when. It is false if one can't be put.
+    fn put_each(&mut self, ends: &[u32]) -> Result<bool, AllocError> {
+        let invocation = self.txns.wrapping_add(1);
+        for place in ends {
+            self.invoked = self.invoked.wrapping_add(u32::from(*place == invocation));
             if *place < self.txns && !self.put(*place)? {
                 return Ok(false);
             }
@@ -177,9 +198,12 @@ impl<'h, 'v, 'a, const APART: bool> Putting<'h, 'v, 'a, APART> {
 
     /// Begins with what has the number. It is false if that was done before.
     fn begin(&mut self, number: u32) -> bool {
-        match self.begun.get_mut(number as usize) {
-            Some(begun) if !*begun => {
-                *begun = true;
+        if self.place(number) >= self.invoked {
+            self.timely = self.timely.min(self.put);
+        }
+        match self.ranks.get_mut(number as usize) {
+            Some(rank) if *rank == 0 => {
+                *rank = BEGUN;
                 true
             }
             _ => false,
@@ -189,10 +213,14 @@ impl<'h, 'v, 'a, const APART: bool> Putting<'h, 'v, 'a, APART> {
     /// Gives the number the next rank.
     fn rank(&mut self, number: u32) -> Result<(), AllocError> {
         self.put = self.put.checked_add(1).ok_or(AllocError)?;
-        if let Some(rank) = self.ranks.get_mut(number as usize) {
-            *rank = self.put;
-        }
+        self.set_rank(number, self.put);
         Ok(())
+    }
+
+    fn set_rank(&mut self, number: u32, rank: u32) {
+        if let Some(old) = self.ranks.get_mut(number as usize) {
+            *old = rank;
+        }
     }
 
     /// The number of what has to be put before this one and wasn't.
@@ -209,7 +237,7 @@ impl<'h, 'v, 'a, const APART: bool> Putting<'h, 'v, 'a, APART> {
         let installs = self.history.installs(place);
         for step in frame.looked..reads.len().saturating_add(installs.len()) {
             let before = match reads.get(step) {
-                Some(number) => self.before_read(frame.number, *number as usize),
+                Some(number) => self.before_read(frame, *number as usize),
                 None => match installs.get(step.saturating_sub(reads.len())) {
                     Some(number) => self.before_install(frame, *number as usize),
                     None => None,
@@ -220,25 +248,28 @@ impl<'h, 'v, 'a, const APART: bool> Putting<'h, 'v, 'a, APART> {
                 return before;
             }
             frame.link = None;
+            frame.readers = 0;
         }
         None
     }
 
     /// What has to be put before this one for what the transaction reads: the one that wrote the version, if wr edges count or it
-    /// installs the next one, and if it alone installs that, the others that read it.
-    fn before_read(&mut self, number: u32, version: usize) -> Option<u32> {
+    /// installs the next one, and if it does, the others that read it.
+    fn before_read(&mut self, frame: &mut Frame, version: usize) -> Option<u32> {
         if version >= self.history.versions() {
             return None;
         }
+        let place = self.place(frame.number);
         let followers = self.history.followers(version);
-        if let Some(writer) = self.next_writer(number, version) {
-            if self.waits(self.place(number), followers, writer) {
+        if let Some(writer) = self.next_writer(frame.number, version) {
+            if self.waits(place, followers, writer) {
                 return Some(writer);
             }
         }
-        match followers {
-            [follower] if follower.txn == self.place(number) => self.next_reader(number, version),
-            _ => None,
+        if self.waits_for_readers(place, followers, version) {
+            self.next_reader(frame, version)
+        } else {
+            None
         }
     }
 
@@ -246,6 +277,17 @@ impl<'h, 'v, 'a, const APART: bool> Putting<'h, 'v, 'a, APART> {
     /// edges count, or it is one of the followers, or the other one isn't ok, and so is put where others wait for it alone.
     fn waits(&self, place: u32, followers: &[Follower], writer: u32) -> bool {
         self.reads.to_readers || is_among(followers, place) || !self.is_ok(writer)
+    }
+
+    /// Whether the transaction at the place, which reads a version with these followers, waits for the others that read it: where it
+    /// alone installs the next one, or where several that read it do, none of which can be put once before the others. Else this is
+    /// looked at where the next version is installed.
+    fn waits_for_readers(&self, place: u32, followers: &[Follower], version: usize) -> bool {
+        match followers {
+            [] => false,
+            [follower] => follower.txn == place,
+            _ => !APART && !leads_on(self.history, false, version) && is_among(followers, place),
+        }
     }
 
     fn is_ok(&self, place: u32) -> bool {
@@ -258,14 +300,16 @@ impl<'h, 'v, 'a, const APART: bool> Putting<'h, 'v, 'a, APART> {
         let mut next = frame.link.unwrap_or(self.earlier.first(version));
         for _ in 0..u64::MAX {
             let link = self.earlier.link(next)?;
-            let before = self
-                .next_writer(frame.number, link.version as usize)
-                .or_else(|| self.next_reader(frame.number, link.version as usize));
+            let before = match self.next_writer(frame.number, link.version as usize) {
+                Some(writer) => Some(writer),
+                None => self.next_reader(frame, link.version as usize),
+            };
             if before.is_some() {
                 frame.link = Some(next);
                 return before;
             }
             next = link.next;
+            frame.readers = 0;
         }
         None
     }
@@ -287,53 +331,63 @@ impl<'h, 'v, 'a, const APART: bool> Putting<'h, 'v, 'a, APART> {
     }
 
     /// The start of a reader of the version, other than the transaction, that wasn't put, if rw edges count. A start waits for none.
-    fn next_reader(&mut self, number: u32, version: usize) -> Option<u32> {
-        if !self.reads.from_readers || self.is_start(number) || version >= self.history.versions() {
+    fn next_reader(&mut self, frame: &mut Frame, version: usize) -> Option<u32> {
+        if !self.reads.from_readers
+            || self.is_start(frame.number)
+            || version >= self.history.versions()
+        {
             return None;
         }
+        let place = self.place(frame.number);
         let readers = self.history.readers(version);
-        let first = self.looked.get(version).copied().unwrap_or(0);
-        let mut index = first;
-        let mut found = None;
-        for reader in readers.get(first as usize..)? {
-            let start = self.start(*reader);
-            if *reader != self.place(number) && !self.is_put(start) {
-                found = Some(start);
+        let mut looked = self.looked.get(version).copied().unwrap_or(0);
+        for reader in readers.get(looked as usize..)? {
+            if !self.is_put(self.start(*reader)) {
                 break;
             }
-            index = index.saturating_add(1);
+            looked = looked.saturating_add(1);
         }
-        if let Some(looked) = self.looked.get_mut(version) {
-            *looked = index;
+        if let Some(old) = self.looked.get_mut(version) {
+            *old = looked;
         }
-        found
+        frame.readers = frame.readers.max(looked);
+        for reader in readers.get(frame.readers as usize..)? {
+            let start = self.start(*reader);
+            if *reader != place && !self.is_put(start) {
+                return Some(start);
+            }
+            frame.readers = frame.readers.saturating_add(1);
+        }
+        None
     }
 }
 
-/// Ranks by number, by who completed when, if each number can be put after what has to come before it.
-fn put_all<const APART: bool>(
-    alloc: Global,
-    history: &History<'_, '_>,
-    reads: Reads,
-    ends: &[u32],
-) -> Result<Option<Vec<u32>>, AllocError> {
-    let invoked = invoked_before(alloc, history.txns().len(), ends)?;
-    let mut putting = Putting::<'_, '_, '_, APART>::new(alloc, history, reads, &invoked)?;
-    if !putting.put_each(ends)? {
-        return Ok(None);
-    }
-    Ok(Some(putting.into_ranks()))
+/// Ranks for transactions, as far as they could be put, and after them two numbers that mean nothing.
+#[derive(Drop)]
+pub struct Put {
+    pub ranks: Vec<u32>,
+    /// Up to which rank each comes after what completed before its invocation.
+    pub timely: u32,
+    /// Whether each could be put after what has to come before it.
+    pub is_all: bool,
 }
 
-/// Ranks for the transactions of a history, by who completed when, if each can be put after what has to come before it: those whose
-/// writes it wrote over and, as far as their edges count, those whose writes it read and those that read what it wrote over.
+/// Ranks for the transactions of a history, by who completed when, each after what has to come before it: those whose writes it
+/// wrote over and, as far as their edges count, those whose writes it read and those that read what it wrote over.
 pub fn ranks(
     alloc: Global,
     history: &History<'_, '_>,
     reads: Reads,
     ends: &[u32],
-) -> Result<Option<Vec<u32>>, AllocError> {
-    put_all::<false>(alloc, history, reads, ends)
+) -> Result<Put, AllocError> {
+    let mut putting = Putting::<'_, '_, '_, false>::new(alloc, history, reads)?;
+    let is_all = putting.put_each(ends)?;
+    let timely = putting.timely;
+    Ok(Put {
+        ranks: putting.into_ranks(),
+        timely,
+        is_all,
+    })
 }
 
 /// Ranks for the starts and for the commits of a history's transactions.
@@ -347,26 +401,34 @@ pub struct Snapshots {
 impl Snapshots {
     /// They are put by who completed when, if each can be put after what has to come before it: before a start the commits of those
     /// whose writes the transaction read or wrote over, and before a commit its start and those of the others that read what it
-    /// wrote over.
+    /// wrote over. Those that have one of these ranks, up to the timely one, keep it.
     pub fn of(
         alloc: Global,
         history: &History<'_, '_>,
+        ranks: &[u32],
+        timely: u32,
         ends: &[u32],
     ) -> Result<Option<Self>, AllocError> {
-        match put_all::<true>(alloc, history, Reads::ALL, ends)? {
-            None => Ok(None),
-            Some(ranks) => Ok(Some(Snapshots {
-                txns: history.txns().len(),
-                ranks,
-            })),
+        let mut putting = Putting::<'_, '_, '_, true>::new(alloc, history, Reads::ALL)?;
+        putting.put_before(ranks, timely);
+        if !putting.put_each(ends)? {
+            return Ok(None);
         }
+        Ok(Some(Snapshots {
+            txns: history.txns().len(),
+            ranks: putting.into_ranks(),
+        }))
     }
 
     pub fn starts(&self) -> &[u32] {
-        self.ranks.get(self.txns..).unwrap_or(&[])
+        self.ranks
+            .get(self.txns.wrapping_add(BEYOND as usize)..)
+            .unwrap_or(&[])
     }
 
     pub fn commits(&self) -> &[u32] {
-        self.ranks.get(..self.txns).unwrap_or(&[])
+        self.ranks
+            .get(..self.txns.wrapping_add(BEYOND as usize))
+            .unwrap_or(&[])
     }
 }

@@ -3,7 +3,7 @@
 //! There are two ranks for each transaction: one of its start, when its snapshot was taken, and one of its commit. Where a
 //! transaction has one rank alone, both lists of ranks are the same one.
 
-ghost use Rattle.std.specs.Prelude.{◌≡◌, ◌<◌, ◌≤◌, ℕ, length, slice_index, slice_get, All, Some, IsTrue, true};
+ghost use Rattle.std.specs.Prelude.{◌≡◌, ◌<◌, ◌≤◌, ℕ, length, slice_index, slice_get, All, Some, IsTrue};
 ghost use Rattle.hist_types.specs.Transactions.{is_node};
 ghost use Rattle.std.specs.Bool.{OnTrue};
 ghost use Rattle.hist_types.specs.Reports.{AreFindings, no_findings};
@@ -11,7 +11,7 @@ ghost use Rattle.key_versions.specs.Tables.{IsTableOf};
 ghost use Rattle.dep_edges.specs.Histories.{AreOfHistory};
 ghost use Rattle.dep_edges.specs.Tables.{IsPlace, IsNumber, txn_at, version_at};
 ghost use Rattle.clean_order.specs.Rising.{ShowsNoDirtyWrites, ShowsNoWrites, ShowsNoneButItem, ShowsNoSingleAtPlain, ShowsNothingAtPlain};
-ghost use Rattle.clean_order.specs.Ranked.{IsBeforeIfOther, StartFirst, writers, counted, RisesToReaders, RisesAtVersion, RisesAtEach, RisesInTime, IsListed, AreAtMost};
+ghost use Rattle.clean_order.specs.Ranked.{IsBeforeIfOther, StartFirst, writers, counted, RisesToReaders, RisesAtVersion, RisesAtEach, RankRisesAtEach, RisesInTime, IsListed, AreAtMost};
 ghost use Rattle.clean_order.specs.Highest.{IsCounted, AreCounted, RisesAbove};
 
 use dep_edges::deps::Deps;
@@ -339,8 +339,7 @@ fn both_wide<R: Threads>(
     ends: &[u32],
 ) -> (bool, bool)
     requires { deps.now ≡ history.now }
-    ensures each { OnTrue result.0 (RisesAtEach history.now (record { to_readers = true; from_readers = true })
-        ranks.now ranks.now) }
+    ensures each { OnTrue result.0 (RankRisesAtEach history.now ranks.now) }
     ensures time { OnTrue result.1 (RisesInTime history.now.txns ranks.now ranks.now) }
 {
     join_mut(

@@ -5,6 +5,7 @@ ghost use Rattle.hist_types.specs.Journal.{KeepsRules};
 ghost use Rattle.hist_types.specs.Transactions.{transactions_of};
 
 use block_reader::one_block::block_of_text;
+use clean_order::attempt::Attempt;
 use clean_order::{
     settles, settles_dirty_writes, settles_plain, settles_single_at_plain, settles_snapshots,
     settles_writes,
@@ -38,6 +39,17 @@ const CLEAN: &[u8] = b"{:type :invoke, :process 0, :value [[:w :x 1]]}
 
 /// Two transactions, neither of which saw what the other wrote.
 const SKEWED: &[u8] = b"{:type :invoke, :process 0, :value [[:w :x 1] [:r :y nil]]}
+{:type :invoke, :process 1, :value [[:w :y 1] [:r :x nil]]}
+{:type :ok, :process 0, :value [[:w :x 1] [:r :y nil]]}
+{:type :ok, :process 1, :value [[:w :y 1] [:r :x nil]]}
+";
+
+/// The same after two transactions of which one saw what the other wrote.
+const LATER_SKEWED: &[u8] = b"{:type :invoke, :process 0, :value [[:w :z 1]]}
+{:type :invoke, :process 1, :value [[:r :z nil]]}
+{:type :ok, :process 1, :value [[:r :z 1]]}
+{:type :ok, :process 0, :value [[:w :z 1]]}
+{:type :invoke, :process 0, :value [[:w :x 1] [:r :y nil]]}
 {:type :invoke, :process 1, :value [[:w :y 1] [:r :x nil]]}
 {:type :ok, :process 0, :value [[:w :x 1] [:r :y nil]]}
 {:type :ok, :process 1, :value [[:w :y 1] [:r :x nil]]}
@@ -129,13 +141,14 @@ fn told_of<'a>(alloc: Global, prefix: &Prefix<'a>, txns: &Txns<'a>) -> Result<To
         KeyOrder::Basic,
     )?;
     let deps = edges(alloc, txns, &versions)?;
+    let mut attempt = Attempt::new(alloc, &deps)?;
     Ok(Told {
-        settles: settles(alloc, &deps)?,
-        settles_writes: settles_writes(alloc, &deps)?,
-        settles_dirty_writes: settles_dirty_writes(alloc, &deps)?,
-        settles_plain: settles_plain(alloc, &deps)?,
-        settles_snapshots: settles_snapshots(alloc, &deps)?,
-        settles_single_at_plain: settles_single_at_plain(alloc, &deps)?,
+        settles: settles(alloc, &deps, &mut attempt)?,
+        settles_writes: settles_writes(alloc, &deps, &attempt)?,
+        settles_dirty_writes: settles_dirty_writes(alloc, &deps, &attempt)?,
+        settles_plain: settles_plain(&deps, &attempt),
+        settles_snapshots: settles_snapshots(alloc, &deps, &attempt)?,
+        settles_single_at_plain: settles_single_at_plain(alloc, &deps, &attempt)?,
         has_circular_flow: circular_flow(alloc, &deps)?.is_some(),
         has_single_at_plain: single_at_plain(alloc, &deps)?.is_some(),
         has_single_in_process: single_in_process(alloc, &deps)?.is_some(),
@@ -197,6 +210,7 @@ fn histories_are_told_without_a_graph(rt: HostRuntime) -> Result<(), Fail> {
     for (text, expected) in [
         (CLEAN, clean),
         (SKEWED, skewed),
+        (LATER_SKEWED, skewed),
         (LOST, lost),
         (STALE, stale),
         (FRACTURED, fractured),

@@ -16,6 +16,7 @@ ghost use Rattle.verdict.specs.Tables.{AreTables, history_of};
 
 use crate::pairs::{Pair, Pairs};
 use crate::tables::Tables;
+use clean_order::attempt::Attempt;
 use clean_order::{
     settles, settles_dirty_writes, settles_plain, settles_single_at_plain, settles_snapshots,
     settles_wide, settles_writes,
@@ -252,6 +253,7 @@ fn findings_in_graph_wide<'a, R: Threads>(
 fn with_both<'a>(
     alloc: Global,
     deps: &Deps<'_, 'a>,
+    attempt: &Attempt,
     single: Finding<'a>,
     item: Finding<'a>,
 ) -> Result<Option<Findings<'a>>, AllocError>
@@ -261,7 +263,7 @@ fn with_both<'a>(
     ensures { IfOk result (λ found. IfSome found
         (AreFindings deps.now.table.keys deps.now.txns)) }
 {
-    if settles_writes(alloc, deps)? {
+    if settles_writes(alloc, deps, attempt)? {
         return Ok(Some(Findings {
             g0: None,
             g1c: None,
@@ -272,7 +274,7 @@ fn with_both<'a>(
     let Some(walk) = circular_flow(alloc, deps)? else {
         return Ok(None);
     };
-    if !settles_dirty_writes(alloc, deps)? {
+    if !settles_dirty_writes(alloc, deps, attempt)? {
         return Ok(None);
     }
     let flow = reduced(alloc, Level::Plain, &walk)?;
@@ -305,6 +307,7 @@ fn item_at_plain<'a>(
 fn with_single_at_plain<'a>(
     alloc: Global,
     deps: &Deps<'_, 'a>,
+    attempt: &Attempt,
     walk: &Walk<'a>,
 ) -> Result<Option<Findings<'a>>, AllocError>
     requires history { AreOfHistory deps.now.txns }
@@ -314,13 +317,14 @@ fn with_single_at_plain<'a>(
 {
     let single = reduced(alloc, Level::Plain, walk)?;
     let item = item_at_plain(alloc, deps, walk)?;
-    with_both(alloc, deps, single, item)
+    with_both(alloc, deps, attempt, single, item)
 }
 
 /// The same where the walk shows G-single at process, and the other one, if there is one, G2-item at plain.
 fn with_single_in_process<'a>(
     alloc: Global,
     deps: &Deps<'_, 'a>,
+    attempt: &Attempt,
     walk: &Walk<'a>,
     skew: &Option<Walk<'a>>,
 ) -> Result<Option<Findings<'a>>, AllocError>
@@ -334,18 +338,18 @@ fn with_single_in_process<'a>(
     let single = reduced(alloc, Level::Process, walk)?;
     match skew {
         Some(skew) => {
-            if !settles_single_at_plain(alloc, deps)? {
+            if !settles_single_at_plain(alloc, deps, attempt)? {
                 return Ok(None);
             }
             let item = reduced(alloc, Level::Plain, skew)?;
-            with_both(alloc, deps, single, item)
+            with_both(alloc, deps, attempt, single, item)
         }
         None => {
-            if !settles_plain(alloc, deps)? {
+            if !settles_plain(deps, attempt) {
                 return Ok(None);
             }
             let item = reduced(alloc, Level::Process, walk)?;
-            with_both(alloc, deps, single, item)
+            with_both(alloc, deps, attempt, single, item)
         }
     }
 }
@@ -355,6 +359,7 @@ fn with_single_in_process<'a>(
 fn with_skew_alone<'a>(
     alloc: Global,
     deps: &Deps<'_, 'a>,
+    attempt: &Attempt,
     skew: &Walk<'a>,
 ) -> Result<Option<Findings<'a>>, AllocError>
     requires history { AreOfHistory deps.now.txns }
@@ -362,7 +367,7 @@ fn with_skew_alone<'a>(
     ensures { IfOk result (λ found. IfSome found
         (AreFindings deps.now.table.keys deps.now.txns)) }
 {
-    if !settles_snapshots(alloc, deps)? {
+    if !settles_snapshots(alloc, deps, attempt)? {
         return Ok(None);
     }
     Ok(Some(Findings {
@@ -374,7 +379,34 @@ fn with_skew_alone<'a>(
 }
 
 /// What is found of each phenomenon, where looks at each version settle what there is. So it is in most histories of databases that
-/// promise less than serializability. No order is thinned and no graph is made.
+/// promise less than serializability.
+fn findings_by_looks<'a>(
+    alloc: Global,
+    deps: &Deps<'_, 'a>,
+    attempt: &Attempt,
+) -> Result<Option<Findings<'a>>, AllocError>
+    requires { AreOfHistory deps.now.txns }
+    ensures { IfOk result (λ found. IfSome found
+        (AreFindings deps.now.table.keys deps.now.txns)) }
+{
+    let skew = write_skew(alloc, deps)?;
+    if let Some(skew) = &skew {
+        let found = with_skew_alone(alloc, deps, attempt, skew)?;
+        if found.is_some() {
+            return Ok(found);
+        }
+    }
+    if let Some(walk) = single_at_plain(alloc, deps)? {
+        return with_single_at_plain(alloc, deps, attempt, &walk);
+    }
+    match single_in_process(alloc, deps)? {
+        Some(walk) => with_single_in_process(alloc, deps, attempt, &walk, &skew),
+        None => Ok(None),
+    }
+}
+
+/// What is found of each phenomenon, where the history settles, or looks at each version find what there is. No order is thinned and
+/// no graph is made.
 fn findings_without_graph<'a>(
     alloc: Global,
     deps: &Deps<'_, 'a>,
@@ -383,24 +415,31 @@ fn findings_without_graph<'a>(
     ensures { IfOk result (λ found. IfSome found
         (AreFindings deps.now.table.keys deps.now.txns)) }
 {
-    let skew = write_skew(alloc, deps)?;
-    if let Some(skew) = &skew {
-        let found = with_skew_alone(alloc, deps, skew)?;
-        if found.is_some() {
-            return Ok(found);
-        }
+    let mut attempt = Attempt::new(alloc, deps)?;
+    if settles(alloc, deps, &mut attempt)? {
+        return Ok(Some(Findings::none()));
     }
-    if let Some(walk) = single_at_plain(alloc, deps)? {
-        return with_single_at_plain(alloc, deps, &walk);
-    }
-    match single_in_process(alloc, deps)? {
-        Some(walk) => with_single_in_process(alloc, deps, &walk, &skew),
-        None => Ok(None),
-    }
+    findings_by_looks(alloc, deps, &attempt)
 }
 
-/// What is found of the phenomena that cycles show. Where the history settles, or looks at each version find what there is, no order
-/// is thinned and no graph is made.
+/// As `findings_without_graph`, with two threads if another can be started.
+fn findings_without_graph_wide<'a, R: Threads>(
+    rt: &R,
+    alloc: Global,
+    deps: &Deps<'_, 'a>,
+) -> Result<Option<Findings<'a>>, AllocError>
+    requires { AreOfHistory deps.now.txns }
+    ensures { IfOk result (λ found. IfSome found
+        (AreFindings deps.now.table.keys deps.now.txns)) }
+{
+    let mut attempt = Attempt::new(alloc, deps)?;
+    if settles_wide(rt, alloc, deps, &mut attempt)? {
+        return Ok(Some(Findings::none()));
+    }
+    findings_by_looks(alloc, deps, &attempt)
+}
+
+/// What is found of the phenomena that cycles show.
 pub fn findings_of<'a>(
     alloc: Global,
     tables: &Tables<'_, 'a>,
@@ -410,9 +449,6 @@ pub fn findings_of<'a>(
     requires deps { deps.now ≡ history_of tables.now }
     ensures { IfOk result (AreFindings deps.now.table.keys deps.now.txns) }
 {
-    if settles(alloc, deps)? {
-        return Ok(Findings::none());
-    }
     if let Some(found) = findings_without_graph(alloc, deps)? {
         return Ok(found);
     }
@@ -438,10 +474,7 @@ pub fn findings_of_wide<'a, R: Threads>(
     requires deps { deps.now ≡ history_of tables.now }
     ensures { IfOk result (AreFindings deps.now.table.keys deps.now.txns) }
 {
-    if settles_wide(rt, alloc, deps)? {
-        return Ok(Findings::none());
-    }
-    if let Some(found) = findings_without_graph(alloc, deps)? {
+    if let Some(found) = findings_without_graph_wide(rt, alloc, deps)? {
         return Ok(found);
     }
     match tables.thinned {

@@ -25,11 +25,11 @@ with_both-requires-clause-item c =
 pub with_both-requires-in-None-clause-single : goal.with_both-requires-in-None-clause-single
 with_both-requires-in-None-clause-single c =
     let d : History = c.args.deps.now in
-    let none : ShowsNothingAtPlain d.table.keys d.txns = OnTrue_at c.if-not-branch-2.false c.in_ok-settles_plain-in-None.ensures in
+    let none : ShowsNothingAtPlain d.table.keys d.txns = OnTrue_at c.if-not-settles_plain.false c.settles_plain.ensures in
     found_in_process d.table.keys d.txns GSingle c.args.walk.now c.in_ok-single.single c.requires.history c.requires.shows.single (none GSingle) c.in_ok-single.ensures
 
 pub with_both-requires-in-None-clause-item : goal.with_both-requires-in-None-clause-item
 with_both-requires-in-None-clause-item c =
     let d : History = c.args.deps.now in
-    let none : ShowsNothingAtPlain d.table.keys d.txns = OnTrue_at c.if-not-branch-2.false c.in_ok-settles_plain-in-None.ensures in
+    let none : ShowsNothingAtPlain d.table.keys d.txns = OnTrue_at c.if-not-settles_plain.false c.settles_plain.ensures in
     found_in_process d.table.keys d.txns G2Item c.args.walk.now c.in_ok-item-in-None.item c.requires.history c.requires.shows.item (none G2Item) c.in_ok-item-in-None.ensures
