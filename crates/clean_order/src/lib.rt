@@ -106,8 +106,8 @@ pub fn settles_plain(deps: &Deps<'_, '_>, attempt: &Attempt) -> bool
 /// It is what `settles` does, with two ranks for each transaction: one of its start, when its snapshot was taken, and one of its
 /// commit. A transaction starts after the commits of those that it depends on otherwise than by an rw edge, and commits after the
 /// starts of those that read what it wrote over. It is true of each history whose starts and commits can be ordered so, thus of
-/// those of strong snapshot isolation, also where they have write skew. A transaction that `settles` gave a rank starts and commits
-/// at that rank.
+/// those of strong snapshot isolation, also where they have write skew. What `settles` put before it put one ahead of its invocation
+/// starts and commits at the rank that it has from there.
 ///
 /// It takes twice the numbers for each transaction that `settles` takes, and linear time.
 pub fn settles_snapshots(
