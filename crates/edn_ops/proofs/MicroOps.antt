@@ -9,12 +9,12 @@ use Rattle.hist_types.specs.Tokens.{Item, byte_fault, Opener}
 use Rattle.hist_types.specs.declared.limits.TheConstants.{MAX_MICRO_OPS}
 use Rattle.hist_types.specs.declared.types.Fault.{Fault}
 use Rattle.hist_types.specs.declared.types.Refusal.TheVariants.{TooManyMicroOps, NotTxn, BadAtom}
-use Rattle.smallvec.specs.SmallVec.{SmallVec}
 use Rattle.edn_ops.specs.declared.types.MopShape.{MopShape}
 use Rattle.edn_ops.specs.Shapes.{mop_shape_of}
 use Rattle.edn_ops.specs.Fields.{mop_result, mops_result}
 use Rattle.edn_ops.specs.declared.outline.Outline.{Outline}
-use Rattle.std.specs.Prelude.{IsErrAnd}
+use Rattle.std.specs.Prelude.{IsErrAnd, Vec}
+use Rattle.std.specs.Global.{Global}
 use Rattle.edn_lex.specs.declared.types.Token.{Token}
 use Rattle.edn_lex.specs.Kinds.{kind_of, item_of}
 use Rattle.edn_lex.specs.State.{State}
@@ -226,7 +226,7 @@ mop_fails s u fault (Ok found) h stops = absurd h
 mop_fails s u fault (Err other) h stops = subst (StopsInside s) (sym h) stops
 
 pub transaction_fails :
-    (s u : State) (opener : Item) (fault : Fault) (result : Result (Result (SmallVec MopShape) Fault) Fault) → IsErrAnd result (λ e. e ≡ fault) →
+    (s u : State) (opener : Item) (fault : Fault) (result : Result (Result (Vec MopShape Global) Fault) Fault) → IsErrAnd result (λ e. e ≡ fault) →
     StopsBehind s opener fault → ReadsTransaction s opener result u
 transaction_fails s u opener fault (Ok found) h stops = absurd h
 transaction_fails s u opener fault (Err other) h stops = λ memory. subst (StopsBehind s opener) (sym h) stops

@@ -1,5 +1,6 @@
 -- What calls read of the members of a collection, and of a collection as a whole.
-use Rattle.std.specs.Prelude.{◌≡◌, ◌≢◌, ◌≤◌, ◌<◌, ℕ, List, [], ◌∷◌, ◌++◌, take, map, true, false, Option, Some, Result, Ok, Err}
+use Rattle.std.specs.Prelude.{◌≡◌, ◌≢◌, ◌≤◌, ◌<◌, ℕ, List, [], ◌∷◌, ◌++◌, take, map, true, false, Option, Some, Result, Ok, Err, Vec}
+use Rattle.std.specs.Global.{Global}
 use Rattle.std.specs.List.{AllByRecursion}
 use Rattle.hist_types.specs.Entries.{Entry, micro_op_of, micro_ops_of, elements_of}
 use Rattle.hist_types.specs.Forms.{Form, collection, forms_of, Open, place_of, with_form, with_opener}
@@ -8,7 +9,6 @@ use Rattle.hist_types.specs.Refusals.{memory_fault}
 use Rattle.hist_types.specs.Tokens.{Item}
 use Rattle.hist_types.specs.declared.types.Fault.{Fault}
 use Rattle.arrayvec.specs.ArrayVec.{ArrayVec}
-use Rattle.smallvec.specs.SmallVec.{SmallVec}
 use Rattle.edn_lex.specs.State.{State}
 use Rattle.edn_ops.specs.declared.types.MopShape.{MopShape}
 use Rattle.edn_ops.specs.declared.types.OpShape.{OpShape}
@@ -114,7 +114,7 @@ AddsMop old start mop new =
 
 -- a call read the members of a transaction
 abbrev pub ReadsTransaction :
-    State → Item → Result (Result (SmallVec MopShape) Fault) Fault → State → Type 0
+    State → Item → Result (Result (Vec MopShape Global) Fault) Fault → State → Type 0
 ReadsTransaction s opener (Ok found) t =
     (members : List Form) × (closer : Item) × ReadsCollection s opener members closer t
     × (shapes_result found ≡ mops_result (micro_ops_of 0 members))

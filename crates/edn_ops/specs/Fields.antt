@@ -1,5 +1,6 @@
 -- Fields of an operation's map, as they are gathered.
-use Rattle.std.specs.Prelude.{◌≡◌, ℕ, List, [], ◌∷◌, ◌++◌, ◌&&◌, Bool, true, false, codes, Option, Some, None, option_map, Result, Ok, Err, IfSome, filter, map}
+use Rattle.std.specs.Prelude.{◌≡◌, ℕ, List, [], ◌∷◌, ◌++◌, ◌&&◌, Bool, true, false, codes, Option, Some, None, option_map, Result, Ok, Err, IfSome, filter, map, Vec}
+use Rattle.std.specs.Global.{Global}
 use Rattle.std.specs.List.{slice_get}
 use Rattle.std.specs.Option.{is_none}
 use Rattle.hist_types.specs.Entries.{PlacedMop, Entry, operation, skipped, is_named, the_one, transaction_of, mops_of, client_operation, entry_of, end_of}
@@ -8,7 +9,6 @@ use Rattle.hist_types.specs.declared.types.OpKind.{OpKind}
 use Rattle.edn_lex.specs.declared.types.Token.{Token}
 use Rattle.hist_types.specs.Forms.{Form, place_of}
 use Rattle.hist_types.specs.declared.types.Fault.{Fault}
-use Rattle.smallvec.specs.SmallVec.{SmallVec}
 use Rattle.edn_ops.specs.Shapes.{mop_shape_of, IsShapeOf}
 use Rattle.edn_ops.specs.Outlines.{outline, outline_of, number_of, IsOutlineIn}
 use Rattle.edn_ops.specs.declared.types.MopShape.{MopShape}
@@ -81,7 +81,7 @@ mops_result (Ok mops) = Ok (map mop_shape_of mops)
 mops_result (Err fault) = Err fault
 
 -- the same of what the code has
-abbrev pub shapes_result : Result (SmallVec MopShape) Fault → Result (List MopShape) Fault
+abbrev pub shapes_result : Result (Vec MopShape Global) Fault → Result (List MopShape) Fault
 shapes_result (Ok shapes) = Ok shapes.items
 shapes_result (Err fault) = Err fault
 

@@ -1,5 +1,6 @@
 -- Maps as printers write them, read in one pass over their bytes.
-use Rattle.std.specs.Prelude.{◌≡◌, ◌⊎◌, ℕ, ℤ, ◌+◌, ◌<◌, ◌≤◌, List, [], ◌∷◌, ◌++◌, length, Bool, true, false, codes, Option, Some, None, IfSome, Result, Ok, Err}
+use Rattle.std.specs.Prelude.{◌≡◌, ◌⊎◌, ℕ, ℤ, ◌+◌, ◌<◌, ◌≤◌, List, [], ◌∷◌, ◌++◌, length, Bool, true, false, codes, Option, Some, None, IfSome, Result, Ok, Err, Vec}
+use Rattle.std.specs.Global.{Global}
 use Rattle.std.specs.Option.{is_some}
 use Rattle.hist_types.specs.AtomTokens.{process_of}
 use Rattle.hist_types.specs.Bytes.{open_square, close_square, open_brace, close_brace}
@@ -11,7 +12,6 @@ use Rattle.hist_types.specs.declared.limits.TheConstants.{MAX_OPEN_COLLECTIONS}
 use Rattle.hist_types.specs.declared.types.Fault.{Fault}
 use Rattle.hist_types.specs.declared.types.OpKind.{OpKind}
 use Rattle.hist_types.specs.declared.types.OpKind.TheVariants as kinds
-use Rattle.smallvec.specs.SmallVec.{SmallVec}
 use Rattle.edn_lex.specs.Ahead.{going_at, IsGap, IsLoneAt, GivesAhead, GivesOpener, GivesCloser, GivesTriple}
 use Rattle.edn_lex.specs.Kinds.{item_of}
 use Rattle.edn_lex.specs.declared.ahead.Triple.{Triple}
@@ -316,18 +316,18 @@ pub record IsFlatEntry
   pub entry : IsEntry (Ok shape) (entry_of (item_of text opener) (item_of text closer) members)
 
 -- an operation with its micro-operations
-abbrev pub shape_with : SmallVec MopShape → FlatOperation → OpShape
+abbrev pub shape_with : Vec MopShape Global → FlatOperation → OpShape
 shape_with mops o = record { span = o.span; kind = o.kind; process = o.process; mops = mops }
 
 abbrev pub result_with :
-    SmallVec MopShape → Result (Option FlatOperation) Fault → Result (Option OpShape) Fault
+    Vec MopShape Global → Result (Option FlatOperation) Fault → Result (Option OpShape) Fault
 result_with mops (Ok None) = Ok None
 result_with mops (Ok (Some o)) = Ok (Some (shape_with mops o))
 result_with mops (Err fault) = Err fault
 
 -- a call gave what a map gives, or nothing
 abbrev pub GivesFlatEntry :
-    List ℕ → Token → Result (Option FlatEntry) Fault → SmallVec MopShape → Type 0
+    List ℕ → Token → Result (Option FlatEntry) Fault → Vec MopShape Global → Type 0
 GivesFlatEntry text opener (Ok None) mops = Unit {0}
 GivesFlatEntry text opener (Ok (Some (entries.Operation o))) mops =
     IsFlatEntry text opener (Some (shape_with mops o)) o.span.end

@@ -14,7 +14,6 @@ use crate::types::{MopShape, OpShape, Span};
 use edn_lex::types::Token;
 use hist_types::limits::MAX_OPERATION_BYTES;
 use hist_types::types::{Fault, OpKind, Refusal};
-use smallvec::SmallVec;
 use std::alloc::Global;
 
 /// The fields of one name in a map: the value of the first, and where the key of the second begins.
@@ -90,7 +89,7 @@ pub(crate) struct Fields {
     process: Field,
     value: Field,
     /// What the first value of `:value` is as a transaction.
-    transaction: Result<SmallVec<MopShape, 4>, Fault>,
+    transaction: Result<Vec<MopShape>, Fault>,
 }
 
 impl Fields {
@@ -104,7 +103,7 @@ impl Fields {
             kind: Field::new(),
             process: Field::new(),
             value: Field::new(),
-            transaction: Ok(SmallVec::new(alloc)),
+            transaction: Ok(Vec::new(alloc)),
         }
     }
 
@@ -125,7 +124,7 @@ impl Fields {
     pub(crate) fn add_transaction(
         &mut self,
         value: Outline,
-        transaction: Result<SmallVec<MopShape, 4>, Fault>,
+        transaction: Result<Vec<MopShape>, Fault>,
     )
         ensures fields { AddsTransaction self.old value (shapes_result transaction) self.new }
         ensures within { KeepsFieldsIn self.old value self.new }
@@ -213,7 +212,7 @@ impl Fields {
 
     /// The micro-operations of an operation of this kind, whose map begins at `start`.
     #[inline(always)]
-    fn mops(self, alloc: Global, kind: OpKind, start: usize) -> Result<SmallVec<MopShape, 4>, Fault>
+    fn mops(self, alloc: Global, kind: OpKind, start: usize) -> Result<Vec<MopShape>, Fault>
         ensures { GivesMops self kind start (shapes_result result) }
     {
         match kind {
@@ -221,7 +220,7 @@ impl Fields {
                 self.value.the_one(start)?;
                 self.transaction
             }
-            OpKind::Fail | OpKind::Info => Ok(SmallVec::new(alloc)),
+            OpKind::Fail | OpKind::Info => Ok(Vec::new(alloc)),
         }
     }
 }

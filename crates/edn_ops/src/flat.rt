@@ -26,9 +26,8 @@ use edn_lex::ahead::{
 use edn_lex::types::{Token, TokenKind};
 use hist_types::limits::{MAX_MICRO_OPS, MAX_OPERATION_BYTES};
 use hist_types::types::{Fault, OpKind, Process};
-use smallvec::SmallVec;
 
-pub(crate) type Mops = SmallVec<MopShape, 4>;
+pub(crate) type Mops = Vec<MopShape>;
 
 /// How many collections may be opened one within another in the value of a field.
 const VALUE_LEVELS: usize = LEVELS_AHEAD - 1;

@@ -22,7 +22,6 @@ use edn_lex::lexer::Lexer;
 use edn_lex::types::{Token, TokenKind};
 use hist_types::limits::MAX_MICRO_OPS;
 use hist_types::types::{Fault, Refusal};
-use smallvec::SmallVec;
 use std::alloc::Global;
 
 /// Whether a micro-operation is a write, by its first form.
@@ -119,7 +118,7 @@ fn read_micro_op(
 /// Adds a member, which begins at `start`, to a transaction.
 #[inline(always)]
 fn add_micro_op(
-    transaction: &mut Result<SmallVec<MopShape, 4>, Fault>,
+    transaction: &mut Result<Vec<MopShape>, Fault>,
     start: usize,
     micro_op: Result<MopShape, Fault>,
 ) -> Result<(), Fault>
@@ -154,11 +153,11 @@ pub(crate) fn transaction(
     lexer: &mut Lexer,
     text: &[u8],
     opener: Token,
-) -> Result<Result<SmallVec<MopShape, 4>, Fault>, Fault>
+) -> Result<Result<Vec<MopShape>, Fault>, Fault>
     requires { text.now ≡ lexer.old.text }
     ensures { ReadsTransaction lexer.old (item_of text.now opener) result lexer.new }
 {
-    let mut transaction = Ok(SmallVec::new(alloc));
+    let mut transaction = Ok(Vec::new(alloc));
     while let Some(member) = next_member(lexer)? {
         match member.token.kind {
             TokenKind::Close => return Ok(transaction),

@@ -3,7 +3,6 @@
 ghost use Rattle.std.specs.Prelude.{◌≡◌, []};
 
 use hist_types::types::{OpKind, Process};
-use smallvec::SmallVec;
 use std::alloc::Global;
 
 /// Where a part of a text begins and ends, in bytes from the text's start.
@@ -21,15 +20,15 @@ pub struct MopShape {
     pub value: Span,
 }
 
-/// What an operation of a text says, and where its parts are. It borrows nothing, and up to four micro-operations are kept
-/// in it without an allocation. A fail and an info have no micro-operations.
+/// What an operation of a text says, and where its parts are. It borrows nothing. A fail and an info have no
+/// micro-operations.
 #[derive(Debug, Drop)]
 pub struct OpShape {
     /// From the map's `{` to after its `}`.
     pub span: Span,
     pub kind: OpKind,
     pub process: Process,
-    pub mops: SmallVec<MopShape, 4>,
+    pub mops: Vec<MopShape>,
 }
 
 impl OpShape {
@@ -41,7 +40,7 @@ impl OpShape {
             span: Span::default(),
             kind: OpKind::Invoke,
             process: Process::new(0).unwrap(),
-            mops: SmallVec::new(alloc),
+            mops: Vec::new(alloc),
         }
     }
 }

@@ -1,6 +1,7 @@
-use Rattle.std.proofs.Common.{◌≡◌, ◌<◌, ◌∷◌, [], ◌++◌, ◌∙◌, ℕ, List, length, ap, subst}
+use Rattle.std.proofs.Common.{◌≡◌, ◌<◌, ◌∷◌, [], ◌++◌, ◌∙◌, ℕ, List, length, ap, arith}
+use Rattle.std.specs.Prelude.{Vec}
+use Rattle.std.specs.Global.{Global}
 use Rattle.hist_types.specs.declared.limits.TheConstants.{MAX_MICRO_OPS}
-use Rattle.smallvec.specs.SmallVec.{SmallVec}
 use Rattle.edn_ops.specs.declared.types.MopShape.{MopShape}
 use Rattle.edn_ops.specs.Flat.{shape_of}
 use Rattle.edn_ops.proofs.FlatMaps.{mop_ahead}
@@ -11,11 +12,11 @@ pub returns : goal.returns
 returns c text offset gives =
     let found = c.in-Some in
     let shape = shape_of found.is_write found.key found.value in
-    let room : length c.args.mops.now.items < MAX_MICRO_OPS = subst (λ (n : ℕ). n < MAX_MICRO_OPS) c.len.ensures.value c.if-len-ge-MAX_MICRO_OPS.false in
+    let room : length c.args.mops.now.items < MAX_MICRO_OPS = omega (arith, c.args.mops.now.ok.0, c.len.ensures, c.if-len-ge-MAX_MICRO_OPS.false) in
     let kept : c.if-len-capacity.mops.items ≡ c.args.mops.now.items =
     elim c.if-len-capacity.branch [
-      | then-len-capacity+in_ok-reserve w ↦ ap (λ (v : SmallVec MopShape). v.items) w.mops-is ∙ w.reserve.ensures.items
-      | else-len-capacity w ↦ ap (λ (v : SmallVec MopShape). v.items) w.mops-is
+      | then-len-capacity+in_ok-reserve w ↦ ap (λ (v : Vec MopShape Global). v.items) w.mops-is ∙ w.reserve.ensures.items
+      | else-len-capacity w ↦ ap (λ (v : Vec MopShape Global). v.items) w.mops-is
     ] in
     mop_ahead text offset c.args.mops.now.items shape found.end c.push_reserved.new.self.items (rw found.is at gives) room
     (c.push_reserved.ensures.items ∙ ap (λ (xs : List MopShape). xs ++ shape ∷ []) kept)
