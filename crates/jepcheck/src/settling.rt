@@ -55,6 +55,15 @@ const LATER_SKEWED: &[u8] = b"{:type :invoke, :process 0, :value [[:w :z 1]]}
 {:type :ok, :process 1, :value [[:w :y 1] [:r :x nil]]}
 ";
 
+/// A reader that was invoked after a write completed, and saw nothing of one that saw nothing of that write.
+const LATE_READER: &[u8] = b"{:type :invoke, :process 0, :value [[:w :x 1]]}
+{:type :invoke, :process 1, :value [[:r :x nil] [:w :y 1]]}
+{:type :ok, :process 0, :value [[:w :x 1]]}
+{:type :invoke, :process 2, :value [[:r :y nil]]}
+{:type :ok, :process 2, :value [[:r :y nil]]}
+{:type :ok, :process 1, :value [[:r :x nil] [:w :y 1]]}
+";
+
 /// Two transactions that read a version, and each wrote over it.
 const LOST: &[u8] = b"{:type :invoke, :process 0, :value [[:r :x nil] [:w :x 1]]}
 {:type :invoke, :process 1, :value [[:r :x nil] [:w :x 2]]}
@@ -177,6 +186,10 @@ fn histories_are_told_without_a_graph(rt: HostRuntime) -> Result<(), Fail> {
         has_write_skew: true,
         ..NOTHING
     };
+    let late_reader = Told {
+        settles: false,
+        ..clean
+    };
     let lost = Told {
         has_lost_update: true,
         ..skewed
@@ -211,6 +224,7 @@ fn histories_are_told_without_a_graph(rt: HostRuntime) -> Result<(), Fail> {
         (CLEAN, clean),
         (SKEWED, skewed),
         (LATER_SKEWED, skewed),
+        (LATE_READER, late_reader),
         (LOST, lost),
         (STALE, stale),
         (FRACTURED, fractured),
