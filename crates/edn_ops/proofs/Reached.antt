@@ -15,7 +15,7 @@ use Rattle.edn_lex.proofs.Exists.{Rest-exists, Rest-unique}
 use Rattle.edn_ops.specs.declared.reader.Place.{Place}
 use Rattle.edn_ops.specs.declared.types.OpShape.{OpShape}
 use Rattle.edn_ops.specs.Places.{NextOp, IsReached, IsReadUpTo}
-use Rattle.edn_ops.specs.Reader.{skips, Goes, AreOpen, EndsWith, Reader, HasEnded}
+use Rattle.edn_ops.specs.Reader.{skips, Goes, AreOpen, EndsWith, Reader, NextOf, HasEnded}
 use Rattle.edn_ops.specs.Shapes.{IsShapeOf, IsShapeIn}
 use Rattle.edn_ops.proofs.Places.{Goes-append}
 use Rattle.edn_ops.proofs.Steps.{Leads-refl}
@@ -85,6 +85,23 @@ pub next-shape :
     (old new : Place) (found : Option OpShape) → IsReached old.lexer old.list → NextOp old (Ok found) new → IfSome found (IsShapeIn old.lexer.text)
 next-shape old new (Some shape) r h = reached-shape old.lexer new.lexer old.list new.list (skips h.more) h.read shape r h.goes h.shape_of
 next-shape old new None r h = tt
+
+pub next-found :
+    (old new : Place) (failed : Option Fault) (found : Option OpShape) → NextOp old (Ok found) new → failed ≡ None →
+    NextOf (record { state = old.lexer; list = old.list; failed = failed; skipped = old.skipped }) (Ok found)
+    (record { state = new.lexer; list = new.list; failed = failed; skipped = new.skipped })
+next-found old new failed (Some shape) h going =
+    record { going = going; more = h.more; skipped = h.skipped; read = h.read; shape_of = h.shape_of; goes = h.goes }
+next-found old new failed None h going =
+    record {
+      going = going;
+      more = h.more;
+      skipped = h.skipped;
+      closed = h.closed;
+      text = h.text;
+      ends = h.ends;
+      after = h.after;
+    }
 
 pub next-up_to :
     (old new : Place) (found : Option OpShape) (ended : Bool) →

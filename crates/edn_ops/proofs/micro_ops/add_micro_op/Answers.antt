@@ -1,4 +1,4 @@
-use Rattle.std.proofs.Common.{Err, Ok, sym, ap, ◌∙◌, List, subst, length, ◌≤◌, ◌<◌}
+use Rattle.std.proofs.Common.{Err, Ok, sym, ap, ◌∙◌, List, length, ◌≤◌, ◌<◌, arith}
 use Rattle.hist_types.specs.Tokens.{byte_fault}
 use Rattle.hist_types.specs.declared.limits.TheConstants.{MAX_MICRO_OPS}
 use Rattle.hist_types.specs.declared.types.Fault.{Fault}
@@ -14,17 +14,17 @@ returns-in-Err-clause-ok c members form e place mop =
 
 pub returns-then-len-ge-MAX_MICRO_OPS-clause-ok : goal.returns-then-len-ge-MAX_MICRO_OPS-clause-ok
 returns-then-len-ge-MAX_MICRO_OPS-clause-ok c members form e place mop =
-    let full : MAX_MICRO_OPS ≤ length c.in-Ok.mops.items = subst (λ n. MAX_MICRO_OPS ≤ n) c.len.ensures.value c.if-len-ge-MAX_MICRO_OPS.true in
+    let full : MAX_MICRO_OPS ≤ length c.in-Ok.mops.items = omega (arith, c.in-Ok.mops.ok.0, c.len.ensures, c.if-len-ge-MAX_MICRO_OPS.true) in
     ap (λ (fault : Fault). Err fault) (c.fault_at.ensures ∙ ap (byte_fault TooManyMicroOps) place)
     ∙ too_many c.in-Ok.mops.items members form (sym (ap shapes_result c.in-Ok.is) ∙ e) full
 
 pub returns-in_ok-push-in-Ok-micro_op-clause-ok : goal.returns-in_ok-push-in-Ok-micro_op-clause-ok
 returns-in_ok-push-in-Ok-micro_op-clause-ok c members form e place mop =
-    let some : length c.in-Ok.mops.items < MAX_MICRO_OPS = subst (λ n. n < MAX_MICRO_OPS) c.len.ensures.value c.if-len-ge-MAX_MICRO_OPS.false in
-    ap (λ (shapes : List MopShape). Ok shapes) c.in_ok-push-in-Ok-micro_op.ensures.ok
+    let some : length c.in-Ok.mops.items < MAX_MICRO_OPS = omega (arith, c.in-Ok.mops.ok.0, c.len.ensures, c.if-len-ge-MAX_MICRO_OPS.false) in
+    ap (λ (shapes : List MopShape). Ok shapes) c.in_ok-push-in-Ok-micro_op.ensures.items
     ∙ one_micro_op c.in-Ok.mops.items members form c.in-Ok-micro_op.shape (sym (ap shapes_result c.in-Ok.is) ∙ e) some (sym c.in-Ok-micro_op.is ∙ mop)
 
 pub returns-in-Err-micro_op-clause-ok : goal.returns-in-Err-micro_op-clause-ok
 returns-in-Err-micro_op-clause-ok c members form e place mop =
-    let some : length c.in-Ok.mops.items < MAX_MICRO_OPS = subst (λ n. n < MAX_MICRO_OPS) c.len.ensures.value c.if-len-ge-MAX_MICRO_OPS.false in
+    let some : length c.in-Ok.mops.items < MAX_MICRO_OPS = omega (arith, c.in-Ok.mops.ok.0, c.len.ensures, c.if-len-ge-MAX_MICRO_OPS.false) in
     no_micro_op c.in-Ok.mops.items members form c.in-Err-micro_op.fault (sym (ap shapes_result c.in-Ok.is) ∙ e) some (sym c.in-Err-micro_op.is ∙ mop)

@@ -1,10 +1,10 @@
-use Rattle.std.proofs.Common.{[], None, Ok, IfSome, sym, ◌∙◌, ap, subst}
+use Rattle.std.proofs.Common.{◌≡◌, [], None, Ok, IfSome, sym, ◌∙◌, ap, subst}
 use Rattle.edn_lex.specs.State.{State, Rest}
 use Rattle.edn_ops.specs.declared.reader.Place.{Place}
 use Rattle.edn_ops.specs.Places.{NextOp}
-use Rattle.edn_ops.specs.Reader.{Reader}
+use Rattle.edn_ops.specs.Reader.{Reader, NextOf}
 use Rattle.edn_ops.specs.Shapes.{IsShapeIn}
-use Rattle.edn_ops.proofs.Reached.{next-text, next-shape, next-up_to, has_ended}
+use Rattle.edn_ops.proofs.Reached.{next-text, next-shape, next-found, next-up_to, has_ended}
 use Rattle.edn_ops.proofs.reader.OpReader.any_op.Goals as goal
 
 pub returns-then-self-clause-next : goal.returns-then-self-clause-next
@@ -23,6 +23,15 @@ invariant_of-self c =
       next-up_to c.self.inside.place new c.in-Ok.found c.is_none-self-inside.result (c.self.invariant.1.reached c.if-self.false) read
           c.is_none-self-inside.ensures,
     )
+
+pub returns-in-Ok-clause-next : goal.returns-in-Ok-clause-next
+returns-in-Ok-clause-next c =
+    let new = c.next_op.new.self in
+    let failed = c.self.inside.failed in
+    let read : NextOp c.self.inside.place (Ok c.in-Ok.found) new = subst (λ (p : Place). NextOp p (Ok c.in-Ok.found) new) c.copy-place.ensures c.in-Ok.ensures.next in
+    let after : Reader = record { state = new.lexer; list = new.list; failed = failed; skipped = new.skipped } in
+    subst (λ (r : Reader). r.failed ≡ None → NextOf r (Ok c.in-Ok.found) after) c.self.view_is
+    (next-found c.self.inside.place new failed c.in-Ok.found read)
 
 pub returns-in-Ok-clause-shape : goal.returns-in-Ok-clause-shape
 returns-in-Ok-clause-shape c =
