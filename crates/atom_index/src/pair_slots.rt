@@ -14,7 +14,7 @@ const FIRST_VALUES: usize = 64;
 const FEW_KEYS: usize = 64;
 
 /// How many pairs there is room for at least.
-const LEAST_PAIRS: usize = 1024;
+const LEAST_PAIRS: usize = 128;
 
 /// The numbers of pairs. Each key has a row, with a slot for nil and for each of its first values. How wide the rows are is
 /// chosen when the table is made, by how many pairs a key has.
