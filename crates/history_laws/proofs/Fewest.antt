@@ -1,6 +1,6 @@
 -- How many dependency edges walks have: as many where they count alike, and a closed walk one more than the way back from an edge
 -- that it needs.
-use Rattle.std.proofs.Common.{◌≡◌, ◌↔◌, ℕ, ◌+◌, ◌≤◌, List, [], ◌∷◌, ◌++◌, true, not, ◌||◌, count_by, refl, sym, ap, arith}
+use Rattle.std.proofs.Common.{◌≡◌, ◌↔◌, ℕ, ◌+◌, ◌≤◌, List, [], ◌∷◌, ◌++◌, true, not, ◌||◌, count_by, refl, ap, arith}
 use Rattle.hist_types.specs.Edges.{Label, ww, wr, rw, process, realtime, Edge, dependency_edges, edges_at}
 use Rattle.hist_types.specs.Operations.{Operation}
 use Rattle.hist_types.specs.Phenomena.{is_ww_label, is_wr_label, is_rw_label, is_ww, is_wr, is_rw, Shows}

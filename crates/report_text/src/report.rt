@@ -66,7 +66,6 @@ impl<'a> Findings<'a> {
 }
 
 /// Everything that a verdict reports.
-#[derive(Drop)]
 pub struct VerdictReport<'a> {
     /// How many events there are.
     pub prefix: u64,
@@ -77,6 +76,20 @@ pub struct VerdictReport<'a> {
     pub g1b: Option<BadRead<'a>>,
     /// How many reads returned a value that nobody wrote.
     pub stray: u64,
+}
+
+// Written out, as what is derived is repeated wherever one is dropped.
+impl Drop for VerdictReport<'_> {
+    fn drop(self) {
+        let VerdictReport {
+            prefix: _,
+            txns: _,
+            findings: _,
+            g1a: _,
+            g1b: _,
+            stray: _,
+        } = self;
+    }
 }
 
 impl<'a> Model for VerdictReport<'a> {

@@ -30,7 +30,6 @@ use std::marker::Model;
 use txn_pairs::pairing::Pairing;
 
 /// The tables of events that keep the rules, to be extended by one event after the other.
-#[derive(Drop)]
 struct TablesSoFar<'a, S: BuildHasher> {
     /// How many events were taken.
     events: u64,
@@ -41,6 +40,20 @@ struct TablesSoFar<'a, S: BuildHasher> {
     points: Option<Points>,
     /// Where the last verdict had cycles.
     pairs: Pairs,
+}
+
+// Written out, as what is derived is repeated wherever one is dropped.
+impl<S: BuildHasher + Drop> Drop for TablesSoFar<'_, S> {
+    fn drop(self) {
+        let TablesSoFar {
+            events: _,
+            pairing: _,
+            versions: _,
+            order: _,
+            points: _,
+            pairs: _,
+        } = self;
+    }
 }
 
 impl<'a, S: BuildHasher + Copy> TablesSoFar<'a, S> {

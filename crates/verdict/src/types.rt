@@ -40,10 +40,16 @@ impl BadReads<'_> {
 }
 
 /// Everything that is reported of a history, with its text. Keys and values are borrowed from the journal's blocks.
-#[derive(Drop)]
 pub struct Verdict<'a> {
     report: VerdictReport<'a>,
     text: Vec<u8>,
+}
+
+// Written out, as what is derived is repeated wherever one is dropped.
+impl Drop for Verdict<'_> {
+    fn drop(self) {
+        let Verdict { report: _, text: _ } = self;
+    }
 }
 
 impl<'a> Model for Verdict<'a> {
@@ -147,6 +153,7 @@ impl<'a> Verdict<'a> {
     pub fn into_text(self) -> Vec<u8>
         ensures { result.items ≡ verdict_text self.entry }
     {
-        self.text
+        let Verdict { report: _, text } = self;
+        text
     }
 }
