@@ -10,18 +10,19 @@ use Rattle.std.specs.Char.{is_ascii_digit}
 use Rattle.std.proofs.lemmas.List.{get_or-drop, length-append, take-append-drop}
 use Rattle.std.proofs.Math.Seq.{take-append_seam}
 use Rattle.std.proofs.lemmas.Str.{utf8_valid_len-IsUtf8, IsUtf8-from_ascii}
-use Rattle.hist_types.specs.Bytes.{is_blank, is_run_byte, zero_digit, open_square, close_square, open_brace, close_brace}
+use Rattle.hist_types.specs.Bytes.{is_blank, is_run_byte, colon, zero_digit, open_square, close_square, open_brace, close_brace}
 use Rattle.hist_types.specs.Tokens.{ItemKind, Blank, Opener, Closer, Tag, Nil, True, False, Int, Keyword, Symbol, Other, first_byte, closer_of, front, is_token, is_int, is_keyword, is_symbol, run_of, run_len, run_kind, nesting_refusal, open_after}
 use Rattle.hist_types.specs.declared.limits.TheConstants.{MAX_OPEN_COLLECTIONS}
 use Rattle.hist_types.specs.declared.types.Refusal.TheVariants.{TooDeep}
 use Rattle.edn_lex.specs.declared.types.Token.{Token}
 use Rattle.edn_lex.specs.declared.types.TokenKind.TheVariants as kinds
 use Rattle.edn_lex.specs.Ahead.{is_lone, going_at, IsGap, IsTokenAt, IsLoneAt, IsWord, GivesAhead, GivesLone, GivesOpener, GivesCloser}
+use Rattle.edn_lex.specs.Flags.{is_plain}
 use Rattle.edn_lex.specs.Kinds.{kind_of, item_of, is_low}
 use Rattle.edn_lex.specs.State.{GivesToken, Passes}
 use Rattle.edn_lex.proofs.Flags.{IsAscii_from_low}
 use Rattle.edn_lex.proofs.Fronts.{front-run, run_len-cons}
-use Rattle.edn_lex.proofs.RunKinds.{digits_are, digits_low}
+use Rattle.edn_lex.proofs.RunKinds.{digits_are, digits_low, keyword_is}
 use Rattle.edn_lex.proofs.Passing.{passes, passes_blank}
 use Rattle.edn_lex.proofs.Steps.{Gapped, Gapped-refl, Gapped-more, GivesToken-from}
 
@@ -192,7 +193,7 @@ word_bytes text start xs word same begins =
     let n : start + length word - start ≡ length word = omega arith in
     ap (λ (k : ℕ). take k (drop start text)) n ∙ ap (take (length word)) (sym same) ∙ sym begins
 
-first_at : (text : List ℕ) (start b : ℕ) → get_or text start 0 ≡ b → first_byte (drop start text) ≡ b
+pub first_at : (text : List ℕ) (start b : ℕ) → get_or text start 0 ≡ b → first_byte (drop start text) ≡ b
 first_at text start b e = get_or-drop start text 0 0 ∙ ap (λ n. get_or text n 0) (omega arith) ∙ e
 
 no_run : (xs : List ℕ) (b : ℕ) → first_byte xs ≡ b → is_run_byte b ≡ false → run_len xs ≡ 0
@@ -353,3 +354,23 @@ pub map_closer_given :
 map_closer_given text offset start low within blanks e =
     let some : 0 < length (drop start text) = omega (arith, length-drop start text) in
     closes_by text offset start close_brace low within blanks (lit< tt) (closes_brace (drop start text) some (first_at text start close_brace e)) (λ closers. refl)
+
+-- plain bytes that begin with a colon are a word
+plain_runs : (b : ℕ) → is_plain b ≡ true → is_run_byte b ≡ true
+plain_runs b h = grind (arith, nat_tests)
+
+plain_low : (b : ℕ) → is_plain b ≡ true → is_low b ≡ true
+plain_low b h = grind (arith, nat_tests)
+
+plains_run : (bs : List ℕ) → list_all is_plain bs ≡ true → (list_all is_run_byte bs ≡ true) × (list_all is_low bs ≡ true)
+plains_run [] h = (refl, refl)
+plains_run (b ∷ bs) h =
+    let parts = and_parts (is_plain b) (list_all is_plain bs) h in
+    let rest = plains_run bs parts.1 in
+    (and_from (is_run_byte b) (list_all is_run_byte bs) (plain_runs b parts.0) rest.0, and_from (is_low b) (list_all is_low bs) (plain_low b parts.0) rest.1)
+
+pub keyword_word : (bs : List ℕ) → 1 < length bs → list_all is_plain bs ≡ true → first_byte bs ≡ colon → IsWord bs Keyword
+keyword_word bs some plain first =
+    let runs = plains_run bs plain in
+    let is : is_keyword bs ≡ true = and_from (first_byte bs == colon) (nat_lt 1 (length bs)) (rw first refl) (lt-ltb 1 (length bs) some) in
+    (lt-ltb 0 (length bs) (omega arith), runs.0, runs.1, rw first refl, rw first refl, keyword_is bs is)

@@ -7,11 +7,13 @@ ghost use Rattle.hist_types.specs.Bytes.{open_square, close_square, open_brace, 
 ghost use Rattle.edn_lex.specs.declared.ahead.TheConstants.{NUMBER_LOOK};
 ghost use Rattle.edn_lex.specs.Ahead.{is_lone, IsGap, IsWord, IsTokenAt, IsLoneAt, GivesAhead, GivesLone, GivesOpener, GivesCloser};
 ghost use Rattle.edn_lex.specs.Kinds.{kind_of, item_of};
-ghost use Rattle.edn_lex.specs.declared.types.TokenKind.TheVariants.{Int, Tag};
+ghost use Rattle.edn_lex.specs.declared.types.TokenKind.TheVariants.{Int, Keyword, Tag};
 
 use crate::pieces::first_piece;
 use crate::runs::has_no_leading_zero;
-use crate::scan::{DIGIT_LANES, digits_alone, digits_of_16, ends_run, is_blank, utf8_end};
+use crate::scan::{
+    DIGIT_LANES, digits_alone, digits_of_16, ends_run, is_blank, plain_of_16, utf8_end,
+};
 use crate::types::{Token, TokenKind};
 
 /// How many collections may be opened one within another in what is looked at ahead.
@@ -237,6 +239,32 @@ pub fn number_before(text: &[u8], start: usize, after: u8) -> Option<Token>
         return None;
     }
     digits_before(text, start, len, after)
+}
+
+/// The token that begins here, if it is a keyword of fewer than 16 bytes, all of them decimal digits, colons and lower-case letters,
+/// with this byte after it.
+#[inline(always)]
+pub fn keyword_before(text: &[u8], start: usize, after: u8) -> Option<Token>
+    requires room { start + NUMBER_LOOK ≤ length text.now }
+    requires after { is_run_byte after ≡ false }
+    ensures lone { IfSome result (IsLoneAt text.now start) }
+    ensures kind { IfSome result (λ token. token.kind ≡ Keyword) }
+    ensures start { IfSome result (λ token. token.start ≡ start) }
+    ensures few { IfSome result (λ token. token.end < start + NUMBER_LOOK) }
+    ensures after { IfSome result (λ token. get_or text.now token.end 0 ≡ after) }
+{
+    let len = plain_of_16(text, start);
+    if len < 2 || len == DIGIT_LANES {
+        return None;
+    }
+    if text[start] != b':' || text[start + len] != after {
+        return None;
+    }
+    Some(Token {
+        kind: TokenKind::Keyword,
+        start,
+        end: start + len,
+    })
 }
 
 /// The token that begins here, if it is UTF-8. Whether it may be here is not looked at.

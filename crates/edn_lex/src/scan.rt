@@ -8,7 +8,7 @@ ghost use Rattle.std.specs.Str.{IsAscii};
 ghost use Rattle.hist_types.specs.Bytes.{is_blank as is_blank_byte, is_run_byte, line_feed};
 ghost use Rattle.edn_lex.specs.declared.scan.TheConstants.{NOT_DIGIT, PAST_ASCII, BLANK, ENDS_RUN, DIGIT_LANES};
 ghost use Rattle.edn_lex.specs.Ends.{StopsBeingUtf8};
-ghost use Rattle.edn_lex.specs.Flags.{has_flag, is_no_digit};
+ghost use Rattle.edn_lex.specs.Flags.{has_flag, is_no_digit, is_plain, is_no_plain};
 ghost use Rattle.edn_lex.specs.Kinds.{is_low};
 ghost use Rattle.hist_types.specs.Tokens.{run_len as longest_run, content_len as len_of_content, character_len as len_of_character};
 
@@ -127,6 +127,31 @@ pub(crate) fn digits_of_16(text: &[u8], at: usize) -> usize
     ensures few { result ≤ DIGIT_LANES }
 {
     let others = other_than_digits(u8x16::from_slice(&text[at..]));
+    if others == 0 {
+        DIGIT_LANES
+    } else {
+        others.trailing_zeros() as usize
+    }
+}
+
+/// A bit for each byte that is no plain one, the lowest for the first.
+#[inline(always)]
+fn other_than_plain(bytes: u8x16) -> u64
+    ensures { result ≡ mask_l (map is_no_plain bytes) }
+{
+    let no_digit = (bytes - u8x16::splat(b'0')).simd_ge(u8x16::splat(11));
+    let no_letter = (bytes - u8x16::splat(b'a')).simd_ge(u8x16::splat(26));
+    (no_digit & no_letter).to_bitmask()
+}
+
+/// How many of the next 16 bytes, from the first, are plain: decimal digits, colons and lower-case letters.
+#[inline(always)]
+pub(crate) fn plain_of_16(text: &[u8], at: usize) -> usize
+    requires { at + DIGIT_LANES ≤ length text.now }
+    ensures len { result ≡ prefix_len is_plain (take DIGIT_LANES (drop at text.now)) }
+    ensures few { result ≤ DIGIT_LANES }
+{
+    let others = other_than_plain(u8x16::from_slice(&text[at..]));
     if others == 0 {
         DIGIT_LANES
     } else {

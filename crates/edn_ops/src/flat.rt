@@ -19,9 +19,9 @@ use crate::passing::form_end;
 use crate::types::{MopShape, Span};
 use edn_lex::ahead::{
     LEVELS_AHEAD, NUMBER_LOOK, behind_blanks, behind_comma, behind_space, behind_word,
-    digits_before, form_at, lone_token, map_closer, map_opener, number_at, number_before,
-    spaced_word_at, tag_token, token_at, vector_closer, vector_closer_at, vector_opener,
-    vector_opener_at, word_at, word_before,
+    digits_before, form_at, keyword_before, lone_token, map_closer, map_opener, number_at,
+    number_before, spaced_word_at, tag_token, token_at, vector_closer, vector_closer_at,
+    vector_opener, vector_opener_at, word_at, word_before,
 };
 use edn_lex::types::{Token, TokenKind};
 use hist_types::limits::{MAX_MICRO_OPS, MAX_OPERATION_BYTES};
@@ -413,6 +413,22 @@ fn plain_number(text: &[u8], start: usize, after: u8) -> Option<Token>
     Some(number)
 }
 
+/// The token that begins here, if it is an integer of few digits, or a keyword of few plain bytes, with a space after it.
+#[inline(always)]
+fn plain_key(text: &[u8], start: usize) -> Option<Token>
+    requires { start + NUMBER_LOOK ≤ length text.now }
+    ensures lone { IfSome result (IsLoneAt text.now start) }
+    ensures atom { IfSome result (λ token. IsMopValue true (plain (item_of text.now token))) }
+    ensures few { IfSome result (λ token. token.end < start + NUMBER_LOOK) }
+    ensures space { IfSome result (λ token. get_or text.now token.end 0 ≡ 32) }
+{
+    if text[start] != b':' {
+        return plain_number(text, start, b' ');
+    }
+    let keyword = keyword_before(text, start, b' ')?;
+    Some(keyword)
+}
+
 /// The token that begins here, if it is an integer of few digits, or `nil` that was read, with a vector's closer after it.
 #[inline(always)]
 fn plain_value(text: &[u8], start: usize, is_write: bool) -> Option<Token>
@@ -442,7 +458,7 @@ fn plain_mop(text: &[u8], offset: usize) -> Option<(bool, Span, Span, usize)>
     }
     let opener = vector_opener_at(text, behind_space(text, offset))?;
     let (is_write, name) = plain_name(text, opener.end)?;
-    let key = plain_number(text, name.end + 1, b' ')?;
+    let key = plain_key(text, name.end + 1)?;
     let value = plain_value(text, key.end + 1, is_write)?;
     let closer = vector_closer_at(text, value.end)?;
     Some((is_write, span(key), span(value), closer.end))

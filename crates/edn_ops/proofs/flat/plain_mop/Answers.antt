@@ -24,7 +24,7 @@ returns c =
       opener = opener.ensures.gives c.args.offset c.behind_space.ensures.gap;
       first = lone_here text opener.opener.end name.name (omega arith) name.ensures.lone;
       second = key.ensures.lone name.name.end (space_here text name.name.end (omega arith) name.ensures.space);
-      third = value.ensures.lone key.key.end (space_here text key.key.end (omega arith) key.ensures.after);
+      third = value.ensures.lone key.key.end (space_here text key.key.end (omega arith) key.ensures.space);
       closer = closer.ensures.gives;
     })
     (omega arith) name.ensures.is_write key.ensures.atom value.ensures.value c.span.ensures c.span-2.ensures
