@@ -19,7 +19,7 @@ use crate::types::{Token, TokenKind};
 /// How many collections may be opened one within another in what is looked at ahead.
 pub const LEVELS_AHEAD: usize = 16;
 
-/// How many bytes from its start on `number_before` may look at.
+/// How many bytes from its start on `number_before` and `keyword_before` may look at.
 pub const NUMBER_LOOK: usize = DIGIT_LANES;
 
 /// A vector of three tokens that are forms, with its brackets.

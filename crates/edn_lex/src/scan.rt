@@ -1,6 +1,6 @@
 //! Where items end. The scans of what is seldom found are not inlined, so that those of the frequent items stay short.
 
-ghost use Rattle.std.specs.Prelude.{◌≡◌, ◌<◌, ◌≤◌, ◌==◌, ◌+◌, length, take, drop, map, true, false, IsTrue, not, IfSome};
+ghost use Rattle.std.specs.Prelude.{◌≡◌, ◌<◌, ◌≤◌, ◌==◌, ◌+◌, ℕ, Bool, List, length, take, drop, map, true, false, IsTrue, not, IfSome};
 ghost use Rattle.std.specs.Char.{is_ascii_digit};
 ghost use Rattle.std.specs.List.{prefix_len, list_all};
 ghost use Rattle.std.specs.Simd.Lanes.{mask_l};
@@ -109,6 +109,20 @@ pub(crate) fn digits_alone(text: &[u8]) -> Option<usize>
     Some(len)
 }
 
+/// How many of 16 bytes come before the first one that has a bit, by a bit for each of them, the lowest for the first.
+#[inline(always)]
+fn bytes_before(bits: u64) -> usize
+    ensures { (has_bit : ℕ → Bool) (bytes : List ℕ) → length bytes ≡ DIGIT_LANES
+        → bits ≡ mask_l (map has_bit bytes)
+        → result ≡ prefix_len (λ b. not (has_bit b)) bytes }
+{
+    if bits == 0 {
+        DIGIT_LANES
+    } else {
+        bits.trailing_zeros() as usize
+    }
+}
+
 /// A bit for each byte that is no decimal digit, the lowest for the first.
 #[inline(always)]
 fn other_than_digits(bytes: u8x16) -> u64
@@ -126,12 +140,7 @@ pub(crate) fn digits_of_16(text: &[u8], at: usize) -> usize
     ensures len { result ≡ prefix_len is_ascii_digit (take DIGIT_LANES (drop at text.now)) }
     ensures few { result ≤ DIGIT_LANES }
 {
-    let others = other_than_digits(u8x16::from_slice(&text[at..]));
-    if others == 0 {
-        DIGIT_LANES
-    } else {
-        others.trailing_zeros() as usize
-    }
+    bytes_before(other_than_digits(u8x16::from_slice(&text[at..])))
 }
 
 /// A bit for each byte that is no plain one, the lowest for the first.
@@ -151,12 +160,7 @@ pub(crate) fn plain_of_16(text: &[u8], at: usize) -> usize
     ensures len { result ≡ prefix_len is_plain (take DIGIT_LANES (drop at text.now)) }
     ensures few { result ≤ DIGIT_LANES }
 {
-    let others = other_than_plain(u8x16::from_slice(&text[at..]));
-    if others == 0 {
-        DIGIT_LANES
-    } else {
-        others.trailing_zeros() as usize
-    }
+    bytes_before(other_than_plain(u8x16::from_slice(&text[at..])))
 }
 
 /// The longest run at the front of the text.

@@ -5,6 +5,7 @@ pub mod atoms;
 mod faults;
 mod fields;
 mod flat;
+mod flat_mops;
 mod forms;
 pub mod laws;
 mod maps;

@@ -12,7 +12,8 @@ ghost use Rattle.edn_ops.specs.Places.{NextOp, FlatOp};
 ghost use Rattle.edn_ops.specs.Shapes.{IsShapeIn};
 
 use crate::faults::fault_at;
-use crate::flat::{FlatEntry, FlatOperation, Mops, flat_entry, operation_opener};
+use crate::flat::{FlatEntry, FlatOperation, flat_entry, operation_opener};
+use crate::flat_mops::Mops;
 use crate::forms::next_member;
 use crate::maps::read_map;
 use crate::marks::{closes, opens};

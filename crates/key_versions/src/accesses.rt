@@ -18,12 +18,21 @@ pub(crate) struct Span {
 }
 
 /// What each transaction reads and installs, by place.
-#[derive(Drop)]
 pub(crate) struct Accesses {
     /// The numbers of all transactions.
     numbers: Vec<u32>,
     /// By place.
     spans: Vec<Span>,
+}
+
+// Written out, as what is derived is repeated wherever one is dropped.
+impl Drop for Accesses {
+    fn drop(self) {
+        let Accesses {
+            numbers: _,
+            spans: _,
+        } = self;
+    }
 }
 
 impl Model for Accesses {

@@ -23,10 +23,19 @@ use std::marker::Model;
 use txn_pairs::types::Txn;
 
 /// The table of the transactions so far, and of versions that have numbers from the start.
-#[derive(Drop)]
 pub(crate) struct Building<'a, S: BuildHasher> {
     numbering: Numbering<'a, S>,
     pub rows: Rows,
+}
+
+// Written out, as what is derived is repeated wherever one is dropped.
+impl<'a, S: BuildHasher + Drop> Drop for Building<'a, S> {
+    fn drop(self) {
+        let Building {
+            numbering: _,
+            rows: _,
+        } = self;
+    }
 }
 
 impl<'a, S: BuildHasher> Model for Building<'a, S> {
@@ -139,8 +148,8 @@ impl<'a, S: BuildHasher + Copy> Building<'a, S> {
         requires { length self.writers ≡ length self.versions }
         ensures { IfOk result (λ versions. versions ≡ with_order self.entry keys) }
     {
-        let numbered = self.numbering.finish();
-        let rows = self.rows;
+        let Building { numbering, rows } = self;
+        let numbered = numbering.finish();
         let known = rows.rows.finish(alloc)?;
         Ok(Versions::new(keys, numbered, known, rows.accesses))
     }

@@ -20,12 +20,21 @@ pub(crate) struct KeptSpan {
 }
 
 /// The accesses of each transaction, by place.
-#[derive(Drop)]
 pub(crate) struct KeptAccesses {
     /// Those of all transactions. When a transaction gets others, those that it had stay, unused.
     accesses: Vec<Access>,
     /// By place.
     spans: Vec<KeptSpan>,
+}
+
+// Written out, as what is derived is repeated wherever one is dropped.
+impl Drop for KeptAccesses {
+    fn drop(self) {
+        let KeptAccesses {
+            accesses: _,
+            spans: _,
+        } = self;
+    }
 }
 
 impl Model for KeptAccesses {

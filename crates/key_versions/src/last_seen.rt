@@ -18,12 +18,22 @@ pub(crate) struct Seen {
 }
 
 /// The version of each key that each process saw last.
-#[derive(Drop)]
 pub(crate) struct LastSeen {
     alloc: Global,
     seen: Vec<Seen>,
     /// For each hash the place of the newest one, from 1 on; 0 if there is none.
     newest: Vec<u32>,
+}
+
+// Written out, as what is derived is repeated wherever one is dropped.
+impl Drop for LastSeen {
+    fn drop(self) {
+        let LastSeen {
+            alloc: _,
+            seen: _,
+            newest: _,
+        } = self;
+    }
 }
 
 impl Model for LastSeen {

@@ -29,7 +29,6 @@ use txn_pairs::types::{Status, Txn};
 
 /// Numbers versions: first those that were written, if the journal numbered them, with the nil versions of their keys, and then
 /// in the order in which they are first named, each after the nil version of its key.
-#[derive(Drop)]
 pub(crate) struct Numbering<'a, S: BuildHasher> {
     keys: AtomIndex<'a, S>,
     values: AtomIndex<'a, S>,
@@ -41,6 +40,20 @@ pub(crate) struct Numbering<'a, S: BuildHasher> {
     written: u32,
     /// How many of these were compared with writes of the transactions.
     compared: u32,
+}
+
+// Written out, as what is derived is repeated wherever one is dropped.
+impl<'a, S: BuildHasher + Drop> Drop for Numbering<'a, S> {
+    fn drop(self) {
+        let Numbering {
+            keys: _,
+            values: _,
+            pairs: _,
+            nils: _,
+            written: _,
+            compared: _,
+        } = self;
+    }
 }
 
 impl<'a, S: BuildHasher> Model for Numbering<'a, S> {
@@ -414,10 +427,18 @@ impl<'a, S: BuildHasher> Numbering<'a, S> {
         ensures keys { AreNumbered atom_eq result.keys.items }
         ensures in_range { AreInRange result.keys.items result.values.items result.pairs.items }
     {
+        let Numbering {
+            keys,
+            values,
+            pairs,
+            nils: _,
+            written: _,
+            compared: _,
+        } = self;
         Numbered {
-            keys: self.keys.into_atoms(),
-            values: self.values.into_atoms(),
-            pairs: self.pairs.into_pairs(),
+            keys: keys.into_atoms(),
+            values: values.into_atoms(),
+            pairs: pairs.into_pairs(),
         }
     }
 }

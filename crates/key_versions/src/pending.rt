@@ -64,13 +64,23 @@ impl Written {
 }
 
 /// What is known of each version so far. Readers and followers come in the order of their places.
-#[derive(Drop)]
 pub(crate) struct Pending {
     writers: Vec<Written>,
     /// A version, and the place of a transaction that reads it.
     readers: Vec<(u32, u32)>,
     /// A version, and what follows it.
     followers: Vec<(u32, Follower)>,
+}
+
+// Written out, as what is derived is repeated wherever one is dropped.
+impl Drop for Pending {
+    fn drop(self) {
+        let Pending {
+            writers: _,
+            readers: _,
+            followers: _,
+        } = self;
+    }
 }
 
 impl Model for Pending {
@@ -220,8 +230,13 @@ impl Pending {
     {
         let readers = self.group_readers(alloc)?;
         let followers = self.group_followers(alloc)?;
+        let Pending {
+            writers,
+            readers: _,
+            followers: _,
+        } = self;
         Ok(Grouped {
-            writers: self.writers,
+            writers,
             readers,
             followers,
         })

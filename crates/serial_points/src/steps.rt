@@ -18,7 +18,6 @@ use txn_pairs::types::{Status, Txn};
 const ROOM: usize = 65_536;
 
 /// Steps, by number of version.
-#[derive(Drop)]
 pub(crate) struct StepLists {
     /// The versions from which a process went to this one.
     pub earlier: Places,
@@ -26,6 +25,17 @@ pub(crate) struct StepLists {
     pub later: Places,
     /// The steps that the last event added, of each the later version and the earlier one.
     pub fresh: Vec<(u32, u32)>,
+}
+
+// Written out, as what is derived is repeated wherever one is dropped.
+impl Drop for StepLists {
+    fn drop(self) {
+        let StepLists {
+            earlier: _,
+            later: _,
+            fresh: _,
+        } = self;
+    }
 }
 
 impl StepLists {
@@ -56,11 +66,17 @@ impl StepLists {
 }
 
 /// The steps of processes so far, where keys are sequential.
-#[derive(Drop)]
 pub(crate) struct Steps {
     /// What each process saw last of each key.
     pub seen: ProcessSteps,
     pub lists: StepLists,
+}
+
+// Written out, as what is derived is repeated wherever one is dropped.
+impl Drop for Steps {
+    fn drop(self) {
+        let Steps { seen: _, lists: _ } = self;
+    }
 }
 
 /// Whether the transaction shows steps of its process.

@@ -11,7 +11,6 @@ use key_versions::kept::Access;
 use std::alloc::{AllocError, Global};
 
 /// Transactions by place, listed by number of version.
-#[derive(Drop)]
 pub(crate) struct Users {
     /// Those that are known to read the version.
     pub readers: Places,
@@ -25,6 +24,20 @@ pub(crate) struct Users {
     pub bounds: Bounds,
     /// By nil version, a bound below the points of those that write its key.
     pub floors: Bounds,
+}
+
+// Written out, as what is derived is repeated wherever one is dropped.
+impl Drop for Users {
+    fn drop(self) {
+        let Users {
+            readers: _,
+            writers: _,
+            key_writers: _,
+            updaters: _,
+            bounds: _,
+            floors: _,
+        } = self;
+    }
 }
 
 /// Whether one of them is of the key with this nil version.

@@ -1,7 +1,7 @@
 //! Searches for the lowest level of each phenomenon that cycles show.
 
 ghost use Rattle.std.specs.Prelude.{◌≡◌, ◌+◌, ℕ, None, Some, IfOk, IfSome};
-ghost use Rattle.hist_types.specs.declared.types.Phenomenon.TheVariants.{GSingle, G2Item};
+ghost use Rattle.hist_types.specs.declared.types.Phenomenon.TheVariants.{G0, G1c, GSingle, G2Item};
 ghost use Rattle.std.specs.Bool.{OnTrue, OnFalse};
 ghost use Rattle.dep_edges.specs.Histories.{AreOfHistory};
 ghost use Rattle.hist_types.specs.Phenomena.{height};
@@ -248,8 +248,31 @@ fn findings_in_graph_wide<'a, R: Threads>(
     find_each(alloc, &graph, pairs)
 }
 
-/// What is found of each phenomenon, where these are found of G-single and G2-item, if looks at each version settle that there is no
-/// G0, and find G1c at plain or settle that there is none.
+/// What is found of G1c, if looks at each version settle that there is no G0, and find G1c at plain or settle that there is none.
+fn flow_without_dirty_writes<'a>(
+    alloc: Global,
+    deps: &Deps<'_, 'a>,
+    attempt: &Attempt,
+) -> Result<Option<Option<Finding<'a>>>, AllocError>
+    requires { AreOfHistory deps.now.txns }
+    ensures { IfOk result (λ found. IfSome found (λ flow.
+        IsFinding deps.now.table.keys G0 deps.now.txns None
+        × IsFinding deps.now.table.keys G1c deps.now.txns flow)) }
+{
+    if settles_writes(alloc, deps, attempt)? {
+        return Ok(Some(None));
+    }
+    let Some(walk) = circular_flow(alloc, deps)? else {
+        return Ok(None);
+    };
+    if !settles_dirty_writes(alloc, deps, attempt)? {
+        return Ok(None);
+    }
+    let flow = reduced(alloc, Level::Plain, &walk)?;
+    Ok(Some(Some(flow)))
+}
+
+/// What is found of each phenomenon, where these are found of G-single and G2-item, if looks at each version settle the others.
 fn with_both<'a>(
     alloc: Global,
     deps: &Deps<'_, 'a>,
@@ -263,24 +286,12 @@ fn with_both<'a>(
     ensures { IfOk result (λ found. IfSome found
         (AreFindings deps.now.table.keys deps.now.txns)) }
 {
-    if settles_writes(alloc, deps, attempt)? {
-        return Ok(Some(Findings {
-            g0: None,
-            g1c: None,
-            single: Some(single),
-            item: Some(item),
-        }));
-    }
-    let Some(walk) = circular_flow(alloc, deps)? else {
+    let Some(g1c) = flow_without_dirty_writes(alloc, deps, attempt)? else {
         return Ok(None);
     };
-    if !settles_dirty_writes(alloc, deps, attempt)? {
-        return Ok(None);
-    }
-    let flow = reduced(alloc, Level::Plain, &walk)?;
     Ok(Some(Findings {
         g0: None,
-        g1c: Some(flow),
+        g1c,
         single: Some(single),
         item: Some(item),
     }))

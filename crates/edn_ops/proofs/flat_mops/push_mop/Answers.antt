@@ -5,8 +5,8 @@ use Rattle.hist_types.specs.declared.limits.TheConstants.{MAX_MICRO_OPS}
 use Rattle.edn_ops.specs.declared.types.MopShape.{MopShape}
 use Rattle.edn_ops.specs.Flat.{shape_of}
 use Rattle.edn_ops.proofs.FlatMaps.{mop_ahead}
-use Rattle.edn_ops.proofs.flat.push_mop.Goals as goal
-use Rattle.edn_ops.proofs.flat.push_mop.Goals.{then-len-capacity+in_ok-reserve, else-len-capacity}
+use Rattle.edn_ops.proofs.flat_mops.push_mop.Goals as goal
+use Rattle.edn_ops.proofs.flat_mops.push_mop.Goals.{then-len-capacity+in_ok-reserve, else-len-capacity}
 
 pub returns : goal.returns
 returns c text offset gives =

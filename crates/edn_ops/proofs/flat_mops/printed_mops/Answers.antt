@@ -1,6 +1,6 @@
 use Rattle.std.proofs.Common.{◌∷◌, [], ◌++◌}
 use Rattle.edn_ops.proofs.FlatMaps.{one_inside}
-use Rattle.edn_ops.proofs.flat.printed_mops.Goals as goal
+use Rattle.edn_ops.proofs.flat_mops.printed_mops.Goals as goal
 
 pub loop-end-init : goal.loop-end-init
 loop-end-init c = (c.requires, λ opener members inside. (members, inside))

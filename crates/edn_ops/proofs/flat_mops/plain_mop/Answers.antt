@@ -1,7 +1,7 @@
 use Rattle.std.proofs.Common.{arith}
 use Rattle.edn_lex.specs.declared.ahead.Triple.{Triple}
 use Rattle.edn_ops.proofs.FlatMaps.{lone_here, space_here, mop_given}
-use Rattle.edn_ops.proofs.flat.plain_mop.Goals as goal
+use Rattle.edn_ops.proofs.flat_mops.plain_mop.Goals as goal
 
 pub returns : goal.returns
 returns c =

@@ -1,6 +1,6 @@
 use Rattle.std.proofs.Common.{arith}
 use Rattle.edn_ops.proofs.FlatMaps.{lone_token_in, short_number, few_bytes}
-use Rattle.edn_ops.proofs.flat.plain_number.Goals as goal
+use Rattle.edn_ops.proofs.flat_mops.plain_number.Goals as goal
 
 pub returns-clause-atom : goal.returns-clause-atom
 returns-clause-atom c =

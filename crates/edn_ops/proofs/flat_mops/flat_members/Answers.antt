@@ -1,6 +1,6 @@
 use Rattle.std.proofs.Common.{[], ◌∷◌, ◌++◌, arith}
 use Rattle.edn_ops.proofs.FlatMaps.{nothing_inside, one_inside, transaction_ahead}
-use Rattle.edn_ops.proofs.flat.flat_members.Goals as goal
+use Rattle.edn_ops.proofs.flat_mops.flat_members.Goals as goal
 
 pub loop-closer-init : goal.loop-closer-init
 loop-closer-init c =

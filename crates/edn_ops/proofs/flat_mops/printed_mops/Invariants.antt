@@ -2,7 +2,7 @@ use Rattle.std.proofs.Common.{◌-◌, ◌≤◌, List, length}
 use Rattle.hist_types.specs.Forms.{Form}
 use Rattle.edn_lex.specs.declared.types.Token.{Token}
 use Rattle.edn_ops.specs.Flat.{ReadsInside}
-use Rattle.edn_ops.proofs.flat.printed_mops.Given as goal
+use Rattle.edn_ops.proofs.flat_mops.printed_mops.Given as goal
 
 abbrev pub invariant-loop-end : goal.invariant-loop-end
 invariant-loop-end l =

@@ -1,7 +1,7 @@
 use Rattle.std.proofs.Common.{◌<◌, ℕ, List, length, subst}
 use Rattle.edn_ops.specs.declared.atoms.TheConstants.{LONG_INTEGER}
 use Rattle.edn_ops.proofs.FlatMaps.{lone_token_in, short_number}
-use Rattle.edn_ops.proofs.flat.short_number_at.Goals as goal
+use Rattle.edn_ops.proofs.flat_mops.short_number_at.Goals as goal
 
 pub bytes_of-requires : goal.bytes_of-requires
 bytes_of-requires c = lone_token_in c.args.text.now c.args.start c.in_ok-number.number c.requires c.in_ok-number.ensures.lone

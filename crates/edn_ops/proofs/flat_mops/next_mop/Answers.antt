@@ -1,7 +1,7 @@
 use Rattle.std.proofs.Common.{◌+◌}
 use Rattle.edn_lex.specs.declared.ahead.Triple.{Triple}
 use Rattle.edn_ops.proofs.FlatMaps.{lone_here, gap_more, mop_given}
-use Rattle.edn_ops.proofs.flat.next_mop.Goals as goal
+use Rattle.edn_ops.proofs.flat_mops.next_mop.Goals as goal
 
 pub returns : goal.returns
 returns c =
