@@ -1,4 +1,7 @@
-pub mod Moved
 pub mod Readings
 pub mod OneBlock
 pub mod CallTexts
+pub mod Through
+pub mod StartsMore
+pub mod Rests
+pub mod Coming

@@ -1,5 +1,5 @@
 -- A text that is read into one block.
-use Rattle.std.proofs.Common.{◌≡◌, inl, inr, Err, ℕ, ◌+◌, ◌-◌, ◌≤◌, length, List, [], ◌∷◌, ◌++◌, map, true, false, ◌&&◌, refl, sym, ◌∙◌, ap, arith}
+use Rattle.std.proofs.Common.{◌≡◌, inl, inr, Err, ℕ, ◌+◌, ◌-◌, ◌≤◌, length, List, [], ◌∷◌, ◌++◌, map, true, false, ◌&&◌, refl, sym, ◌∙◌, ap, subst, append_assoc, arith, Ok, Result, OnOk}
 use Rattle.std.specs.Prelude.{nat_le}
 use Rattle.std.proofs.lemmas.Bool.Decides.{leb_tells}
 use Rattle.std.proofs.lemmas.List.{map-append, length-map, length_push}
@@ -10,13 +10,15 @@ use Rattle.hist_types.specs.Operations.{Operation}
 use Rattle.reading_laws.specs.Placed.{IsIn}
 use Rattle.hist_types.specs.declared.limits.TheConstants.{MAX_BLOCK_OPERATIONS, MAX_BLOCK_BYTES}
 use Rattle.hist_types.specs.declared.types.Refusal.TheVariants.{BlockFull}
+use Rattle.hist_types.specs.declared.types.Fault.{Fault}
 use Rattle.edn_ops.specs.Reader.{Reader, HasEnded}
 use Rattle.edn_ops.specs.Shapes.{IsShapeOf}
 use Rattle.edn_ops.specs.declared.types.OpShape.{OpShape}
-use Rattle.op_block.specs.Contents.{BlockOperation, HasRoomFor, length_of, taken_out}
-use Rattle.op_block.specs.Contents.{bytes_of as bytes_in}
+use Rattle.op_block.specs.Contents.{BlockOperation, Gathered, HasRoomFor, length_of, operation_meant, taken_out}
+use Rattle.op_block.specs.Pushes.{with_one_more}
+use Rattle.op_block.proofs.Taken.{taken_meant}
+use Rattle.block_reader.specs.Blocks.{operations_pushed}
 use Rattle.block_reader.specs.OneBlock.{HasReadPlaced, AreIn}
-use Rattle.block_reader.proofs.Moved.{length_between, pushed_behind}
 use Rattle.block_reader.proofs.Readings.{all_placed}
 
 -- ---- whether they fit
@@ -58,15 +60,15 @@ too_many_placed text old new os h many ended =
 
 -- ---- the block that is being built
 
-length_pushed : (os : List PlacedOperation) (pushed : List BlockOperation) → AreIn os pushed → length pushed ≡ length os
+length_pushed : (os : List PlacedOperation) (pushed : Gathered) → AreIn os pushed → length pushed.operations ≡ length os
 length_pushed os pushed are_in =
-    sym (length-map pushed (λ (o : BlockOperation). operation_of o.placed)) ∙ (ap (λ (all : List Operation). length all) are_in.same ∙ length-map os operation_of)
+    sym (length-map pushed.operations operation_meant) ∙ (ap (λ (all : List Operation). length all) are_in.same ∙ length-map os operation_of)
 
-pub none_in : AreIn [] []
-none_in = record { same = refl; bytes = refl; limits = record { operations = omega arith; bytes = omega arith } }
+pub none_in : AreIn [] (record { operations = []; bytes = 0 })
+none_in = record { same = refl; bytes = refl; few = omega arith; short = omega arith }
 
 -- where there is no room for one more, all together don't fit
-pub no_room : (os : List PlacedOperation) (pushed : List BlockOperation) (o : PlacedOperation) (shape : OpShape) →
+pub no_room : (os : List PlacedOperation) (pushed : Gathered) (o : PlacedOperation) (shape : OpShape) →
     AreIn os pushed → IsShapeOf shape o → (HasRoomFor (length_of shape) pushed → ⊥) → fit_in_a_block (os ++ o ∷ []) ≡ false
 no_room os pushed o shape are_in is_shape full =
     let span : length_of shape ≡ o.end - o.start = rw is_shape.span refl in
@@ -76,17 +78,36 @@ no_room os pushed o shape are_in is_shape full =
     let longer = bytes_push os o in
     they_dont_fit (os ++ o ∷ []) (λ few short. full (record { operations = omega arith; bytes = omega arith }))
 
-pub one_pushed : (text : List ℕ) (os : List PlacedOperation) (pushed more : List BlockOperation) (o : PlacedOperation) (shape : OpShape) →
-    AreIn os pushed → HasRoomFor (length_of shape) pushed → IsIn text o → IsShapeOf shape o → more ≡ pushed ++ taken_out text o ∷ [] → AreIn (os ++ o ∷ []) more
+-- one operation more behind those of a block that is being built
+pub pushed_behind : (full : List Operation) (last : List BlockOperation) (all : List Operation) (text : List ℕ) (shape : OpShape) (o : PlacedOperation)
+    → full ++ operations_pushed last ≡ all → IsIn text o → IsShapeOf shape o → full ++ operations_pushed (last ++ taken_out text shape ∷ []) ≡ all ++ operation_of o ∷ []
+pushed_behind full last all text shape o same here of =
+    let pushed : operations_pushed (last ++ taken_out text shape ∷ []) ≡ operations_pushed last ++ operation_of o ∷ [] =
+    map-append operation_meant last (taken_out text shape ∷ [])
+    ∙ ap (λ (meant : Operation). operations_pushed last ++ meant ∷ []) (taken_meant text shape o here of) in
+    ap (λ (os : List Operation). full ++ os) pushed
+    ∙ (sym (append_assoc full (operations_pushed last) (operation_of o ∷ [])) ∙ ap (λ (os : List Operation). os ++ operation_of o ∷ []) same)
+
+pub pushed_ok : (answer : Result (Unit {0}) Fault) (full : List Operation) (last more : Gathered) (all : List Operation) (text : List ℕ) (shape : OpShape) (o : PlacedOperation)
+    → full ++ operations_pushed last.operations ≡ all → OnOk answer (more ≡ with_one_more text shape last) → IsIn text o → IsShapeOf shape o
+    → OnOk answer (full ++ operations_pushed more.operations ≡ all ++ operation_of o ∷ [])
+pushed_ok (Ok done) full last more all text shape o same added here of =
+    ap (λ (g : Gathered). full ++ operations_pushed g.operations) added ∙ pushed_behind full last.operations all text shape o same here of
+pushed_ok (Err fault) full last more all text shape o same added here of = tt
+
+pub one_pushed : (text : List ℕ) (os : List PlacedOperation) (pushed more : Gathered) (o : PlacedOperation) (shape : OpShape) →
+    AreIn os pushed → HasRoomFor (length_of shape) pushed → IsIn text o → IsShapeOf shape o → more ≡ with_one_more text shape pushed → AreIn (os ++ o ∷ []) more
 one_pushed text os pushed more o shape are_in room is_in is_shape added =
     let span : length_of shape ≡ o.end - o.start = rw is_shape.span refl in
-    let long = length_between text o.start o.end is_in.1 in
-    let count : length more ≡ length pushed + 1 = ap (λ (all : List BlockOperation). length all) added ∙ length_push pushed (taken_out text o) in
-    let bytes : bytes_in more ≡ bytes_in pushed + (o.end - o.start) =
-    ap bytes_in added
-    ∙ (sum_by_push (λ (b : BlockOperation). length b.text) pushed (taken_out text o) ∙ ap (λ (n : ℕ). bytes_in pushed + n) long) in
+    let count = length_pushed os pushed are_in in
+    let room_for = room.operations in
+    let room_in = room.bytes in
+    let was = are_in.bytes in
+    let is : AreIn (os ++ o ∷ []) (with_one_more text shape pushed) =
     record {
-      same = pushed_behind [] pushed more (map operation_of os) text o are_in.same added ∙ sym (map-append operation_of os (o ∷ []));
-      bytes = bytes ∙ (ap (λ (n : ℕ). n + (o.end - o.start)) are_in.bytes ∙ sym (bytes_push os o));
-      limits = record { operations = omega arith; bytes = omega arith };
-    }
+      same = pushed_behind [] pushed.operations (map operation_of os) text shape o are_in.same is_in is_shape ∙ sym (map-append operation_of os (o ∷ []));
+      bytes = omega (arith, bytes_push os o);
+      few = omega (arith, length_push os o);
+      short = omega (arith, bytes_push os o);
+    } in
+    subst (AreIn (os ++ o ∷ [])) (sym added) is

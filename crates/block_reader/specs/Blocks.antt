@@ -1,13 +1,12 @@
 -- The operations of blocks.
-use Rattle.std.specs.Prelude.{◌≡◌, ℕ, List, ◌++◌, map}
+use Rattle.std.specs.Prelude.{◌≡◌, List, ◌++◌, map}
 use Rattle.std.specs.List.{flat_map}
-use Rattle.hist_types.specs.Entries.{operation_of}
 use Rattle.hist_types.specs.Operations.{Operation}
-use Rattle.op_block.specs.Contents.{BlockOperation, Contents, operations_of}
+use Rattle.op_block.specs.Contents.{BlockOperation, Contents, operation_meant, operations_of}
 
 -- the operations of a block that is being built
 abbrev pub operations_pushed : List BlockOperation → List Operation
-operations_pushed os = map (λ (o : BlockOperation). operation_of o.placed) os
+operations_pushed os = map operation_meant os
 
 -- the operations of blocks, one block after the other
 abbrev pub operations_in : List Contents → List Operation
@@ -18,8 +17,3 @@ abbrev pub HaveAlso : (blocks : List Contents) → List BlockOperation → (bloc
     → Type 0
 HaveAlso blocks pushed blocks' =
     operations_in blocks' ≡ operations_in blocks ++ operations_pushed pushed
-
--- operations of a text
-pub record TextOperations : Type 0 where
-  pub text : List ℕ
-  pub operations : List Operation

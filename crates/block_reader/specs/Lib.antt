@@ -1,5 +1,6 @@
 pub mod Blocks
-pub mod Texts
+pub mod Reading
 pub mod Parts
-pub mod Rounds
 pub mod OneBlock
+pub mod Starts
+pub mod Rounds

@@ -1,5 +1,5 @@
 -- Reading a whole text into one block, and the text of a call's operation.
-use Rattle.std.specs.Prelude.{◌≡◌, ◌⊎◌, ℕ, List, ◌∷◌, [], Bool, true, false, map, Result, Ok, Err}
+use Rattle.std.specs.Prelude.{◌≡◌, ◌⊎◌, ℕ, List, ◌∷◌, [], Bool, true, false, map, Result, Ok, Err, ◌≤◌, length}
 use Rattle.hist_types.specs.CanonicalText.{operation_text}
 use Rattle.hist_types.specs.Entries.{PlacedOperation, operation_of, placed_operations}
 use Rattle.hist_types.specs.Handed.{HandsOver, bytes_of, fit_in_a_block, one_block, operation_of_call, transaction_handed}
@@ -9,10 +9,10 @@ use Rattle.hist_types.specs.declared.types.Fault.{Fault}
 use Rattle.hist_types.specs.declared.types.OpKind.{OpKind}
 use Rattle.edn_ops.specs.Canonical.{OperationCanBeRead}
 use Rattle.edn_ops.specs.Reader.{Reader}
-use Rattle.op_block.specs.Contents.{BlockOperation, KeepsLimits}
-use Rattle.op_block.specs.Contents.{bytes_of as bytes_in}
+use Rattle.hist_types.specs.declared.limits.TheConstants.{MAX_BLOCK_OPERATIONS, MAX_BLOCK_BYTES}
+use Rattle.op_block.specs.Contents.{Gathered}
 use Rattle.block_reader.specs.Blocks.{operations_pushed}
-use Rattle.block_reader.specs.Parts.{HasReadTo}
+use Rattle.block_reader.specs.Reading.{HasReadTo}
 
 -- ---- a text
 
@@ -22,10 +22,11 @@ HasReadPlaced text r os =
     (read : HasReadTo text r (map operation_of os)) × (placed_operations read.before ≡ os)
 
 -- The block that is being built has these operations, in as many bytes as their maps have.
-pub record AreIn (os : List PlacedOperation) (pushed : List BlockOperation) : Type 0 where
-  pub same : operations_pushed pushed ≡ map operation_of os
-  pub bytes : bytes_in pushed ≡ bytes_of os
-  pub limits : KeepsLimits pushed
+pub record AreIn (os : List PlacedOperation) (pushed : Gathered) : Type 0 where
+  pub same : operations_pushed pushed.operations ≡ map operation_of os
+  pub bytes : pushed.bytes ≡ bytes_of os
+  pub few : length os ≤ MAX_BLOCK_OPERATIONS
+  pub short : bytes_of os ≤ MAX_BLOCK_BYTES
 
 -- the operations that were read fit in no block
 abbrev pub HasReadTooMany : List ℕ → Reader → Type 0
@@ -34,7 +35,7 @@ HasReadTooMany text r =
 
 -- What filling a block does: it comes to the text's end, or to an operation that doesn't fit, or to
 -- a fault.
-abbrev pub HasFilled : List ℕ → Result Bool Fault → Reader → List BlockOperation → Type 0
+abbrev pub HasFilled : List ℕ → Result Bool Fault → Reader → Gathered → Type 0
 HasFilled text (Ok true) r pushed =
     (os : List PlacedOperation) × HandsOver text (one_block os) × AreIn os pushed
 HasFilled text (Ok false) r pushed = HasReadTooMany text r

@@ -1,17 +1,65 @@
--- Rounds in which a text is read.
-use Rattle.std.specs.Prelude.{◌≡◌, ◌⊎◌, ℕ, List, ◌++◌, Result, Ok, Err}
+-- Reading a source in rounds.
+use Rattle.std.specs.Prelude.{◌≡◌, ◌⊎◌, ℕ, ◌+◌, List, [], ◌++◌, length, drop, true, false}
+use Rattle.std.specs.Io.KnownBytes.{Consumes, IsAtEnd}
+use Rattle.hist_types.specs.Devices.{CountsFailure}
 use Rattle.hist_types.specs.Operations.{Operation}
 use Rattle.hist_types.specs.Refusals.{memory_fault}
-use Rattle.hist_types.specs.declared.types.Fault.{Fault}
-use Rattle.edn_ops.specs.Reader.{Reader}
-use Rattle.block_reader.specs.Blocks.{operations_in}
-use Rattle.block_reader.specs.Parts.{IsUpTo}
-use Rattle.block_reader.specs.Texts.{GivesFault}
-use Rattle.block_reader.specs.declared.reading.Round.{Round}
+use Rattle.hist_types.specs.declared.device.Source.{Ghosts as Source}
+use Rattle.hist_types.specs.declared.whole.ReadFault.{ReadFault}
+use Rattle.hist_types.specs.declared.whole.ReadFault.TheVariants as read_faults
+use Rattle.reading_laws.specs.Parts.{GivesOperations, GivesFault}
+use Rattle.block_reader.specs.Parts.{ReadsThrough}
+use Rattle.block_reader.specs.declared.rounds.Reading.{Reading}
+use Rattle.block_reader.specs.declared.rounds.InputFault.{InputFault}
+use Rattle.block_reader.specs.declared.rounds.InputFault.TheVariants as faults
 
--- What a round does after these operations of the text were read: it reads on, or to the text's
--- end, or to a fault.
-abbrev pub HasReadRound : List ℕ → Result Round Fault → Reader → (before : List Operation) → Type 0
-HasReadRound text (Ok round) r before =
-    IsUpTo text (Ok round.has_more) r (before ++ operations_in round.blocks.items)
-HasReadRound text (Err fault) r before = (fault ≡ memory_fault) ⊎ GivesFault text fault
+-- a fault of a source, as one of its text
+abbrev pub AreAlike : ReadFault → InputFault → Type 0
+AreAlike read_faults.Device fault = fault ≡ faults.Device
+AreAlike read_faults.Memory fault = fault ≡ faults.Text memory_fault
+
+-- the source gave this text and then ended, and never failed
+pub record HasGivenAll {S : Type 0} (device : Source S) (source source' : S)
+    (text : List ℕ) : Type 0 where
+  pub given : Consumes (device.remaining source) (device.remaining source') text
+  pub at_end : IsAtEnd (device.remaining source')
+  pub no_failure : device.failures source' ≡ device.failures source
+
+-- the source was read to its end, and the text is of these operations
+pub record HasReadAll {S : Type 0} (device : Source S) (source source' : S)
+    (operations : List Operation) : Type 0 where
+  pub text : List ℕ
+  pub all : HasGivenAll device source source' text
+  pub gives : GivesOperations text operations
+
+-- a failure of the source is counted there; of a text, it was read to its end and is refused, unless
+-- memory ran out
+abbrev pub IsFaultOf : {S : Type 0} → Source S → (source source' : S) → InputFault → Type 0
+IsFaultOf device source source' faults.Device =
+    CountsFailure (device.failures source) (device.failures source')
+IsFaultOf device source source' (faults.Text fault) =
+    ((fault ≡ memory_fault) × (device.failures source' ≡ device.failures source))
+    ⊎ ((text : List ℕ) × HasGivenAll device source source' text × GivesFault text fault)
+
+-- nothing of it was read
+pub record IsNew (reading : Reading) : Type 0 where
+  pub window : reading.window ≡ []
+  pub offset : reading.offset ≡ 0
+  pub going : reading.ended ≡ false
+
+-- so many of the window's first bytes are read through
+pub record HasPassed (count : ℕ) (reading reading' : Reading) : Type 0 where
+  pub window : reading'.window ≡ drop count reading.window
+  pub offset : reading'.offset ≡ reading.offset + count
+  pub ended : reading'.ended ≡ reading.ended
+
+-- A front of the source's text was read through, which has these operations; the bytes of the window
+-- were read behind it, and the source never failed.
+pub record HasCome {S : Type 0} (device : Source S) (source source' : S) (reading : Reading)
+    (operations : List Operation) : Type 0 where
+  pub front : List ℕ
+  pub given : Consumes (device.remaining source) (device.remaining source') (front ++ reading.window)
+  pub no_failure : device.failures source' ≡ device.failures source
+  pub long : length front ≡ reading.offset
+  pub through : ReadsThrough front operations
+  pub at_end : reading.ended ≡ true → IsAtEnd (device.remaining source')

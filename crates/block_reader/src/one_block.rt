@@ -33,7 +33,7 @@ fn nowhere(refusal: Refusal) -> Fault
 /// Reads operations into an empty block, up to the text's end, or up to the first one that doesn't fit, and then returns false.
 fn fill(text: &[u8], reader: &mut OpReader<'_>, builder: &mut BlockBuilder) -> Result<bool, Fault>
     requires start { reader.old ≡ reader_at_start text.now }
-    requires empty { builder.old ≡ [] }
+    requires empty { builder.old ≡ record { operations = []; bytes = 0 } }
     ensures { HasFilled text.now result reader.new builder.new }
 {
     // A law, called for its clause: each operation's map reads alone.

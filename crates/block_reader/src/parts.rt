@@ -1,105 +1,54 @@
-//! Parts of a text, each read as if nothing stood before it.
+//! Parts of a text that are read side by side, each by itself.
 
-ghost use Rattle.std.specs.Prelude.{◌≡◌, ◌≤◌, ◌<◌, length, false, All, IfOk, IfSome, OnErr};
-ghost use Rattle.block_reader.specs.Parts.{IsIn, IsPartOf, ReadsOn};
+ghost use Rattle.std.specs.Prelude.{◌≡◌, ◌≤◌, ◌<◌, ◌+◌, length, All, IfSome};
+ghost use Rattle.block_reader.specs.Blocks.{operations_in};
+ghost use Rattle.block_reader.specs.Parts.{AreStarts, IsPartOf, ReadsThrough, front_of, part_at};
 
-use crate::blocks::Blocks;
-use bytes::Bytes;
-use edn_ops::reader::OpReader;
-use edn_ops::types::OpShape;
-use hist_types::types::Fault;
+use crate::alone::blocks_from;
 use op_block::block::Block;
-use reading_laws::{operations_read_alone, texts_have_one_reading};
+use reading_laws::parts_read_alone;
 use std::alloc::Global;
 use std::sync::atomic::{AtomicUsize, Ordering};
 
-/// The operations between two offsets of a text.
+/// The operations of a part, with its index.
 #[derive(Drop)]
 pub struct Part {
-    pub start: usize,
-    pub end: usize,
+    pub index: usize,
     pub blocks: Vec<Block>,
 }
 
-/// Reads the next operation into the blocks, by way of a shape that may have been used before: false at the text's end.
-pub fn read_op(
-    reader: &mut OpReader<'_>,
-    shape: &mut OpShape,
-    blocks: &mut Blocks,
-) -> Result<bool, Fault>
-    requires { reader.old.state.text ≡ blocks.old.text }
-    ensures on { ReadsOn blocks.old.text result reader.old reader.new blocks.old.operations
-        blocks.new.operations }
-    ensures text { reader.new.state.text ≡ blocks.old.text }
-    ensures same_text { blocks.new.text ≡ blocks.old.text }
-    ensures end { IfOk result (λ more. more ≡ false → blocks.new ≡ blocks.old) }
-    ensures err { OnErr result (blocks.new ≡ blocks.old) }
+/// The part with this index: from its start to the next one, or to the text's end.
+fn part_at<'a>(text: &'a [u8], starts: &[usize], index: usize) -> &'a [u8]
+    requires starts { AreStarts text.now starts.now }
+    requires index { index < length starts.now }
+    ensures { result.now ≡ part_at text.now starts.now index }
 {
-    // Laws, called for their clauses: the text reads in one way, and each operation's map reads alone.
-    texts_have_one_reading();
-    operations_read_alone();
-    if !reader.next_into(shape)? {
-        return Ok(false);
-    }
-    blocks.push(shape)?;
-    Ok(true)
-}
-
-/// Reads from `start`, as if nothing stood before it, up to the first operation that ends at `stop` or after it, or the
-/// last one before a fault or the text's end. None where memory runs out, or where an operation is in a vector or list.
-fn read_from(alloc: Global, seat: u32, text: &Bytes, start: usize, stop: usize) -> Option<Part>
-    requires { IsIn text.now start }
-    ensures { IfSome result (IsPartOf text.now) }
-{
-    let mut reader = OpReader::at(alloc, text, start);
-    let mut blocks = Blocks::new(alloc, text.clone().ok()?, seat);
-    let mut shape = OpShape::new(alloc);
-    let mut end = start;
-    for _ in start..stop {
-        if end >= stop {
-            break;
-        }
-        match read_op(&mut reader, &mut shape, &mut blocks) {
-            Ok(true) => end = reader.top_offset()?,
-            Ok(false) | Err(_) => break,
-        }
-    }
-    let blocks = blocks.finish().ok()?;
-    Some(Part { start, end, blocks })
-}
-
-/// The part that begins at the start with this index and ends at the next one.
-fn read_part(alloc: Global, text: &Bytes, starts: &[usize], index: usize) -> Option<Part>
-    requires low { index < length starts.now }
-    requires starts { All (IsIn text.now) starts.now }
-    ensures { IfSome result (IsPartOf text.now) }
-{
-    let stop = match starts.get(index + 1) {
+    let end = match starts.get(index + 1) {
         Some(next) => *next,
         None => text.len(),
     };
-    // The seat 0 is that of the blocks after the parts.
-    let seat = u32::try_from(index + 1).ok()?;
-    read_from(alloc, seat, text, starts[index], stop)
+    &text[starts[index]..end]
 }
 
-/// Reads one part after the other, each the next that no thread has taken yet, until all before this end are taken. A part for
-/// which memory runs out is left out.
-pub fn take_parts(
-    alloc: Global,
-    text: &Bytes,
-    starts: &[usize],
-    next: &AtomicUsize,
-    end: usize,
-) -> Vec<Part>
-    requires starts { All (IsIn text.now) starts.now }
-    requires end { end ≤ length starts.now }
-    ensures { All (IsPartOf text.now) result.items }
+/// The part with this index, if it reads by itself and memory doesn't run out.
+fn read_part(alloc: Global, text: &[u8], starts: &[usize], index: usize) -> Option<Part>
+    requires starts { AreStarts text.now starts.now }
+    requires index { index < length starts.now }
+    ensures { IfSome result (IsPartOf text.now starts.now) }
+{
+    let blocks = blocks_from(alloc, part_at(text, starts, index), 0).ok()?;
+    Some(Part { index, blocks })
+}
+
+/// Reads one part after the other, each the next that no thread has taken yet. One that doesn't read by itself is left out.
+pub fn take_parts(alloc: Global, text: &[u8], starts: &[usize], next: &AtomicUsize) -> Vec<Part>
+    requires { AreStarts text.now starts.now }
+    ensures { All (IsPartOf text.now starts.now) result.items }
 {
     let mut parts = Vec::new(alloc);
-    for _ in 0..end {
+    for _ in 0..starts.len() {
         let index = next.fetch_add(1, Ordering::SeqCst);
-        if index >= end {
+        if index >= starts.len() {
             break;
         }
         if let Some(part) = read_part(alloc, text, starts, index) {
@@ -109,4 +58,50 @@ pub fn take_parts(
         }
     }
     parts
+}
+
+/// Puts the blocks of a part behind those of the parts before it, if it is the one with this index and memory doesn't run out.
+fn put_behind(
+    text: &[u8],
+    starts: &[usize],
+    index: usize,
+    part: Part,
+    blocks: &mut Vec<Block>,
+) -> Option<()>
+    requires starts { AreStarts text.now starts.now }
+    requires part { IsPartOf text.now starts.now part }
+    ensures within { IfSome result (λ _. index < length starts.now) }
+    ensures through { ReadsThrough (front_of text.now starts.now index)
+        (operations_in blocks.old.items) → IfSome result (λ _. ReadsThrough
+        (front_of text.now starts.now (index + 1)) (operations_in blocks.new.items)) }
+{
+    // A law, called for its clause: behind a part that reads by itself, the text is read on.
+    parts_read_alone();
+    if part.index != index {
+        return None;
+    }
+    let mut more = part.blocks;
+    match blocks.append(&mut more) {
+        Ok(()) => Some(()),
+        Err(_) => None,
+    }
+}
+
+/// The blocks of all parts of the text, which are in order, if none is left out.
+pub fn joined(alloc: Global, text: &[u8], starts: &[usize], parts: Vec<Part>) -> Option<Vec<Block>>
+    requires starts { AreStarts text.now starts.now }
+    requires parts { All (IsPartOf text.now starts.now) parts.items }
+    ensures { IfSome result (λ blocks. ReadsThrough text.now (operations_in blocks.items)) }
+{
+    let mut blocks = Vec::new(alloc);
+    let mut next = 0;
+    for part in parts {
+        put_behind(text, starts, next, part, &mut blocks)?;
+        next += 1;
+    }
+    if next == starts.len() {
+        Some(blocks)
+    } else {
+        None
+    }
 }

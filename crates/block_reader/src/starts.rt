@@ -1,14 +1,17 @@
-//! Where the parts of a text are taken to begin.
+//! Where the parts of a text begin.
 
-ghost use Rattle.std.specs.Prelude.{◌≤◌, length, All, IfOk, IfSome};
-ghost use Rattle.block_reader.specs.Parts.{IsIn};
+ghost use Rattle.std.specs.Prelude.{◌≡◌, ◌≤◌, ◌+◌, ◌-◌, length, get_or, IfOk, IfSome};
+ghost use Rattle.hist_types.specs.Bytes.{close_brace, line_feed};
+ghost use Rattle.reading_laws.specs.Parts.{EndsWithMap};
+ghost use Rattle.block_reader.specs.Parts.{AreStarts};
+ghost use Rattle.block_reader.specs.Starts.{IsBehindMap};
 
 use memchr::{memchr, memrchr};
 use std::alloc::{AllocError, Global};
 use std::thread::{Threads, available_parallelism};
 
 /// How many bytes a part has, up to the end of a line.
-const PART_BYTES: usize = 1 << 18;
+const PART_BYTES: usize = 1 << 16;
 
 /// How many threads read beside the caller's: no more than there are other workers and other processors.
 pub(crate) fn helpers_of<R: Threads>(rt: &R, workers: usize) -> usize {
@@ -18,25 +21,46 @@ pub(crate) fn helpers_of<R: Threads>(rt: &R, workers: usize) -> usize {
     }
 }
 
-/// The end of the first line at or after the offset, after its last `}`.
+/// The end of the first line behind the offset that ends with a map.
 fn line_behind(text: &[u8], offset: usize) -> Option<usize>
-    requires { offset ≤ length text.now }
-    ensures { IfSome result (IsIn text.now) }
+    ensures { IfSome result (IsBehindMap text.now offset) }
 {
-    let left = &text[offset..];
-    let line = &left[..memchr(b'\n', left)?];
-    Some(offset + memrchr(b'}', line)? + 1)
+    let mut at = offset.checked_add(1)?;
+    while at < text.len() {
+        let line = at + memchr(b'\n', &text[at..])?;
+        if text[line - 1] == b'}' {
+            return Some(line + 1);
+        }
+        at = line + 1;
+    }
+    None
 }
 
-/// Where the parts of a text begin, in order: at its start alone if one worker reads it, else also at ends of lines. Where each
-/// operation has lines of its own, as Jepsen prints them, one ends there.
+/// The end of the last line that ends with a map.
+pub(crate) fn last_line(text: &[u8]) -> Option<usize>
+    ensures { IfSome result (IsBehindMap text.now 0) }
+{
+    let mut end = text.len();
+    while end > 1 {
+        let line = memrchr(b'\n', &text[1..end])? + 1;
+        if text[line - 1] == b'}' {
+            return Some(line + 1);
+        }
+        end = line;
+    }
+    None
+}
+
+/// Where the parts of a text begin, in order: at its start alone if one worker reads it, else also behind lines that end with a map, as
+/// Jepsen prints them.
 pub fn starts_of<R: Threads>(
     rt: &R,
     alloc: Global,
     workers: usize,
     text: &[u8],
 ) -> Result<Vec<usize>, AllocError>
-    ensures { IfOk result (λ starts. All (IsIn text.now) starts.items) }
+    requires { EndsWithMap text.now }
+    ensures { IfOk result (λ starts. AreStarts text.now starts.items) }
 {
     let mut starts = Vec::new(alloc);
     starts.push(0)?;
@@ -49,8 +73,10 @@ pub fn starts_of<R: Threads>(
         // Where lines are longer than a part, none is looked at twice.
         if offset > last {
             if let Some(start) = line_behind(text, offset) {
-                starts.push(start)?;
-                last = start;
+                if text.len() - start >= 2 {
+                    starts.push(start)?;
+                    last = start;
+                }
             }
         }
     }

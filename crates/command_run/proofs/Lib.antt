@@ -1,6 +1,7 @@
 pub mod Lists
 pub mod BlockByBlock
 pub mod Deciding
+pub mod Inputs
 pub mod OneAnswer
 pub mod SomeAnswer
 pub mod Refuting

@@ -17,7 +17,7 @@ use Rattle.hist_types.specs.declared.types.Level.TheVariants.{Plain, Process, Re
 use Rattle.hist_types.specs.declared.types.Phenomenon.{Phenomenon}
 use Rattle.hist_types.specs.declared.types.Phenomenon.TheVariants.{G0, G1c, GSingle, G2Item}
 use Rattle.hist_types.specs.declared.types.KeyOrder.{KeyOrder}
-use Rattle.block_reader.specs.Texts.{GivesOperations, GivesFault}
+use Rattle.reading_laws.specs.Parts.{GivesOperations, GivesFault}
 use Rattle.command_run.specs.Answers.{GivesEvents, journal_fault, IsRefused, IsVerdict, Reports, IsReport, IsAnswer}
 use Rattle.command_run.specs.SameAnswers.{level_found, DifferInWitnessesAlone}
 use Rattle.command_run.specs.Statuses.{status_by}
@@ -34,11 +34,11 @@ module _ (text : List ℕ) (one_reading : HasOneReading (Reads text)) where
 
   same_fault : (fault other : Fault) → GivesFault text fault → GivesFault text other → fault ≡ other
   same_fault fault other one two =
-      same_Some fault other (one_reading.1 one.entries two.entries (Some fault) (Some other) one.read two.read).1
+      same_Some fault other (one_reading.1 one.1.entries two.1.entries (Some fault) (Some other) one.1.read two.1.read).1
 
   not_both : (ops : List Operation) (fault : Fault) → GivesOperations text ops → GivesFault text fault → ⊥
   not_both ops fault given refused =
-      none-some fault (one_reading.1 given.entries refused.entries None (Some fault) given.read refused.read).1
+      none-some fault (one_reading.1 given.entries refused.1.entries None (Some fault) given.read refused.1.read).1
 
   -- operations whose journal is refused are no events
   no_events : (events ops : List Operation) (fault : Fault) → GivesEvents text events → GivesOperations text ops → journal_fault ops ≡ Some fault → ⊥

@@ -16,7 +16,7 @@ use Rattle.hist_types.specs.declared.types.Fault.{Fault}
 use Rattle.hist_types.specs.declared.types.Refusal.{Refusal}
 use Rattle.hist_types.specs.declared.types.Phenomenon.TheVariants.{G0, G1c, GSingle, G2Item}
 use Rattle.command_run.proofs.Deciding.{has_finding}
-use Rattle.block_reader.specs.Texts.{GivesOperations}
+use Rattle.reading_laws.specs.Parts.{GivesOperations}
 use Rattle.command_run.specs.Answers.{GivesEvents, IsRefused, IsVerdict, HasAnswer}
 use Rattle.command_run.specs.Statuses.{status_by}
 use Rattle.command_run.specs.declared.answer.Status.{Status}
@@ -93,7 +93,8 @@ judged command text operations given = by_rules (first_broken [] operations) ref
 
 by_reading : (command : Command) (text : List ℕ) → (entries : List Entry) (ending : Option Fault) → Reads text entries ending → HasAnswer command text
 by_reading command text entries None read = judged command text (operations_of entries) (record { entries = entries; read = read; given = refl })
-by_reading command text entries (Some fault) read = refused command text fault (inl (record { entries = entries; read = read }))
+by_reading command text entries (Some fault) read =
+    refused command text fault (inl (operations_of entries, record { entries = entries; read = read; given = refl }))
 
 -- a text that has a reading has an answer
 pub some_answer : ((text : List ℕ) → HasOneReading (Reads text)) → (command : Command) (text : List ℕ) → HasAnswer command text

@@ -5,3 +5,4 @@ pub mod Judged
 pub mod Numbering
 pub mod Statuses
 pub mod Runs
+pub mod Sources

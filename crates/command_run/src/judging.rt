@@ -1,17 +1,16 @@
 //! Judging the operations of a text, while the rest of it is read.
 
-ghost use Rattle.std.specs.Prelude.{◌≡◌, ◌⊎◌, List, ◌++◌, IfOk, IfErr, All};
+ghost use Rattle.std.specs.Prelude.{List, ◌++◌, IfOk, IfErr};
 ghost use Rattle.hist_types.specs.Operations.{Operation};
-ghost use Rattle.hist_types.specs.Refusals.{memory_fault};
 ghost use Rattle.block_reader.specs.Blocks.{operations_in};
-ghost use Rattle.block_reader.specs.Parts.{IsIn};
-ghost use Rattle.command_run.specs.Answers.{GivesEvents, IsRefused};
+ghost use Rattle.command_run.specs.Answers.{GivesEvents};
 ghost use Rattle.command_run.specs.Judged.{HasJudged};
+ghost use Rattle.command_run.specs.Sources.{HasGiven, HasNoReport};
 
 use crate::judged::Judged;
-use block_reader::reading::{Consumer, read_text};
-use bytes::Bytes;
-use hist_types::limits::MAX_EVENTS;
+use block_reader::round::Consumer;
+use block_reader::rounds::{InputFault, read_source};
+use hist_types::device::Source;
 use hist_types::types::Fault;
 use op_block::block::Block;
 use std::alloc::Global;
@@ -21,49 +20,15 @@ use std::thread::Threads;
 /// Judges the blocks of a text, those of one round after those of the other. Blocks after a broken rule are passed over.
 #[derive(Drop)]
 struct Judging<'a> {
-    alloc: Global,
-    /// In how many rounds the text is read.
-    rounds: usize,
     judged: Result<Judged<'a>, Fault>,
-}
-
-/// How many invocations there mostly are in as many rounds as this, if these are the blocks of the first: among operations every
-/// second one is an invocation.
-fn invocations_in(blocks: &[Block], rounds: usize) -> usize {
-    let mut operations: usize = 0;
-    for block in blocks {
-        operations = operations.saturating_add(block.len());
-    }
-    operations.saturating_mul(rounds).min(MAX_EVENTS as usize) / 2
-}
-
-/// With tables that are large enough for as many rounds, if these are the blocks of the first.
-fn with_room<'a>(
-    alloc: Global,
-    judged: Judged<'a>,
-    blocks: &[Block],
-    rounds: usize,
-) -> Result<Judged<'a>, Fault>
-    ensures ok { IfOk result (λ larger. larger.core.events ≡ judged.entry.core.events) }
-    ensures err { IfErr result (λ fault. fault ≡ memory_fault) }
-{
-    if judged.core.events() > 0 {
-        return Ok(judged);
-    }
-    Judged::with_capacity(alloc, invocations_in(blocks, rounds))
 }
 
 /// What was judged, and these blocks after it.
-fn also<'a>(
-    alloc: Global,
-    judged: Result<Judged<'a>, Fault>,
-    blocks: &'a [Block],
-    rounds: usize,
-) -> Result<Judged<'a>, Fault>
+fn also<'a>(judged: Result<Judged<'a>, Fault>, blocks: &'a [Block]) -> Result<Judged<'a>, Fault>
     ensures { (before : List Operation) → HasJudged judged.entry before
         → HasJudged result (before ++ operations_in blocks.now) }
 {
-    with_room(alloc, judged?, blocks, rounds)?.extended(blocks)
+    judged?.extended(blocks)
 }
 
 impl<'a> Consumer<'a> for Judging<'a> {
@@ -72,37 +37,28 @@ impl<'a> Consumer<'a> for Judging<'a> {
     ghost has_taken = { λ j operations. HasJudged j.judged operations };
 
     fn take(self, blocks: &'a [Block]) -> Self {
-        let Judging {
-            alloc,
-            rounds,
-            judged,
-        } = self;
-        let judged = also(alloc, judged, blocks, rounds);
+        let Judging { judged } = self;
         Judging {
-            alloc,
-            rounds,
-            judged,
+            judged: also(judged, blocks),
         }
     }
 }
 
-/// What is made of a text's operations or, where it is refused, the first refusal.
-pub fn judged_of<'a, R: Threads + Sync>(
+/// What is made of a source's operations or, where its text is refused, the first refusal.
+pub fn judged_of<'a, R: Threads + Sync, S: Source>(
     rt: &R,
     alloc: Global,
     workers: usize,
-    text: &Bytes,
-    starts: &[usize],
+    source: &mut S,
     cells: &'a [OnceLock<Vec<Block>>],
-) -> Result<Judged<'a>, Fault>
-    requires { All (IsIn text.now) starts.now }
-    ensures ok { IfOk result (λ judged. GivesEvents text.now judged.core.events) }
-    ensures err { IfErr result (λ fault. (fault ≡ memory_fault) ⊎ IsRefused text.now fault) }
+) -> Result<Judged<'a>, InputFault>
+    ensures ok { IfOk result (λ judged.
+        HasGiven S.Source source.old source.new (λ text. GivesEvents text judged.core.events)) }
+    ensures err { IfErr result (HasNoReport S.Source source.old source.new) }
 {
     let judging = Judging {
-        alloc,
-        rounds: cells.len(),
         judged: Ok(Judged::new(alloc)),
     };
-    read_text(rt, alloc, workers, text, starts, cells, judging)?.judged
+    let Judging { judged } = read_source(rt, alloc, workers, source, cells, judging)?;
+    Ok(judged?)
 }

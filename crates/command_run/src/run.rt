@@ -1,25 +1,23 @@
 //! The run of a command, from a source's bytes to a sink's.
 
-ghost use Rattle.std.specs.Prelude.{◌≡◌, ◌⊎◌, IfOk, IfErr};
-ghost use Rattle.hist_types.specs.Refusals.{memory_fault};
+ghost use Rattle.std.specs.Prelude.{◌≡◌, ◌⊎◌, ℕ, List, IfOk, IfErr};
 ghost use Rattle.verdict.specs.KeyPieces.{IsNumberOfWorkers, IsMemoryOrThread};
 ghost use Rattle.hist_types.specs.Pieces.{HasTaken, HasTakenInPart};
 ghost use Rattle.command_run.specs.Answers.{IsAnswer, IsRefused, Reports, keys_of};
 ghost use Rattle.command_run.specs.Runs.{HasPrintedLack, HasRun};
-ghost use Rattle.command_run.specs.Statuses.{lack_line};
+ghost use Rattle.command_run.specs.Sources.{HasGiven, HasNoReport};
+ghost use Rattle.command_line.specs.declared.types.Command.{Command};
 
 use crate::answer::{Answer, Lack, Status, refuse};
 use crate::judged::Judged;
 use crate::judging::judged_of;
 use crate::numbering::versions_and_order;
 use crate::{check, edges, reads};
-use block_reader::reading::cells_for;
-use block_reader::starts::starts_of;
-use bytes::Bytes;
+use block_reader::rounds::{InputFault, cells_for};
 use command_line::types::{Command, MAX_WORKERS};
 use hist_types::device::{Failed, Sink, Source};
 use hist_types::types::{Fault, KeyOrder, Refusal};
-use hist_types::whole::{ReadFault, read_all, write_all};
+use hist_types::whole::write_all;
 use history_laws::versions_written_once;
 use std::alloc::Global;
 use std::sync::Wait;
@@ -81,42 +79,34 @@ fn report_on<R: Threads + Wait + Sync>(
     }
 }
 
-/// The report of a command on a text, unless that is refused.
-fn judge<R: Threads + Wait + Sync>(
+/// The report of a command on a source's text, unless that is refused.
+fn judge<R: Threads + Wait + Sync, S: Source>(
     rt: &R,
     alloc: Global,
     command: Command,
-    text: Vec<u8>,
-) -> Result<Answer, Fault>
-    ensures ok { IfOk result
-        (λ answer. IsAnswer command text.items answer.status answer.printed.items) }
-    ensures err { IfErr result
-        (λ fault. IsMemoryOrThread fault ⊎ IsRefused text.items fault) }
+    source: &mut S,
+) -> Result<Answer, InputFault>
+    ensures ok { IfOk result (λ answer. HasGiven S.Source source.old source.new
+        (λ text. IsAnswer command text answer.status answer.printed.items)) }
+    ensures err { IfErr result (HasNoReport S.Source source.old source.new) }
 {
-    let workers = workers_of(command);
-    let text = Bytes::from_vec(text)?;
-    let starts = starts_of(rt, alloc, workers, &text)?;
     // The blocks are in cells, so that they stay where they are while more are read.
-    let cells = cells_for(alloc, starts.len())?;
-    let judged = judged_of(rt, alloc, workers, &text, &starts, &cells)?;
-    report_on(rt, alloc, command, judged)
+    let cells = cells_for(alloc)?;
+    let judged = judged_of(rt, alloc, workers_of(command), source, &cells)?;
+    Ok(report_on(rt, alloc, command, judged)?)
 }
 
-/// The answer of a command to a text, unless the program lacks something.
-fn answer_to<R: Threads + Wait + Sync>(
-    rt: &R,
-    alloc: Global,
-    command: Command,
-    text: Vec<u8>,
-) -> Result<Answer, Lack>
-    ensures { IfOk result
-        (λ answer. IsAnswer command text.items answer.status answer.printed.items) }
+/// The answer to a text that is refused so, unless the fault is that the program lacks something.
+fn answer_to_refused(alloc: Global, fault: Fault) -> Result<Answer, Lack>
+    ensures lack { IsMemoryOrThread fault → IfOk result (λ _. ⊥) }
+    ensures answer { (command : Command) (text : List ℕ) → IsRefused text fault
+        → IfOk result (λ answer. IsAnswer command text answer.status answer.printed.items) }
+    ensures status { IfOk result (λ answer. answer.status ≡ Status.Refused) }
 {
-    match judge(rt, alloc, command, text) {
-        Ok(answer) => Ok(answer),
-        Err(fault) if matches!(fault.refusal, Refusal::Memory) => Err(Lack::Memory),
-        Err(fault) if matches!(fault.refusal, Refusal::NoThread) => Err(Lack::Thread),
-        Err(fault) => Ok(refuse(alloc, fault)?),
+    match fault.refusal {
+        Refusal::Memory => Err(Lack::Memory),
+        Refusal::NoThread => Err(Lack::Thread),
+        _ => Ok(refuse(alloc, fault)?),
     }
 }
 
@@ -150,13 +140,12 @@ pub fn run<R: Threads + Wait + Sync, S: Source, T: Sink>(
     // What is printed answers the source's bytes, and a device fault is reported exactly where a device failed.
     ensures { HasRun S.Source T.Sink command result source.old source.new sink.old sink.new }
 {
-    let text = match read_all(alloc, source) {
-        Ok(text) => text,
-        Err(ReadFault::Device) => return Status::DeviceFault,
-        Err(ReadFault::Memory) => return print_lack(sink, Lack::Memory),
-    };
-    match answer_to(rt, alloc, command, text) {
+    match judge(rt, alloc, command, source) {
         Ok(answer) => print(sink, answer.status, &answer.printed),
-        Err(lack) => print_lack(sink, lack),
+        Err(InputFault::Device) => Status::DeviceFault,
+        Err(InputFault::Text(fault)) => match answer_to_refused(alloc, fault) {
+            Ok(answer) => print(sink, answer.status, &answer.printed),
+            Err(lack) => print_lack(sink, lack),
+        },
     }
 }

@@ -69,8 +69,7 @@ fn atom_at(text: &[u8], start: usize) -> Option<Token>
     if let Some(number) = short_number_at(text, start) {
         return Some(number);
     }
-    let token = any_atom_at(text, start)?;
-    Some(token)
+    any_atom_at(text, start)
 }
 
 /// The token that begins here, if it is an atom, however it is spelled.
@@ -105,8 +104,7 @@ fn value_at(text: &[u8], start: usize, is_write: bool) -> Option<Token>
             return Some(token);
         }
     }
-    let token = any_atom_at(text, start)?;
-    Some(token)
+    any_atom_at(text, start)
 }
 
 /// Whether the micro-operation that the next five tokens are is a write, where its key and value are and where it ends, if they

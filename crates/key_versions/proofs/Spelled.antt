@@ -13,9 +13,9 @@ use Rattle.atom_index.specs.Numbers.{number_in, with_item, AreNumbered, pair_eq}
 use Rattle.edn_ops.specs.Shapes.{is_write}
 use Rattle.edn_ops.specs.SourceTexts.{IsAtomText, IsMopText}
 use Rattle.edn_ops.specs.declared.write.MopText.{MopText}
-use Rattle.op_view.specs.MopTexts.{atom_in}
+use Rattle.op_block.specs.MopTexts.{atom_in}
 use Rattle.op_view.specs.Mops.{key_of, value_of}
-use Rattle.op_view.proofs.SpelledMops.{atom_in-is}
+use Rattle.op_block.proofs.SpelledMops.{atom_in-is}
 use Rattle.key_versions.specs.Named.{version_named, IsNamed}
 use Rattle.key_versions.specs.Numbering.{Numbers, IsNumbering, IsBelow, version_with, version_by, versions_of, with_versions, IsAccess, IsVersionOfKey}
 use Rattle.key_versions.proofs.Numbered.{access_by, access_there, access_versions, version_there, key_is, new_nil, new_version}

@@ -1,8 +1,8 @@
 pub mod Contents
 pub mod OnlyToken
 pub mod Spelled
-pub mod NilTokens
-pub mod SpelledMops
 pub mod ExampleOperation
 pub mod Matching
 pub mod ShortNumbers
+pub mod NilReads
+pub mod OperationMops

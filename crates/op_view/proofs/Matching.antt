@@ -4,7 +4,7 @@ use Rattle.std.specs.Cmp.Lexicographic.{pointwise}
 use Rattle.hist_types.specs.Journal.{same_mop}
 use Rattle.hist_types.specs.Operations.{Mop}
 use Rattle.op_block.specs.declared.shapes.ShortMop.{ShortMop}
-use Rattle.op_view.specs.MopTexts.{mops_at, AreMopsAt}
+use Rattle.op_block.specs.MopTexts.{mops_at, AreMopsAt}
 
 -- What is left of two operations' places has micro-operations, which match where those of the operations do.
 pub record Matches (text other_text : List ℕ) (left right : List ShortMop) (mops others : List Mop) : Type 0 where

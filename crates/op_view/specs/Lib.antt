@@ -4,5 +4,4 @@ pub mod Spellings
 pub mod Hashing
 pub mod AtomLaws
 pub mod Mops
-pub mod MopTexts
 pub mod Operations

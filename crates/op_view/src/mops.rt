@@ -11,7 +11,7 @@ ghost use Rattle.hist_types.specs.Journal.{same_mop};
 ghost use Rattle.hist_types.specs.Operations.{read, write};
 ghost use Rattle.edn_ops.specs.Shapes.{is_write};
 ghost use Rattle.edn_ops.specs.SourceTexts.{IsMopText, IsValueText};
-ghost use Rattle.op_view.specs.MopTexts.{bytes_at, atom_in, is_nil, mop_at as mop_of_text, mops_at, IsAtom, IsWithin, IsMopAt, AreMopsAt};
+ghost use Rattle.op_block.specs.MopTexts.{bytes_at, atom_in, is_nil, mop_at as mop_of_text, mops_at, IsAtom, IsWithin, IsMopAt, AreMopsAt};
 ghost use Rattle.op_view.specs.Mops.{key_of, value_of};
 
 use crate::atom::Atom;
@@ -40,7 +40,7 @@ impl<'a> Model for Mop<'a> {
     ghost coded = { coded_mop };
 
     ghost use Rattle.edn_ops.specs.SourceTexts.{IsMopText};
-    ghost use Rattle.op_view.specs.MopTexts.{mop_by};
+    ghost use Rattle.op_block.specs.MopTexts.{mop_by};
 
     ghost view = { λ m. mop_by m.text };
 
@@ -263,7 +263,7 @@ impl<'a> Model for Mops<'a> {
 
     ghost coded = { coded_list coded_mop };
 
-    ghost use Rattle.op_view.specs.MopTexts.{mops_at, AreMopsAt};
+    ghost use Rattle.op_block.specs.MopTexts.{mops_at, AreMopsAt};
 
     ghost view = { λ m. mops_at m.text.now m.left.now };
 

@@ -1,7 +1,7 @@
 //! Views of a block's operations.
 
 ghost use Rattle.std.specs.Prelude.{◌≡◌, ◌<◌, length, slice_get, IfSome};
-ghost use Rattle.hist_types.specs.Entries.{operation_of};
+ghost use Rattle.op_block.specs.Contents.{operation_meant};
 ghost use Rattle.op_view.specs.Operations.{IsPlaceOf};
 
 use crate::mops::Mops;
@@ -37,7 +37,7 @@ impl<'a> OpView<'a> {
     pub fn of(block: &'a Block, index: usize) -> Self
         requires { index < length block.now.operations }
         ensures { IfSome (slice_get block.now.operations index)
-            (λ o. result ≡ operation_of o.placed) }
+            (λ o. result ≡ operation_meant o) }
     {
         OpView { block, index }
     }

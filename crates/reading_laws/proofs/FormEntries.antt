@@ -22,7 +22,7 @@ one_more None rest = None
 one_more (Some x) rest = option_map (λ xs. x ∷ xs) rest
 
 -- the values, where each is there
-abbrev all_some : {A : Type 0} → List (Option A) → Option (List A)
+abbrev pub all_some : {A : Type 0} → List (Option A) → Option (List A)
 all_some [] = Some []
 all_some (o ∷ os) = one_more o (all_some os)
 
@@ -48,7 +48,7 @@ both-none : {A : Type 0} (o : Option (List A)) → both o (Some []) ≡ o
 both-none None = refl
 both-none (Some xs) = ap (λ ys. Some ys) (append-nil xs)
 
-all_some-map : {A : Type 0} (xs : List A) → all_some (map (λ x. Some x) xs) ≡ Some xs
+pub all_some-map : {A : Type 0} (xs : List A) → all_some (map (λ x. Some x) xs) ≡ Some xs
 all_some-map [] = refl
 all_some-map (x ∷ xs) = ap (option_map (λ ys. x ∷ ys)) (all_some-map xs)
 
@@ -67,15 +67,15 @@ map-all_some {A} (Some x ∷ os) xs e = by (all_some os) (λ ys same. map-all_so
 
 -- ---- what tokens give
 
-abbrev prefix : List Entry → List Entry × Open → List Entry × Open
+abbrev pub prefix : List Entry → List Entry × Open → List Entry × Open
 prefix es p = (es ++ p.0, p.1)
 
-abbrev run_after : Result Step Fault → (Open → Option (List Entry × Open)) → Option (List Entry × Open)
+abbrev pub run_after : Result Step Fault → (Open → Option (List Entry × Open)) → Option (List Entry × Open)
 run_after (Ok s) next = option_map (prefix s.entries) (next s.after)
 run_after (Err f) next = None
 
 -- the entries that tokens give and what is then open, if they are read without a fault
-abbrev run : Open → List Item → Option (List Entry × Open)
+abbrev pub run : Open → List Item → Option (List Entry × Open)
 run o [] = Some ([], o)
 run o (t ∷ ts) = run_after (step o t) (λ after. run after ts)
 
@@ -83,7 +83,7 @@ abbrev and_run : Option (List Entry × Open) → List Item → Option (List Entr
 and_run None ts = None
 and_run (Some r) ts = option_map (prefix r.0) (run r.1 ts)
 
-abbrev give : Option (List Entry) → Open → Option (List Entry × Open)
+abbrev pub give : Option (List Entry) → Open → Option (List Entry × Open)
 give None o = None
 give (Some es) o = Some (es, o)
 
@@ -575,7 +575,7 @@ with_forms-nothing [] = refl
 with_forms-nothing (f ∷ fs) = with_forms-nothing fs
 
 -- what tokens that are forms give from where a text begins
-run-forms :
+pub run-forms :
     (tokens : List Item) (fs : List Form)
     → AreForms tokens fs
     → run nothing_open tokens ≡ give (all_some (flat_map entries_by_form fs)) nothing_open
@@ -583,10 +583,10 @@ run-forms tokens fs are =
     gives_all tokens fs are nothing_open tt fs refl
     ∙ ap (give (all_some (flat_map entries_by_form fs))) (with_forms-nothing fs)
 
-abbrev faultless : List Entry → Reading
+abbrev pub faultless : List Entry → Reading
 faultless entries = record { entries = entries; fault = None }
 
-reading-run :
+pub reading-run :
     (ts : List Item) (o p : Open) (es : List Entry)
     → run o ts ≡ Some (es, p)
     → fault_at_end p ≡ None

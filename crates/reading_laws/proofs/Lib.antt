@@ -5,8 +5,10 @@ pub mod EachCut
 pub mod Fronts
 pub mod OneReading
 pub mod PartCuts
+pub mod FrontsGrown
 pub mod Checks
 pub mod MovedForms
+pub mod MovedEntries
 pub mod MovedReading
 pub mod MapAlone
 pub mod SpelledParts
@@ -15,3 +17,4 @@ pub mod Keywords
 pub mod Nesting
 pub mod FormEntries
 pub mod MapsOfForms
+pub mod PartsOfTexts

@@ -18,7 +18,7 @@ use Rattle.hist_types.specs.declared.types.Refusal.{Refusal}
 use Rattle.hist_types.specs.declared.types.Refusal.TheVariants.{TooDeep, OddMap, BadProcess, BadType, TooLong}
 use Rattle.reading_laws.proofs.Checks.{ok_then, ok_is}
 use Rattle.hist_types.proofs.Members.{In, in_append, in_from_Contains}
-use Rattle.reading_laws.proofs.MovedForms.{entry_at, entry_of-from}
+use Rattle.reading_laws.proofs.MovedForms.{entry_at, entry_of-moved}
 use Rattle.reading_laws.proofs.MovedReading.{collection_from, opened, inside, Runs, Runs-reading, Histories, tokens_of-gap, tokens_of-token, tokens_of-token_last, Histories-gap, Histories-step, closed, closes_as, went_on_if, went_on_unless, same_step, no_step, none_given}
 use Rattle.reading_laws.proofs.PartCuts.{item_fault-elsewhere, width, closers_after, IsCut-front, IsCut-back, IsCut-within, IsCut-moved}
 
@@ -279,11 +279,11 @@ nested_gap Comment bytes inner outer n gap len = record { stands = λ x. x; afte
 nested_gap kind bytes inner outer n gap len = absurd (let no : true ≡ false = gap in cc)
 
 -- the items are read without a fault, where these are open
-abbrev ReadsOn : Open → List Item → Type 0
+abbrev pub ReadsOn : Open → List Item → Type 0
 ReadsOn p ts = (reading_from p ts None).fault ≡ None
 
 -- what is open behind one item, and that the others are read on there
-abbrev ReadsBehind : Item → List Item → Open → (inner outer : List ℕ) → Type 0
+abbrev pub ReadsBehind : Item → List Item → Open → (inner outer : List ℕ) → Type 0
 ReadsBehind t items p inner outer =
     (q : Open) × Nested t.kind t.bytes inner outer (length q.collections) × ReadsOn q (tokens_of items)
 
@@ -296,7 +296,7 @@ behind_step :
 behind_step t items p inner outer (Ok s) e len reads = (s.after, nested t.kind t.bytes inner outer p t s e len, reads)
 behind_step t items p inner outer (Err f) e len reads = absurd (none-some f (sym reads))
 
-behind :
+pub behind :
     (t : Item) (items : List Item) (p : Open) (inner outer : List ℕ) (token : Bool)
     → is_token t.kind ≡ token
     → length p.collections ≡ length inner
@@ -382,7 +382,7 @@ from_start :
     (k end : ℕ) (o : PlacedOperation)
     → o.start ≡ k
     → end ≡ o.end - o.start
-    → entry_at k (k - k) end (operation o) ≡ operation (from_its_start o)
+    → entry_at (λ n. n - k) (k - k) end (operation o) ≡ operation (from_its_start o)
 unfolding placed
 from_start k end o start len =
     let none : (k - k) ≡ 0 = omega arith in
@@ -407,7 +407,7 @@ closes_alone c t o closes is none gives order =
     let at : (o.start ≡ k) × (o.end ≡ end_of t) = entry_of-at c.opener t c.members (operation o) gives in
     let begins : o.start ≡ k = at.0 in
     let ends : o.end ≡ t.start + length t.bytes = at.1 in
-    let moved = entry_of-from k c.opener t c.members (omega arith) (operation o) gives in
+    let moved = entry_of-moved (λ n. n - k) c.opener t c.members (omega arith) (operation o) gives in
     let same = from_start k (end_of u) o begins (omega arith) in
     let entry : entry_of d.opener u d.members ≡ Ok (operation (from_its_start o)) =
     moved ∙ (let ok : Entry → Result Entry Fault = λ x. Ok x in ap ok same) in

@@ -12,7 +12,7 @@ use Rattle.hist_types.specs.Tokens.{Item, ItemKind, Opener, Closer, Drop, Tag, i
 use Rattle.hist_types.specs.declared.types.Fault.{Fault}
 use Rattle.hist_types.specs.declared.types.Refusal.TheVariants.{NotAMap}
 use Rattle.hist_types.proofs.Members.{In}
-use Rattle.reading_laws.proofs.MovedForms.{form_from, forms_of-from}
+use Rattle.reading_laws.proofs.MovedForms.{form_from, forms_of-moved}
 
 -- ---- open collections with their places counted from a later offset
 
@@ -74,7 +74,7 @@ with_form_in-from k f c =
 form_of-from :
     (k : ℕ) (c : OpenCollection) (closer : Item)
     → form_of (collection_from k c) (item_from k closer) ≡ form_from k (form_of c closer)
-form_of-from k c closer = ap (collection (item_from k c.opener) (item_from k closer)) (forms_of-from k c.members)
+form_of-from k c closer = ap (collection (item_from k c.opener) (item_from k closer)) (forms_of-moved (λ n. n - k) c.members)
 
 -- what is open inside a map alone, of the collections inside it and of the map itself
 abbrev pub inside : ℕ → List OpenCollection → OpenCollection → Open
@@ -146,7 +146,7 @@ Histories done o =
     → is_operation_place o.marks outer ≡ true
     → History done inner m
 
-tokens_of-append : (xs ys : List Item) → tokens_of (xs ++ ys) ≡ tokens_of xs ++ tokens_of ys
+pub tokens_of-append : (xs ys : List Item) → tokens_of (xs ++ ys) ≡ tokens_of xs ++ tokens_of ys
 tokens_of-append xs ys = filter-append (λ (i : Item). is_token i.kind) xs ys
 
 pub tokens_of-gap : (i : Item) (xs : List Item) → is_token i.kind ≡ false → tokens_of (i ∷ xs) ≡ tokens_of xs

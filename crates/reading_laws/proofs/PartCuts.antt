@@ -48,7 +48,7 @@ character_len-take (x ∷ xs) zero h = absurd (omega arith)
 character_len-take (x ∷ xs) (suc m) h = ap suc (prefix_len-take is_run_byte xs m (omega arith))
 
 -- the closing quote is here, or further on
-closed_alike :
+pub closed_alike :
     (here : Bool) (x y : Option ℕ) (m k : ℕ)
     → ((j : ℕ) → x ≡ Some j → j < m → y ≡ Some j)
     → (if here then Some 0 else option_map suc x) ≡ Some k
@@ -74,10 +74,10 @@ content_len-take (x ∷ xs) taken (suc m) k e within =
 -- ---- an item in a front of a text that has all its bytes
 
 -- what p says of an item of at most suc m bytes, q says too
-abbrev Kept : ℕ → ItemKind × Option ℕ → ItemKind × Option ℕ → Type 0
+abbrev pub Kept : ℕ → ItemKind × Option ℕ → ItemKind × Option ℕ → Type 0
 Kept m p q = (kind : ItemKind) → (n : ℕ) → p ≡ (kind, Some n) → n ≤ suc m → q ≡ (kind, Some n)
 
-kept_both :
+pub kept_both :
     (m : ℕ) (test : Bool) (p q s t : ItemKind × Option ℕ)
     → Kept m p q
     → Kept m s t
@@ -93,13 +93,13 @@ kept_either :
 kept_either m true p s q x y = x
 kept_either m false p s q x y = y
 
-kept_same : (m : ℕ) (p : ItemKind × Option ℕ) → Kept m p p
+pub kept_same : (m : ℕ) (p : ItemKind × Option ℕ) → Kept m p p
 kept_same m p kind n e fits = e
 
-len_of : (k l : ItemKind) (a b : ℕ) → (let p : ItemKind × Option ℕ = (k, Some a) in p ≡ (l, Some b)) → a ≡ b
+pub len_of : (k l : ItemKind) (a b : ℕ) → (let p : ItemKind × Option ℕ = (k, Some a) in p ≡ (l, Some b)) → a ≡ b
 len_of k l a b e = same_Some a b (ap (λ (p : ItemKind × Option ℕ). p.1) e)
 
-kept_item :
+pub kept_item :
     (m : ℕ) (k l : ItemKind) (a b : ℕ)
     → (a ≤ m → (l ≡ k) × (b ≡ a))
     → Kept m (k, Some (suc a)) (l, Some (suc b))
@@ -114,7 +114,7 @@ kept_item m k l a b same kind n e fits =
 kept_none : (k : ItemKind) (a : ℕ) (q : ItemKind × Option ℕ) → 0 < a → Kept 0 (k, Some (suc a)) q
 kept_none k a q some kind n e fits = let len : suc a ≡ n = len_of k kind (suc a) n e in absurd (omega arith)
 
-kept_string :
+pub kept_string :
     (m : ℕ) (x y : Option ℕ)
     → ((j : ℕ) → x ≡ Some j → j < m → y ≡ Some j)
     → Kept m (Str, option_map (λ n. n + 2) x) (Str, option_map (λ n. n + 2) y)

@@ -1,3 +1,4 @@
 pub mod Placed
 pub mod Readings
 pub mod Nesting
+pub mod Parts

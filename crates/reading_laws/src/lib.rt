@@ -2,7 +2,10 @@
 //! does nothing; the layers that read texts, and those that keep what was read, cite them.
 #![tactic(auto)]
 
-ghost use Rattle.std.specs.Prelude.{◌↔◌, ◌≡◌, ℕ, List, ◌++◌, length, drop, IsTrue, All};
+ghost use Rattle.std.specs.Prelude.{◌↔◌, ◌≡◌, ◌+◌, ℕ, List, [], ◌++◌, Option, None, length, drop, IsTrue, All};
+ghost use Rattle.hist_types.specs.Operations.{Operation};
+ghost use Rattle.hist_types.specs.declared.types.Fault.{Fault};
+ghost use Rattle.reading_laws.specs.Parts.{HasPartAt, EndsWithMap, GivesOperations, GivesFrom};
 ghost use Rattle.hist_types.specs.Bytes.{is_run_byte};
 ghost use Rattle.reading_laws.specs.Readings.{HasOneReading, IsReadIn, IsReadInPart, HasPartsOf, IsOfTokens, HasAtom, IsFaultlessToken, RunEndsAt};
 ghost use Rattle.hist_types.specs.Entries.{PlacedOperation, Entry};
@@ -68,4 +71,16 @@ pub fn texts_read_by_forms()
         → Reads text entries None ↔ IsOfForms text entries }
     ensures operations { (text : List ℕ) (o : PlacedOperation)
         → IsReadIn text o → IsMapOfForms text o }
+{}
+
+/// A part of a text that reads by itself without a fault is read so in the text, where nothing is open before it, if it ends with a map
+/// at the end of a line or with the text: first come its operations, and then what is read behind it.
+pub fn parts_read_alone()
+    ensures part { (text part behind : List ℕ) (offset : ℕ) (operations later : List Operation)
+        (fault : Option Fault) → HasPartAt text offset part behind → EndsWithMap part
+        → GivesOperations part operations → GivesFrom text (offset + length part) later fault
+        → GivesFrom text offset (operations ++ later) fault }
+    ensures rest { (text part : List ℕ) (offset : ℕ) (operations : List Operation)
+        → HasPartAt text offset part [] → GivesOperations part operations
+        → GivesFrom text offset operations None }
 {}

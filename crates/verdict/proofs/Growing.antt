@@ -6,7 +6,6 @@ use Rattle.std.specs.Prelude.{slice_get}
 use Rattle.std.proofs.lemmas.Grind.{flat_map-append}
 use Rattle.std.proofs.lemmas.Option.{slice_get_read}
 use Rattle.std.proofs.lemmas.List.{length-append, map-append, take-append-drop}
-use Rattle.hist_types.specs.Entries.{operation_of}
 use Rattle.hist_types.specs.Journal.{KeepsRules, KeepsRulesAfter}
 use Rattle.hist_types.specs.Operations.{Operation}
 use Rattle.hist_types.specs.Phenomena.{stray}
@@ -17,7 +16,7 @@ use Rattle.history_laws.proofs.Blocks.{kept_by_both}
 use Rattle.journal_core.proofs.Counting.{left_at}
 use Rattle.journal_core.proofs.Journals.{rules_fit}
 use Rattle.journal_core.specs.Blocks.{operations_in}
-use Rattle.op_block.specs.Contents.{Contents, operations_of}
+use Rattle.op_block.specs.Contents.{Contents, operations_of, operation_meant}
 use Rattle.txn_pairs.specs.Growth.{TakesEvent, IsChange}
 use Rattle.serial_points.specs.ByPlace.{AreListed}
 use Rattle.serial_points.specs.CleanReads.{ReadsAreClean}
@@ -72,7 +71,7 @@ pub kept_at :
     (events : List Operation) (block : Contents) (i : ℕ) (o : Operation)
     → KeepsRulesAfter events (operations_of block)
     → i < length block.operations
-    → IfSome (slice_get block.operations i) (λ p. o ≡ operation_of p.placed)
+    → IfSome (slice_get block.operations i) (λ p. o ≡ operation_meant p)
     → KeepsRulesAfter (events ++ take i (operations_of block)) (o ∷ [])
 kept_at events block i o kept within is =
     let os = operations_of block in

@@ -51,5 +51,5 @@ loop-preserved c =
     let room : HasRoomFor (length_of shape) c.loop.builder = c.has_room_for.ensures.0 cc in (
       os ++ read.read ∷ [],
       one_placed text old new shape os h read same,
-      one_pushed text os c.loop.builder c.push.new.self read.read shape c.loop.invariant.2 room is_in read.shape_of (c.in_ok-push.ensures.added read.read is_in read.shape_of),
+      one_pushed text os c.loop.builder c.push.new.self read.read shape c.loop.invariant.2 room is_in read.shape_of c.in_ok-push.ensures.added,
     )

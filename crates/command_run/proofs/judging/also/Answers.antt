@@ -1,4 +1,4 @@
-use Rattle.std.proofs.Common.{◌≡◌, ◌⊎◌, ◌++◌, [], Some, ◌∙◌, refl}
+use Rattle.std.proofs.Common.{◌≡◌, ◌⊎◌, ◌++◌, [], Some, refl}
 use Rattle.std.proofs.lemmas.Result.{err_from_is_err_and}
 use Rattle.hist_types.specs.Refusals.{memory_fault}
 use Rattle.block_reader.specs.Blocks.{operations_in}
@@ -19,6 +19,5 @@ returns-in_err-judged c =
 pub returns : goal.returns
 returns c =
     λ before has.
-    let larger = c.in_ok-with_room.field-0 in
     let was : c.in_ok-judged.field-0.core.events ≡ before = rw c.in_ok-judged.was at has in
-    judged_after c.extended.result larger.core.events before (operations_in c.args.blocks.now) (c.in_ok-with_room.ensures.ok ∙ was) c.extended.ensures.ok c.extended.ensures.err
+    judged_after c.extended.result c.in_ok-judged.field-0.core.events before (operations_in c.args.blocks.now) was c.extended.ensures.ok c.extended.ensures.err

@@ -1,26 +1,25 @@
-use Rattle.std.proofs.Common.{rules}
-use Rattle.command_run.specs.declared.answer.Lack.TheVariants.{Memory}
-use Rattle.command_run.proofs.Outcomes.{run_on_any, nothing_printed, lack_answered, printed_answer}
+use Rattle.command_run.proofs.Inputs.{refusal_answered, none_counted}
+use Rattle.command_run.proofs.Outcomes.{answered_run, lack_run, source_failed}
 use Rattle.command_run.proofs.run.run.Goals as goal
 
 pub returns-in-Err-Device : goal.returns-in-Err-Device
-returns-in-Err-Device g c = run_on_any g.S.Source g.T.Sink _ _ _ _ _ _ (λ text. nothing_printed c.args.command text _) (search rules) (search rules)
+returns-in-Err-Device g c =
+    let failed = rw c.in-Err-Device.field-0-is at c.in-Err-Device.ensures.err in
+    source_failed g.S.Source g.T.Sink c.args.command c.args.source.now c.judge.new.source c.args.sink.now failed
 
-pub returns-in-Err-Memory : goal.returns-in-Err-Memory
-returns-in-Err-Memory g c =
-    run_on_any g.S.Source g.T.Sink _ _ _ _ _ _ (λ text. lack_answered g.T.Sink c.args.command Memory _ _ _ text c.print_lack.ensures) (search rules) (search rules)
-
-pub returns-in-Ok-answer_to : goal.returns-in-Ok-answer_to
-returns-in-Ok-answer_to g c =
-    let printed = rw c.deref.ensures.value at c.print.ensures in
-    record {
-      text = c.in-Ok.text.items;
-      text_is = c.in-Ok.ensures.all;
-      answered = printed_answer g.T.Sink c.args.command _ _ _ _ _ _ c.in-Ok-answer_to.ensures printed;
-      whole = search rules;
-      failed = search rules;
-    }
+pub returns-in-Ok-answer_to_refused : goal.returns-in-Ok-answer_to_refused
+returns-in-Ok-answer_to_refused g c =
+    let none = rw c.in-Err-Text.field-0-is at c.in-Err-Text.ensures.err in
+    let known = c.in-Ok-answer_to_refused in
+    let printed = rw c.deref-in-Ok-answer_to_refused.ensures.value at c.print-in-Ok-answer_to_refused.ensures in
+    answered_run g.S.Source g.T.Sink c.args.command known.answer.status c.print-in-Ok-answer_to_refused.result c.args.source.now c.judge.new.source
+    c.args.sink.now c.print-in-Ok-answer_to_refused.new.sink known.answer.printed.items
+    (refusal_answered g.S.Source c.args.source.now c.judge.new.source c.in-Err-Text.fault _ none known.ensures.lack (known.ensures.answer c.args.command))
+    printed
 
 pub returns-in-Err : goal.returns-in-Err
 returns-in-Err g c =
-    run_on_any g.S.Source g.T.Sink _ _ _ _ _ _ (λ text. lack_answered g.T.Sink c.args.command c.in-Err.lack _ _ _ text c.print_lack-in-Err.ensures) (search rules) (search rules)
+    let none = rw c.in-Err-Text.field-0-is at c.in-Err-Text.ensures.err in
+    lack_run g.S.Source g.T.Sink c.args.command c.in-Err.lack c.print_lack.result c.args.source.now c.judge.new.source c.args.sink.now c.print_lack.new.sink
+    (none_counted g.S.Source c.args.source.now c.judge.new.source c.in-Err-Text.fault none)
+    c.print_lack.ensures

@@ -1,6 +1,6 @@
 -- What is left on both sides is as long, and matches where the whole does.
 use Rattle.std.proofs.Common.{◌≡◌, length}
-use Rattle.op_view.specs.MopTexts.{mops_at}
+use Rattle.op_block.specs.MopTexts.{mops_at}
 use Rattle.op_view.proofs.Matching.{Matches}
 use Rattle.op_view.proofs.mops.are_same_mops.Given as goal
 

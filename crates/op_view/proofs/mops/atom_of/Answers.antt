@@ -1,4 +1,4 @@
-use Rattle.op_view.specs.MopTexts.{atom_in}
+use Rattle.op_block.specs.MopTexts.{atom_in}
 use Rattle.op_view.proofs.mops.atom_of.Goals as goal
 
 pub returns : goal.returns

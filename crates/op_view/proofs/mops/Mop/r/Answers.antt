@@ -1,5 +1,5 @@
 use Rattle.std.proofs.Common.{refl}
-use Rattle.op_view.proofs.SpelledMops.{is_atom, is_value, read_by}
+use Rattle.op_block.proofs.SpelledMops.{is_atom, is_value, read_by}
 use Rattle.op_view.proofs.mops.Mop.r.Goals as goal
 
 pub invariant_of-result : goal.invariant_of-result

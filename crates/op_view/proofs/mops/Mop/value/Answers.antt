@@ -1,7 +1,7 @@
 use Rattle.std.proofs.Common.{◌≡◌, ◌∙◌, true, sym, ap}
 use Rattle.op_view.specs.Mops.{value_of}
-use Rattle.op_view.specs.MopTexts.{is_nil}
-use Rattle.op_view.proofs.SpelledMops.{nil_read}
+use Rattle.op_block.specs.MopTexts.{is_nil}
+use Rattle.op_view.proofs.NilReads.{nil_read}
 use Rattle.op_view.proofs.mops.Mop.value.Goals as goal
 
 pub returns-then-is_nil : goal.returns-then-is_nil

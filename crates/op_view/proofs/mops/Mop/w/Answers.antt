@@ -1,5 +1,5 @@
 use Rattle.std.proofs.Common.{refl}
-use Rattle.op_view.proofs.SpelledMops.{is_atom, write_by}
+use Rattle.op_block.proofs.SpelledMops.{is_atom, write_by}
 use Rattle.op_view.proofs.mops.Mop.w.Goals as goal
 
 pub invariant_of-result : goal.invariant_of-result

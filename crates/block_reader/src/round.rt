@@ -1,0 +1,132 @@
+//! One round of reading: lines of a text, by several threads, while what was read before is handed on.
+
+ghost use Rattle.std.specs.Prelude.{◌≡◌, ℕ, List, ◌++◌, All, IfOk, IfSome};
+ghost use Rattle.hist_types.specs.Operations.{Operation};
+ghost use Rattle.reading_laws.specs.Parts.{EndsWithMap};
+ghost use Rattle.block_reader.specs.Blocks.{operations_in};
+ghost use Rattle.block_reader.specs.Parts.{AreStarts, IsPartOf, ReadsThrough};
+
+use crate::parts::{Part, joined, take_parts};
+use crate::starts::{helpers_of, starts_of};
+use op_block::block::Block;
+use std::alloc::{AllocError, Global};
+use std::sync::atomic::AtomicUsize;
+use std::thread::{Threads, join, map_indices};
+
+/// What takes the blocks of a text, those of one round after those of the other.
+pub trait Consumer<'a>: Drop {
+    /// That it has taken blocks with these operations.
+    ghost has_taken: { Self → List Operation → Type 0 };
+
+    fn take(self, blocks: &'a [Block]) -> Self
+        ensures { (before : List Operation) → has_taken self before
+            → has_taken result (before ++ operations_in blocks.now) };
+}
+
+/// What so many threads take.
+fn take_parts_by<R: Threads + Sync>(
+    rt: &R,
+    alloc: Global,
+    threads: usize,
+    text: &[u8],
+    starts: &[usize],
+    next: &AtomicUsize,
+) -> Result<Vec<Part>, AllocError>
+    requires { AreStarts text.now starts.now }
+    ensures { IfOk result (λ parts. All (IsPartOf text.now starts.now) parts.items) }
+{
+    let lists = map_indices(
+        rt,
+        alloc,
+        threads,
+        &|_thread| -> Vec<Part>
+            requires { AreStarts text.now starts.now }
+            ensures { All (IsPartOf text.entry.now starts.entry.now) result.items }
+        { take_parts(alloc, text, starts, next) },
+    )?;
+    let mut parts = Vec::new(alloc);
+    for mut list in lists {
+        parts.append(&mut list)?;
+    }
+    Ok(parts)
+}
+
+/// All of them, by their indices.
+fn in_order(mut parts: Vec<Part>, mut others: Vec<Part>) -> Result<Vec<Part>, AllocError>
+    ensures { (text starts : List ℕ)
+        → All (IsPartOf text starts) parts.items → All (IsPartOf text starts) others.items
+        → IfOk result (λ all. All (IsPartOf text starts) all.items) }
+{
+    parts.append(&mut others)?;
+    parts.sort_unstable_by_key(|part| part.index);
+    Ok(parts)
+}
+
+/// Reads the parts, by this thread and so many helpers. Before this one reads along, the consumer takes the blocks of the round before.
+fn read_parts<'a, R: Threads + Sync, C: Consumer<'a>>(
+    rt: &R,
+    alloc: Global,
+    helpers: usize,
+    text: &[u8],
+    starts: &[usize],
+    consumer: C,
+    blocks: &'a [Block],
+) -> (Result<Vec<Part>, AllocError>, C)
+    requires { AreStarts text.now starts.now }
+    ensures parts { IfOk result.0 (λ parts. All (IsPartOf text.now starts.now) parts.items) }
+    ensures consumer { (before : List Operation) → C.has_taken consumer before
+        → C.has_taken result.1 (before ++ operations_in blocks.now) }
+{
+    let next = AtomicUsize::new(0);
+    if helpers == 0 {
+        let consumer = consumer.take(blocks);
+        return (Ok(take_parts(alloc, text, starts, &next)), consumer);
+    }
+    let (others, (consumer, own)) = join(
+        rt,
+        || -> Result<Vec<Part>, AllocError>
+            requires { AreStarts text.now starts.now }
+            ensures { IfOk result (λ parts. All (IsPartOf text.entry.now starts.entry.now) parts.items) }
+        { take_parts_by(rt, alloc, helpers, text, starts, &next) },
+        || -> (C, Vec<Part>)
+            requires { AreStarts text.now starts.now }
+            ensures parts { All (IsPartOf text.entry.now starts.entry.now) result.1.items }
+            ensures consumer { (before : List Operation) → C.has_taken consumer before
+                → C.has_taken result.0 (before ++ operations_in blocks.entry.now) }
+        {
+            let consumer = consumer.take(blocks);
+            (consumer, take_parts(alloc, text, starts, &next))
+        },
+    );
+    match others {
+        Ok(others) => (in_order(own, others), consumer),
+        Err(refused) => (Err(refused), consumer),
+    }
+}
+
+/// The blocks of these lines, if each part of them reads by itself and memory doesn't run out. Before that, the consumer takes the blocks
+/// of the round before.
+pub(crate) fn read_round<'a, R: Threads + Sync, C: Consumer<'a>>(
+    rt: &R,
+    alloc: Global,
+    workers: usize,
+    lines: &[u8],
+    consumer: C,
+    blocks: &'a [Block],
+) -> (Option<Vec<Block>>, C)
+    requires { EndsWithMap lines.now }
+    ensures round { IfSome result.0
+        (λ round. ReadsThrough lines.now (operations_in round.items)) }
+    ensures consumer { (before : List Operation) → C.has_taken consumer before
+        → C.has_taken result.1 (before ++ operations_in blocks.now) }
+{
+    let Ok(starts) = starts_of(rt, alloc, workers, lines) else {
+        return (None, consumer.take(blocks));
+    };
+    let helpers = helpers_of(rt, workers);
+    let (parts, consumer) = read_parts(rt, alloc, helpers, lines, &starts, consumer, blocks);
+    match parts {
+        Ok(parts) => (joined(alloc, lines, &starts, parts), consumer),
+        Err(_) => (None, consumer),
+    }
+}

@@ -1,0 +1,8 @@
+use Rattle.reading_laws.proofs.PartsOfTexts.{part_reads, rest_reads}
+use Rattle.reading_laws.proofs.parts_read_alone.Goals as goal
+
+pub returns-clause-part : goal.returns-clause-part
+returns-clause-part c = part_reads
+
+pub returns-clause-rest : goal.returns-clause-rest
+returns-clause-rest c = rest_reads
