@@ -89,24 +89,6 @@ impl<'a> AtomIndex<'a> {
 }
 
 impl<'a, S: BuildHasher> AtomIndex<'a, S> {
-    /// No atom has a number yet, and the list of atoms has room for n.
-    pub fn with_capacity_and_hasher(
-        alloc: Global,
-        atoms: usize,
-        hasher: S,
-    ) -> Result<Self, AllocError>
-    where
-        S: Copy,
-        ensures { IfOk result (λ index. index.items ≡ []) }
-    {
-        Ok(AtomIndex {
-            alloc,
-            atoms: Vec::with_capacity(alloc, atoms)?,
-            small: Table::new(alloc),
-            others: IndexMap::with_hasher(alloc, hasher),
-        })
-    }
-
     /// No atom has a number yet. Atoms are hashed by `hasher`.
     pub fn with_hasher(alloc: Global, hasher: S) -> Self
         ensures { result.items ≡ [] }

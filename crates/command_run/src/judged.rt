@@ -50,17 +50,6 @@ impl<'a> Judged<'a> {
         }
     }
 
-    /// Of no operation, with tables as large as is best for n invocations. The only error is out of memory.
-    pub fn with_capacity(alloc: Global, invocations: usize) -> Result<Self, Fault>
-        ensures ok { IfOk result (λ judged. judged.core.events ≡ []) }
-        ensures err { IfErr result (λ fault. fault ≡ memory_fault) }
-    {
-        let core = Core::with_capacity(alloc, invocations)?;
-        let mut pairing = Pairing::new(alloc);
-        pairing.reserve(invocations)?;
-        Ok(Judged { core, pairing })
-    }
-
     /// With the operations of these blocks after its own or, where one breaks a rule, the first such rule.
     pub fn extended(self, blocks: &'a [Block]) -> Result<Self, Fault>
         ensures ok { IfOk result

@@ -152,18 +152,6 @@ impl<'a> Lexer<'a> {
         self.text
     }
 
-    /// The offset up to which the text has been passed: none after a fault, or where a collection is open.
-    pub fn top_offset(&self) -> Option<usize>
-        ensures at { IfSome result (λ offset. self.now ≡ state_at self.now.text offset) }
-        ensures fits { IfSome result (λ offset. offset ≤ length self.now.text) }
-    {
-        if self.ended || !self.collections.is_empty() {
-            None
-        } else {
-            Some(self.offset)
-        }
-    }
-
     /// A lexer at the same place of the same text.
     pub fn copy(&self) -> Lexer<'a>
         ensures { result ≡ self.now }

@@ -1,5 +1,5 @@
 -- Readers of operations, and what their calls read.
-use Rattle.std.specs.Prelude.{◌≡◌, ◌≢◌, ◌⊎◌, ◌≤◌, ◌+◌, ℕ, zero, suc, List, [], ◌∷◌, ◌++◌, length, Bool, true, false, Option, Some, None, IfSome, Result, Ok, Err}
+use Rattle.std.specs.Prelude.{◌≡◌, ◌≢◌, ◌⊎◌, ◌+◌, ℕ, zero, suc, List, [], ◌∷◌, ◌++◌, Bool, true, false, Option, Some, None, IfSome, Result, Ok, Err}
 use Rattle.hist_types.specs.Entries.{Entry, operation, skipped, PlacedOperation}
 use Rattle.hist_types.specs.Forms.{Form, Open, has_drop, is_vector_or_list}
 use Rattle.hist_types.specs.Reading.{nothing_open}
@@ -62,13 +62,6 @@ reader_at text offset =
 
 abbrev pub reader_at_start : List ℕ → Reader
 reader_at_start text = reader_at text 0
-
--- a reader that has read up to this offset, where nothing is open
-pub record IsAtTop (r : Reader) (offset : ℕ) : Type 0 where
-  pub going : r.failed ≡ None
-  pub none_open : r.list ≡ None
-  pub fits : offset ≤ length r.state.text
-  pub state : r.state ≡ state_at r.state.text offset
 
 -- what is left of the text reads so
 abbrev pub Left : Reader → List Entry → Option Fault → Type 0

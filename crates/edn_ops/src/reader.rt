@@ -5,7 +5,7 @@ ghost use Rattle.hist_types.specs.Reading.{Reads, ReadsFrom};
 ghost use Rattle.hist_types.specs.Forms.{is_map};
 ghost use Rattle.edn_lex.specs.declared.types.TokenKind.TheVariants.{Open};
 ghost use Rattle.edn_lex.specs.Kinds.{item_of};
-ghost use Rattle.edn_ops.specs.Reader.{reader_at_start, reader_at, IsAtTop, LeavesAll, LeavesOnly, FailsAgain, NextOf, FlatNext, found_in};
+ghost use Rattle.edn_ops.specs.Reader.{reader_at_start, reader_at, LeavesAll, LeavesOnly, FailsAgain, NextOf, FlatNext, found_in};
 ghost use Rattle.edn_ops.specs.Flat.{result_with};
 ghost use Rattle.edn_ops.specs.Outlines.{begins_sequence};
 ghost use Rattle.edn_ops.specs.Places.{NextOp, FlatOp};
@@ -297,16 +297,6 @@ impl<'a> OpReader<'a> {
                 Err(fault)
             }
         }
-    }
-
-    /// The offset up to which the text has been read: none after a fault, or where a vector or list is open.
-    pub fn top_offset(&self) -> Option<usize>
-        ensures { IfSome result (IsAtTop self.now) }
-    {
-        if self.failed.is_some() || self.place.list.is_some() {
-            return None;
-        }
-        self.place.lexer.top_offset()
     }
 
     /// How many operations were skipped so far.

@@ -1,6 +1,6 @@
 //! Whole inputs and outputs.
 
-ghost use Rattle.std.specs.Prelude.{◌≡◌, ◌<◌, ◌≤◌, ◌++◌, [], ℕ, List, length, drop, take, true, OnOk, OnErr, IfOk, IfErr, vec_len};
+ghost use Rattle.std.specs.Prelude.{◌≡◌, ◌<◌, ◌≤◌, ◌++◌, [], ℕ, List, length, drop, take, true, false, OnOk, OnErr, IfOk, IfErr, vec_len};
 ghost use Rattle.std.specs.Io.KnownBytes.{IsAtEnd, Consumes};
 ghost use Rattle.hist_types.specs.Pieces.{HasTaken, HasTakenInPart, HasReadMore, IsCounted};
 
@@ -132,6 +132,7 @@ impl Window {
     pub fn fill<S: Source>(&mut self, source: &mut S, wanted: usize) -> Result<bool, ReadFault>
         ensures given { OnOk result (HasReadMore S.Source source.old source.new self.old self.new) }
         ensures end { IfOk result (λ ended. ended ≡ true → IsAtEnd (S.remaining source.new)) }
+        ensures enough { IfOk result (λ ended. ended ≡ false → wanted ≤ length self.new) }
         ensures no_failure { OnOk result (S.failures source.new ≡ S.failures source.old) }
         ensures fault { IfErr result
             (λ fault. IsCounted fault (S.failures source.old) (S.failures source.new)) }

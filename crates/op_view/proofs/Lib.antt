@@ -6,3 +6,4 @@ pub mod Matching
 pub mod ShortNumbers
 pub mod NilReads
 pub mod OperationMops
+pub mod MopCount

@@ -11,12 +11,12 @@ ghost use Rattle.hist_types.specs.Journal.{same_mop};
 ghost use Rattle.hist_types.specs.Operations.{read, write};
 ghost use Rattle.edn_ops.specs.Shapes.{is_write};
 ghost use Rattle.edn_ops.specs.SourceTexts.{IsMopText, IsValueText};
-ghost use Rattle.op_block.specs.MopTexts.{bytes_at, atom_in, is_nil, mop_at as mop_of_text, mops_at, IsAtom, IsWithin, IsMopAt, AreMopsAt};
+ghost use Rattle.op_block.specs.MopTexts.{key_bytes, value_bytes, behind, atom_in, is_nil, mop_at as mop_of_text, mops_at, IsAtom, IsMopAt, AreMopsAt};
 ghost use Rattle.op_view.specs.Mops.{key_of, value_of};
 
 use crate::atom::Atom;
 use edn_ops::write::MopText;
-use op_block::shapes::{ShortMop, ShortSpan};
+use op_block::shapes::ShortMop;
 use std::iter::ExactSizeIterator;
 use std::marker::Model;
 
@@ -115,13 +115,32 @@ impl<'a> Mop<'a> {
     }
 }
 
-/// The bytes of the text in a place.
-fn slice_at(text: &[u8], span: ShortSpan) -> &[u8]
-    requires { IsWithin text.now span }
-    ensures { result.now ≡ bytes_at text.now span }
+/// The bytes of the key at the front of the text.
+#[inline(always)]
+fn key_bytes(text: &[u8], lens: ShortMop) -> &[u8]
+    requires { IsMopAt text.now lens }
+    ensures { result.now ≡ key_bytes text.now lens }
 {
-    let start = usize::from(span.start);
-    &text[start..start + usize::from(span.len)]
+    &text[..usize::from(lens.key_len)]
+}
+
+/// The bytes of the value behind it.
+#[inline(always)]
+fn value_bytes(text: &[u8], lens: ShortMop) -> &[u8]
+    requires { IsMopAt text.now lens }
+    ensures { result.now ≡ value_bytes text.now lens }
+{
+    let start = usize::from(lens.key_len);
+    &text[start..start + usize::from(lens.value_len)]
+}
+
+/// What is left of the text behind both.
+#[inline(always)]
+fn behind(text: &[u8], lens: ShortMop) -> &[u8]
+    requires { IsMopAt text.now lens }
+    ensures { result.now ≡ behind text.now lens }
+{
+    &text[usize::from(lens.key_len) + usize::from(lens.value_len)..]
 }
 
 /// The atom that the bytes are known to be.
@@ -133,15 +152,15 @@ fn atom_of(bytes: &[u8]) -> Atom<'_>
     Atom::of(bytes)
 }
 
-/// The micro-operation in these places of the text.
-fn mop_at(text: &[u8], shape: ShortMop) -> Mop<'_>
-    requires { IsMopAt text.now shape }
-    ensures { result ≡ mop_of_text text.now shape }
+/// The micro-operation at the front of the text.
+fn mop_at(text: &[u8], lens: ShortMop) -> Mop<'_>
+    requires { IsMopAt text.now lens }
+    ensures { result ≡ mop_of_text text.now lens }
 {
     let text = MopText {
-        is_write: shape.is_write,
-        key: slice_at(text, shape.key),
-        value: slice_at(text, shape.value),
+        is_write: lens.is_write,
+        key: key_bytes(text, lens),
+        value: value_bytes(text, lens),
     };
     Mop { text }
 }
@@ -193,41 +212,41 @@ fn is_same_atom(a: &[u8], b: &[u8]) -> bool
     a == b || atom_of(a) == atom_of(b)
 }
 
-/// Whether the micro-operations in these places of their texts are the same, whatever a read returned.
+/// Whether the micro-operations at the fronts of their texts are the same, whatever a read returned.
 fn is_same_mop(text: &[u8], mop: ShortMop, other_text: &[u8], other: ShortMop) -> bool
     requires first { IsMopAt text.now mop }
     requires second { IsMopAt other_text.now other }
     ensures { result ≡ same_mop (mop_of_text text.now mop) (mop_of_text other_text.now other) }
 {
-    if !is_same_atom(slice_at(text, mop.key), slice_at(other_text, other.key)) {
+    if !is_same_atom(key_bytes(text, mop), key_bytes(other_text, other)) {
         return false;
     }
     match (mop.is_write, other.is_write) {
         (false, false) => true,
-        (true, true) => is_same_atom(slice_at(text, mop.value), slice_at(other_text, other.value)),
+        (true, true) => is_same_atom(value_bytes(text, mop), value_bytes(other_text, other)),
         _ => false,
     }
 }
 
-/// Whether the keys in these places of their texts, and of two writes the values, have the same texts. Then the
-/// micro-operations are the same.
+/// Whether the keys at the fronts of their texts, and of two writes the values, have the same bytes. Then the micro-operations are the
+/// same.
 #[inline(always)]
-fn has_same_texts(text: &[u8], mop: &ShortMop, other_text: &[u8], other: &ShortMop) -> bool
-    requires first { IsMopAt text.now mop.now }
-    requires second { IsMopAt other_text.now other.now }
+fn has_same_texts(text: &[u8], mop: ShortMop, other_text: &[u8], other: ShortMop) -> bool
+    requires first { IsMopAt text.now mop }
+    requires second { IsMopAt other_text.now other }
     ensures { OnTrue result
-        (same_mop (mop_of_text text.now mop.now) (mop_of_text other_text.now other.now) ≡ true) }
+        (same_mop (mop_of_text text.now mop) (mop_of_text other_text.now other) ≡ true) }
 {
     if mop.is_write != other.is_write {
         return false;
     }
-    if !is_same_text(slice_at(text, mop.key), slice_at(other_text, other.key)) {
+    if !is_same_text(key_bytes(text, mop), key_bytes(other_text, other)) {
         return false;
     }
-    !mop.is_write || is_same_text(slice_at(text, mop.value), slice_at(other_text, other.value))
+    !mop.is_write || is_same_text(value_bytes(text, mop), value_bytes(other_text, other))
 }
 
-/// Whether the micro-operations in these places of their texts are the same, one for one, whatever reads returned.
+/// Whether the micro-operations of both texts are the same, one for one, whatever reads returned.
 #[inline(never)]
 fn are_same_mops(text: &[u8], mops: &[ShortMop], other_text: &[u8], other_mops: &[ShortMop]) -> bool
     requires first { AreMopsAt text.now mops.now }
@@ -238,10 +257,13 @@ fn are_same_mops(text: &[u8], mops: &[ShortMop], other_text: &[u8], other_mops: 
     if mops.len() != other_mops.len() {
         return false;
     }
+    let (mut left, mut right) = (text, other_text);
     for (mop, other_mop) in mops.iter().zip(other_mops) {
-        if !is_same_mop(text, *mop, other_text, *other_mop) {
+        if !is_same_mop(left, *mop, right, *other_mop) {
             return false;
         }
+        left = behind(left, *mop);
+        right = behind(right, *other_mop);
     }
     true
 }
@@ -271,7 +293,7 @@ impl<'a> Model for Mops<'a> {
 }
 
 impl<'a> Mops<'a> {
-    /// The micro-operations in these places of the text.
+    /// The micro-operations that the text has, whose keys and values are so long.
     pub(crate) fn new(text: &'a [u8], left: &'a [ShortMop]) -> Self
         requires { AreMopsAt text.now left.now }
         ensures { result ≡ mops_at text.now left.now }
@@ -286,10 +308,13 @@ impl<'a> Mops<'a> {
         if self.left.len() != other.left.len() {
             return false;
         }
+        let (mut left, mut right) = (self.text, other.text);
         for (mop, other_mop) in self.left.iter().zip(other.left) {
-            if !has_same_texts(self.text, mop, other.text, other_mop) {
+            if !has_same_texts(left, *mop, right, *other_mop) {
                 return are_same_mops(self.text, self.left, other.text, other.left);
             }
+            left = behind(left, *mop);
+            right = behind(right, *other_mop);
         }
         true
     }
@@ -305,6 +330,7 @@ impl<'a> Iterator for Mops<'a> {
     fn next(&mut self) -> Option<Mop<'a>> {
         let (first, others) = self.left.split_first()?;
         let mop = mop_at(self.text, *first);
+        self.text = behind(self.text, *first);
         self.left = others;
         Some(mop)
     }

@@ -4,13 +4,13 @@ use Rattle.std.specs.Prelude.{flat_map}
 use Rattle.std.specs.Result.{result_ok}
 use Rattle.std.proofs.lemmas.List.{map-append}
 use Rattle.std.proofs.lemmas.Option.{none-some, same_Some}
-use Rattle.hist_types.specs.Entries.{PlacedMop, PlacedOperation, Entry, operation, skipped, operation_of, placed_operations, operations_of, end_of, entry_of}
-use Rattle.hist_types.specs.Forms.{Form, plain, collection, tagged, Forms, forms_of, list_of, is_map, is_vector_or_list}
+use Rattle.hist_types.specs.Entries.{PlacedMop, Entry, operation, skipped, operations_of, end_of, entry_of}
+use Rattle.hist_types.specs.Forms.{Form, plain, collection, tagged, forms_of, list_of, is_map, is_vector_or_list}
 use Rattle.hist_types.specs.Operations.{Mop, Operation}
 use Rattle.hist_types.specs.Tokens.{Item}
 use Rattle.hist_types.specs.declared.types.Fault.{Fault}
 use Rattle.reading_laws.specs.Nesting.{AreForms, nothing, alone, nested, with_tag, without, entry_by_form, entries_by_form}
-use Rattle.reading_laws.proofs.MovedForms.{item_moved, mop_moved, form_moved, forms_moved, list_of-moved, forms_of-moved, Follows, entry_at, entry_of-moved}
+use Rattle.reading_laws.proofs.MovedForms.{item_moved, mop_moved, form_moved, list_of-moved, forms_of-moved, Follows, entry_at, entry_of-moved}
 
 -- ---- tokens that are forms
 

@@ -6,4 +6,4 @@ use Rattle.op_view.proofs.mops.Mops.matches.Given as goal
 abbrev pub invariant-loop-mop : goal.invariant-loop-mop
 invariant-loop-mop l =
     (length l.mop-iterator.a.rest.now ≡ length l.mop-iterator.b.rest.now)
-    × Matches l.self-inside.text.now l.other-inside.text.now l.mop-iterator.a.rest.now l.mop-iterator.b.rest.now l.fn.self l.fn.other
+    × Matches l.left l.right l.mop-iterator.a.rest.now l.mop-iterator.b.rest.now l.fn.self l.fn.other
