@@ -7,7 +7,7 @@ ghost use Rattle.block_reader.specs.Blocks.{operations_in};
 ghost use Rattle.block_reader.specs.Parts.{AreStarts, IsPartOf, ReadsThrough};
 
 use crate::parts::{Part, joined, take_parts};
-use crate::starts::{helpers_of, starts_of};
+use crate::starts::starts_of;
 use op_block::block::Block;
 use std::alloc::{AllocError, Global};
 use std::sync::atomic::AtomicUsize;
@@ -109,7 +109,7 @@ fn read_parts<'a, R: Threads + Sync, C: Consumer<'a>>(
 pub(crate) fn read_round<'a, R: Threads + Sync, C: Consumer<'a>>(
     rt: &R,
     alloc: Global,
-    workers: usize,
+    helpers: usize,
     lines: &[u8],
     consumer: C,
     blocks: &'a [Block],
@@ -120,10 +120,9 @@ pub(crate) fn read_round<'a, R: Threads + Sync, C: Consumer<'a>>(
     ensures consumer { (before : List Operation) → C.has_taken consumer before
         → C.has_taken result.1 (before ++ operations_in blocks.now) }
 {
-    let Ok(starts) = starts_of(rt, alloc, workers, lines) else {
+    let Ok(starts) = starts_of(alloc, helpers, lines) else {
         return (None, consumer.take(blocks));
     };
-    let helpers = helpers_of(rt, workers);
     let (parts, consumer) = read_parts(rt, alloc, helpers, lines, &starts, consumer, blocks);
     match parts {
         Ok(parts) => (joined(alloc, lines, &starts, parts), consumer),

@@ -8,7 +8,7 @@ ghost use Rattle.block_reader.specs.Rounds.{HasReadAll, IsNew, HasPassed, HasCom
 
 use crate::rest::blocks_of_rest;
 use crate::round::{Consumer, read_round};
-use crate::starts::last_line;
+use crate::starts::{helpers_of, last_line};
 use hist_types::device::Source;
 use hist_types::types::Fault;
 use hist_types::whole::{ReadFault, Window};
@@ -17,11 +17,14 @@ use std::alloc::{AllocError, Global};
 use std::sync::OnceLock;
 use std::thread::Threads;
 
-/// How many bytes a round has at least, if there are as many.
-const ROUND_BYTES: usize = 1 << 20;
+/// How many bytes a round has at least, if there are as many, where one thread reads them. They and their blocks stay in its cache.
+const ROUND_BYTES: usize = 1 << 17;
+
+/// How many it has where several threads do, so that each of them has a few parts.
+const WIDE_ROUND_BYTES: usize = 1 << 20;
 
 /// In how many rounds a source is read at most, but for what is left then.
-const MAX_ROUNDS: usize = 512;
+const MAX_ROUNDS: usize = 2048;
 
 /// Why a source's operations weren't read.
 #[derive(Clone, Copy, Debug)]
@@ -68,9 +71,14 @@ impl From<AllocError> for InputFault {
     }
 }
 
-/// How many bytes the round has that begins after so many: a 32nd part of them, so that few rounds are enough for any text.
-fn round_after(offset: usize) -> usize {
-    ROUND_BYTES.max(offset / 32)
+/// How many bytes the round has that begins after so many: a 256th part of them or more, so that few rounds are enough for any text.
+fn round_after(offset: usize, helpers: usize) -> usize {
+    let least = if helpers == 0 {
+        ROUND_BYTES
+    } else {
+        WIDE_ROUND_BYTES
+    };
+    least.max(offset / 256)
 }
 
 /// An empty cell for the blocks of each round, and of what is left behind the last.
@@ -144,7 +152,7 @@ impl Reading {
 fn one_round<'a, R: Threads + Sync, S: Source, C: Consumer<'a>>(
     rt: &R,
     alloc: Global,
-    workers: usize,
+    helpers: usize,
     source: &mut S,
     reading: &mut Reading,
     cell: &'a OnceLock<Vec<Block>>,
@@ -159,12 +167,12 @@ fn one_round<'a, R: Threads + Sync, S: Source, C: Consumer<'a>>(
         → HasCome S.Source began source.old reading.old operations
         → IfErr result (IsFaultOf S.Source began source.new) }
 {
-    reading.fill(source, round_after(reading.offset))?;
+    reading.fill(source, round_after(reading.offset, helpers))?;
     let Some(end) = last_line(reading.window.as_slice()) else {
         return Ok((consumer, last, false));
     };
     let lines = &reading.window.as_slice()[..end];
-    let (round, consumer) = read_round(rt, alloc, workers, lines, consumer, last);
+    let (round, consumer) = read_round(rt, alloc, helpers, lines, consumer, last);
     let Some(blocks) = round else {
         return Ok((consumer, &[], false));
     };
@@ -217,6 +225,7 @@ pub fn read_source<'a, R: Threads + Sync, S: Source, C: Consumer<'a>>(
     let Some((rest_cell, cells)) = cells.split_first() else {
         return Err(InputFault::Text(Fault::memory()));
     };
+    let helpers = helpers_of(rt, workers);
     let mut reading = Reading::new(alloc);
     let mut consumer = consumer;
     let mut last: &'a [Block] = &[];
@@ -224,7 +233,7 @@ pub fn read_source<'a, R: Threads + Sync, S: Source, C: Consumer<'a>>(
         let (taken, blocks, goes_on) = one_round(
             rt,
             alloc,
-            workers,
+            helpers,
             source,
             &mut reading,
             cell,

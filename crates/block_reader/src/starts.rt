@@ -51,12 +51,11 @@ pub(crate) fn last_line(text: &[u8]) -> Option<usize>
     None
 }
 
-/// Where the parts of a text begin, in order: at its start alone if one worker reads it, else also behind lines that end with a map, as
+/// Where the parts of a text begin, in order: at its start alone if one thread reads it, else also behind lines that end with a map, as
 /// Jepsen prints them.
-pub fn starts_of<R: Threads>(
-    rt: &R,
+pub(crate) fn starts_of(
     alloc: Global,
-    workers: usize,
+    helpers: usize,
     text: &[u8],
 ) -> Result<Vec<usize>, AllocError>
     requires { EndsWithMap text.now }
@@ -64,7 +63,7 @@ pub fn starts_of<R: Threads>(
 {
     let mut starts = Vec::new(alloc);
     starts.push(0)?;
-    if helpers_of(rt, workers) == 0 {
+    if helpers == 0 {
         return Ok(starts);
     }
     let mut last = 0;

@@ -58,6 +58,11 @@ abbrev pub PassesAhead : List ℕ → ℕ → ℕ → Option ℕ → Type 0
 PassesAhead text deep offset found =
     IfSome found (λ end. (form : Form) × ReadsAhead text deep offset form end)
 
+-- how a micro-operation that writes, or one that reads, begins
+abbrev pub name_bytes : Bool → List ℕ
+name_bytes true = codes ":w"
+name_bytes false = codes ":r"
+
 -- a micro-operation that writes, or one that reads, may have this form as its value
 abbrev pub IsMopValue : Bool → Form → Type 0
 IsMopValue true value = is_some (atom_of value) ≡ true

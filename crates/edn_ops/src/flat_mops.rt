@@ -7,7 +7,7 @@ ghost use Rattle.hist_types.specs.Forms.{plain};
 ghost use Rattle.edn_lex.specs.declared.ahead.TheConstants.{NUMBER_LOOK};
 ghost use Rattle.edn_lex.specs.Ahead.{IsGap, IsLoneAt, GivesOpener};
 ghost use Rattle.edn_lex.specs.Kinds.{item_of};
-ghost use Rattle.edn_ops.specs.Flat.{IsMopValue, GivesMop, shape_of, ReadsFlatMop, ReadsFlatMops, ReadsFlatTransaction};
+ghost use Rattle.edn_ops.specs.Flat.{name_bytes, IsMopValue, GivesMop, shape_of, ReadsFlatMop, ReadsFlatMops, ReadsFlatTransaction};
 
 use crate::atoms::{self, LONG_INTEGER};
 use crate::outline::{bytes_of, span};
@@ -122,7 +122,16 @@ fn next_mop(text: &[u8], offset: usize) -> Option<(bool, Span, Span, usize)>
     Some((is_write, span(key), span(value), closer.end))
 }
 
-/// The token that begins here, if it is `:w` or `:r` with a space after it, and whether it is `:w`, in a text with more bytes.
+/// The name of a write, or of a read.
+#[inline(always)]
+fn name_of(is_write: bool) -> &'static [u8]
+    ensures { result.now ≡ name_bytes is_write }
+{
+    if is_write { b":w" } else { b":r" }
+}
+
+/// The token that begins here, if it is `:w` or `:r` with a space after it, and whether it is `:w`, in a text with more bytes. Which of
+/// both it is takes no branch, as nobody can foresee it.
 #[inline(always)]
 fn plain_name(text: &[u8], start: usize) -> Option<(bool, Token)>
     requires { start + 2 < length text.now }
@@ -132,11 +141,9 @@ fn plain_name(text: &[u8], start: usize) -> Option<(bool, Token)>
     ensures end { IfSome result (λ name. name.1.end ≡ start + 2) }
     ensures space { IfSome result (λ name. get_or text.now name.1.end 0 ≡ 32) }
 {
-    if let Some(token) = word_before(text, start, b":w", TokenKind::Keyword, b' ') {
-        return Some((true, token));
-    }
-    let token = word_before(text, start, b":r", TokenKind::Keyword, b' ')?;
-    Some((false, token))
+    let is_write = text[start + 1] == b'w';
+    let token = word_before(text, start, name_of(is_write), TokenKind::Keyword, b' ')?;
+    Some((is_write, token))
 }
 
 /// The token that begins here, if it is an integer of few digits with this byte after it.

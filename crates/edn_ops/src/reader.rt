@@ -222,6 +222,7 @@ impl<'a> OpReader<'a> {
 
     /// Reads the next operation into a shape that may have been used before, or returns false at the text's end. After false or a
     /// fault the shape is of no use. Faults are those of `next_op`.
+    #[inline(always)]
     pub fn next_into(&mut self, shape: &mut OpShape) -> Result<bool, Fault>
         ensures again { FailsAgain self.old (found_in shape.new result) self.new }
         ensures next { self.old.failed ≡ None → NextOf self.old (found_in shape.new result) self.new }

@@ -8,7 +8,8 @@ use atom_index::pairs::PairIndex;
 use std::alloc::AllocError;
 use std::hash::BuildHasher;
 
-/// The number of the nil version of a key. Where it has none, it gets one.
+/// The number of the nil version of a key, which is mostly noted. Where it has none, it gets one.
+#[inline(always)]
 pub(crate) fn nil_number<S: BuildHasher>(
     pairs: &mut PairIndex<S>,
     nils: &mut Vec<Option<u32>>,
@@ -24,9 +25,29 @@ pub(crate) fn nil_number<S: BuildHasher>(
     ensures len { length nils.new.items ≡ length nils.old.items }
     ensures err { OnErr result (pairs.new.items ≡ pairs.old.items) }
 {
-    if let Some(nil) = nils[key as usize] {
-        return Ok(nil);
+    match nils[key as usize] {
+        Some(nil) => Ok(nil),
+        None => insert_nil(pairs, nils, key),
     }
+}
+
+/// The same, by a look among the pairs.
+#[inline(never)]
+fn insert_nil<S: BuildHasher>(
+    pairs: &mut PairIndex<S>,
+    nils: &mut Vec<Option<u32>>,
+    key: u32,
+) -> Result<u32, AllocError>
+    requires key { key < length nils.old.items }
+    requires nils { AreNilsIn pairs.old.items nils.old.items }
+    ensures number { IfOk result
+        (λ number. number_in pair_eq (key, None) pairs.new.items ≡ Some number) }
+    ensures pairs { OnOk result
+        (pairs.new.items ≡ with_item pair_eq pairs.old.items (key, None)) }
+    ensures nils { AreNilsIn pairs.new.items nils.new.items }
+    ensures len { length nils.new.items ≡ length nils.old.items }
+    ensures err { OnErr result (pairs.new.items ≡ pairs.old.items) }
+{
     let nil = pairs.insert(key, None)?;
     nils[key as usize] = Some(nil);
     Ok(nil)

@@ -3,6 +3,8 @@ pub mod OnlyToken
 pub mod Spelled
 pub mod ExampleOperation
 pub mod Matching
+pub mod SameFronts
+pub mod SameMops
 pub mod ShortNumbers
 pub mod NilReads
 pub mod OperationMops

@@ -1,24 +1,25 @@
 //! Micro-operations, and the iterator over those of an operation.
 
-ghost use Rattle.std.specs.Prelude.{◌≡◌, true, length, Some, IfSome};
+ghost use Rattle.std.specs.Prelude.{◌≡◌, ◌≤◌, true, length, take, Some, IfSome};
 ghost use Rattle.std.specs.Bool.{OnTrue};
 ghost use Rattle.std.specs.Iterator.{YieldsFirst, item_count, at_most, UpTo};
 ghost use Rattle.std.specs.Iterator.SizeHint.{IsWithinCount};
 ghost use Rattle.std.specs.Cmp.Lexicographic.{pointwise};
-ghost use Rattle.std.specs.Str.{bytes_eq};
+ghost use Rattle.std.specs.Simd.Lanes.{mask_l, zip2};
 ghost use Rattle.hist_types.specs.Atoms.{atom_eq};
 ghost use Rattle.hist_types.specs.Journal.{same_mop};
 ghost use Rattle.hist_types.specs.Operations.{read, write};
 ghost use Rattle.edn_ops.specs.Shapes.{is_write};
 ghost use Rattle.edn_ops.specs.SourceTexts.{IsMopText, IsValueText};
 ghost use Rattle.op_block.specs.MopTexts.{key_bytes, value_bytes, behind, atom_in, is_nil, mop_at as mop_of_text, mops_at, IsAtom, IsMopAt, AreMopsAt};
-ghost use Rattle.op_view.specs.Mops.{key_of, value_of};
+ghost use Rattle.op_view.specs.Mops.{is_other, key_of, value_of, written_len};
 
 use crate::atom::Atom;
 use edn_ops::write::MopText;
 use op_block::shapes::ShortMop;
 use std::iter::ExactSizeIterator;
 use std::marker::Model;
+use std::simd::prelude::*;
 
 /// The text of the value of a read of nil.
 const NIL: &[u8] = b"nil";
@@ -173,33 +174,59 @@ fn is_nil(text: &[u8]) -> bool
     matches!(text, [b'n', b'i', b'l'])
 }
 
-/// Whether the texts have the same bytes, one by one.
+/// How many bytes of two texts are compared at once.
+const WORD: usize = 16;
+
+/// A bit for each of the first 16 bytes that is another one in the other text, the lowest for the first.
 #[inline(always)]
-fn has_same_bytes(a: &[u8], b: &[u8]) -> bool
-    ensures { result ≡ bytes_eq a.now b.now }
+fn other_of_16(a: &[u8], b: &[u8]) -> u64
+    requires first { WORD ≤ length a.now }
+    requires second { WORD ≤ length b.now }
+    ensures { result ≡ mask_l (zip2 is_other (take WORD a.now) (take WORD b.now)) }
 {
-    if a.len() != b.len() {
-        return false;
-    }
-    for (x, y) in a.iter().zip(b) {
-        if x != y {
-            return false;
-        }
-    }
-    true
+    u8x16::from_slice(a)
+        .simd_ne(u8x16::from_slice(b))
+        .to_bitmask()
 }
 
-/// Whether the texts have the same bytes. Up to four, as most atoms have, are compared without a loop.
+/// How many of the first 16 bytes of both texts are the same ones, from the first one on.
 #[inline(always)]
-fn is_same_text(a: &[u8], b: &[u8]) -> bool
-    ensures { OnTrue result (a.now ≡ b.now) }
+fn same_of_16(a: &[u8], b: &[u8]) -> usize
+    requires first { WORD ≤ length a.now }
+    requires second { WORD ≤ length b.now }
+    ensures { take result a.now ≡ take result b.now }
 {
-    match (a, b) {
-        ([a0], [b0]) => a0 == b0,
-        ([a0, a1], [b0, b1]) => a0 == b0 && a1 == b1,
-        ([a0, a1, a2], [b0, b1, b2]) => a0 == b0 && a1 == b1 && a2 == b2,
-        ([a0, a1, a2, a3], [b0, b1, b2, b3]) => a0 == b0 && a1 == b1 && a2 == b2 && a3 == b3,
-        _ => has_same_bytes(a, b),
+    let bits = other_of_16(a, b);
+    if bits == 0 {
+        WORD
+    } else {
+        bits.trailing_zeros() as usize
+    }
+}
+
+/// Whether both texts begin with the same bytes, as many as these. Texts of few bytes are in the last operations of a block alone.
+#[inline(always)]
+fn begin_alike(a: &[u8], b: &[u8], len: usize) -> bool
+    requires first { len ≤ length a.now }
+    requires second { len ≤ length b.now }
+    ensures { OnTrue result (take len a.now ≡ take len b.now) }
+{
+    if a.len() < WORD || b.len() < WORD {
+        a[..len] == b[..len]
+    } else {
+        len <= same_of_16(a, b)
+    }
+}
+
+/// How many bytes the value has that is written. What a read returned counts for nothing.
+#[inline(always)]
+fn written_len(mop: ShortMop) -> usize
+    ensures { result ≡ written_len mop }
+{
+    if mop.is_write {
+        usize::from(mop.value_len)
+    } else {
+        0
     }
 }
 
@@ -237,13 +264,14 @@ fn has_same_texts(text: &[u8], mop: ShortMop, other_text: &[u8], other: ShortMop
     ensures { OnTrue result
         (same_mop (mop_of_text text.now mop) (mop_of_text other_text.now other) ≡ true) }
 {
-    if mop.is_write != other.is_write {
+    let value_len = written_len(mop);
+    if mop.is_write != other.is_write
+        || mop.key_len != other.key_len
+        || value_len != written_len(other)
+    {
         return false;
     }
-    if !is_same_text(key_bytes(text, mop), key_bytes(other_text, other)) {
-        return false;
-    }
-    !mop.is_write || is_same_text(value_bytes(text, mop), value_bytes(other_text, other))
+    begin_alike(text, other_text, usize::from(mop.key_len) + value_len)
 }
 
 /// Whether the micro-operations of both texts are the same, one for one, whatever reads returned.
