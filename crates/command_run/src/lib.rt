@@ -8,6 +8,6 @@ mod edges;
 mod judged;
 mod judging;
 pub mod laws;
-mod numbering;
 mod reads;
 pub mod run;
+mod tabling;

@@ -11,7 +11,6 @@ ghost use Rattle.command_line.specs.declared.types.Command.{Command};
 use crate::answer::{Answer, Lack, Status, refuse};
 use crate::judged::Judged;
 use crate::judging::judged_of;
-use crate::numbering::versions_and_order;
 use crate::{check, edges, reads};
 use block_reader::rounds::{InputFault, cells_for};
 use command_line::types::{Command, MAX_WORKERS};
@@ -19,10 +18,10 @@ use hist_types::device::{Failed, Sink, Source};
 use hist_types::types::{Fault, KeyOrder, Refusal};
 use hist_types::whole::write_all;
 use history_laws::versions_written_once;
+use key_versions::kept_of_written;
 use std::alloc::Global;
 use std::sync::Wait;
 use std::thread::Threads;
-use verdict::tables::Tables;
 
 /// The order of keys that the command rests on. Reads rest on none.
 fn keys_of(command: Command) -> KeyOrder
@@ -61,21 +60,13 @@ fn report_on<R: Threads + Wait + Sync>(
     // A law, called for its clause: the transactions write what the events do.
     versions_written_once();
     let txns = pairing.transactions();
-    let workers = workers_of(command);
-    let keys = keys_of(command);
-    let (versions, order) = versions_and_order(
-        rt,
-        alloc,
-        workers,
-        &txns,
-        core.into_written(),
-        keys,
-    )?;
-    let tables = Tables::with_order(events, &txns, &versions, order.as_ref());
+    let kept = kept_of_written(alloc, &txns, core.into_written(), keys_of(command))?;
     match command {
-        Command::Reads => reads::report(alloc, &tables),
-        Command::Edges(_) => edges::report(alloc, &tables),
-        Command::Check { .. } => check::report(rt, alloc, workers, &tables),
+        Command::Reads => reads::report(alloc, events, &txns, kept),
+        Command::Edges(_) => edges::report(alloc, events, &txns, kept),
+        Command::Check { .. } => {
+            check::report(rt, alloc, workers_of(command), events, &txns, kept)
+        }
     }
 }
 

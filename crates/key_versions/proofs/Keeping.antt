@@ -20,6 +20,7 @@ use Rattle.op_view.specs.Mops.{key_of}
 use Rattle.key_versions.specs.declared.pending.Access.{Access}
 use Rattle.key_versions.specs.Histories.{named_in, named_by, is_named, read_by, seen_in}
 use Rattle.txn_pairs.specs.Completions.{Completes}
+use Rattle.key_versions.specs.Given.{AreNamed, AreKeptBeside}
 use Rattle.key_versions.specs.Kept.{KeptVersions, HaveAccesses, AreKept, StayBeside}
 use Rattle.key_versions.specs.Numbering.{with_versions, AreAccesses}
 use Rattle.key_versions.specs.TxnAccesses.{TxnAccesses, accesses_by, AddsNamed, AreAccessesOf, AreSeenBy}
@@ -229,6 +230,17 @@ module _ (keys : KeyOrder) (vs us : List Version) (t : Transaction) (grown : us 
     accesses = have_pushed keys us ts accesses t (accesses_by rs ws ss) (have_stay keys vs us stays ts accesses old.accesses) (are, seen);
   }
 
+  -- one transaction more, where some versions had numbers before
+  pub beside_more :
+      (given : List Version) (ts : List Transaction) (accesses : List TxnAccesses) (rs ws ss : List Access) → AreKeptBeside given ts (kept_by keys vs accesses)
+      → AreAccessesOf us t rs ws → AreSeenBy keys us t rs ws ss → AreKeptBeside given (ts ++ t ∷ []) (kept_by keys us (accesses ++ accesses_by rs ws ss ∷ []))
+  beside_more given ts accesses rs ws ss old are seen = record {
+    distinct = numbered old.distinct;
+    named = λ v. has_grown v ∙ ap (λ b. b || has_version (named_by t) v) (old.named v) ∙ sym (moved (has_version given v) (is_named ts v) (has_version (named_by t) v))
+        ∙ ap (λ b. has_version given v || b) (sym (named-push ts t v));
+    accesses = have_pushed keys us ts accesses t (accesses_by rs ws ss) (have_stay keys vs us stays ts accesses old.accesses) (are, seen);
+  }
+
   -- the one at the place was completed
   pub kept_completed :
       (ts : List Transaction) (place : ℕ) (before : Transaction) (accesses : List TxnAccesses) (rs ws ss : List Access) → AreKept ts (kept_by keys vs accesses)
@@ -239,6 +251,23 @@ module _ (keys : KeyOrder) (vs us : List Version) (t : Transaction) (grown : us 
     named = λ v. has_grown v ∙ ap (λ b. b || has_version (named_by t) v) (old.named v) ∙ sym (named_set ts place before t v at (named_still before t done v));
     accesses = have_set keys us ts accesses place t (accesses_by rs ws ss) (have_stay keys vs us stays ts accesses old.accesses) (are, seen);
   }
+
+-- ---- versions that had numbers before any transaction
+
+pub beside_none : (keys : KeyOrder) (vs : List Version) → AreNumbered version_eq vs → AreKeptBeside vs [] (kept_by keys vs [])
+beside_none keys vs distinct = record { distinct = distinct; named = λ v. sym (or_false (has_version vs v)); accesses = tt }
+
+named_alone : (a b : Bool) → (a ≡ true → b ≡ true) → (a || b) ≡ b
+named_alone true b h = sym (h refl)
+named_alone false b h = refl
+
+-- the transactions name them
+pub all_kept : (given : List Version) (ts : List Transaction) (kept : KeptVersions) → AreKeptBeside given ts kept → AreNamed ts given → AreKept ts kept
+all_kept given ts kept is named = record {
+  distinct = is.distinct;
+  named = λ v. is.named v ∙ named_alone (has_version given v) (is_named ts v) (named v);
+  accesses = is.accesses;
+}
 
 -- ---- a completion that isn't an ok
 

@@ -9,8 +9,7 @@ use Rattle.std.proofs.lemmas.List.Sums.{fold-append}
 use Rattle.hist_types.specs.Atoms.{Value, atom_eq, value_eq}
 use Rattle.hist_types.specs.Journal.{writes_of}
 use Rattle.hist_types.specs.Transactions.{Transaction, Version, version_eq, version_of, is_ok, external_reads, installed_by}
-use Rattle.hist_types.specs.Versions.{VersionPair, pair, nil_of, version_in, seen_by, last_of, firsts_after, met_by, is_step, step_between, step_to, steps_of, steps_after, process_pairs}
-use Rattle.hist_types.specs.declared.types.KeyOrder.TheVariants.{Sequential}
+use Rattle.hist_types.specs.Versions.{VersionPair, pair, nil_of, version_in, seen_by, last_of, firsts_after, met_by, is_step, step_between, step_to, steps_of, steps_after}
 use Rattle.hist_types.proofs.Equality.{atom_eq-itself}
 use Rattle.history_laws.proofs.ProcessPairs.{last_of-key}
 use Rattle.atom_index.specs.Numbers.{AreNumbered}
@@ -18,7 +17,7 @@ use Rattle.key_versions.specs.declared.pending.Access.{Access}
 use Rattle.key_versions.specs.Numbering.{IsAccess, AreAccesses}
 use Rattle.key_versions.specs.Rows.{has_nil, lasts}
 use Rattle.key_versions.specs.Steps.{last_number, seen_after, with_first, firsts, step_from, steps_to}
-use Rattle.key_versions.specs.Stepped.{step_at, as_step, HasLastSeen, AreStepsAs, AreStepsOf}
+use Rattle.key_versions.specs.Stepped.{step_at, as_step, HasLastSeen, AreStepsAs}
 use Rattle.key_versions.proofs.Accessing.{accesses_stay, same_nil, has_nil_key}
 use Rattle.key_versions.proofs.Joined.{same_version, lasts_are}
 use Rattle.key_versions.proofs.Seen.{last_number-append}
@@ -180,27 +179,6 @@ steps-push before (u ∷ ts) t =
 module _ (vs us : List Version) (stay : (n : ℕ) (v : Version) → slice_get vs n ≡ Some v → slice_get us n ≡ Some v) where
   pub last_stays : (seen : List Version) (last : ℕ → Option ℕ) → HasLastSeen vs seen last → HasLastSeen us seen last
   last_stays seen last has = (has.0, accesses_stay vs us stay seen has.0 has.1, has.2)
-
-  pub steps_stay : (steps : List (ℕ × ℕ)) (ps : List VersionPair) → AreStepsAs vs ps steps → AreStepsAs us ps steps
-  steps_stay [] ps h = h
-  steps_stay (s ∷ steps) [] h = absurd (cc)
-  steps_stay (s ∷ steps) (p ∷ ps) h =
-      let both : step_at vs s ≡ as_step p = cc in
-      let rest : map (step_at vs) steps ≡ map as_step ps = cc in
-      let later : slice_get us s.0 ≡ Some p.later = stay s.0 p.later (ap (λ (q : Option Version × Option Version). q.0) both) in
-      let earlier : slice_get us s.1 ≡ Some p.earlier = stay s.1 p.earlier (ap (λ (q : Option Version × Option Version). q.1) both) in
-      ap (λ (o : Option Version). (o, slice_get us s.1) ∷ map (step_at us) steps) later
-      ∙ ap (λ (o : Option Version). (Some p.later, o) ∷ map (step_at us) steps) earlier
-      ∙ ap (λ (qs : List (Option Version × Option Version)). as_step p ∷ qs) (steps_stay steps ps rest)
-
--- what was seen and the steps, among more versions
-pub steps_of_more :
-    (vs us : List Version) → ((n : ℕ) (v : Version) → slice_get vs n ≡ Some v → slice_get us n ≡ Some v) → (ts : List Transaction) (last : ℕ → ℕ → Option ℕ) (taken : List (ℕ × ℕ))
-    → AreStepsOf vs ts last taken → AreStepsOf us ts last taken
-steps_of_more vs us stay ts last taken are = record {
-  seen = λ process. last_stays vs us stay (seen_by process ts) (last process) (are.seen process);
-  steps = steps_stay vs us stay taken (process_pairs Sequential ts) are.steps;
-}
 
 -- ---- more that is seen and more steps
 

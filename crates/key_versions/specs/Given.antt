@@ -1,7 +1,7 @@
 -- Versions that have numbers before any transaction is taken: those that the journal numbered when
 -- they were written, and the nil versions of their keys. The transactions name all of them, but
 -- while some are not taken yet, the table has versions that no taken one names.
-use Rattle.std.specs.Prelude.{List, Bool, ◌||◌, IsTrue}
+use Rattle.std.specs.Prelude.{◌≡◌, List, Bool, ◌||◌, IsTrue}
 use Rattle.std.specs.List.{list_any}
 use Rattle.atom_index.specs.Numbers.{AreNumbered}
 use Rattle.hist_types.specs.Journal.{Write}
@@ -9,6 +9,7 @@ use Rattle.hist_types.specs.Transactions.{Transaction, Version, version_eq, vers
 use Rattle.hist_types.specs.Versions.{nil_of}
 use Rattle.hist_types.specs.declared.types.KeyOrder.TheVariants.{Basic}
 use Rattle.key_versions.specs.Histories.{is_named}
+use Rattle.key_versions.specs.Kept.{KeptVersions, HaveAccesses}
 use Rattle.key_versions.specs.Tables.{Table, IsTableWith}
 
 -- whether the write names the version: it is what is written, or the nil version of the key
@@ -28,3 +29,10 @@ AreNamed ts versions = (v : Version) → IsTrue (has_version versions v) → IsT
 abbrev pub IsTableBeside : (given : List Version) → List Transaction → Table → Type 0
 IsTableBeside given ts table =
     IsTableWith (λ v. has_version given v || is_named ts v) Basic ts table
+
+-- what is kept of transactions, where these versions have numbers besides those that they name
+pub record AreKeptBeside (given : List Version) (ts : List Transaction) (kept : KeptVersions) :
+    Type 0 where
+  pub distinct : AreNumbered version_eq kept.versions
+  pub named : (v : Version) → has_version kept.versions v ≡ (has_version given v || is_named ts v)
+  pub accesses : HaveAccesses kept.keys kept.versions ts kept.accesses

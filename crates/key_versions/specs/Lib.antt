@@ -5,7 +5,6 @@ pub mod Spans
 pub mod Nils
 pub mod Numbering
 pub mod Named
-pub mod Given
 pub mod Views
 pub mod Pending
 pub mod Pairs
@@ -14,4 +13,5 @@ pub mod Steps
 pub mod Stepped
 pub mod TxnAccesses
 pub mod Kept
+pub mod Given
 pub mod KeyNumbers

@@ -2,9 +2,9 @@
 
 ghost use Rattle.std.specs.Prelude.{◌≡◌, ◌<◌, ◌++◌, ◌∷◌, [], List, length, map, set, slice_get, Some, IfOk, OnOk};
 ghost use Rattle.atom_index.specs.Numbers.{AreNumbered};
-ghost use Rattle.hist_types.specs.Transactions.{Transaction};
+ghost use Rattle.hist_types.specs.Transactions.{Transaction, Version, version_eq};
 ghost use Rattle.hist_types.specs.declared.types.KeyOrder.TheVariants.{Basic, Sequential};
-ghost use Rattle.key_versions.specs.Given.{IsTableBeside};
+ghost use Rattle.key_versions.specs.Given.{AreNamed, AreKeptBeside, IsTableBeside};
 ghost use Rattle.key_versions.specs.Kept.{AreKept, KeepNumbers, StayBeside};
 ghost use Rattle.key_versions.specs.LastSeen.{last_seen};
 ghost use Rattle.key_versions.specs.Numbering.{versions_of};
@@ -78,6 +78,70 @@ impl<'a, S: BuildHasher + Copy> KeptVersions<'a, S> {
         }
     }
 
+    /// No transaction yet, and room for n. Some versions may have numbers already.
+    fn with_capacity(
+        alloc: Global,
+        numbering: Numbering<'a, S>,
+        transactions: usize,
+        keys: KeyOrder,
+    ) -> Result<Self, AllocError>
+        requires { AreNumbered version_eq (versions_of numbering) }
+        ensures kept { IfOk result (λ kept. AreKeptBeside kept.versions [] kept) }
+        ensures versions { IfOk result (λ kept. kept.versions ≡ versions_of numbering.entry) }
+        ensures keys { IfOk result (λ kept. kept.keys ≡ keys) }
+    {
+        Ok(KeptVersions {
+            keys,
+            numbering,
+            accesses: KeptAccesses::with_capacity(alloc, transactions)?,
+            accessed: Accessed::new(alloc),
+        })
+    }
+
+    /// Takes the next transaction of a history, where some versions had numbers before.
+    fn take(&mut self, txn: &Txn<'a>) -> Result<(), AllocError>
+        requires { (given : List Version) × (ts : List Transaction)
+            × AreKeptBeside given ts self.old }
+        ensures kept { (given : List Version) (ts : List Transaction)
+            → AreKeptBeside given ts self.old
+            → OnOk result (AreKeptBeside given (ts ++ txn.now ∷ []) self.new) }
+        ensures keys { self.new.keys ≡ self.old.keys }
+    {
+        self.numbering
+            .take(txn, self.keys, &[], &mut self.accessed)?;
+        self.accesses.push(&self.accessed)?;
+        Ok(())
+    }
+
+    /// Takes all transactions of a history, one after the other.
+    fn take_all(&mut self, txns: &[Txn<'a>]) -> Result<(), AllocError>
+        requires { AreKeptBeside self.old.versions [] self.old }
+        ensures kept { OnOk result (AreKeptBeside self.old.versions txns.now self.new) }
+        ensures keys { self.new.keys ≡ self.old.keys }
+    {
+        for txn in txns {
+            self.take(txn)?;
+        }
+        Ok(())
+    }
+
+    /// What the transactions of a history read and write. They name the versions that have numbers already.
+    pub(crate) fn of(
+        alloc: Global,
+        numbering: Numbering<'a, S>,
+        txns: &[Txn<'a>],
+        keys: KeyOrder,
+    ) -> Result<Self, AllocError>
+        requires distinct { AreNumbered version_eq (versions_of numbering) }
+        requires named { AreNamed txns.now (versions_of numbering) }
+        ensures kept { IfOk result (AreKept txns.now) }
+        ensures keys { IfOk result (λ kept. kept.keys ≡ keys) }
+    {
+        let mut kept = KeptVersions::with_capacity(alloc, numbering, txns.len(), keys)?;
+        kept.take_all(txns)?;
+        Ok(kept)
+    }
+
     /// Adds a transaction, which was invoked after all others.
     pub fn begin(&mut self, txn: &Txn<'a>) -> Result<(), AllocError>
         requires { (ts : List Transaction) × AreKept ts self.old }
@@ -118,6 +182,13 @@ impl<'a, S: BuildHasher + Copy> KeptVersions<'a, S> {
         ensures { result ≡ self.now.keys }
     {
         self.keys
+    }
+
+    /// How many versions there are.
+    pub fn versions(&self) -> usize
+        ensures { result ≡ length self.now.versions }
+    {
+        self.numbering.len()
     }
 
     /// What the transaction at this place reads externally, if it is ok.
@@ -209,5 +280,23 @@ impl<'a, S: BuildHasher + Copy> KeptVersions<'a, S> {
         let numbered = self.numbering.numbered(alloc)?;
         let known = rows.rows.finish(alloc)?;
         Ok(Versions::new(self.keys, numbered, known, rows.accesses))
+    }
+
+    /// The table of the transactions, where no more are added: nothing is copied.
+    pub fn into_table(self, alloc: Global, txns: &Txns<'a>) -> Result<Versions<'a>, AllocError>
+        requires { AreKept txns.now self }
+        ensures ok { IfOk result (IsTableOf self.entry.keys txns.now) }
+        ensures keys { IfOk result (λ versions. versions.keys ≡ self.entry.keys) }
+    {
+        let rows = self.known(alloc, txns.as_slice())?;
+        let KeptVersions {
+            keys,
+            numbering,
+            accesses: _,
+            accessed: _,
+        } = self;
+        let numbered = numbering.finish();
+        let known = rows.rows.finish(alloc)?;
+        Ok(Versions::new(keys, numbered, known, rows.accesses))
     }
 }

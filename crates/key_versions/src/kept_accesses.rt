@@ -6,6 +6,7 @@ ghost use Rattle.key_versions.specs.Spans.{AreAppended};
 
 use crate::accessed::Accessed;
 use crate::pending::Access;
+use crate::push::{push, push_all};
 use crate::rows::number_of;
 use std::alloc::{AllocError, Global};
 use std::marker::Model;
@@ -56,11 +57,11 @@ fn append(accesses: &mut Vec<Access>, accessed: &Accessed) -> Result<KeptSpan, A
     ensures kept { length accesses.old.items ≤ length accesses.new.items }
 {
     let reads = number_of(accesses.len())?;
-    accesses.extend_from_slice(accessed.reads.as_slice())?;
+    push_all(accesses, accessed.reads.as_slice())?;
     let writes = number_of(accesses.len())?;
-    accesses.extend_from_slice(accessed.writes.as_slice())?;
+    push_all(accesses, accessed.writes.as_slice())?;
     let seen = number_of(accesses.len())?;
-    accesses.extend_from_slice(accessed.seen.as_slice())?;
+    push_all(accesses, accessed.seen.as_slice())?;
     let end = number_of(accesses.len())?;
     Ok(KeptSpan {
         reads,
@@ -81,6 +82,16 @@ impl KeptAccesses {
         }
     }
 
+    /// No transaction yet, with room for n of four micro-operations each.
+    pub fn with_capacity(alloc: Global, transactions: usize) -> Result<Self, AllocError>
+        ensures { IfOk result (λ accesses. accesses ≡ []) }
+    {
+        Ok(KeptAccesses {
+            accesses: Vec::with_capacity(alloc, transactions.saturating_mul(4))?,
+            spans: Vec::with_capacity(alloc, transactions)?,
+        })
+    }
+
     /// How many transactions there are.
     pub fn len(&self) -> usize
         ensures { result ≡ length self.now }
@@ -93,7 +104,7 @@ impl KeptAccesses {
         ensures { OnOk result (self.new ≡ self.old ++ accesses_of accessed.now ∷ []) }
     {
         let span = append(&mut self.accesses, accessed)?;
-        self.spans.push(span)?;
+        push(&mut self.spans, span)?;
         Ok(())
     }
 

@@ -5,11 +5,11 @@ ghost use Rattle.std.specs.Prelude.{◌≡◌, IfOk, IfErr};
 ghost use Rattle.hist_types.specs.Refusals.{memory_fault};
 ghost use Rattle.history_laws.specs.Writers.{writes_of_all};
 ghost use Rattle.journal_core.specs.Writes.{AreSameWrites};
+ghost use Rattle.key_versions.specs.Kept.{AreKept};
 ghost use Rattle.key_versions.specs.Tables.{IsTableOf};
 
 mod accessed;
 mod accesses;
-mod building;
 mod interleaving;
 pub mod kept;
 mod kept_accesses;
@@ -26,13 +26,13 @@ mod steps;
 pub mod table;
 pub mod types;
 
-use crate::building::Building;
+use crate::kept::KeptVersions;
 use crate::numbering::{Numbering, numbering_of};
 use crate::table::Versions;
 use hist_types::types::{Fault, KeyOrder};
 use journal_core::written::Written;
 use std::alloc::Global;
-use std::hash::BuildHasher;
+use std::hash::{BuildHasher, BuildHasherDefault, FoldHasher};
 use txn_pairs::types::Txns;
 
 /// The versions that the transactions name: the nil version of each key, what is written, and what ok transactions read. What
@@ -59,27 +59,28 @@ pub fn versions<'a, S: BuildHasher + Copy>(
     ensures err { IfErr result (λ fault. fault ≡ memory_fault) }
 {
     let numbering = Numbering::with_capacity(alloc, hasher, txns.as_slice().len())?;
-    let building = Building::of(alloc, numbering, txns.as_slice(), keys)?;
-    Ok(building.finish(alloc, keys)?)
+    let kept = KeptVersions::of(alloc, numbering, txns.as_slice(), keys)?;
+    let table = kept.into_table(alloc, txns)?;
+    Ok(table)
 }
 
-/// The table that `versions` makes, from the numbers that the journal gave to what it saw written. Transactions come in the order
-/// of their invocations, and so did their writes, so a write is compared with the journal's next one, and mostly nothing is
-/// looked up.
+/// What the transactions read and write, by the numbers that the journal gave to what it saw written, where it can be. Transactions
+/// come in the order of their invocations, and so did their writes, so a write is compared with the journal's next one, and mostly
+/// nothing is looked up.
 ///
 /// The only error is out of memory.
-pub fn versions_of_written<'a>(
+pub fn kept_of_written<'a>(
     alloc: Global,
     txns: &Txns<'a>,
     written: Written<'a>,
     keys: KeyOrder,
-) -> Result<Versions<'a>, Fault>
+) -> Result<KeptVersions<'a, BuildHasherDefault<FoldHasher>>, Fault>
     requires { AreSameWrites written.items (writes_of_all txns.now) }
-    ensures ok { IfOk result (IsTableOf keys txns.now) }
-    ensures keys { IfOk result (λ versions. versions.keys ≡ keys) }
+    ensures kept { IfOk result (AreKept txns.now) }
+    ensures keys { IfOk result (λ kept. kept.keys ≡ keys) }
     ensures err { IfErr result (λ fault. fault ≡ memory_fault) }
 {
     let numbering = numbering_of(alloc, written)?;
-    let building = Building::of(alloc, numbering, txns.as_slice(), keys)?;
-    Ok(building.finish(alloc, keys)?)
+    let kept = KeptVersions::of(alloc, numbering, txns.as_slice(), keys)?;
+    Ok(kept)
 }

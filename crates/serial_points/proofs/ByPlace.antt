@@ -54,7 +54,7 @@ list_points events points = listed (transactions_of events) (invoked_in_order ev
 
 -- ---- what is looked up
 
-at_place : (ts : List Transaction) (place : ℕ) → IsPlace ts place → slice_get ts place ≡ Some (txn_at ts place)
+pub at_place : (ts : List Transaction) (place : ℕ) → IsPlace ts place → slice_get ts place ≡ Some (txn_at ts place)
 at_place ts place within = slice_get-get_or ts place (txn_at ts place) within ∙ ap Some (read_at_place ts place within)
 
 reader_there :

@@ -18,7 +18,7 @@ none_given : {X Y : Type 0} (f : X → List Y) (xs : List X) → ((x : X) → In
 none_given f [] none = refl
 none_given f (x ∷ xs) none = ap (λ ys. ys ++ flat_map f xs) (none x (inl refl)) ∙ none_given f xs (λ y i. none y (inr i))
 
-none_read :
+pub none_read :
     {A : Type 0} (ts : List Transaction) (f : Transaction → Version → List A)
     → ((t : Transaction) (v : Version) → In t ts → IsTrue (is_known_to_read t v) → f t v ≡ [])
     → for_each_read ts f ≡ []

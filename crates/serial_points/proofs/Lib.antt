@@ -15,6 +15,8 @@ pub mod Bounded
 pub mod Counted
 pub mod StrayReads
 pub mod Changed
+pub mod PutAfter
+pub mod Shown
 pub mod Installed
 pub mod Advancing
 pub mod OneMore
@@ -22,3 +24,4 @@ pub mod OneCompletion
 pub mod RisingSteps
 pub mod KeptSteps
 pub mod SequentialPoints
+pub mod Replayed

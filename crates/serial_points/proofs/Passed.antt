@@ -28,7 +28,7 @@ use Rattle.serial_points.proofs.ByVersion.{node_among}
 use Rattle.serial_points.proofs.Installed.{installer_updates}
 use Rattle.serial_points.proofs.Unbounded.{reader_lower}
 
-reader_at : (ts : List Transaction) (v : Version) (place : ℕ) → In place (readers_of ts v) → (t : Transaction) × (slice_get ts place ≡ Some t) × (is_known_to_read t v ≡ true)
+pub reader_at : (ts : List Transaction) (v : Version) (place : ℕ) → In place (readers_of ts v) → (t : Transaction) × (slice_get ts place ≡ Some t) × (is_known_to_read t v ≡ true)
 reader_at ts v place i =
     let (j, t, get, among) = from_some_place (λ place t. if is_known_to_read t v then place ∷ [] else []) 0 ts place i in
     let (read, here) = in_if place (is_known_to_read t v) ((0 + j) ∷ []) among in

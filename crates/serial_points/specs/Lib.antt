@@ -13,3 +13,6 @@ pub mod KeptPoints
 pub mod Steps
 pub mod Stepping
 pub mod KeptSteps
+pub mod Replayed
+pub mod Replaying
+pub mod Waiting

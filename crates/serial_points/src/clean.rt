@@ -23,7 +23,7 @@ fn installs(writes: &[Access], version: u32) -> bool
     false
 }
 
-fn is_failed(txn: &Txn<'_>) -> bool
+pub(crate) fn is_failed(txn: &Txn<'_>) -> bool
     ensures { result ≡ is_failed txn.now }
 {
     txn.status() == Status::Fail

@@ -49,7 +49,7 @@ pub(crate) fn lower(points: &mut [u64], falls: &[Fall]) -> bool
     true
 }
 
-fn is_not_before(point: u64, txn: &Txn<'_>) -> bool
+pub(crate) fn is_not_before(point: u64, txn: &Txn<'_>) -> bool
     ensures { result ≡ true → IsNotBefore point txn.now }
 {
     match txn.invocation().checked_mul(POINTS) {
@@ -58,7 +58,7 @@ fn is_not_before(point: u64, txn: &Txn<'_>) -> bool
     }
 }
 
-fn is_not_after(point: u64, txn: &Txn<'_>) -> bool
+pub(crate) fn is_not_after(point: u64, txn: &Txn<'_>) -> bool
     ensures { result ≡ true → IsNotAfter point txn.now }
 {
     let Some(completion) = txn.completion() else {

@@ -8,12 +8,15 @@ ghost use Rattle.hist_types.specs.Operations.{Operation};
 ghost use Rattle.hist_types.specs.Reports.{AreFindings, no_findings};
 ghost use Rattle.hist_types.specs.Transactions.{Transaction, transactions_of};
 ghost use Rattle.hist_types.specs.declared.types.KeyOrder.{KeyOrder};
+ghost use Rattle.hist_types.specs.declared.types.KeyOrder.TheVariants.{Basic};
 ghost use Rattle.hist_types.specs.declared.types.OpKind.TheVariants.{Invoke, Fail, Info};
+ghost use Rattle.key_versions.specs.Kept.{KeptVersions as Kept, AreKept};
 ghost use Rattle.serial_points.specs.ByPlace.{ListPoints, LookUpsSuffice};
 ghost use Rattle.serial_points.specs.CleanReads.{CleanReadsSuffice};
 ghost use Rattle.serial_points.specs.ByVersion.{AreJoinedByVersions, EdgesIntoRise, EdgesOutOfRise, AllEdgesRise};
 ghost use Rattle.serial_points.specs.NextPoints.{PointsStay, WritesNothingRead, PointsMove};
 ghost use Rattle.serial_points.specs.Points.{ArePoints};
+ghost use Rattle.serial_points.specs.Replayed.{ShowsNothing, IsReplayed};
 
 mod advance;
 mod bounds;
@@ -22,12 +25,16 @@ mod falls;
 pub mod kept;
 mod passing;
 mod places;
+pub mod replay;
+mod replaying;
 mod search;
 mod settling;
 mod stepping;
 mod steps;
 mod strays;
+mod turns;
 mod users;
+mod waiting;
 
 /// Where transactions have points, no cycle shows any phenomenon at any level. No order edge has to be looked at.
 pub fn points_rule_out_cycles()
@@ -70,4 +77,11 @@ pub fn points_after_an_event()
 /// written by nobody, or by the transaction itself, no read is aborted or intermediate.
 pub fn clean_reads()
     ensures { (events : List Operation) → KeepsRules events → CleanReadsSuffice events }
+{}
+
+/// Where the transactions of a history can be replayed, nothing is to be found where keys are basic.
+pub fn replays_show_nothing()
+    ensures { (events : List Operation) → KeepsRules events → (kept : Kept) → AreKept (transactions_of events) kept
+        → (points : List ℕ) → IsReplayed (transactions_of events) kept.accesses points
+        → ShowsNothing Basic (transactions_of events) }
 {}

@@ -65,27 +65,26 @@ pub refuted_by_tables :
 refuted_by_tables events others tables v of same is =
     subst (λ (es : List Operation). RefutesExplanations es v) same (verdict_refutes (keys_in tables) events v of.rules is)
 
--- ---- of events that have points
+-- ---- of transactions that show nothing
 
-pub nothing_found :
-    (keys : KeyOrder) (events : List Operation) (ts : List Transaction) (found : Findings)
-    → ts ≡ transactions_of events
-    → found ≡ no_findings
-    → AreFindings keys (transactions_of events) no_findings
-    → AreFindings keys ts found
-nothing_found keys events ts found of none are =
-    subst (λ (f : Findings). AreFindings keys ts f) (sym none) (subst (λ (us : List Transaction). AreFindings keys us no_findings) (sym of) are)
+module _ (ts others : List Transaction) (same : ts ≡ others) where
+  pub nothing_found :
+      (keys : KeyOrder) (found : Findings)
+      → found ≡ no_findings
+      → AreFindings keys others no_findings
+      → AreFindings keys ts found
+  nothing_found keys found none are =
+      subst (λ (f : Findings). AreFindings keys ts f) (sym none) (subst (λ (us : List Transaction). AreFindings keys us no_findings) (sym same) are)
 
-pub no_bad_read :
-    (events : List Operation) (ts : List Transaction) (reads : BadReads)
-    → ts ≡ transactions_of events
-    → HasNoBadRead (transactions_of events)
-    → stray (transactions_of events) ≡ reads.stray
-    → reads.g1a ≡ None
-    → reads.g1b ≡ None
-    → AreBadReadsOf ts reads
-no_bad_read events ts reads of none strays aborted intermediate = record {
-  g1a = aborted ∙ sym (ap g1a of ∙ none.aborted);
-  g1b = intermediate ∙ sym (ap g1b of ∙ none.intermediate);
-  stray = sym (ap stray of ∙ strays);
-}
+  pub no_bad_read :
+      (reads : BadReads)
+      → HasNoBadRead others
+      → stray others ≡ reads.stray
+      → reads.g1a ≡ None
+      → reads.g1b ≡ None
+      → AreBadReadsOf ts reads
+  no_bad_read reads none strays aborted intermediate = record {
+    g1a = aborted ∙ sym (ap g1a same ∙ none.aborted);
+    g1b = intermediate ∙ sym (ap g1b same ∙ none.intermediate);
+    stray = sym (ap stray same ∙ strays);
+  }

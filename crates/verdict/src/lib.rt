@@ -3,9 +3,11 @@
 //! Of the public calls, only those whose names end in `_wide` may start threads.
 #![tactic(auto)]
 
-ghost use Rattle.std.specs.Prelude.{◌≡◌, List, IfOk, IfErr, OnOk, OnErr};
+ghost use Rattle.std.specs.Prelude.{◌≡◌, List, IfOk, IfErr, IfSome, OnOk, OnErr};
+ghost use Rattle.dep_edges.specs.Histories.{AreOfHistory};
 ghost use Rattle.hist_types.specs.Operations.{Operation};
 ghost use Rattle.hist_types.specs.Refusals.{memory_fault};
+ghost use Rattle.key_versions.specs.Kept.{AreKept};
 ghost use Rattle.verdict.specs.Tables.{AreBadReadsOf, AreTables, AreTablesOf, IsVerdictFor, keys_in};
 ghost use Rattle.hist_types.specs.Pieces.{HasTaken, HasTakenInPart};
 ghost use Rattle.hist_types.specs.Reports.{AreFindings, IsVerdictOf};
@@ -30,8 +32,10 @@ use hist_types::device::{Failed, Sink};
 use hist_types::types::{Fault, KeyOrder};
 use hist_types::whole::write_all;
 use journal_core::prefix::Prefix;
+use key_versions::kept::KeptVersions;
 use key_versions::versions;
 use report_text::report::{Findings, VerdictReport};
+use serial_points::replay::replays;
 use std::alloc::{AllocError, Global};
 use std::hash::BuildHasher;
 use txn_pairs::pair;
@@ -87,6 +91,29 @@ fn verdict_from<'a>(alloc: Global, tables: &Tables<'_, 'a>) -> Result<Verdict<'a
         findings,
         bad_reads(&deps),
     )
+}
+
+/// The verdict of this many events, if a replay of their transactions shows that there is nothing to find. None says nothing. It
+/// borrows the journal's blocks.
+///
+/// Only memory can run out.
+pub fn verdict_by_replay<'a, S: BuildHasher + Copy>(
+    alloc: Global,
+    events: u64,
+    txns: &Txns<'a>,
+    versions: &KeptVersions<'a, S>,
+) -> Result<Option<Verdict<'a>>, Fault>
+    requires history { AreOfHistory txns.now }
+    requires versions { AreKept txns.now versions.now }
+    ensures ok { IfOk result
+        (λ verdict. IfSome verdict (IsVerdictFor versions.now.keys events txns.now)) }
+    ensures err { IfErr result (λ fault. fault ≡ memory_fault) }
+{
+    if !replays(alloc, txns.as_slice(), versions)? {
+        return Ok(None);
+    }
+    let reads = BadReads::none(0);
+    Ok(Some(reported(alloc, events, txns, Findings::none(), reads)?))
 }
 
 /// The verdict of the events. It borrows the journal's blocks, and not the prefix. It doesn't depend on the hasher.

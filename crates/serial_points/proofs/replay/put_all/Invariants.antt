@@ -1,0 +1,6 @@
+-- It goes on as a replay.
+use Rattle.serial_points.specs.Replaying.{IsReplaying}
+use Rattle.serial_points.proofs.replay.put_all.Given as goal
+
+abbrev pub invariant-loop-index : goal.invariant-loop-index
+invariant-loop-index g l = IsReplaying l.txns l.versions.accesses l.initial.replay → IsReplaying l.txns l.versions.accesses l.replay

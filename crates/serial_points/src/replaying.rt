@@ -1,0 +1,268 @@
+//! Transactions that are put one after the other.
+
+ghost use Rattle.std.specs.Prelude.{◌≡◌, ◌⊎◌, ◌<◌, ℕ, List, length, true, All, IfOk, IfSome, IsTrue};
+ghost use Rattle.hist_types.specs.Transactions.{Transaction};
+ghost use Rattle.key_versions.specs.Kept.{AreKept};
+ghost use Rattle.key_versions.specs.TxnAccesses.{TxnAccesses};
+ghost use Rattle.serial_points.specs.Points.{IsNotBefore, IsNotAfter};
+ghost use Rattle.serial_points.specs.Replayed.{IsPut, IsReplayed};
+ghost use Rattle.serial_points.specs.Replaying.{is_marked, AreStillMarked, AreUnmarked, IsReadable, AreKeysMarked, AreUpdatedMarked, MarkInstalled, IsReplaying};
+ghost use Rattle.serial_points.specs.Users.{updates};
+
+use crate::clean::is_failed;
+use crate::falls::{POINTS, is_not_after, is_not_before};
+use crate::users::{has_key, updates};
+use key_versions::kept::{Access, KeptVersions};
+use std::alloc::{AllocError, Global};
+use std::hash::BuildHasher;
+use std::marker::Model;
+use txn_pairs::types::{Status, Txn};
+
+/// Versions that are marked, by number.
+#[derive(Drop)]
+pub(crate) struct Marks {
+    marks: Vec<bool>,
+}
+
+impl Model for Marks {
+    ghost use Rattle.std.specs.Prelude.{Bool, List};
+
+    ghost Value = { List Bool };
+
+    ghost view = { λ m. m.marks.items };
+}
+
+impl Marks {
+    /// None of n versions is marked.
+    fn new(alloc: Global, versions: usize) -> Result<Self, AllocError>
+        ensures { IfOk result AreUnmarked }
+    {
+        Ok(Marks {
+            marks: vec![in alloc; false; versions]?,
+        })
+    }
+
+    pub fn has(&self, version: u32) -> bool
+        ensures { result ≡ is_marked self.now version }
+    {
+        match self.marks.get(version as usize) {
+            Some(mark) => *mark,
+            None => false,
+        }
+    }
+
+    /// Marks the version, if there is such a one.
+    fn set(&mut self, version: u32) -> bool
+        ensures set { result ≡ true → IsTrue (is_marked self.new version) }
+        ensures stay { AreStillMarked self.old self.new }
+        ensures only { (n : ℕ) → IsTrue (is_marked self.new n)
+            → IsTrue (is_marked self.old n) ⊎ (n ≡ version) }
+    {
+        let index = version as usize;
+        if index >= self.marks.len() {
+            return false;
+        }
+        self.marks[index] = true;
+        true
+    }
+}
+
+/// Whether the read is of nil or of a version that was written, which nobody follows.
+fn is_readable(written: &Marks, followed: &Marks, read: Access) -> bool
+    ensures { result ≡ true → IsReadable written.now followed.now read }
+{
+    if followed.has(read.version) {
+        return false;
+    }
+    read.version == read.nil || written.has(read.version)
+}
+
+/// Whether each one is.
+fn are_readable(written: &Marks, followed: &Marks, reads: &[Access]) -> bool
+    ensures { result ≡ true → All (IsReadable written.now followed.now) reads.now }
+{
+    for read in reads {
+        if !is_readable(written, followed, *read) {
+            return false;
+        }
+    }
+    true
+}
+
+/// Marks nil of each key that is written.
+fn mark_keys(followed: &mut Marks, writes: &[Access]) -> bool
+    ensures marked { result ≡ true → AreKeysMarked followed.new writes.now }
+    ensures stay { AreStillMarked followed.old followed.new }
+{
+    for write in writes {
+        if !followed.set(write.nil) {
+            return false;
+        }
+    }
+    true
+}
+
+/// Marks the version, if the writes update it.
+fn mark_if_updated(followed: &mut Marks, read: Access, writes: &[Access]) -> bool
+    ensures marked { result ≡ true → IsTrue (updates writes.now read)
+        → IsTrue (is_marked followed.new read.version) }
+    ensures stay { AreStillMarked followed.old followed.new }
+{
+    if !updates(writes, read) {
+        return true;
+    }
+    followed.set(read.version)
+}
+
+/// Marks each version that is read and updated.
+fn mark_updated(followed: &mut Marks, reads: &[Access], writes: &[Access]) -> bool
+    ensures marked { result ≡ true → AreUpdatedMarked followed.new reads.now writes.now }
+    ensures stay { AreStillMarked followed.old followed.new }
+{
+    for read in reads {
+        if !mark_if_updated(followed, *read, writes) {
+            return false;
+        }
+    }
+    true
+}
+
+/// Marks the version of the write at the index, if it is the last one of its key.
+fn mark_if_last(written: &mut Marks, writes: &[Access], i: usize) -> bool
+    requires { i < length writes.now }
+    ensures { MarkInstalled written.old written.new writes.now }
+{
+    if has_key(&writes[i + 1..], writes[i].nil) {
+        return true;
+    }
+    written.set(writes[i].version)
+}
+
+/// Marks the last version that is written of each key.
+fn mark_installed(written: &mut Marks, writes: &[Access]) -> bool
+    ensures { MarkInstalled written.old written.new writes.now }
+{
+    for i in 0..writes.len() {
+        if !mark_if_last(written, writes, i) {
+            return false;
+        }
+    }
+    true
+}
+
+/// Whether the point is not before the transaction's invocation and, if it is ok, not after its completion.
+fn is_in_time(point: u64, txn: &Txn<'_>) -> bool
+    ensures begun { result ≡ true → IsNotBefore point txn.now }
+    ensures ended { result ≡ true → IsNotAfter point txn.now }
+{
+    is_not_before(point, txn) && (txn.status() != Status::Ok || is_not_after(point, txn))
+}
+
+/// A replay of a history: the transactions that were put so far, each with a point above those of all that were put before.
+#[derive(Drop)]
+pub(crate) struct Replay {
+    /// By place. It is 0 for one that isn't put.
+    points: Vec<u64>,
+    /// The versions that those that are put install.
+    written: Marks,
+    /// The versions that those that are put follow: nil of each key that they write, and what they read and update.
+    followed: Marks,
+    /// Above all points.
+    next: u64,
+}
+
+impl Replay {
+    /// None of n transactions is put.
+    pub fn new(alloc: Global, txns: usize, versions: usize) -> Result<Self, AllocError>
+        ensures { (ts : List Transaction) (accesses : List TxnAccesses)
+            → IfOk result (IsReplaying ts accesses) }
+    {
+        Ok(Replay {
+            points: vec![in alloc; 0; txns]?,
+            written: Marks::new(alloc, versions)?,
+            followed: Marks::new(alloc, versions)?,
+            next: 1,
+        })
+    }
+
+    /// Whether the transaction at the place is put.
+    pub fn is_put(&self, place: usize) -> bool
+        ensures { result ≡ true → IsPut self.now.points.items place }
+    {
+        match self.points.get(place) {
+            Some(point) => *point > 0,
+            None => false,
+        }
+    }
+
+    /// Whether a transaction that is put installs the version.
+    pub fn is_written(&self, version: u32) -> bool {
+        self.written.has(version)
+    }
+
+    /// Puts no more transactions before the event with the index.
+    pub fn reach(&mut self, index: usize)
+        ensures { (ts : List Transaction) (accesses : List TxnAccesses)
+            → IsReplaying ts accesses self.old → IsReplaying ts accesses self.new }
+    {
+        self.next = self.next.max((index as u64).saturating_mul(POINTS));
+    }
+
+    /// Marks what a transaction that is now put installs and follows.
+    fn mark(&mut self, reads: &[Access], writes: &[Access]) -> bool
+        ensures points { self.new.points ≡ self.old.points }
+        ensures next { self.new.next ≡ self.old.next }
+        ensures keys { result ≡ true → AreKeysMarked self.new.followed writes.now }
+        ensures updated { result ≡ true → AreUpdatedMarked self.new.followed reads.now writes.now }
+        ensures stay { AreStillMarked self.old.followed self.new.followed }
+        ensures written { MarkInstalled self.old.written self.new.written writes.now }
+    {
+        mark_keys(&mut self.followed, writes)
+            && mark_updated(&mut self.followed, reads, writes)
+            && mark_installed(&mut self.written, writes)
+    }
+
+    /// Puts the transaction at the place after all that are put. False if it can't be put now, or is put already: then this is no
+    /// replay any more.
+    pub fn put<'a, S: BuildHasher + Copy>(
+        &mut self,
+        txns: &[Txn<'a>],
+        versions: &KeptVersions<'a, S>,
+        place: usize,
+    ) -> bool
+        requires { AreKept txns.now versions.now }
+        ensures { result ≡ true → IsReplaying txns.now versions.now.accesses self.old
+            → IsReplaying txns.now versions.now.accesses self.new }
+    {
+        if place >= txns.len() || place >= self.points.len() {
+            return false;
+        }
+        let txn = &txns[place];
+        if is_failed(txn) || !is_in_time(self.next, txn) {
+            return false;
+        }
+        let reads = versions.reads(place);
+        if self.points[place] > 0 || !are_readable(&self.written, &self.followed, reads) {
+            return false;
+        }
+        let Some(next) = self.next.checked_add(1) else {
+            return false;
+        };
+        self.points[place] = self.next;
+        self.next = next;
+        self.mark(reads, versions.writes(place))
+    }
+
+    /// The points, by place, if each ok transaction is put.
+    pub fn finish(self, txns: &[Txn<'_>]) -> Option<Vec<u64>>
+        ensures { (accesses : List TxnAccesses) → IsReplaying txns.now accesses self
+            → IfSome result (λ points. IsReplayed txns.now accesses points.items) }
+    {
+        for (place, txn) in txns.iter().enumerate() {
+            if txn.status() == Status::Ok && !self.is_put(place) {
+                return None;
+            }
+        }
+        Some(self.points)
+    }
+}
