@@ -1,9 +1,8 @@
 //! What is told of histories without a graph.
 
 ghost use Rattle.std.specs.Prelude.{◌≡◌};
-ghost use Rattle.hist_types.specs.Journal.{KeepsRules, written};
+ghost use Rattle.hist_types.specs.Journal.{KeepsRules};
 ghost use Rattle.hist_types.specs.Transactions.{transactions_of};
-ghost use Rattle.journal_core.specs.Writes.{AreSameWrites};
 
 use block_reader::one_block::block_of_text;
 use clean_order::attempt::Attempt;
@@ -16,14 +15,10 @@ use cycle_find::single::{
 };
 use dep_edges::edges;
 use hist_types::types::{Fault, KeyOrder};
-use history_laws::versions_written_once;
-use journal_core::events::Events;
 use journal_core::journal::Core;
 use journal_core::prefix::Prefix;
-use journal_core::written::Written;
-use key_versions::{kept_of_written, versions};
+use key_versions::versions;
 use op_block::stamp::Stamp;
-use serial_points::replay::replays;
 use std::alloc::Global;
 use std::hash::{BuildHasherDefault, FoldHasher};
 use std::test::Fail;
@@ -114,7 +109,6 @@ const DIRTY: &[u8] = b"{:type :invoke, :process 0, :value [[:r :y nil] [:w :y 1]
 /// What is told of a history without a graph.
 #[derive(Clone, Copy, Debug, PartialEq, Eq)]
 struct Told {
-    replays: bool,
     settles: bool,
     settles_writes: bool,
     settles_dirty_writes: bool,
@@ -130,7 +124,6 @@ struct Told {
 
 /// Of a history with cycles of each kind that no look finds.
 const NOTHING: Told = Told {
-    replays: false,
     settles: false,
     settles_writes: false,
     settles_dirty_writes: false,
@@ -144,33 +137,9 @@ const NOTHING: Told = Told {
     has_write_skew: false,
 };
 
-/// Whether transactions of events that keep the rules can be replayed.
-fn are_replayed<'a>(
-    alloc: Global,
-    events: &Events<'a>,
-    txns: &Txns<'a>,
-    noted: Written<'a>,
-) -> Result<bool, Fault>
-    requires rules { KeepsRules events.now }
-    requires txns { txns.now ≡ transactions_of events.now }
-    requires written { AreSameWrites noted.items (written events.now) }
-{
-    // A law, called for its clause: the transactions write what the events do.
-    versions_written_once();
-    let kept = kept_of_written(alloc, txns, noted, KeyOrder::Basic)?;
-    let replayed = replays(alloc, txns.as_slice(), &kept)?;
-    Ok(replayed)
-}
-
 /// What is told of transactions of events that keep the rules.
-fn told_of<'a>(
-    alloc: Global,
-    prefix: &Prefix<'a>,
-    txns: &Txns<'a>,
-    noted: Written<'a>,
-) -> Result<Told, Fault>
-    requires txns { txns.now ≡ transactions_of prefix.now }
-    requires written { AreSameWrites noted.items (written prefix.now) }
+fn told_of<'a>(alloc: Global, prefix: &Prefix<'a>, txns: &Txns<'a>) -> Result<Told, Fault>
+    requires { txns.now ≡ transactions_of prefix.now }
 {
     // Called for its clause that the events keep the rules, which the proof cites.
     let _rules = prefix.events();
@@ -183,7 +152,6 @@ fn told_of<'a>(
     let deps = edges(alloc, txns, &versions)?;
     let mut attempt = Attempt::new(alloc, &deps)?;
     Ok(Told {
-        replays: are_replayed(alloc, prefix.as_events(), txns, noted)?,
         settles: settles(alloc, &deps, &mut attempt)?,
         settles_writes: settles_writes(alloc, &deps, &attempt)?,
         settles_dirty_writes: settles_dirty_writes(alloc, &deps, &attempt)?,
@@ -202,7 +170,6 @@ fn told_of<'a>(
 fn histories_are_told_without_a_graph(rt: HostRuntime) -> Result<(), Fail> {
     let alloc = rt.alloc();
     let clean = Told {
-        replays: true,
         settles: true,
         settles_writes: true,
         settles_dirty_writes: true,
@@ -220,7 +187,6 @@ fn histories_are_told_without_a_graph(rt: HostRuntime) -> Result<(), Fail> {
         ..NOTHING
     };
     let late_reader = Told {
-        replays: false,
         settles: false,
         ..clean
     };
@@ -273,7 +239,7 @@ fn histories_are_told_without_a_graph(rt: HostRuntime) -> Result<(), Fail> {
         core.take(&block);
         let prefix = core.prefix()?;
         let txns = pair(alloc, prefix.as_events())?;
-        let told = told_of(alloc, &prefix, &txns, core.into_written())?;
+        let told = told_of(alloc, &prefix, &txns)?;
         assert_eq!(rt; told, expected);
     }
     Ok(())
