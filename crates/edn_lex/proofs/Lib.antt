@@ -7,4 +7,6 @@ pub mod Steps
 pub mod Passing
 pub mod RunKinds
 pub mod Digits
+pub mod Masks
 pub mod LookAhead
+pub mod Phrases

@@ -1,7 +1,8 @@
 //! Tokens by looking ahead, as printers write them: after blanks alone.
 
-ghost use Rattle.std.specs.Prelude.{◌≡◌, ◌≤◌, ◌<◌, ◌+◌, ℕ, length, take, drop, get_or, true, false, IfSome};
+ghost use Rattle.std.specs.Prelude.{◌≡◌, ◌≤◌, ◌<◌, ◌+◌, ◌-◌, ℕ, length, take, drop, get_or, true, false, IfSome};
 ghost use Rattle.std.specs.Char.{is_ascii_digit};
+ghost use Rattle.std.specs.Int.{w32, w64, to_le_bytes};
 ghost use Rattle.std.specs.List.{list_all};
 ghost use Rattle.hist_types.specs.Bytes.{open_square, close_square, open_brace, close_brace, is_run_byte};
 ghost use Rattle.edn_lex.specs.declared.ahead.TheConstants.{NUMBER_LOOK};
@@ -12,7 +13,8 @@ ghost use Rattle.edn_lex.specs.declared.types.TokenKind.TheVariants.{Int, Keywor
 use crate::pieces::first_piece;
 use crate::runs::has_no_leading_zero;
 use crate::scan::{
-    DIGIT_LANES, digits_alone, digits_of_16, ends_run, is_blank, plain_of_16, utf8_end,
+    DIGIT_LANES, digit_ends_of_16, digits_alone, digits_of_16, ends_run, is_blank, plain_of_16,
+    utf8_end,
 };
 use crate::types::{Token, TokenKind};
 
@@ -172,6 +174,57 @@ pub fn behind_space(text: &[u8], offset: usize) -> usize
     }
 }
 
+/// Four bytes as one number, the first as its lowest byte.
+#[inline(always)]
+pub fn four_at(text: &[u8], start: usize) -> u32
+    requires { start + 4 ≤ length text.now }
+    ensures { to_le_bytes w32 result ≡ take 4 (drop start text.now) }
+{
+    u32::from_le_bytes([
+        text[start],
+        text[start + 1],
+        text[start + 2],
+        text[start + 3],
+    ])
+}
+
+/// Eight bytes as one number, the first as its lowest byte.
+#[inline(always)]
+fn eight_at(text: &[u8], start: usize) -> u64
+    requires { start + 8 ≤ length text.now }
+    ensures { to_le_bytes w64 result ≡ take 8 (drop start text.now) }
+{
+    u64::from_le_bytes([
+        text[start],
+        text[start + 1],
+        text[start + 2],
+        text[start + 3],
+        text[start + 4],
+        text[start + 5],
+        text[start + 6],
+        text[start + 7],
+    ])
+}
+
+/// Whether the text has these bytes here. This is inlined, so that bytes that are known cost one compare for eight of them.
+#[inline(always)]
+pub fn has_here(text: &[u8], start: usize, bytes: &[u8]) -> bool
+    requires { start + length bytes.now ≤ length text.now }
+    ensures { result ≡ true → bytes.now ≡ take (length bytes.now) (drop start text.now) }
+{
+    let mut same = true;
+    let mut i = 0;
+    while bytes.len() - i >= 8 {
+        same &= eight_at(text, start + i) == eight_at(bytes, i);
+        i += 8;
+    }
+    while i < bytes.len() {
+        same &= text[start + i] == bytes[i];
+        i += 1;
+    }
+    same
+}
+
 /// The token that begins here, if it is this word with this byte after it.
 #[inline(always)]
 pub fn word_before(
@@ -191,10 +244,38 @@ pub fn word_before(
     ensures after { IfSome result (λ token. get_or text.now token.end 0 ≡ after) }
 {
     let end = start + word.len();
-    if !begins_with(&text[start..], word) || text[end] != after {
+    if has_here(text, start, word) & (text[end] == after) {
+        Some(Token { kind, start, end })
+    } else {
+        None
+    }
+}
+
+/// The token of so many bytes that begins here with this one, all of them decimal digits, if it is an integer with the byte `after`
+/// after it.
+#[inline(always)]
+pub fn digits_from(text: &[u8], start: usize, first: u8, len: usize, after: u8) -> Option<Token>
+    requires room { start + len < length text.now }
+    requires first { get_or text.now start 0 ≡ first }
+    requires digits { list_all is_ascii_digit (take len (drop start text.now)) ≡ true }
+    requires after { is_run_byte after ≡ false }
+    ensures lone { IfSome result (IsLoneAt text.now start) }
+    ensures kind { IfSome result (λ token. token.kind ≡ Int) }
+    ensures start { IfSome result (λ token. token.start ≡ start) }
+    ensures end { IfSome result (λ token. token.end ≡ start + len) }
+    ensures after { IfSome result (λ token. get_or text.now token.end 0 ≡ after) }
+{
+    if len == 0 || text[start + len] != after {
         return None;
     }
-    Some(Token { kind, start, end })
+    if first == b'0' && len != 1 {
+        return None;
+    }
+    Some(Token {
+        kind: TokenKind::Int,
+        start,
+        end: start + len,
+    })
 }
 
 /// The token of so many bytes that begins here, all of them decimal digits, if it is an integer with this byte after it.
@@ -209,18 +290,22 @@ pub fn digits_before(text: &[u8], start: usize, len: usize, after: u8) -> Option
     ensures end { IfSome result (λ token. token.end ≡ start + len) }
     ensures after { IfSome result (λ token. get_or text.now token.end 0 ≡ after) }
 {
-    let rest = &text[start..];
-    if len == 0 || text[start + len] != after {
-        return None;
-    }
-    if !has_no_leading_zero(&rest[..len]) {
-        return None;
-    }
-    Some(Token {
-        kind: TokenKind::Int,
-        start,
-        end: start + len,
-    })
+    digits_from(text, start, text[start], len, after)
+}
+
+/// How many of the next 16 bytes come before the first that is no decimal digit, and how many before the second such byte, if two
+/// of them are none.
+#[inline(always)]
+pub fn digit_ends(text: &[u8], start: usize) -> Option<(usize, usize)>
+    requires { start + NUMBER_LOOK ≤ length text.now }
+    ensures first { IfSome result (λ ends.
+        list_all is_ascii_digit (take ends.0 (drop start text.now)) ≡ true) }
+    ensures second { IfSome result (λ ends.
+        list_all is_ascii_digit (take (ends.1 - ends.0 - 1) (drop (start + ends.0 + 1) text.now)) ≡ true) }
+    ensures order { IfSome result (λ ends. ends.0 < ends.1) }
+    ensures few { IfSome result (λ ends. ends.1 < NUMBER_LOOK) }
+{
+    digit_ends_of_16(text, start)
 }
 
 /// The token that begins here, if it is an integer of fewer than 16 digits alone with this byte after it.
@@ -400,24 +485,6 @@ pub fn vector_opener(text: &[u8], offset: usize) -> Option<Token>
     } else {
         None
     }
-}
-
-/// The token that begins here, if it opens a vector.
-#[inline(always)]
-pub fn vector_opener_at(text: &[u8], start: usize) -> Option<Token>
-    requires { start < length text.now }
-    ensures gives { IfSome result (λ token. (offset : ℕ) → IsGap text.now offset start
-        → GivesOpener text.now offset open_square close_square token) }
-    ensures end { IfSome result (λ token. token.end ≡ start + 1) }
-{
-    if text[start] != b'[' {
-        return None;
-    }
-    Some(Token {
-        kind: TokenKind::Open,
-        start,
-        end: start + 1,
-    })
 }
 
 /// The token that begins here, if it closes a vector.

@@ -1,6 +1,6 @@
 //! Where items end. The scans of what is seldom found are not inlined, so that those of the frequent items stay short.
 
-ghost use Rattle.std.specs.Prelude.{◌≡◌, ◌<◌, ◌≤◌, ◌==◌, ◌+◌, ℕ, Bool, List, length, take, drop, map, true, false, IsTrue, not, IfSome};
+ghost use Rattle.std.specs.Prelude.{◌≡◌, ◌<◌, ◌≤◌, ◌==◌, ◌+◌, ◌-◌, ℕ, Bool, List, length, take, drop, map, true, false, IsTrue, not, IfSome};
 ghost use Rattle.std.specs.Char.{is_ascii_digit};
 ghost use Rattle.std.specs.List.{prefix_len, list_all};
 ghost use Rattle.std.specs.Simd.Lanes.{mask_l};
@@ -141,6 +141,30 @@ pub(crate) fn digits_of_16(text: &[u8], at: usize) -> usize
     ensures few { result ≤ DIGIT_LANES }
 {
     bytes_before(other_than_digits(u8x16::from_slice(&text[at..])))
+}
+
+/// How many of the next 16 bytes come before the first that is no decimal digit, and how many before the second such byte, if two
+/// of them are none.
+#[inline(always)]
+pub(crate) fn digit_ends_of_16(text: &[u8], at: usize) -> Option<(usize, usize)>
+    requires { at + DIGIT_LANES ≤ length text.now }
+    ensures first { IfSome result (λ ends.
+        list_all is_ascii_digit (take ends.0 (drop at text.now)) ≡ true) }
+    ensures second { IfSome result (λ ends.
+        list_all is_ascii_digit (take (ends.1 - ends.0 - 1) (drop (at + ends.0 + 1) text.now)) ≡ true) }
+    ensures order { IfSome result (λ ends. ends.0 < ends.1) }
+    ensures few { IfSome result (λ ends. ends.1 < DIGIT_LANES) }
+{
+    let bits = other_than_digits(u8x16::from_slice(&text[at..]));
+    // Without its lowest bit.
+    let rest = bits & bits.wrapping_sub(1);
+    if rest == 0 {
+        return None;
+    }
+    Some((
+        bits.trailing_zeros() as usize,
+        rest.trailing_zeros() as usize,
+    ))
 }
 
 /// A bit for each byte that is no plain one, the lowest for the first.

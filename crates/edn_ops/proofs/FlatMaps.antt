@@ -1,7 +1,8 @@
 -- Maps that are read in one pass over their bytes.
 use Rattle.std.proofs.Common.{◌≡◌, ℕ, ℤ, ◌+◌, ◌-◌, ◌<◌, ◌≤◌, ◌⊎◌, List, [], ◌∷◌, ◌++◌, length, Bool, true, false, codes, Option, Some, None, Result, Ok, Err, inl, inr, refl, sym, ◌∙◌, ap, arith, subst, append-nil, nat_lt, lit≤, lit<, drop, take, get_or, length-take}
 use Rattle.std.specs.List.{slice_get}
-use Rattle.std.specs.Prelude.{IfSome, slice_range}
+use Rattle.std.specs.Prelude.{IfSome, Vec, slice_range}
+use Rattle.std.specs.Global.{Global}
 use Rattle.std.specs.Option.{is_some, unwrap_or}
 use Rattle.std.proofs.lemmas.Bool.{true≢false, false_from_ne_true, cases_lt}
 use Rattle.hist_types.specs.AtomTokens.{int_value, int_of_token, process_of}
@@ -22,6 +23,7 @@ use Rattle.edn_lex.specs.declared.types.Token.{Token}
 use Rattle.edn_lex.specs.declared.types.TokenKind.{TokenKind}
 use Rattle.edn_lex.specs.declared.types.TokenKind.TheVariants as kinds
 use Rattle.edn_ops.specs.declared.atoms.TheConstants.{LONG_INTEGER}
+use Rattle.edn_ops.specs.declared.flat.FlatEntry.{FlatEntry}
 use Rattle.edn_ops.specs.declared.flat.FlatFields.{FlatFields}
 use Rattle.edn_ops.specs.declared.flat.Owner.{Owner}
 use Rattle.edn_ops.specs.declared.flat.Owner.TheVariants as owners
@@ -34,7 +36,7 @@ use Rattle.edn_ops.specs.declared.types.Span.{Span}
 use Rattle.edn_ops.specs.declared.types.OpShape.{OpShape}
 use Rattle.edn_ops.specs.Collections.{ReadsMap}
 use Rattle.edn_ops.specs.Fields.{fields_named, members_of, mops_result, result_outline, IsEntry}
-use Rattle.edn_ops.specs.Flat.{ReadsAhead, ReadsUpTo, ReadsInside, ReadsFields, PassesFields, PassesFieldAt, IsOther, ReadsFlatFront, ReadsFirstFields, PassesAhead, IsMopValue, GivesMop, ReadsFlatMop, ReadsFlatTransaction, ReadsFlatValue, ReadsPlainField, ReadsFlatField, HasReached, CanGoOn, place_reached, HasKind, NamesOwner, HasOwner, HasMops, may_have_mops, AreFlat, AddsFlat, ReadsFlatMap, AreFlatMops, IsComplete, IsFlatEntry}
+use Rattle.edn_ops.specs.Flat.{ReadsAhead, ReadsUpTo, ReadsInside, ReadsFields, PassesFields, PassesFieldAt, IsOther, ReadsFlatFront, ReadsFirstFields, PassesAhead, IsMopValue, GivesMop, ReadsFlatMop, ReadsFlatTransaction, ReadsFlatValue, ReadsPlainField, ReadsFlatField, HasReached, place_reached, HasKind, NamesOwner, HasOwner, HasMops, may_have_mops, AreFlat, AddsFlat, ReadsFlatMap, AreFlatMops, IsComplete, IsFlatEntry, IsShortOperation, GivesFlatEntry}
 use Rattle.edn_ops.specs.Leads.{is_mark_kind}
 use Rattle.edn_ops.specs.Outlines.{outline, outline_of, number_of, IsTokenIn}
 use Rattle.edn_ops.proofs.Closing.{IsAt, by_process, entry_from, entry_is, entry_skipped, has_value, is_operation, value_mops, bind_ok}
@@ -266,9 +268,6 @@ process_no_type f h = false_from_ne_true (is_named (codes ":type") f) (λ k. tru
 
 -- ---- fields that say nothing
 
-pub none_passed : (text : List ℕ) (at : ℕ) → PassesFields text at at
-none_passed text at start pairs fields shapes read = (pairs, read)
-
 pub both_passed : (text : List ℕ) (from middle to : ℕ) → PassesFields text from middle → PassesFields text middle to → PassesFields text from to
 both_passed text from middle to first second start pairs fields shapes read =
     let one = first start pairs fields shapes read in
@@ -298,7 +297,7 @@ pub front_read :
     GivesLone text kind_token.end owner_key → is_named (codes ":process") (plain (item_of text owner_key)) ≡ true →
     GivesLone text owner_key.end owner_token → owner_token.end ≤ length text → NamesOwner (plain (item_of text owner_token)) owner → PassesFields text owner_token.end at →
     GivesLone text at value_key → is_named (codes ":value") (plain (item_of text value_key)) ≡ true → GivesOpener text value_key.end open_square close_square opener →
-    ReadsFlatFront text offset old (Some opener) (record old { kind = Some kind; owner = Some owner; has_value = true })
+    ReadsFlatFront text offset old opener (record old { kind = Some kind; owner = Some owner; has_value = true })
 front_read text offset at kind_key kind_token owner_key owner_token value_key opener old kind owner no_kind no_owner no_mops kind_key_lone kind_named kind_lone kind_fits kind_is may owner_key_lone owner_named owner_lone owner_fits owner_is passed value_key_lone value_named opens = (
   value_key.end,
   opens,
@@ -323,62 +322,54 @@ front_read text offset at kind_key kind_token owner_key owner_token value_key op
 )
 
 -- the fields that a map begins with
-pub front_missed :
-    (text : List ℕ) (offset at : ℕ) (old new : FlatFields) (shapes : List MopShape) → offset ≤ length text → AreFlat old shapes [] → PassesFields text offset at → new ≡ old → HasReached text offset new shapes (reaches.End at)
-front_missed text offset at old new shapes within flat passed same =
-    let front = passed offset [] old shapes (no_fields text offset old shapes within flat) in
-    (front.0, subst (λ (f : FlatFields). ReadsFields text offset front.0 f shapes at) (sym same) front.1)
-
 pub front_begins :
-    (text : List ℕ) (offset at next : ℕ) (old new : FlatFields) (shapes : List MopShape) (opener : Token) → offset ≤ length text → AreFlat old shapes [] → PassesFields text offset at → IsGap text at next →
-    ReadsFlatFront text next old (Some opener) new → HasReached text offset new shapes (reaches.Opener opener)
-front_begins text offset at next old new shapes opener within flat passed gap front =
-    let before = passed offset [] old shapes (no_fields text offset old shapes within flat) in
-    (front.0, front.1, λ more end read. front.2 offset at before.0 shapes more end gap before.1 read)
+    (text : List ℕ) (offset at next : ℕ) (old new : FlatFields) (opener : Token) → offset ≤ length text → AreFlat old [] [] → PassesFields text offset at → IsGap text at next →
+    ReadsFlatFront text next old opener new → HasReached text offset new [] (reaches.Opener opener)
+front_begins text offset at next old new opener within flat passed gap front =
+    let before = passed offset [] old [] (no_fields text offset old [] within flat) in
+    (refl, front.0, front.1, λ more end read. front.2 offset at before.0 [] more end gap before.1 read)
 
 -- and a transaction after its opener
 pub transaction_reached :
     (text : List ℕ) (offset : ℕ) (fields : FlatFields) (shapes more : List MopShape) (opener : Token) (result : Result (Option ℕ) Fault) → HasReached text offset fields shapes (reaches.Opener opener) →
-    ((at : ℕ) → GivesOpener text at open_square close_square opener → ReadsFlatTransaction text at result more) → ReadsFirstFields text offset result fields more
+    (shapes ≡ [] → (at : ℕ) → GivesOpener text at open_square close_square opener → ReadsFlatTransaction text at result more) → ReadsFirstFields text offset result fields more
 transaction_reached text offset fields shapes more opener (Ok None) has reads = tt
-transaction_reached text offset fields shapes more opener (Ok (Some end)) has reads = has.2 more end (reads has.0 has.1)
-transaction_reached text offset fields shapes more opener (Err fault) has reads = reads has.0 has.1
+transaction_reached text offset fields shapes more opener (Ok (Some end)) has reads = has.3 more end (reads has.0 has.1 has.2)
+transaction_reached text offset fields shapes more opener (Err fault) has reads = reads has.0 has.1 has.2
 
-pub can_within : (text : List ℕ) (shapes : List MopShape) (reached : Reached) → CanGoOn text shapes reached → place_reached reached ≤ length text
-can_within text shapes (reaches.End at) can = can
-can_within text shapes (reaches.Opener opener) can = can.0
-
--- one field more
-pub field_reached :
-    (text : List ℕ) (offset at start : ℕ) (pairs : List (Form × Form)) (old new : FlatFields) (shapes : List MopShape) (further : Reached) → ReadsFields text offset pairs old shapes at → IsGap text at start →
-    ReadsFlatField text start old (Some further) new → HasReached text offset new shapes further × CanGoOn text shapes further × (at < place_reached further)
-field_reached text offset at start pairs old new shapes (reaches.End end) front gap r =
+-- a field is read further
+pub field_goes_on :
+    (text : List ℕ) (at start : ℕ) (old new : FlatFields) (further : Reached) → IsGap text at start → ReadsFlatField text start old (Some further) new → (place_reached further ≤ length text) × (at < place_reached further)
+field_goes_on text at start old new (reaches.End end) gap r =
+    let ends = field_further text at r.0 end r.2 (r.1 at gap) r.3 in
+    (ends.1, ends.0)
+field_goes_on text at start old new (reaches.Opener opener) gap r =
     let key = r.0 in
     let lone = r.1 at gap in
-    let further = field_further text at key end r.2 lone r.3 in (
-      (pairs ++ (plain (item_of text key), r.2) ∷ [], one_field text offset pairs old new shapes shapes at key end r.2 front lone r.3 (r.4 shapes)),
-      further.1,
-      further.0,
-    )
-field_reached text offset at start pairs old new shapes (reaches.Opener opener) front gap r =
-    let key = r.0 in
-    let lone = r.1 at gap in
-    let k = plain (item_of text key) in
     let opens = r.2.gives [] (lit< tt) in
     let low = opens.low in
     let some = opens.some in
     let fits = r.3 in
-    let middle = (lone_form text VALUE_LEVELS at key (omega arith) lone).further in (
-      (
-        key.end,
-        r.2,
-        λ more end read. (
-          pairs ++ (k, read.0) ∷ [],
-          one_field text offset pairs old new shapes more at key end read.0 front lone (deeper text 2 VALUE_LEVELS key.end read.0 end (lit≤ tt) read.1) (r.5 shapes more read.0 read.2),
-        ),
+    let middle = (lone_form text VALUE_LEVELS at key (omega arith) lone).further in
+    (fits, omega arith)
+
+-- one field more
+pub field_reached :
+    (text : List ℕ) (offset at start : ℕ) (pairs : List (Form × Form)) (old new : FlatFields) (shapes : List MopShape) (further : Reached) → ReadsFields text offset pairs old shapes at → IsGap text at start →
+    ReadsFlatField text start old (Some further) new → HasReached text offset new shapes further
+field_reached text offset at start pairs old new shapes (reaches.End end) front gap r =
+    let key = r.0 in
+    (pairs ++ (plain (item_of text key), r.2) ∷ [], one_field text offset pairs old new shapes shapes at key end r.2 front (r.1 at gap) r.3 (r.4 shapes))
+field_reached text offset at start pairs old new shapes (reaches.Opener opener) front gap r =
+    let key = r.0 in
+    let k = plain (item_of text key) in (
+      front.flat.empty r.4,
+      key.end,
+      r.2,
+      λ more end read. (
+        pairs ++ (k, read.0) ∷ [],
+        one_field text offset pairs old new shapes more at key end read.0 front (r.1 at gap) (deeper text 2 VALUE_LEVELS key.end read.0 end (lit≤ tt) read.1) (r.5 shapes more read.0 read.2),
       ),
-      (fits, front.flat.empty r.4),
-      omega arith,
     )
 
 -- and its closer
@@ -476,6 +467,15 @@ pub flat_no_client :
     (text : List ℕ) (opener : Token) (fields : FlatFields) (shapes : List MopShape) (end : ℕ) → ReadsFlatMap text opener.end fields shapes end → fields.owner ≡ Some owners.NoClient → IsFlatEntry text opener None end
 flat_no_client text opener fields shapes end read owner_is =
     flat_closed text opener fields shapes None end read (flat_skipped fields shapes read.pairs (item_of text opener) (item_of text read.closer) read.flat owner_is)
+
+-- an operation that isn't too long is what a map gives
+pub operation_given :
+    (text : List ℕ) (opener : Token) (fields : FlatFields) (mops : Vec MopShape Global) (start end : ℕ) (kind : OpKind) (process : ℕ) (found : Option FlatEntry) → IfSome found (IsShortOperation start end kind process) → opener.start ≡ start →
+    ReadsFlatMap text opener.end fields mops.items end → fields.owner ≡ Some (owners.Client process) → IsComplete fields kind → GivesFlatEntry text opener (Ok found) mops
+operation_given text opener fields mops start end kind process None is begins read owner_is complete = tt
+operation_given text opener fields mops start end kind process (Some entry) is begins read owner_is complete =
+    let shape : OpShape = record { span = record { start = start; end = end }; kind = kind; process = process; mops = mops } in
+    subst (λ (e : FlatEntry). GivesFlatEntry text opener (Ok (Some e)) mops) (sym is.0) (flat_operation text opener fields shape (sym begins) read owner_is complete is.1)
 
 -- reading goes on behind it
 pub flat_map_read :

@@ -18,6 +18,8 @@ pub mod Reached
 pub mod Triples
 pub mod FlatForms
 pub mod FlatMaps
+pub mod MopFronts
+pub mod PrintedFields
 pub mod FlatPlaces
 pub mod ReadsBack
 pub mod Tokens

@@ -1,5 +1,5 @@
 -- Maps as printers write them, read in one pass over their bytes.
-use Rattle.std.specs.Prelude.{◌≡◌, ◌⊎◌, ℕ, ℤ, ◌+◌, ◌<◌, ◌≤◌, List, [], ◌∷◌, ◌++◌, length, Bool, true, false, codes, Option, Some, None, IfSome, Result, Ok, Err, Vec}
+use Rattle.std.specs.Prelude.{◌≡◌, ◌⊎◌, ℕ, ℤ, ◌+◌, ◌-◌, ◌*◌, ◌<◌, ◌≤◌, List, [], ◌∷◌, ◌++◌, length, get_or, nat_lt, Bool, true, false, codes, Option, Some, None, IfSome, Result, Ok, Err, Vec}
 use Rattle.std.specs.Global.{Global}
 use Rattle.std.specs.Option.{is_some}
 use Rattle.hist_types.specs.AtomTokens.{process_of}
@@ -8,12 +8,13 @@ use Rattle.hist_types.specs.Entries.{atom_of, entry_of, int_of, is_named, kind_o
 use Rattle.hist_types.specs.Forms.{Form, plain}
 use Rattle.hist_types.specs.Refusals.{memory_fault}
 use Rattle.hist_types.specs.Tokens.{Item}
-use Rattle.hist_types.specs.declared.limits.TheConstants.{MAX_OPEN_COLLECTIONS}
+use Rattle.hist_types.specs.declared.limits.TheConstants.{MAX_OPEN_COLLECTIONS, MAX_OPERATION_BYTES}
 use Rattle.hist_types.specs.declared.types.Fault.{Fault}
 use Rattle.hist_types.specs.declared.types.OpKind.{OpKind}
 use Rattle.hist_types.specs.declared.types.OpKind.TheVariants as kinds
-use Rattle.edn_lex.specs.Ahead.{going_at, IsGap, IsLoneAt, GivesAhead, GivesOpener, GivesCloser, GivesTriple}
+use Rattle.edn_lex.specs.Ahead.{going_at, IsGap, IsLoneAt, GivesAhead, GivesLone, GivesOpener, GivesCloser, GivesTriple}
 use Rattle.edn_lex.specs.Kinds.{item_of}
+use Rattle.edn_lex.specs.declared.ahead.TheConstants.{NUMBER_LOOK}
 use Rattle.edn_lex.specs.declared.ahead.Triple.{Triple}
 use Rattle.edn_lex.specs.declared.types.Token.{Token}
 use Rattle.edn_lex.specs.declared.types.TokenKind.TheVariants as tokens
@@ -21,6 +22,7 @@ use Rattle.edn_ops.specs.declared.flat.FlatEntry.{FlatEntry}
 use Rattle.edn_ops.specs.declared.flat.FlatEntry.TheVariants as entries
 use Rattle.edn_ops.specs.declared.flat.FlatFields.{FlatFields}
 use Rattle.edn_ops.specs.declared.flat.FlatOperation.{FlatOperation}
+use Rattle.edn_ops.specs.declared.flat.Front.{Front}
 use Rattle.edn_ops.specs.declared.flat.Owner.{Owner}
 use Rattle.edn_ops.specs.declared.flat.Owner.TheVariants as owners
 use Rattle.edn_ops.specs.declared.flat.Reached.{Reached}
@@ -58,15 +60,26 @@ abbrev pub PassesAhead : List ℕ → ℕ → ℕ → Option ℕ → Type 0
 PassesAhead text deep offset found =
     IfSome found (λ end. (form : Form) × ReadsAhead text deep offset form end)
 
--- how a micro-operation that writes, or one that reads, begins
-abbrev pub name_bytes : Bool → List ℕ
-name_bytes true = codes ":w"
-name_bytes false = codes ":r"
+-- how a micro-operation that writes, or one that reads, is printed up to its key
+abbrev pub front_bytes : Bool → List ℕ
+front_bytes true = codes "[:w "
+front_bytes false = codes "[:r "
 
 -- a micro-operation that writes, or one that reads, may have this form as its value
 abbrev pub IsMopValue : Bool → Form → Type 0
 IsMopValue true value = is_some (atom_of value) ≡ true
 IsMopValue false value = is_some (value_of value) ≡ true
+
+-- a key begins here, and then come a space, a value and a vector's closer
+pub record IsMopPair (text : List ℕ) (start : ℕ) (is_write : Bool) (pair : Token × Token) : Type 0 where
+  pub key : IsLoneAt text start pair.0
+  pub atom : IsMopValue true (plain (item_of text pair.0))
+  pub space : get_or text pair.0.end 0 ≡ 32
+  pub key_within : pair.0.end < length text
+  pub value : IsLoneAt text (pair.0.end + 1) pair.1
+  pub is_value : IsMopValue is_write (plain (item_of text pair.1))
+  pub closes : get_or text pair.1.end 0 ≡ close_square
+  pub few : pair.1.end < start + 2 * NUMBER_LOOK
 
 -- the outlines of the three forms of a vector
 abbrev pub three_of : Triple → List Outline
@@ -115,6 +128,14 @@ ReadsFlatTransaction text offset (Ok (Some end)) new =
     (form : Form) × ReadsAhead text 2 offset form end
     × (Ok new ≡ mops_result (transaction_of form))
 ReadsFlatTransaction text offset (Err fault) new = fault ≡ memory_fault
+
+-- a call read the rest of a transaction, of which some members have been read
+abbrev pub ReadsFlatMembers :
+    List ℕ → ℕ → List MopShape → Result (Option ℕ) Fault → List MopShape → Type 0
+ReadsFlatMembers text offset old result new =
+    (at : ℕ) (opener : Token) (members : List Form) →
+    GivesOpener text at open_square close_square opener →
+    ReadsInside text opener members old offset → ReadsFlatTransaction text at result new
 
 -- ---- fields
 
@@ -203,15 +224,63 @@ PassesFields text from to =
 abbrev pub PassesFieldAt : List ℕ → ℕ → ℕ → Type 0
 PassesFieldAt text start end = (from : ℕ) → IsGap text from start → PassesFields text from end
 
--- a call read the fields that begin here up to the opener of a transaction, with which these are all
-abbrev pub ReadsFlatFront : List ℕ → ℕ → FlatFields → Option Token → FlatFields → Type 0
-ReadsFlatFront text offset old None new = new ≡ old
-ReadsFlatFront text offset old (Some opener) new =
+-- the fields that begin here are read up to the opener of a transaction, with which these are all
+abbrev pub ReadsFlatFront : List ℕ → ℕ → FlatFields → Token → FlatFields → Type 0
+ReadsFlatFront text offset old opener new =
     (at : ℕ) × GivesOpener text at open_square close_square opener
     × ((start from : ℕ) (pairs : List (Form × Form)) (shapes more : List MopShape) (end : ℕ) →
     IsGap text from offset → ReadsFields text start pairs old shapes from →
     ReadsFlatTransaction text at (Ok (Some end)) more →
     (all : List (Form × Form)) × ReadsFields text start all new more end)
+
+-- `:type` and a kind that may have a transaction are here, up to this end
+pub record IsPrintedKind (text : List ℕ) (start : ℕ) (found : OpKind × ℕ) : Type 0 where
+  pub key : Token
+  pub token : Token
+  pub key_lone : IsLoneAt text start key
+  pub named : is_named (codes ":type") (plain (item_of text key)) ≡ true
+  pub lone : GivesLone text key.end token
+  pub fits : token.end ≤ length text
+  pub kind : NamesKind text (found.0, token)
+  pub mops : may_have_mops (Some found.0) ≡ true
+  pub end : token.end ≡ found.1
+
+-- `:process` and a client's process come next, up to this end
+pub record IsPrintedOwner (text : List ℕ) (offset : ℕ) (found : ℕ × ℕ) : Type 0 where
+  pub key : Token
+  pub token : Token
+  pub key_lone : GivesLone text offset key
+  pub named : is_named (codes ":process") (plain (item_of text key)) ≡ true
+  pub lone : GivesLone text key.end token
+  pub fits : token.end ≤ length text
+  pub owner : NamesOwner (plain (item_of text token)) (owners.Client found.0)
+  pub end : token.end ≡ found.1
+
+-- `:value` and a transaction's opener come next, up to this end
+pub record IsPrintedValue (text : List ℕ) (offset : ℕ) (end : ℕ) : Type 0 where
+  pub key : Token
+  pub opener : Token
+  pub key_lone : GivesLone text offset key
+  pub named : is_named (codes ":value") (plain (item_of text key)) ≡ true
+  pub opens : GivesOpener text key.end open_square close_square opener
+  pub end_is : opener.end ≡ end
+
+-- what is known of no fields
+abbrev pub no_fields_yet : FlatFields
+no_fields_yet = record { kind = None; owner = None; has_value = false }
+
+-- what is known of the fields before a transaction and of its own
+abbrev pub fields_of : Front → FlatFields
+fields_of front =
+    record { kind = Some front.kind; owner = Some (owners.Client front.process); has_value = true }
+
+-- the fields that begin here say this, up to the opener of a transaction
+pub record IsFrontAt (text : List ℕ) (start : ℕ) (front : Front) : Type 0 where
+  pub opener : Token
+  pub end_is : opener.end ≡ front.members
+  pub within : front.members ≤ length text
+  pub mops : may_have_mops (Some front.kind) ≡ true
+  pub reads : ReadsFlatFront text start no_fields_yet opener (fields_of front)
 
 -- a call read the first fields of a map, up to the end that it gives
 abbrev pub ReadsFirstFields :
@@ -247,14 +316,22 @@ abbrev pub HasReached : List ℕ → ℕ → FlatFields → List MopShape → Re
 HasReached text offset fields shapes (reaches.End at) =
     (pairs : List (Form × Form)) × ReadsFields text offset pairs fields shapes at
 HasReached text offset fields shapes (reaches.Opener opener) =
-    (at : ℕ) × GivesOpener text at open_square close_square opener
+    (shapes ≡ []) × (at : ℕ) × GivesOpener text at open_square close_square opener
     × ((more : List MopShape) (end : ℕ) → ReadsFlatTransaction text at (Ok (Some end)) more →
     (pairs : List (Form × Form)) × ReadsFields text offset pairs fields more end)
 
--- it is in the text, and a transaction that begins here is read into an empty list
-abbrev pub CanGoOn : List ℕ → List MopShape → Reached → Type 0
-CanGoOn text shapes (reaches.End at) = at ≤ length text
-CanGoOn text shapes (reaches.Opener opener) = (opener.end ≤ length text) × (shapes ≡ [])
+-- only fields that say nothing and blanks are from the offset up to here
+abbrev pub IsBehindOthers : List ℕ → ℕ → ℕ → Type 0
+IsBehindOthers text offset start =
+    (at : ℕ) × PassesFields text offset at × IsGap text at start
+
+-- from the offset on the fields of a map say this, up to the opener of a transaction
+pub record IsFrontOf (text : List ℕ) (offset : ℕ) (front : Front) : Type 0 where
+  pub opener : Token
+  pub end_is : opener.end ≡ front.members
+  pub within : front.members ≤ length text
+  pub mops : may_have_mops (Some front.kind) ≡ true
+  pub reached : HasReached text offset (fields_of front) [] (reaches.Opener opener)
 
 abbrev pub place_reached : Reached → ℕ
 place_reached (reaches.End at) = at
@@ -329,6 +406,13 @@ abbrev pub result_with :
 result_with mops (Ok None) = Ok None
 result_with mops (Ok (Some o)) = Ok (Some (shape_with mops o))
 result_with mops (Err fault) = Err fault
+
+-- what a map gives is this operation, which isn't too long
+abbrev pub IsShortOperation : ℕ → ℕ → OpKind → ℕ → FlatEntry → Type 0
+IsShortOperation start end kind process entry =
+    (let span : Span = record { start = start; end = end } in
+    entry ≡ entries.Operation (record { span = span; kind = kind; process = process }))
+    × (nat_lt MAX_OPERATION_BYTES (end - start) ≡ false)
 
 -- a call gave what a map gives, or nothing
 abbrev pub GivesFlatEntry :

@@ -10,7 +10,7 @@ ghost use Rattle.edn_lex.specs.Ahead.{IsWord, IsLoneAt};
 ghost use Rattle.edn_lex.specs.Kinds.{item_of};
 ghost use Rattle.edn_ops.specs.declared.flat.TheConstants.{VALUE_LEVELS};
 ghost use Rattle.edn_ops.specs.Outlines.{outline_of, IsTokenIn, IsOutlineIn};
-ghost use Rattle.edn_ops.specs.Flat.{PassesAhead, NamesKind, NamesOwner, may_have_mops, AreFlat, IsOther, PassesFields, PassesFieldAt, ReadsFlatValue, ReadsFlatFront, ReadsFirstFields, ReadsPlainField, ReadsFlatField, HasReached, CanGoOn, place_reached, IsComplete, GivesFlatMap, OpensOperation, GivesFlatEntry};
+ghost use Rattle.edn_ops.specs.Flat.{PassesAhead, NamesKind, NamesOwner, may_have_mops, AreFlat, IsOther, PassesFields, PassesFieldAt, ReadsFlatValue, IsPrintedKind, IsPrintedOwner, IsPrintedValue, IsFrontAt, IsBehindOthers, IsFrontOf, ReadsFields, fields_of, IsShortOperation, GivesFlatMap, ReadsFirstFields, ReadsPlainField, ReadsFlatField, HasReached, place_reached, IsComplete, OpensOperation, GivesFlatEntry};
 
 use crate::atoms::{self, FEW_DIGITS};
 use crate::flat_mops::{Mops, flat_members};
@@ -19,8 +19,8 @@ use crate::passing::form_end;
 use crate::types::{MopShape, Span};
 use edn_lex::ahead::{
     LEVELS_AHEAD, NUMBER_LOOK, behind_comma, behind_space, behind_word, digits_before, form_at,
-    lone_token, map_closer, map_opener, number_at, number_before, tag_token, token_at,
-    vector_opener, vector_opener_at, word_at, word_before,
+    has_here, lone_token, map_closer, map_opener, number_at, number_before, tag_token, token_at,
+    vector_opener, word_at, word_before,
 };
 use edn_lex::types::{Token, TokenKind};
 use hist_types::limits::MAX_OPERATION_BYTES;
@@ -29,7 +29,7 @@ use hist_types::types::{Fault, OpKind, Process};
 /// How many collections may be opened one within another in the value of a field.
 const VALUE_LEVELS: usize = LEVELS_AHEAD - 1;
 
-/// How many bytes from its start on `read_front` may look at: `:type :invoke, :process `, digits and `, :f :txn, :value [`.
+/// How many bytes from its start on `front_here` may look at: `:type :invoke, :process `, digits and `, :f :txn, :value [`.
 const FRONT_LOOK: usize = 43 + FEW_DIGITS;
 
 /// How many bytes from its start on `behind_numbers` may look at: `:index `, a number, `, :time ` and a number.
@@ -58,6 +58,28 @@ pub(crate) struct FlatFields {
     kind: Option<OpKind>,
     owner: Option<Owner>,
     has_value: bool,
+}
+
+/// What a map says before its transaction.
+#[derive(Clone, Copy)]
+struct Front {
+    kind: OpKind,
+    process: Process,
+    /// Where the members of the transaction begin.
+    members: usize,
+}
+
+impl Front {
+    /// What its fields say.
+    fn fields(self) -> FlatFields
+        ensures { result ≡ fields_of self }
+    {
+        FlatFields {
+            kind: Some(self.kind),
+            owner: Some(Owner::Client(self.process)),
+            has_value: true,
+        }
+    }
 }
 
 /// A client's operation, without its micro-operations.
@@ -117,21 +139,108 @@ fn kind_at(text: &[u8], start: usize) -> Option<(OpKind, Token)>
     }
 }
 
-/// The token that begins here, if it is `:invoke` or `:ok` with a comma after it, in a text with more bytes.
+/// The kind, and where its name ends, if `:type` and `:invoke` or `:ok` are printed here with a comma after them.
 #[inline(always)]
-fn printed_kind(text: &[u8], start: usize) -> Option<(OpKind, Token)>
-    requires { start + 7 < length text.now }
-    ensures lone { IfSome result (λ found. IsLoneAt text.now start found.1) }
-    ensures kind { IfSome result (NamesKind text.now) }
-    ensures mops { IfSome result (λ found. may_have_mops (Some found.0) ≡ true) }
-    ensures near { IfSome result (λ found. found.1.end ≤ start + 7) }
-    ensures comma { IfSome result (λ found. get_or text.now found.1.end 0 ≡ 44) }
+fn printed_kind(text: &[u8], start: usize) -> Option<(OpKind, usize)>
+    requires { start + 14 ≤ length text.now }
+    ensures kind { IfSome result (IsPrintedKind text.now start) }
+    ensures near { IfSome result (λ found. found.1 ≤ start + 13) }
 {
-    if let Some(token) = word_before(text, start, b":invoke", TokenKind::Keyword, b',') {
-        return Some((OpKind::Invoke, token));
+    if has_here(text, start, b":type :invoke,") {
+        return Some((OpKind::Invoke, start + 13));
     }
-    let token = word_before(text, start, b":ok", TokenKind::Keyword, b',')?;
-    Some((OpKind::Ok, token))
+    if has_here(text, start, b":type :ok,") {
+        return Some((OpKind::Ok, start + 9));
+    }
+    None
+}
+
+/// The process, and where its number ends, if `:process` and an integer of few digits are printed after the comma here, with a comma
+/// after them.
+#[inline(always)]
+fn printed_owner(text: &[u8], comma: usize) -> Option<(Process, usize)>
+    requires { comma + 11 + FEW_DIGITS < length text.now }
+    ensures owner { IfSome result (IsPrintedOwner text.now comma) }
+    ensures near { IfSome result (λ found. found.1 ≤ comma + 11 + FEW_DIGITS) }
+{
+    if !has_here(text, comma, b", :process ") {
+        return None;
+    }
+    let start = comma + 11;
+    let (len, process) = atoms::process_ahead(&text[start..])?;
+    let number = digits_before(text, start, len, b',')?;
+    Some((process, number.end))
+}
+
+/// Where `:f :txn` ends, if it is printed after the comma here with a comma after it, or else this offset.
+#[inline(always)]
+fn behind_txn(text: &[u8], comma: usize) -> usize
+    requires { comma + 10 ≤ length text.now }
+    ensures passes { PassesFields text.now comma result }
+    ensures near { result ≤ comma + 9 }
+{
+    if has_here(text, comma, b", :f :txn,") {
+        comma + 9
+    } else {
+        comma
+    }
+}
+
+/// Where the members of a transaction begin, if `:value` and the transaction's opener are printed after the comma here.
+#[inline(always)]
+fn printed_opener(text: &[u8], comma: usize) -> Option<usize>
+    requires { comma + 10 ≤ length text.now }
+    ensures value { IfSome result (IsPrintedValue text.now comma) }
+    ensures near { IfSome result (λ members. members ≤ comma + 10) }
+{
+    if has_here(text, comma, b", :value [") {
+        Some(comma + 10)
+    } else {
+        None
+    }
+}
+
+/// What a map says that begins with `:type`, `:process` and `:value`, and where the members of its transaction begin, if these fields
+/// are printed here, with `:invoke` or `:ok` and an integer of few digits, perhaps with `:f :txn` before `:value`, and bytes enough
+/// come after it.
+#[inline(always)]
+fn front_here(text: &[u8], start: usize) -> Option<Front>
+    requires { start ≤ length text.now }
+    ensures { IfSome result (IsFrontAt text.now start) }
+{
+    if text.len() - start < FRONT_LOOK {
+        return None;
+    }
+    let (kind, kind_end) = printed_kind(text, start)?;
+    let (process, owner_end) = printed_owner(text, kind_end)?;
+    let members = printed_opener(text, behind_txn(text, owner_end))?;
+    Some(Front {
+        kind,
+        process,
+        members,
+    })
+}
+
+/// Where a map's fields after `:index` and `:time` begin, as far as these are printed here, or else the offset.
+#[inline(always)]
+fn behind_index(text: &[u8], offset: usize) -> usize
+    requires { offset ≤ length text.now }
+    ensures { IsBehindOthers text.now offset result }
+{
+    match text.get(offset + 1) {
+        Some(b'i') => behind_comma(text, behind_numbers(text, offset)),
+        _ => offset,
+    }
+}
+
+/// What a map says whose fields begin at the offset, if it begins as `front_here` has it, perhaps with `:index` and `:time` first.
+#[inline(always)]
+fn map_front(text: &[u8], offset: usize) -> Option<Front>
+    requires { offset ≤ length text.now }
+    ensures { IfSome result (IsFrontOf text.now offset) }
+{
+    let front = front_here(text, behind_index(text, offset))?;
+    Some(front)
 }
 
 /// Passes over a value, up to the end that is given, if it can be read so; often it is `:txn` or a number.
@@ -188,64 +297,6 @@ impl FlatFields {
         let owner = owner_of(text, Outline::Plain(token))?;
         self.owner = Some(owner);
         Some(token.end)
-    }
-
-    /// Reads `:type`, `:process` and `:value` up to the transaction's opener, if they come next as they are printed, with `:invoke` or
-    /// `:ok` and an integer of few digits, perhaps with `:f :txn` before `:value`, and bytes enough come after it.
-    #[inline(always)]
-    fn read_front(&mut self, text: &[u8], offset: usize) -> Option<Token>
-        requires { offset ≤ length text.now }
-        ensures reads { ReadsFlatFront text.now offset self.old result self.new }
-        ensures fits { IfSome result (λ opener. opener.end ≤ length text.now) }
-    {
-        if self.kind.is_some() || self.owner.is_some() || self.has_value {
-            return None;
-        }
-        if text.len() - offset < FRONT_LOOK {
-            return None;
-        }
-        let kind_key = printed_key(text, offset, b":type")?;
-        let (kind, kind_token) = printed_kind(text, kind_key.end + 1)?;
-        let owner_start = behind_space(text, kind_token.end + 1);
-        let owner_key = printed_key(text, owner_start, b":process")?;
-        let (len, process) = atoms::process_ahead(&text[owner_key.end + 1..])?;
-        let number = digits_before(text, owner_key.end + 1, len, b',')?;
-        let value_start = behind_space(text, behind_txn(text, number.end) + 1);
-        let value_key = printed_key(text, value_start, b":value")?;
-        let opener = vector_opener_at(text, value_key.end + 1)?;
-        self.kind = Some(kind);
-        self.owner = Some(Owner::Client(process));
-        self.has_value = true;
-        Some(opener)
-    }
-
-    /// Reads the fields that the map begins with, as far as they are spelled as they are printed.
-    #[inline(always)]
-    fn first_reached(&mut self, text: &[u8], offset: usize) -> Reached
-        requires { offset ≤ length text.now }
-        ensures reads { (shapes : List MopShape) → AreFlat self.old shapes []
-            → HasReached text.now offset self.new shapes result }
-        ensures can { CanGoOn text.now [] result }
-    {
-        match self.read_front(text, offset) {
-            Some(opener) => Reached::Opener(opener),
-            None => self.reached_behind_numbers(text, offset),
-        }
-    }
-
-    /// The same where the map may begin with `:index` and `:time`.
-    #[inline(never)]
-    fn reached_behind_numbers(&mut self, text: &[u8], offset: usize) -> Reached
-        requires { offset ≤ length text.now }
-        ensures reads { (shapes : List MopShape) → AreFlat self.old shapes []
-            → HasReached text.now offset self.new shapes result }
-        ensures can { CanGoOn text.now [] result }
-    {
-        let end = behind_numbers(text, offset);
-        match self.read_front(text, behind_comma(text, end)) {
-            Some(opener) => Reached::Opener(opener),
-            None => Reached::End(end),
-        }
     }
 
     /// Whose operation it is, as far as it is known.
@@ -332,25 +383,6 @@ fn behind_numbers(text: &[u8], offset: usize) -> usize
         return offset;
     };
     number_field(text, behind_space(text, index + 1), b":time").unwrap_or(index)
-}
-
-/// Where `:f :txn` ends, if it is printed behind the comma here with a comma after it, or else this offset.
-#[inline(always)]
-fn behind_txn(text: &[u8], comma: usize) -> usize
-    requires room { comma + 9 < length text.now }
-    requires comma { get_or text.now comma 0 ≡ 44 }
-    ensures passes { PassesFields text.now comma result }
-    ensures comma { get_or text.now result 0 ≡ 44 }
-    ensures near { result ≤ comma + 9 }
-{
-    let start = behind_space(text, comma + 1);
-    let Some(key) = printed_key(text, start, b":f") else {
-        return comma;
-    };
-    match word_before(text, key.end + 1, b":txn", TokenKind::Keyword, b',') {
-        Some(token) => token.end,
-        None => comma,
-    }
 }
 
 /// Whether a key names a field that says nothing.
@@ -442,11 +474,11 @@ fn flat_field(text: &[u8], start: usize, fields: &mut FlatFields) -> Option<Reac
     Some(Reached::End(other_field(text, start)?))
 }
 
-/// The end of the fields that were reached. Where this is a transaction's opener, the transaction is read first into the empty
-/// list; none where it can't be read so.
+/// The end of the fields that were reached. Where this is a transaction's opener, the transaction is read first into a list that is
+/// empty; none where it can't be read so.
 #[inline(always)]
 fn end_of(text: &[u8], reached: Reached, mops: &mut Mops) -> Result<Option<usize>, Fault>
-    requires { CanGoOn text.now mops.old.items reached }
+    requires { place_reached reached ≤ length text.now }
     ensures reads { (offset : ℕ) (fields : FlatFields)
         → HasReached text.now offset fields mops.old.items reached
         → ReadsFirstFields text.now offset result fields mops.new.items }
@@ -454,34 +486,33 @@ fn end_of(text: &[u8], reached: Reached, mops: &mut Mops) -> Result<Option<usize
     ensures within { IfOk result (λ found. IfSome found (λ end. end ≤ length text.now)) }
 {
     match reached {
-        Reached::Opener(opener) => flat_members(text, opener, mops),
+        Reached::Opener(opener) => flat_members(text, opener.end, mops),
         Reached::End(end) => Ok(Some(end)),
     }
 }
 
-/// Reads the fields of a map, up to the end that is given, if all can be read so.
-#[inline(never)]
+/// Reads the rest of a map's fields from here on, up to the end that is given, if all can be read so.
 fn flat_map(
     text: &[u8],
-    offset: usize,
+    start: usize,
     fields: &mut FlatFields,
     mops: &mut Mops,
 ) -> Result<Option<usize>, Fault>
-    requires offset { offset ≤ length text.now }
-    requires none { AreFlat fields.old mops.old.items [] }
-    requires empty { mops.old.items ≡ [] }
-    ensures { GivesFlatMap text.now offset result fields.new mops.new.items }
+    requires { start ≤ length text.now }
+    ensures { (offset : ℕ) (pairs : List (Form × Form))
+        → ReadsFields text.now offset pairs fields.old mops.old.items start
+        → GivesFlatMap text.now offset result fields.new mops.new.items }
 {
-    let mut reached = fields.first_reached(text, offset);
+    let mut reached = Reached::End(start);
     loop {
         let Some(at) = end_of(text, reached, mops)? else {
             return Ok(None);
         };
-        let start = behind_comma(text, at);
-        if let Some(closer) = map_closer(text, start) {
+        let next = behind_comma(text, at);
+        if let Some(closer) = map_closer(text, next) {
             return Ok(Some(closer.end));
         }
-        match flat_field(text, start, fields) {
+        match flat_field(text, next, fields) {
             Some(further) => reached = further,
             None => return Ok(None),
         }
@@ -501,6 +532,53 @@ pub(crate) fn operation_opener(text: &[u8], offset: usize) -> Option<Token>
     }
 }
 
+/// A client's operation, if it isn't too long.
+#[inline(always)]
+fn operation_of(start: usize, end: usize, kind: OpKind, process: Process) -> Option<FlatEntry>
+    ensures { IfSome result (IsShortOperation start end kind process) }
+{
+    if end.saturating_sub(start) > MAX_OPERATION_BYTES {
+        return None;
+    }
+    Some(FlatEntry::Operation(FlatOperation {
+        span: Span { start, end },
+        kind,
+        process,
+    }))
+}
+
+/// What a map gives that begins at `start`, and whose fields were read up to `at`, if the rest can be read so.
+#[inline(never)]
+fn other_entry(
+    text: &[u8],
+    start: usize,
+    at: usize,
+    front: FlatFields,
+    mops: &mut Mops,
+) -> Result<Option<FlatEntry>, Fault>
+    requires { at ≤ length text.now }
+    ensures { (opener : Token) (pairs : List (Form × Form)) → opener.start ≡ start
+        → ReadsFields text.now opener.end pairs front mops.old.items at
+        → GivesFlatEntry text.now opener result mops.new }
+{
+    let mut fields = front;
+    let Some(end) = flat_map(text, at, &mut fields, mops)? else {
+        return Ok(None);
+    };
+    let Some(owner) = fields.owner() else {
+        return Ok(None);
+    };
+    match owner {
+        Owner::Client(process) => {
+            let Some(kind) = fields.complete_kind() else {
+                return Ok(None);
+            };
+            Ok(operation_of(start, end, kind, process))
+        }
+        Owner::NoClient => Ok(Some(FlatEntry::Skipped(end))),
+    }
+}
+
 /// What a map gives after this opener, if it can be read so. Its micro-operations are read into the empty list.
 #[inline(always)]
 pub(crate) fn flat_entry(
@@ -512,31 +590,14 @@ pub(crate) fn flat_entry(
     requires empty { mops.old.items ≡ [] }
     ensures { GivesFlatEntry text.now opener result mops.new }
 {
-    let mut fields = FlatFields::new();
-    let Some(end) = flat_map(text, opener.end, &mut fields, mops)? else {
+    let Some(front) = map_front(text, opener.end) else {
+        return other_entry(text, opener.start, opener.end, FlatFields::new(), mops);
+    };
+    let Some(end) = flat_members(text, front.members, mops)? else {
         return Ok(None);
     };
-    let Some(owner) = fields.owner() else {
-        return Ok(None);
+    let Some(closer) = map_closer(text, end) else {
+        return other_entry(text, opener.start, end, front.fields(), mops);
     };
-    match owner {
-        Owner::Client(process) => {
-            let Some(kind) = fields.complete_kind() else {
-                return Ok(None);
-            };
-            if end.saturating_sub(opener.start) > MAX_OPERATION_BYTES {
-                return Ok(None);
-            }
-            let span = Span {
-                start: opener.start,
-                end,
-            };
-            Ok(Some(FlatEntry::Operation(FlatOperation {
-                span,
-                kind,
-                process,
-            })))
-        }
-        Owner::NoClient => Ok(Some(FlatEntry::Skipped(end))),
-    }
+    Ok(operation_of(opener.start, closer.end, front.kind, front.process))
 }

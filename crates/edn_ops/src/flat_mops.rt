@@ -1,21 +1,24 @@
 //! Micro-operations as printers write them, read in one pass over their bytes: keys and values are forms by themselves.
 
-ghost use Rattle.std.specs.Prelude.{◌≡◌, ◌≤◌, ◌<◌, ◌+◌, [], List, length, get_or, true, false, Some, IfSome, IfOk, ℕ};
+ghost use Rattle.std.specs.Prelude.{◌≡◌, ◌≤◌, ◌<◌, ◌+◌, ◌*◌, [], List, length, take, drop, get_or, true, false, Some, IfSome, IfOk, ℕ};
+ghost use Rattle.std.specs.Char.{is_ascii_digit};
+ghost use Rattle.std.specs.Int.{w32, to_le_bytes};
+ghost use Rattle.std.specs.List.{list_all};
 ghost use Rattle.hist_types.specs.Entries.{is_write_of};
 ghost use Rattle.hist_types.specs.Bytes.{is_run_byte, open_square, close_square};
 ghost use Rattle.hist_types.specs.Forms.{plain};
 ghost use Rattle.edn_lex.specs.declared.ahead.TheConstants.{NUMBER_LOOK};
 ghost use Rattle.edn_lex.specs.Ahead.{IsGap, IsLoneAt, GivesOpener};
 ghost use Rattle.edn_lex.specs.Kinds.{item_of};
-ghost use Rattle.edn_ops.specs.Flat.{name_bytes, IsMopValue, GivesMop, shape_of, ReadsFlatMop, ReadsFlatMops, ReadsFlatTransaction};
+ghost use Rattle.edn_ops.specs.Flat.{front_bytes, IsMopValue, IsMopPair, GivesMop, shape_of, ReadsFlatMop, ReadsFlatMops, ReadsFlatMembers, ReadsFlatTransaction};
 
 use crate::atoms::{self, LONG_INTEGER};
 use crate::outline::{bytes_of, span};
 use crate::types::{MopShape, Span};
 use edn_lex::ahead::{
-    NUMBER_LOOK, behind_blanks, behind_space, behind_word, form_at, keyword_before, number_at,
-    number_before, spaced_word_at, vector_closer, vector_closer_at, vector_opener,
-    vector_opener_at, word_at, word_before,
+    NUMBER_LOOK, behind_blanks, behind_word, digit_ends, digits_from, form_at, four_at,
+    keyword_before, number_at, number_before, spaced_word_at, vector_closer, vector_closer_at,
+    vector_opener, word_at, word_before,
 };
 use edn_lex::types::{Token, TokenKind};
 use hist_types::limits::MAX_MICRO_OPS;
@@ -23,8 +26,8 @@ use hist_types::types::Fault;
 
 pub(crate) type Mops = Vec<MopShape>;
 
-/// How many bytes from its first blank on `plain_mop` may look at: a blank, `[:r `, a key, a space and a value.
-const PLAIN_MOP_LOOK: usize = 6 + 2 * NUMBER_LOOK;
+/// How many bytes from its start on `plain_mop` may look at: `[:r `, a key, a space and a value, and one after it.
+const PLAIN_MOP_LOOK: usize = 5 + 2 * NUMBER_LOOK;
 
 /// The token that begins here, if it is `:w` or `:r` with a space after it, and whether it is `:w`.
 #[inline(always)]
@@ -122,28 +125,32 @@ fn next_mop(text: &[u8], offset: usize) -> Option<(bool, Span, Span, usize)>
     Some((is_write, span(key), span(value), closer.end))
 }
 
-/// The name of a write, or of a read.
+/// The four bytes that a write, or a read, begins with as it is printed, as `four_at` has them.
 #[inline(always)]
-fn name_of(is_write: bool) -> &'static [u8]
-    ensures { result.now ≡ name_bytes is_write }
+fn mop_front(is_write: bool) -> u32
+    ensures { to_le_bytes w32 result ≡ front_bytes is_write }
 {
-    if is_write { b":w" } else { b":r" }
+    if is_write {
+        u32::from_le_bytes(*b"[:w ")
+    } else {
+        u32::from_le_bytes(*b"[:r ")
+    }
 }
 
-/// The token that begins here, if it is `:w` or `:r` with a space after it, and whether it is `:w`, in a text with more bytes. Which of
-/// both it is takes no branch, as nobody can foresee it.
+/// Whether a write is here, if a micro-operation is printed here up to its key. Which of both it is takes no branch, as nobody can
+/// foresee it: only a write's front is greater than a read's.
 #[inline(always)]
-fn plain_name(text: &[u8], start: usize) -> Option<(bool, Token)>
-    requires { start + 2 < length text.now }
-    ensures lone { IfSome result (λ name. IsLoneAt text.now start name.1) }
-    ensures is_write { IfSome result (λ name.
-        is_write_of (plain (item_of text.now name.1)) ≡ Some name.0) }
-    ensures end { IfSome result (λ name. name.1.end ≡ start + 2) }
-    ensures space { IfSome result (λ name. get_or text.now name.1.end 0 ≡ 32) }
+fn printed_front(text: &[u8], start: usize) -> Option<bool>
+    requires { start + 4 ≤ length text.now }
+    ensures { IfSome result (λ is_write. take 4 (drop start text.now) ≡ front_bytes is_write) }
 {
-    let is_write = text[start + 1] == b'w';
-    let token = word_before(text, start, name_of(is_write), TokenKind::Keyword, b' ')?;
-    Some((is_write, token))
+    let front = four_at(text, start);
+    let is_write = front > mop_front(false);
+    if front == mop_front(is_write) {
+        Some(is_write)
+    } else {
+        None
+    }
 }
 
 /// The token that begins here, if it is an integer of few digits with this byte after it.
@@ -182,7 +189,8 @@ fn plain_value(text: &[u8], start: usize, is_write: bool) -> Option<Token>
     requires { start + NUMBER_LOOK ≤ length text.now }
     ensures lone { IfSome result (IsLoneAt text.now start) }
     ensures value { IfSome result (λ token. IsMopValue is_write (plain (item_of text.now token))) }
-    ensures within { IfSome result (λ token. token.end < length text.now) }
+    ensures few { IfSome result (λ token. token.end < start + NUMBER_LOOK) }
+    ensures after { IfSome result (λ token. get_or text.now token.end 0 ≡ close_square) }
 {
     if let Some(number) = plain_number(text, start, b']') {
         return Some(number);
@@ -193,30 +201,102 @@ fn plain_value(text: &[u8], start: usize, is_write: bool) -> Option<Token>
     word_before(text, start, b"nil", TokenKind::Nil, b']')
 }
 
-/// What `next_mop` gives, if the micro-operation is spelled as it is printed, with a space between two tokens, an integer of few
-/// digits or a keyword of few plain bytes as its key, an integer of few digits or nil as its value, and bytes enough come after it.
-#[inline(always)]
-fn plain_mop(text: &[u8], offset: usize) -> Option<(bool, Span, Span, usize)>
-    requires { offset ≤ length text.now }
-    ensures { IfSome result (λ mop. GivesMop text.now offset (shape_of mop.0 mop.1 mop.2) mop.3) }
+/// A key that begins here and a value, each looked for by itself, with a space between them and a vector's closer after them.
+#[inline(never)]
+fn pair_apart(text: &[u8], start: usize, is_write: bool) -> Option<(Token, Token)>
+    requires { start + 2 * NUMBER_LOOK ≤ length text.now }
+    ensures { IfSome result (IsMopPair text.now start is_write) }
 {
-    if text.len() - offset < PLAIN_MOP_LOOK {
+    let key = plain_key(text, start)?;
+    let value = plain_value(text, key.end + 1, is_write)?;
+    Some((key, value))
+}
+
+/// The token of so few bytes that begins here with this one, all of them decimal digits, if it is an integer with the byte `after`
+/// after it.
+#[inline(always)]
+fn few_digits(text: &[u8], start: usize, first: u8, len: usize, after: u8) -> Option<Token>
+    requires room { start + NUMBER_LOOK ≤ length text.now }
+    requires first { get_or text.now start 0 ≡ first }
+    requires few { len < NUMBER_LOOK }
+    requires digits { list_all is_ascii_digit (take len (drop start text.now)) ≡ true }
+    requires after { is_run_byte after ≡ false }
+    ensures lone { IfSome result (IsLoneAt text.now start) }
+    ensures atom { IfSome result (λ token. IsMopValue true (plain (item_of text.now token))) }
+    ensures end { IfSome result (λ token. token.end ≡ start + len) }
+    ensures after { IfSome result (λ token. get_or text.now token.end 0 ≡ after) }
+{
+    let number = digits_from(text, start, first, len, after)?;
+    Some(number)
+}
+
+/// The token of so few bytes that begins here, all of them decimal digits, if it is an integer, or `nil` that was read where there
+/// are none, with a vector's closer after it.
+#[inline(always)]
+fn value_of_digits(text: &[u8], start: usize, len: usize, is_write: bool) -> Option<Token>
+    requires room { start + NUMBER_LOOK ≤ length text.now }
+    requires few { len < NUMBER_LOOK }
+    requires digits { list_all is_ascii_digit (take len (drop start text.now)) ≡ true }
+    ensures lone { IfSome result (IsLoneAt text.now start) }
+    ensures value { IfSome result (λ token. IsMopValue is_write (plain (item_of text.now token))) }
+    ensures few { IfSome result (λ token. token.end < start + NUMBER_LOOK) }
+    ensures after { IfSome result (λ token. get_or text.now token.end 0 ≡ close_square) }
+{
+    if len != 0 {
+        let number = few_digits(text, start, text[start], len, b']')?;
+        return Some(number);
+    }
+    if is_write {
         return None;
     }
-    let opener = vector_opener_at(text, behind_space(text, offset))?;
-    let (is_write, name) = plain_name(text, opener.end)?;
-    let key = plain_key(text, name.end + 1)?;
-    let value = plain_value(text, key.end + 1, is_write)?;
-    let closer = vector_closer_at(text, value.end)?;
-    Some((is_write, span(key), span(value), closer.end))
+    word_before(text, start, b"nil", TokenKind::Nil, b']')
+}
+
+/// A key that begins here and a value, with a space between them and a vector's closer after them, if the key is an integer of few
+/// digits or a keyword of few plain bytes, and the value an integer of few digits, or `nil` that was read. Two integers are found
+/// by one look.
+#[inline(always)]
+fn plain_pair(text: &[u8], start: usize, is_write: bool) -> Option<(Token, Token)>
+    requires { start + 2 * NUMBER_LOOK ≤ length text.now }
+    ensures { IfSome result (IsMopPair text.now start is_write) }
+{
+    let first = text[start];
+    if first == b':' {
+        return pair_apart(text, start, is_write);
+    }
+    let Some((key_len, value_end)) = digit_ends(text, start) else {
+        return pair_apart(text, start, is_write);
+    };
+    let key = few_digits(text, start, first, key_len, b' ')?;
+    let value = value_of_digits(text, key.end + 1, value_end - key_len - 1, is_write)?;
+    Some((key, value))
+}
+
+/// What `next_mop` gives, if the micro-operation begins here and is spelled as it is printed, with a space between two tokens, and
+/// bytes enough come after it.
+#[inline(always)]
+fn plain_mop(text: &[u8], start: usize) -> Option<(bool, Span, Span, usize)>
+    requires { start ≤ length text.now }
+    ensures gives { IfSome result (λ mop. (offset : ℕ) → IsGap text.now offset start
+        → GivesMop text.now offset (shape_of mop.0 mop.1 mop.2) mop.3) }
+    ensures within { IfSome result (λ mop. mop.3 < length text.now) }
+{
+    if text.len() - start < PLAIN_MOP_LOOK {
+        return None;
+    }
+    let is_write = printed_front(text, start)?;
+    let (key, value) = plain_pair(text, start + 4, is_write)?;
+    Some((is_write, span(key), span(value), value.end + 1))
 }
 
 /// Adds a micro-operation, up to whose end the text was read, if there is room for one more.
 #[inline(always)]
 fn push_mop(mop: Option<(bool, Span, Span, usize)>, mops: &mut Mops) -> Result<Option<usize>, Fault>
-    ensures { (text : List ℕ) (offset : ℕ) →
+    ensures reads { (text : List ℕ) (offset : ℕ) →
         IfSome mop (λ m. GivesMop text offset (shape_of m.0 m.1 m.2) m.3) →
         ReadsFlatMop text offset mops.old.items result mops.new.items }
+    ensures within { (text : List ℕ) → IfSome mop (λ m. m.3 < length text)
+        → IfOk result (λ found. IfSome found (λ end. end < length text)) }
 {
     let Some((is_write, key, value, end)) = mop else {
         return Ok(None);
@@ -244,44 +324,46 @@ fn flat_mop(text: &[u8], offset: usize, mops: &mut Mops) -> Result<Option<usize>
     push_mop(next_mop(text, offset), mops)
 }
 
-/// Reads one more micro-operation, up to the end that is given, if it is spelled as it is printed.
+/// Reads one more micro-operation that begins here, up to the end that is given, if it is spelled as it is printed.
 #[inline(always)]
-fn printed_mop(text: &[u8], offset: usize, mops: &mut Mops) -> Result<Option<usize>, Fault>
-    requires { offset ≤ length text.now }
-    ensures { ReadsFlatMop text.now offset mops.old.items result mops.new.items }
+fn printed_mop(text: &[u8], start: usize, mops: &mut Mops) -> Result<Option<usize>, Fault>
+    requires { start ≤ length text.now }
+    ensures reads { (offset : ℕ) → IsGap text.now offset start
+        → ReadsFlatMop text.now offset mops.old.items result mops.new.items }
+    ensures within { IfOk result (λ found. IfSome found (λ end. end < length text.now)) }
 {
-    push_mop(plain_mop(text, offset), mops)
+    push_mop(plain_mop(text, start), mops)
 }
 
-/// Reads micro-operations, up to the end that is given, as long as they are spelled as they are printed.
+/// Reads micro-operations, up to the end that is given, as long as they are spelled as they are printed, with a space between two.
 #[inline(always)]
 fn printed_mops(text: &[u8], offset: usize, mops: &mut Mops) -> Result<usize, Fault>
     requires { offset ≤ length text.now }
+    ensures further { IfOk result (λ end. offset ≤ end) }
     ensures within { IfOk result (λ end. end ≤ length text.now) }
     ensures reads { ReadsFlatMops text.now offset mops.old.items result mops.new.items }
 {
-    let mut at = offset;
-    while let Some(end) = printed_mop(text, at, mops)? {
-        at = end;
+    let mut end = offset;
+    let mut start = offset;
+    while let Some(next) = printed_mop(text, start, mops)? {
+        end = next;
+        if text[end] != b' ' {
+            return Ok(end);
+        }
+        start = end + 1;
     }
-    Ok(at)
+    Ok(end)
 }
 
-/// Reads a transaction after its opener into the empty list, up to the end that is given, if all its members can be read so.
-#[inline(always)]
-pub(crate) fn flat_members(
-    text: &[u8],
-    opener: Token,
-    mops: &mut Mops,
-) -> Result<Option<usize>, Fault>
-    requires opener { opener.end ≤ length text.now }
-    requires empty { mops.old.items ≡ [] }
-    ensures reads { (offset : ℕ) → GivesOpener text.now offset open_square close_square opener
-        → ReadsFlatTransaction text.now offset result mops.new.items }
-    ensures further { IfOk result (λ found. IfSome found (λ end. opener.end ≤ end)) }
+/// Reads the rest of a transaction from the offset on, up to the end that is given, if all its members can be read so.
+#[inline(never)]
+fn other_members(text: &[u8], offset: usize, mops: &mut Mops) -> Result<Option<usize>, Fault>
+    requires { offset ≤ length text.now }
+    ensures reads { ReadsFlatMembers text.now offset mops.old.items result mops.new.items }
+    ensures further { IfOk result (λ found. IfSome found (λ end. offset ≤ end)) }
     ensures within { IfOk result (λ found. IfSome found (λ end. end ≤ length text.now)) }
 {
-    let mut at = printed_mops(text, opener.end, mops)?;
+    let mut at = offset;
     loop {
         if let Some(closer) = vector_closer(text, at) {
             return Ok(Some(closer.end));
@@ -291,4 +373,27 @@ pub(crate) fn flat_members(
             None => return Ok(None),
         }
     }
+}
+
+/// Reads a transaction after its opener into a list that is empty, up to the end that is given, if all its members can be read so.
+#[inline(always)]
+pub(crate) fn flat_members(
+    text: &[u8],
+    offset: usize,
+    mops: &mut Mops,
+) -> Result<Option<usize>, Fault>
+    requires { offset ≤ length text.now }
+    ensures reads { mops.old.items ≡ [] → (at : ℕ) (opener : Token) → opener.end ≡ offset
+        → GivesOpener text.now at open_square close_square opener
+        → ReadsFlatTransaction text.now at result mops.new.items }
+    ensures further { IfOk result (λ found. IfSome found (λ end. offset ≤ end)) }
+    ensures within { IfOk result (λ found. IfSome found (λ end. end ≤ length text.now)) }
+{
+    let at = printed_mops(text, offset, mops)?;
+    if at < text.len() {
+        if let Some(closer) = vector_closer_at(text, at) {
+            return Ok(Some(closer.end));
+        }
+    }
+    other_members(text, at, mops)
 }

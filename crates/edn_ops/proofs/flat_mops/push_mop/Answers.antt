@@ -8,8 +8,8 @@ use Rattle.edn_ops.proofs.FlatMaps.{mop_ahead}
 use Rattle.edn_ops.proofs.flat_mops.push_mop.Goals as goal
 use Rattle.edn_ops.proofs.flat_mops.push_mop.Goals.{then-len-capacity+in_ok-reserve, else-len-capacity}
 
-pub returns : goal.returns
-returns c text offset gives =
+pub returns-clause-reads : goal.returns-clause-reads
+returns-clause-reads c text offset gives =
     let found = c.in-Some in
     let shape = shape_of found.is_write found.key found.value in
     let room : length c.args.mops.now.items < MAX_MICRO_OPS = omega (arith, c.args.mops.now.ok.0, c.len.ensures, c.if-len-ge-MAX_MICRO_OPS.false) in
