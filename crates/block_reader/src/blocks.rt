@@ -33,6 +33,7 @@ impl Model for Blocks {
 }
 
 /// Puts the last block after the full ones, unless it is empty. Out of memory leaves both as they were.
+#[inline(never)]
 fn close(full: &mut Vec<Block>, last: &mut BlockBuilder) -> Result<(), AllocError>
     ensures full { OnOk result (HaveAlso full.old.items last.old.operations full.new.items) }
     ensures last { OnOk result (last.new.operations ≡ []) }
@@ -62,6 +63,7 @@ impl Blocks {
     }
 
     /// Appends the operation that has this shape in the text. The only error is out of memory, and nothing changes then.
+    #[inline(always)]
     pub fn push(&mut self, text: &[u8], shape: &OpShape) -> Result<(), Fault>
         requires { IsShapeIn text.now shape.now }
         ensures ok { (o : PlacedOperation) → IsIn text.now o → IsShapeOf shape.now o
