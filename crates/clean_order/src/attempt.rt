@@ -20,7 +20,7 @@ impl Attempt {
     /// Nothing was tried yet.
     pub fn new(alloc: Global, deps: &Deps<'_, '_>) -> Result<Self, AllocError> {
         Ok(Attempt {
-            ends: ends(alloc, deps.history())?,
+            ends: ends(alloc, deps.history().txns())?,
             ranks: Vec::new(alloc),
             timely: 0,
         })

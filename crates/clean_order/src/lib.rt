@@ -8,7 +8,7 @@ ghost use Rattle.clean_order.specs.Rising.{ShowsNoDirtyWrites, ShowsNoWrites, Sh
 
 pub mod attempt;
 mod earlier;
-mod ends;
+pub mod ends;
 pub mod laws;
 mod putting;
 mod rising;

@@ -1,10 +1,13 @@
 -- A replay of a history, over numbers: its transactions were put one after the other, and each that
 -- was put has a point. A point of 0 is none.
 use Rattle.std.specs.Prelude.{◌≡◌, ◌⊎◌, ◌<◌, ℕ, List, Some, slice_get, slice_index, Contains, IsTrue}
+use Rattle.hist_types.specs.Operations.{Operation}
 use Rattle.hist_types.specs.Phenomena.{stray}
 use Rattle.hist_types.specs.Reports.{AreFindings, no_findings}
-use Rattle.hist_types.specs.Transactions.{Transaction, is_ok}
+use Rattle.hist_types.specs.Transactions.{Transaction, transactions_of, is_ok}
 use Rattle.hist_types.specs.declared.types.KeyOrder.{KeyOrder}
+use Rattle.hist_types.specs.declared.types.KeyOrder.TheVariants.{Basic}
+use Rattle.key_versions.specs.Kept.{KeptVersions, AreKept}
 use Rattle.key_versions.specs.Rows.{has_nil}
 use Rattle.key_versions.specs.TxnAccesses.{TxnAccesses}
 use Rattle.key_versions.specs.declared.pending.Access.{Access}
@@ -78,3 +81,12 @@ pub record IsReplayed (ts : List Transaction) (accesses : List TxnAccesses) (poi
       → FollowsNumber a number
       → HasAccess b.reads number
       → slice_index points reader < slice_index points place
+
+-- where its transactions can be replayed, it shows nothing
+abbrev pub ReplaysShowNothing : List Operation → Type 0
+ReplaysShowNothing events =
+    (kept : KeptVersions)
+    → AreKept (transactions_of events) kept
+    → (points : List ℕ)
+    → IsReplayed (transactions_of events) kept.accesses points
+    → ShowsNothing Basic (transactions_of events)

@@ -8,15 +8,13 @@ ghost use Rattle.hist_types.specs.Operations.{Operation};
 ghost use Rattle.hist_types.specs.Reports.{AreFindings, no_findings};
 ghost use Rattle.hist_types.specs.Transactions.{Transaction, transactions_of};
 ghost use Rattle.hist_types.specs.declared.types.KeyOrder.{KeyOrder};
-ghost use Rattle.hist_types.specs.declared.types.KeyOrder.TheVariants.{Basic};
 ghost use Rattle.hist_types.specs.declared.types.OpKind.TheVariants.{Invoke, Fail, Info};
-ghost use Rattle.key_versions.specs.Kept.{KeptVersions as Kept, AreKept};
 ghost use Rattle.serial_points.specs.ByPlace.{ListPoints, LookUpsSuffice};
 ghost use Rattle.serial_points.specs.CleanReads.{CleanReadsSuffice};
 ghost use Rattle.serial_points.specs.ByVersion.{AreJoinedByVersions, EdgesIntoRise, EdgesOutOfRise, AllEdgesRise};
 ghost use Rattle.serial_points.specs.NextPoints.{PointsStay, WritesNothingRead, PointsMove};
 ghost use Rattle.serial_points.specs.Points.{ArePoints};
-ghost use Rattle.serial_points.specs.Replayed.{ShowsNothing, IsReplayed};
+ghost use Rattle.serial_points.specs.Replayed.{ReplaysShowNothing};
 
 mod advance;
 mod bounds;
@@ -81,7 +79,5 @@ pub fn clean_reads()
 
 /// Where the transactions of a history can be replayed, nothing is to be found where keys are basic.
 pub fn replays_show_nothing()
-    ensures { (events : List Operation) → KeepsRules events → (kept : Kept) → AreKept (transactions_of events) kept
-        → (points : List ℕ) → IsReplayed (transactions_of events) kept.accesses points
-        → ShowsNothing Basic (transactions_of events) }
+    ensures { (events : List Operation) → KeepsRules events → ReplaysShowNothing events }
 {}

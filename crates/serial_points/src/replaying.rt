@@ -1,6 +1,6 @@
 //! Transactions that are put one after the other.
 
-ghost use Rattle.std.specs.Prelude.{◌≡◌, ◌⊎◌, ◌<◌, ℕ, List, length, true, All, IfOk, IfSome, IsTrue};
+ghost use Rattle.std.specs.Prelude.{◌≡◌, ◌⊎◌, ◌<◌, ℕ, List, length, map, slice_get, true, Some, All, IfOk, IfSome, IsTrue};
 ghost use Rattle.hist_types.specs.Transactions.{Transaction};
 ghost use Rattle.key_versions.specs.Kept.{AreKept};
 ghost use Rattle.key_versions.specs.TxnAccesses.{TxnAccesses};
@@ -195,6 +195,15 @@ impl Replay {
         }
     }
 
+    /// Whether each read is of nil or of a version that one that is put installs, and that none of them follows.
+    #[inline(always)]
+    pub fn can_read(&self, reads: &[Access]) -> bool
+        ensures { result ≡ true
+            → All (IsReadable self.now.written self.now.followed) reads.now }
+    {
+        are_readable(&self.written, &self.followed, reads)
+    }
+
     /// Whether a transaction that is put installs the version.
     pub fn is_written(&self, version: u32) -> bool {
         self.written.has(version)
@@ -222,27 +231,28 @@ impl Replay {
             && mark_installed(&mut self.written, writes)
     }
 
-    /// Puts the transaction at the place after all that are put. False if it can't be put now, or is put already: then this is no
-    /// replay any more.
+    /// Puts the transaction at the place, which reads this, after all that are put. False if it can't be put now, or is put already:
+    /// then this is no replay any more.
     pub fn put<'a, S: BuildHasher + Copy>(
         &mut self,
         txns: &[Txn<'a>],
         versions: &KeptVersions<'a, S>,
         place: usize,
+        reads: &[Access],
     ) -> bool
-        requires { AreKept txns.now versions.now }
+        requires kept { AreKept txns.now versions.now }
+        requires place { place < length txns.now }
+        requires reads { slice_get (map (λ a. a.reads) versions.now.accesses) place
+            ≡ Some reads.now }
+        requires readable { All (IsReadable self.old.written self.old.followed) reads.now }
         ensures { result ≡ true → IsReplaying txns.now versions.now.accesses self.old
             → IsReplaying txns.now versions.now.accesses self.new }
     {
-        if place >= txns.len() || place >= self.points.len() {
-            return false;
-        }
         let txn = &txns[place];
         if is_failed(txn) || !is_in_time(self.next, txn) {
             return false;
         }
-        let reads = versions.reads(place);
-        if self.points[place] > 0 || !are_readable(&self.written, &self.followed, reads) {
+        if place >= self.points.len() || self.points[place] > 0 {
             return false;
         }
         let Some(next) = self.next.checked_add(1) else {

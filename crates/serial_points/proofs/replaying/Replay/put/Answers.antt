@@ -8,11 +8,8 @@ use Rattle.serial_points.proofs.Accesses.{has_accesses, has_place, part_at}
 use Rattle.serial_points.proofs.PutAfter.{put_after}
 use Rattle.serial_points.proofs.replaying.Replay.put.Goals as goal
 
-pub reads-reads-requires : goal.reads-reads-requires
-reads-reads-requires g c = has_place c.args.txns.now c.args.versions.now c.args.place c.requires c.if-place-txns.false
-
 pub writes-requires : goal.writes-requires
-writes-requires g c = has_place c.args.txns.now c.args.versions.now c.args.place c.requires c.if-place-txns.false
+writes-requires g c = has_place c.args.txns.now c.args.versions.now c.args.place c.requires.kept c.requires.place
 
 pub returns : goal.returns
 returns g c = λ passed r.
@@ -22,9 +19,9 @@ returns g c = λ passed r.
     let before = c.args.self.now in
     let after = c.mark.new.self in
     let t = c.index-txns-place.result in
-    let at : slice_get ts place ≡ Some t = slice_get_read ts (length ts) place t refl c.if-place-txns.false c.index-txns-place.is in
-    let (a, there) = has_accesses ts kept place t c.requires at in
-    let same_reads = part_at (λ (x : TxnAccesses). x.reads) kept.accesses place a c.reads-reads.result.now c.reads-reads.ensures there in
+    let at : slice_get ts place ≡ Some t = slice_get_read ts (length ts) place t refl c.requires.place c.index-txns-place.is in
+    let (a, there) = has_accesses ts kept place t c.requires.kept at in
+    let same_reads = part_at (λ (x : TxnAccesses). x.reads) kept.accesses place a c.args.reads.now c.requires.reads there in
     let same_writes = part_at (λ (x : TxnAccesses). x.writes) kept.accesses place a c.writes.result.now c.writes.ensures there in
     let within : place < length before.points.items = omega (arith, c.len.ensures) in
     let point : c.index.result.now ≡ slice_index before.points.items place = get_or_read before.points.items place c.index.result.now within c.index.ensures 0 in
@@ -34,10 +31,10 @@ returns g c = λ passed r.
     put_after ts kept.accesses before after place t a at there unput within points more (sym c.is_failed.ensures ∙ c.if-is_failed.false)
     (c.is_in_time.ensures.begun c.if-not-is_in_time.false)
     (c.is_in_time.ensures.ended c.if-not-is_in_time.false)
-    (subst (All (IsReadable before.written before.followed)) same_reads (c.are_readable.ensures c.if-not-are_readable.false))
+    (subst (All (IsReadable before.written before.followed)) same_reads c.requires.readable)
     (subst (AreKeysMarked after.followed) same_writes (c.mark.ensures.keys passed))
     (subst (λ reads. AreUpdatedMarked after.followed reads a.writes) same_reads
-    (subst (λ writes. AreUpdatedMarked after.followed c.reads-reads.result.now writes) same_writes (c.mark.ensures.updated passed)))
+    (subst (λ writes. AreUpdatedMarked after.followed c.args.reads.now writes) same_writes (c.mark.ensures.updated passed)))
     c.mark.ensures.stay
     (subst (MarkInstalled before.written after.written) same_writes c.mark.ensures.written)
     r
