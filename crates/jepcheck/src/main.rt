@@ -2,24 +2,12 @@
 #![tactic(auto)]
 
 #[cfg(test)]
-mod analyses;
-#[cfg(test)]
 mod devices;
-#[cfg(test)]
-mod graphs;
-#[cfg(test)]
-mod layers;
-#[cfg(test)]
-mod random_histories;
-#[cfg(test)]
-mod rows;
 #[cfg(test)]
 mod runs;
 mod serve;
 #[cfg(test)]
 mod sessions;
-#[cfg(test)]
-mod settling;
 #[cfg(test)]
 mod workers;
 

@@ -1,6 +1,6 @@
 -- All graphs have eight vertices.
 use Rattle.std.proofs.Common.{◌≡◌}
-use Rattle.jepcheck.proofs.graphs.ranks_tell_components_and_walks_are_shortest.Given as goal
+use Rattle.layer_tests.proofs.graphs.ranks_tell_components_and_walks_are_shortest.Given as goal
 
 abbrev pub invariant-loop-w-2 : goal.invariant-loop-w-2
 invariant-loop-w-2 g l = l.search ≡ 8

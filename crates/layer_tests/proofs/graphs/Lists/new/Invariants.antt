@@ -1,6 +1,6 @@
 -- A list for each vertex so far, and each is empty.
 use Rattle.std.proofs.Common.{ℕ, ◌≡◌, length, All, Vec, Global}
-use Rattle.jepcheck.proofs.graphs.Lists.new.Given as goal
+use Rattle.layer_tests.proofs.graphs.Lists.new.Given as goal
 
 abbrev pub invariant-loop : goal.invariant-loop
 invariant-loop l = record {
