@@ -20,7 +20,7 @@ without_place None is = refl
 without_place (Some slot) is = absurd (true≢false is)
 
 -- the first pairs, up to one more
-one_more :
+pub one_more :
     (pairs : List (ℕ × Option ℕ)) (p q : ℕ × Option ℕ) (i : ℕ) → i < length pairs → q ≡ get_or pairs i q
     → pair_eq p q ≡ false → number_in pair_eq p (take i pairs) ≡ None → number_in pair_eq p (take (i + 1) pairs) ≡ None
 one_more pairs p q i h is differ none =

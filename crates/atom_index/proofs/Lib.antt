@@ -3,3 +3,4 @@ pub mod Tables
 pub mod Indexed
 pub mod LeftOut
 pub mod PairPushed
+pub mod Lengthened

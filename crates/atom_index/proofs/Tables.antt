@@ -86,7 +86,7 @@ value_place : (value : Option ℕ) → number_of_entry (place_of_value value) �
 value_place None = refl
 value_place (Some value) = entry_of value
 
-place_value : (place : ℕ) → place_of_value (number_of_entry place) ≡ place
+pub place_value : (place : ℕ) → place_of_value (number_of_entry place) ≡ place
 place_value zero = refl
 place_value (suc n) =
     let is : number_of_entry (suc n) ≡ Some n = ap number_of_entry (omega arith) ∙ entry_of n in

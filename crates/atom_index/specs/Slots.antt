@@ -1,5 +1,5 @@
 -- The tables in front of the maps.
-use Rattle.std.specs.Prelude.{◌≡◌, ◌<◌, ◌+◌, ◌-◌, ◌*◌, ◌/◌, ◌%◌, ◌&&◌, ℕ, pos, List, length, get_or, Bool, Option, Some, None, nat_lt, if◌then◌else◌}
+use Rattle.std.specs.Prelude.{◌≡◌, ◌<◌, ◌+◌, ◌-◌, ◌*◌, ◌/◌, ◌%◌, ◌&&◌, ℕ, pos, List, length, ◌++◌, get_or, replicate, Bool, Option, Some, None, nat_lt, if◌then◌else◌}
 use Rattle.hist_types.specs.Atoms.{Atom, integer, atom_eq}
 use Rattle.atom_index.specs.Numbers.{number_in, pair_eq}
 
@@ -12,6 +12,10 @@ abbrev pub HoldsNumbersOf : {A : Type 0} → (A → A → Bool) → (item_at : �
     → List (Option ℕ) → List A → Type 0
 HoldsNumbersOf eq item_at table items =
     (n : ℕ) → n < length table → get_or table n None ≡ number_in eq (item_at n) items
+
+-- the slots that were there stay as they were, and those after them have no number
+abbrev pub IsLengthened : (slots : ℕ) → (old new : List (Option ℕ)) → Type 0
+IsLengthened slots old new = new ≡ old ++ replicate (slots - length old) None
 
 -- ---- small integers
 
@@ -42,6 +46,11 @@ slot_of_pair width (key, value) slots =
 
 abbrev pub pair_at : ℕ → ℕ → ℕ × Option ℕ
 pair_at width slot = (slot / width, number_of_entry (slot % width))
+
+-- what has no slot is none of these pairs
+abbrev pub HaveSlots : (width slots : ℕ) → List (ℕ × Option ℕ) → Type 0
+HaveSlots width slots pairs =
+    (p : ℕ × Option ℕ) → slot_of_pair width p slots ≡ None → number_in pair_eq p pairs ≡ None
 
 abbrev pub HoldsPairs : ℕ → List (Option ℕ) → List (ℕ × Option ℕ) → Type 0
 HoldsPairs width = HoldsNumbersOf pair_eq (pair_at width)

@@ -1,8 +1,8 @@
 //! A table for pairs of a key and one of its first values.
 
-ghost use Rattle.std.specs.Prelude.{◌≡◌, ◌≤◌, ◌<◌, [], length, IfOk};
+ghost use Rattle.std.specs.Prelude.{◌≡◌, ◌≤◌, ◌<◌, [], length, true, IfOk, OnOk, OnErr};
 ghost use Rattle.atom_index.specs.declared.table.TheConstants.{MAX_NUMBERS};
-ghost use Rattle.atom_index.specs.Slots.{HoldsPairs, slot_of_pair};
+ghost use Rattle.atom_index.specs.Slots.{HoldsPairs, HaveSlots, IsLengthened, slot_of_pair};
 
 use crate::table::{MAX_NUMBERS, Table};
 use std::alloc::{AllocError, Global};
@@ -54,6 +54,35 @@ fn rows_for(keys: usize, pairs: usize, width: usize) -> usize
     keys.min(pairs).max(pairs.max(LEAST_PAIRS) / width)
 }
 
+/// How large a table is made.
+#[derive(Clone, Copy)]
+pub(crate) struct TableSize {
+    /// How many slots a row has.
+    width: usize,
+    /// How many slots all rows have.
+    slots: usize,
+    /// How many pairs there are outside of the table before a new one is worth making.
+    outside: usize,
+}
+
+impl TableSize {
+    /// For `wanted` pairs, where n keys have these pairs now, and others of them were outside of the table before. Twice as many keys
+    /// have rows as need them.
+    pub fn of(keys: usize, pairs: usize, wanted: usize, others: usize) -> Self
+        ensures wide { 0 < result.width }
+        ensures fits { result.width ≤ MAX_NUMBERS }
+    {
+        let width = values_of_key(keys, pairs, wanted) + 1;
+        let rows = rows_for(keys, wanted, width).saturating_mul(2);
+        let more = (pairs / 2).max(wanted / 32);
+        TableSize {
+            width,
+            slots: rows.saturating_mul(width),
+            outside: others.saturating_add(more),
+        }
+    }
+}
+
 impl PairTable {
     /// A table without slots.
     pub fn new(alloc: Global) -> Self
@@ -67,29 +96,56 @@ impl PairTable {
         }
     }
 
-    /// A table with the numbers of these pairs, for `wanted` pairs, where n pairs were outside of the one before. Twice as many keys
-    /// have rows as need them.
+    /// A table of this size with the numbers of these pairs.
     pub fn with_pairs(
         alloc: Global,
         pairs: &[(u32, Option<u32>)],
-        keys: usize,
-        wanted: usize,
-        outside: usize,
+        size: TableSize,
     ) -> Result<Self, AllocError>
-        requires { length pairs.now ≤ MAX_NUMBERS }
+        requires len { length pairs.now ≤ MAX_NUMBERS }
+        requires wide { 0 < size.width }
+        requires fits { size.width ≤ MAX_NUMBERS }
         ensures width { IfOk result (λ table. 0 < table.width) }
         ensures places { IfOk result (λ table. HoldsPairs table.width table.numbers pairs.now) }
     {
-        let width = values_of_key(keys, pairs.len(), wanted) + 1;
-        let rows = rows_for(keys, wanted, width).saturating_mul(2);
-        let more = (pairs.len() / 2).max(wanted / 32);
         let mut table = PairTable {
-            numbers: Table::with_slots(alloc, rows.saturating_mul(width))?,
-            width: width as u32,
-            outside: outside.saturating_add(more),
+            numbers: Table::with_slots(alloc, size.slots)?,
+            width: size.width as u32,
+            outside: size.outside,
         };
         table.fill(pairs);
         Ok(table)
+    }
+
+    /// Whether each of these pairs has a slot.
+    pub fn has_all(&self, pairs: &[(u32, Option<u32>)]) -> bool
+        ensures { result ≡ true → HaveSlots self.now.width (length self.now.numbers) pairs.now }
+    {
+        for pair in pairs {
+            if self.slot_of(*pair).is_none() {
+                return false;
+            }
+        }
+        true
+    }
+
+    /// Whether a table of this size has all slots of this one, for the same pairs.
+    pub fn is_begun_by(&self, size: TableSize) -> bool
+        ensures { result ≡ true → length self.now.numbers ≤ size.slots }
+    {
+        self.width as usize == size.width && self.numbers.len() <= size.slots
+    }
+
+    /// Makes the table longer, up to this size. Rows stay as wide. Out of memory leaves it as it is.
+    pub fn lengthen(&mut self, size: TableSize) -> Result<(), AllocError>
+        requires { length self.old.numbers ≤ size.slots }
+        ensures width { self.new.width ≡ self.old.width }
+        ensures ok { OnOk result (IsLengthened size.slots self.old.numbers self.new.numbers) }
+        ensures err { OnErr result (self.new.numbers ≡ self.old.numbers) }
+    {
+        self.numbers.lengthen(size.slots)?;
+        self.outside = size.outside;
+        Ok(())
     }
 
     /// Gives each of these pairs its number, in a table that has none.

@@ -1,7 +1,8 @@
 //! Tables of numbers.
 
-ghost use Rattle.std.specs.Prelude.{◌≡◌, ◌<◌, [], length, get_or, replicate, None, Some, IfOk};
+ghost use Rattle.std.specs.Prelude.{◌≡◌, ◌≤◌, ◌<◌, [], length, get_or, replicate, None, Some, IfOk, OnOk, OnErr};
 ghost use Rattle.std.proofs.Math.ListN.{set};
+ghost use Rattle.atom_index.specs.Slots.{IsLengthened};
 
 use std::alloc::{AllocError, Global};
 use std::marker::Model;
@@ -44,6 +45,15 @@ impl Table {
     {
         let entries = vec![in alloc; 0; slots]?;
         Ok(Table { entries })
+    }
+
+    /// Makes the table longer, by slots without a number. Out of memory leaves it as it is.
+    pub fn lengthen(&mut self, slots: usize) -> Result<(), AllocError>
+        requires { length self.old ≤ slots }
+        ensures ok { OnOk result (IsLengthened slots self.old self.new) }
+        ensures err { OnErr result (self.new ≡ self.old) }
+    {
+        self.entries.resize(slots, 0)
     }
 
     /// How many slots there are.
