@@ -43,7 +43,7 @@ pub fn blocks_from(alloc: Global, text: &[u8], offset: usize) -> Result<Vec<Bloc
         (λ fault. (fault ≡ memory_fault) ⊎ FailsFrom text.now offset fault) }
 {
     let mut reader = OpReader::at(alloc, text, offset);
-    let mut blocks = Blocks::new(alloc);
+    let mut blocks = Blocks::new(alloc)?;
     let mut shape = OpShape::new(alloc);
     for _ in 0..u64::MAX {
         if !read_op(text, &mut reader, &mut shape, &mut blocks)? {

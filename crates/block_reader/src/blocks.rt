@@ -52,14 +52,14 @@ fn close(full: &mut Vec<Block>, last: &mut BlockBuilder) -> Result<(), AllocErro
 }
 
 impl Blocks {
-    /// None yet.
-    pub fn new(alloc: Global) -> Self
-        ensures { result ≡ [] }
+    /// None yet, and room for one of them.
+    pub fn new(alloc: Global) -> Result<Self, AllocError>
+        ensures { IfOk result (λ blocks. blocks ≡ []) }
     {
-        Blocks {
+        Ok(Blocks {
             full: Vec::new(alloc),
-            last: BlockBuilder::new(alloc),
-        }
+            last: BlockBuilder::with_room(alloc)?,
+        })
     }
 
     /// Appends the operation that has this shape in the text. The only error is out of memory, and nothing changes then.

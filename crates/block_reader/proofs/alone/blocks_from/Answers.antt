@@ -6,12 +6,12 @@ use Rattle.block_reader.proofs.Readings.{none_read}
 use Rattle.block_reader.proofs.alone.blocks_from.Goals as goal
 
 pub loop-init : goal.loop-init
-loop-init c = rw (c.at-reader.ensures.start, c.new-blocks.ensures) (none_read c.args.text.now c.args.offset, refl)
+loop-init c = rw (c.at-reader.ensures.start, c.in_ok-blocks.ensures) (none_read c.args.text.now c.args.offset, refl)
 
 pub returns-in_err-read_op-clause-err : goal.returns-in_err-read_op-clause-err
 returns-in_err-read_op-clause-err c =
     let given = c.in_err-read_op.ensures.on c.args.offset [] c.requires c.loop.invariant.0 in
-    let left = err_from_is_err_and c.from_residual.result c.from_residual.ensures.1 in
+    let left = err_from_is_err_and c.from_residual-in_err-read_op.result c.from_residual-in_err-read_op.ensures.1 in
     rw left.1 (rw left.2 given)
 
 pub returns-then-not-branch-clause-ok : goal.returns-then-not-branch-clause-ok
