@@ -591,13 +591,16 @@ pub(crate) fn flat_entry(
     ensures { GivesFlatEntry text.now opener result mops.new }
 {
     let Some(front) = map_front(text, opener.end) else {
-        return other_entry(text, opener.start, opener.end, FlatFields::new(), mops);
+        // Wrapped anew, so that what is mostly given needn't go through memory.
+        let entry = other_entry(text, opener.start, opener.end, FlatFields::new(), mops)?;
+        return Ok(entry);
     };
     let Some(end) = flat_members(text, front.members, mops)? else {
         return Ok(None);
     };
     let Some(closer) = map_closer(text, end) else {
-        return other_entry(text, opener.start, end, front.fields(), mops);
+        let entry = other_entry(text, opener.start, end, front.fields(), mops)?;
+        return Ok(entry);
     };
     Ok(operation_of(opener.start, closer.end, front.kind, front.process))
 }

@@ -9,12 +9,19 @@ use Rattle.edn_ops.proofs.flat.flat_entry.Goals as goal
 pub returns-in_default : goal.returns-in_default
 returns-in_default c =
     let flat = subst (λ (shapes : List MopShape). AreFlat c.new.result shapes []) (sym c.requires.empty) c.new.ensures in
-    c.other_entry.ensures c.args.opener [] refl (no_fields c.args.text.now c.args.opener.end c.new.result c.args.mops.now.items c.requires.opener flat)
+    c.in_ok-entry.ensures c.args.opener [] refl (no_fields c.args.text.now c.args.opener.end c.new.result c.args.mops.now.items c.requires.opener flat)
+
+pub returns-in_err-entry : goal.returns-in_err-entry
+returns-in_err-entry c =
+    let flat = subst (λ (shapes : List MopShape). AreFlat c.new.result shapes []) (sym c.requires.empty) c.new.ensures in
+    let p = err_from_is_err_and c.from_residual.result c.from_residual.ensures.1 in
+    rw (p.1, p.2)
+    (c.in_err-entry.ensures c.args.opener [] refl (no_fields c.args.text.now c.args.opener.end c.new.result c.args.mops.now.items c.requires.opener flat))
 
 pub returns-in_err-end : goal.returns-in_err-end
 returns-in_err-end c =
     let front = c.in-Some.ensures in
-    let p = err_from_is_err_and c.from_residual.result c.from_residual.ensures.1 in
+    let p = err_from_is_err_and c.from_residual-in_err-end.result c.from_residual-in_err-end.ensures.1 in
     rw (p.1, p.2) (c.in_err-end.ensures.reads c.requires.empty front.reached.1 front.opener front.end_is front.reached.2)
 
 pub returns-in_default-map_closer : goal.returns-in_default-map_closer
@@ -26,7 +33,19 @@ returns-in_default-map_closer c =
     let end = c.in-Some-2.end in
     let read = transaction_reached text opener.end (fields_of c.in-Some.front) [] items front.opener (Ok (Some end)) front.reached
     (λ empty at opens. rw c.in-Some-2.is at (c.in_ok-end.ensures.reads c.requires.empty at front.opener front.end_is opens)) in
-    c.other_entry-in_default-map_closer.ensures opener read.0 refl (subst (λ (f : FlatFields). ReadsFields text opener.end read.0 f items end) (sym c.fields.ensures) read.1)
+    c.in_ok-entry-2.ensures opener read.0 refl (subst (λ (f : FlatFields). ReadsFields text opener.end read.0 f items end) (sym c.fields.ensures) read.1)
+
+pub returns-in_err-entry-2 : goal.returns-in_err-entry-2
+returns-in_err-entry-2 c =
+    let text = c.args.text.now in
+    let opener = c.args.opener in
+    let front = c.in-Some.ensures in
+    let items = c.flat_members.new.mops.items in
+    let end = c.in-Some-2.end in
+    let read = transaction_reached text opener.end (fields_of c.in-Some.front) [] items front.opener (Ok (Some end)) front.reached
+    (λ empty at opens. rw c.in-Some-2.is at (c.in_ok-end.ensures.reads c.requires.empty at front.opener front.end_is opens)) in
+    let p = err_from_is_err_and c.from_residual-in_err-entry-2.result c.from_residual-in_err-entry-2.ensures.1 in
+    rw (p.1, p.2) (c.in_err-entry-2.ensures opener read.0 refl (subst (λ (f : FlatFields). ReadsFields text opener.end read.0 f items end) (sym c.fields.ensures) read.1))
 
 pub returns : goal.returns
 returns c =
