@@ -51,6 +51,8 @@ impl Model for KeptAccesses {
 }
 
 /// Appends the accesses of a transaction.
+// Out of line, its result is written in pieces of 4 bytes and read back at once as 16, which stalls.
+#[inline(always)]
 fn append(accesses: &mut Vec<Access>, accessed: &Accessed) -> Result<KeptSpan, AllocError>
     ensures ok { IfOk result (AreAppended accesses.old.items accesses.new.items
         accessed.now.reads.items accessed.now.writes.items accessed.now.seen.items) }
