@@ -1,25 +1,27 @@
 -- Versions that the journal numbered when they were written.
-use Rattle.std.proofs.Common.{◌≡◌, ◌⊎◌, inl, inr, ◌<◌, ℕ, zero, suc, List, [], ◌∷◌, ◌++◌, length, get_or, replicate, Bool, true, Option, Some, None, sym, ◌∙◌, ap, subst, arith}
+use Rattle.std.proofs.Common.{◌≡◌, ◌⊎◌, inl, inr, ◌<◌, ◌+◌, ℕ, zero, suc, List, [], ◌∷◌, ◌++◌, length, get_or, replicate, Bool, true, Option, Some, None, option_map, refl, sym, ◌∙◌, ap, subst, arith}
 use Rattle.std.specs.Prelude.{slice_get, ◌||◌}
 use Rattle.std.specs.List.{list_any}
-use Rattle.std.proofs.lemmas.Bool.{cases_Bool, false≢true, or_cases, or_left, or_right}
+use Rattle.std.proofs.lemmas.Bool.{false≢true, or_cases, or_left, or_right}
 use Rattle.std.specs.Option.{is_some}
 use Rattle.std.proofs.lemmas.List.{get_or-replicate, length-replicate}
 use Rattle.std.proofs.lemmas.List.Folds.{list_any-append}
+use Rattle.std.proofs.lemmas.Option.{slice_get-map}
 use Rattle.hist_types.specs.Atoms.{Atom}
 use Rattle.hist_types.specs.Operations.{Mop, read, write}
-use Rattle.hist_types.specs.Journal.{Write, write_eq, writes_of}
+use Rattle.hist_types.specs.Journal.{Write, writes_of}
 use Rattle.hist_types.specs.Transactions.{Transaction, Version, version_eq, version_of, has_version, is_ok}
 use Rattle.hist_types.specs.Versions.{nil_of}
-use Rattle.hist_types.proofs.Equality.{version_eq-same, version_eq-itself, write_eq-same, write_eq-itself}
+use Rattle.hist_types.proofs.Equality.{version_eq-same, version_eq-itself}
 use Rattle.history_laws.specs.Writers.{writes_of_all}
-use Rattle.journal_core.specs.Writes.{AreSameWrites, AreWithin, IsWithin, AreWrites, write_by, writes_by}
+use Rattle.journal_core.specs.Writes.{AreWithin, IsWithin, AreWrites, write_by, writes_by}
 use Rattle.atom_index.specs.Numbers.{number_in, AreNumbered, pair_eq}
 use Rattle.atom_index.proofs.Pushed.{has_number as number_there}
-use Rattle.key_versions.specs.Given.{names, AreGiven, AreNamed}
+use Rattle.key_versions.specs.Given.{names, AreGiven, AreNamed, HaveNumbers}
 use Rattle.key_versions.specs.Histories.{known_in, named_in, named_by, is_named}
-use Rattle.key_versions.specs.Nils.{AreNilsIn, AreOfKeysBelow, AreWithNils}
+use Rattle.key_versions.specs.Nils.{AreNilsIn, AreOfKeysBelow, AreWithNils, KeepPlaces}
 use Rattle.key_versions.specs.Numbering.{IsInRange, IsNumbering, version_by, versions_in}
+use Rattle.key_versions.specs.declared.write_numbers.WriteNumbers.TheVariants.{Consecutive}
 use Rattle.key_versions.proofs.Numbered.{pair_eq-same, version_pair}
 use Rattle.key_versions.proofs.Places.{no_item, same_item, number_at, cases_number}
 
@@ -113,27 +115,29 @@ named_by_writes keys values given pairs all are v has = elim (cases_number versi
   | inr none ↦ absurd (false≢true (sym (ap is_some none) ∙ number_there version_eq v (versions_in keys values pairs) ∙ has))
 ]
 
+-- ---- the numbers of what was written
+
+made_of : (keys values : List Atom) (q : ℕ × Option ℕ) → IsWithin (length keys) (length values) q → version_by keys values q ≡ version_of (write_by keys values q)
+made_of keys values (key, None) is = absurd is
+made_of keys values (key, Some value) is = refl
+
+write_at :
+    (keys values : List Atom) (given : List (ℕ × Option ℕ)) → AreWithin (length keys) (length values) given → (place : ℕ) (w : Write) → slice_get (writes_by keys values given) place ≡ Some w
+    → (q : ℕ × Option ℕ) × (slice_get given place ≡ Some q) × (version_by keys values q ≡ version_of w)
+write_at keys values [] all place w at = absurd (no_item w at)
+write_at keys values (q ∷ given) all zero w at = (q, refl, made_of keys values q all.0 ∙ ap version_of (same_item (write_by keys values q) w at))
+write_at keys values (q ∷ given) all (suc place) w at = write_at keys values given all.1 place w at
+
+-- they are consecutive
+pub first_numbers :
+    (keys values : List Atom) (given pairs : List (ℕ × Option ℕ)) → AreWithin (length keys) (length values) given → KeepPlaces given pairs
+    → HaveNumbers (Consecutive 0) (versions_in keys values pairs) (writes_by keys values given)
+first_numbers keys values given pairs all keep place w at =
+    let (q, there, made) = write_at keys values given all place w at in
+    let start : 0 + place ≡ place = omega arith in
+    ap (slice_get (versions_in keys values pairs)) start ∙ slice_get-map (version_by keys values) pairs place ∙ ap (option_map (version_by keys values)) (keep place q there) ∙ ap Some made
+
 -- ---- what the transactions write
-
-some_write : (p : Write → Bool) (ws : List Write) → list_any p ws ≡ true → (w : Write) × (p w ≡ true) × (list_any (write_eq w) ws ≡ true)
-some_write p [] h = absurd (false≢true h)
-some_write p (w ∷ ws) h = elim (cases_Bool (p w)) [
-  | inl is ↦ (w, is, or_left (write_eq w w) (list_any (write_eq w) ws) (write_eq-itself w))
-  | inr not ↦ (
-      let rest = some_write p ws (sym (ap (λ b. b || list_any p ws) not) ∙ h) in
-      (rest.0, rest.1, or_right (write_eq rest.0 w) (list_any (write_eq rest.0) ws) rest.2))
-]
-
-passes : (p : Write → Bool) (w : Write) (ws : List Write) → p w ≡ true → list_any (write_eq w) ws ≡ true → list_any p ws ≡ true
-passes p w [] is h = absurd (false≢true h)
-passes p w (u ∷ ws) is h = elim (or_cases (write_eq w u) (list_any (write_eq w) ws) h) [
-  | inl same ↦ or_left (p u) (list_any p ws) (ap p (sym (write_eq-same w u same)) ∙ is)
-  | inr rest ↦ or_right (p u) (list_any p ws) (passes p w ws is rest)
-]
-
--- a test that passes one of some writes passes one of the same writes
-same_some : (p : Write → Bool) (ws us : List Write) → AreSameWrites ws us → list_any p ws ≡ true → list_any p us ≡ true
-same_some p ws us same h = let (w, is, there) = some_write p ws h in passes p w us is (sym (same w) ∙ there)
 
 named_in_mops : (v : Version) (ok : Bool) (ms : List Mop) → list_any (names v) (writes_of ms) ≡ true → has_version (named_in ok ms) v ≡ true
 named_in_mops v ok [] h = absurd (false≢true h)
@@ -160,5 +164,5 @@ named_in_all v (t ∷ ts) h = elim (or_cases (list_any (names v) (writes_of t.mo
   | inr behind ↦ or_right (has_version (named_by t) v) (is_named ts v) (named_in_all v ts behind)
 ]
 
-pub given_named : (writes : List Write) (versions : List Version) (ts : List Transaction) → AreGiven writes versions → AreSameWrites writes (writes_of_all ts) → AreNamed ts versions
-given_named writes versions ts are same v has = named_in_all v ts (same_some (names v) writes (writes_of_all ts) same (are.named v has))
+pub given_named : (writes : List Write) (versions : List Version) (ts : List Transaction) → AreGiven writes versions → writes ≡ writes_of_all ts → AreNamed ts versions
+given_named writes versions ts are same v has = named_in_all v ts (subst (λ (ws : List Write). list_any (names v) ws ≡ true) same (are.named v has))

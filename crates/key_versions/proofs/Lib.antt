@@ -17,6 +17,7 @@ mod Followed
 mod Told
 mod Given
 mod Journaled
+mod WriteNumbers
 pub mod Callers
 mod ByPlace
 mod Pairs

@@ -5,8 +5,8 @@ use Rattle.std.proofs.lemmas.Bool.{cases_Bool, eqb-true, eqb-false}
 use Rattle.std.proofs.lemmas.List.{length_push}
 use Rattle.atom_index.specs.Numbers.{number_in, with_item, pair_eq}
 use Rattle.atom_index.proofs.Pushed.{number_first, number_last, number_kept, item_pushed, pair_eq-itself}
-use Rattle.key_versions.specs.Nils.{AreNilsIn, IsWithNil, AreWithNils}
-use Rattle.key_versions.proofs.Places.{same_item, cases_number, with_item-there, with_item-new}
+use Rattle.key_versions.specs.Nils.{AreNilsIn, IsWithNil, AreWithNils, KeepPlaces}
+use Rattle.key_versions.proofs.Places.{same_item, cases_number, with_item-there, with_item-new, slice_get-with_item}
 
 abbrev pair_by : ℕ → Option ℕ → ℕ × Option ℕ
 pair_by key value = (key, value)
@@ -69,6 +69,7 @@ pub record AreLooked (given : List (ℕ × Option ℕ)) (count : ℕ) (pairs : L
   pub first : AreFirst (λ j. (j < count) ⊎ (length given ≤ j)) pairs
   pub more : length given ≤ length pairs
   pub each : AreWithNils given pairs
+  pub places : KeepPlaces given pairs
 
 pub one_looked :
     (given : List (ℕ × Option ℕ)) (count : ℕ) (pairs : List (ℕ × Option ℕ)) (p : ℕ × Option ℕ) → AreLooked given count pairs
@@ -101,4 +102,5 @@ one_looked given count pairs p old at numbered =
       first = first_grown (λ j. (j < count + 1) ⊎ (length given ≤ j)) pairs nil here;
       more = omega arith;
       each = each_grown given pairs nil old.each is;
+      places = λ i q found. slice_get-with_item pair_eq pairs nil q i (old.places i q found);
     }

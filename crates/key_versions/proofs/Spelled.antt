@@ -9,16 +9,16 @@ use Rattle.hist_types.specs.Operations.{Mop, read, write}
 use Rattle.hist_types.specs.Transactions.{Version, version_eq}
 use Rattle.hist_types.specs.Versions.{nil_of}
 use Rattle.hist_types.proofs.Equality.{version_eq-same, version_eq-itself}
-use Rattle.atom_index.specs.Numbers.{number_in, with_item, AreNumbered, pair_eq}
+use Rattle.atom_index.specs.Numbers.{number_in, with_item, pair_eq}
 use Rattle.edn_ops.specs.Shapes.{is_write}
 use Rattle.edn_ops.specs.SourceTexts.{IsAtomText, IsMopText}
 use Rattle.edn_ops.specs.declared.write.MopText.{MopText}
 use Rattle.op_block.specs.MopTexts.{atom_in}
 use Rattle.op_view.specs.Mops.{key_of, value_of}
 use Rattle.op_block.proofs.SpelledMops.{atom_in-is}
-use Rattle.key_versions.specs.Named.{version_named, IsNamed}
-use Rattle.key_versions.specs.Numbering.{Numbers, IsNumbering, IsBelow, version_with, version_by, versions_of, with_versions, IsAccess, IsVersionOfKey}
-use Rattle.key_versions.proofs.Numbered.{access_by, access_there, access_versions, version_there, key_is, new_nil, new_version}
+use Rattle.key_versions.specs.Named.{version_named}
+use Rattle.key_versions.specs.Numbering.{Numbers, IsNumbering, version_with, version_by, versions_of, with_versions, IsAccess, IsVersionOfKey}
+use Rattle.key_versions.proofs.Numbered.{access_by, access_versions, key_is, new_nil, new_version}
 use Rattle.key_versions.proofs.Places.{number_within, with_item-there, with_item-twice}
 
 abbrev pair_by : ℕ → Option ℕ → ℕ × Option ℕ
@@ -58,11 +58,6 @@ version_written s number m p v is at valued same =
           ∙ ap Some made,
     )
 
--- the value of a version has a number
-pub value_within :
-    (s : Numbers) (number m : ℕ) (p : ℕ × Option ℕ) → IsNumbering s.keys s.values s.pairs s.nils → slice_get s.pairs number ≡ Some p → p.1 ≡ Some m → m < length s.values
-value_within s number m p is at valued = subst (IsBelow (length s.values)) valued (is.in_range number p at).1
-
 -- the nil version of a key, by the entry of the key
 pub known_nil :
     (s : Numbers) (key : Atom) (k n : ℕ) (entry : Option ℕ) → IsNumbering s.keys s.values s.pairs s.nils → number_in atom_eq key s.keys ≡ Some k
@@ -92,12 +87,6 @@ named_numbers vs m key value nil n same_key same_value nil_at at = (
   nil_at ∙ ap (λ (a : Atom). Some (version_with a None)) same_key,
   at ∙ ap (λ (a : Atom). Some (version_with a value)) same_key ∙ ap (λ (v : Option Atom). Some (version_with (key_of m) v)) same_value,
 )
-
--- what a version that is there leaves, where the nil version of its key is there too
-pub all_there :
-    (vs : List Version) (v : Version) (nil version : ℕ) → AreNumbered version_eq vs → slice_get vs nil ≡ Some (nil_of v.key) → slice_get vs version ≡ Some v
-    → IsNamed vs vs v (access_by nil version)
-all_there vs v nil version numbered nil_at at = access_there vs vs v nil version numbered at (version_there vs (nil_of v.key) nil numbered nil_at) nil_at
 
 -- the nil version of a key is the version that was named
 pub nil_access :

@@ -1,7 +1,7 @@
 -- Versions that have numbers before any transaction is taken: those that the journal numbered when
 -- they were written, and the nil versions of their keys. The transactions name all of them, but
 -- while some are not taken yet, the table has versions that no taken one names.
-use Rattle.std.specs.Prelude.{◌≡◌, List, Bool, ◌||◌, IsTrue}
+use Rattle.std.specs.Prelude.{◌≡◌, ◌+◌, ℕ, List, slice_get, Some, Bool, ◌||◌, IsTrue, ⊤}
 use Rattle.std.specs.List.{list_any}
 use Rattle.atom_index.specs.Numbers.{AreNumbered}
 use Rattle.hist_types.specs.Journal.{Write}
@@ -11,6 +11,8 @@ use Rattle.hist_types.specs.declared.types.KeyOrder.TheVariants.{Basic}
 use Rattle.key_versions.specs.Histories.{is_named}
 use Rattle.key_versions.specs.Kept.{KeptVersions, HaveAccesses}
 use Rattle.key_versions.specs.Tables.{Table, IsTableWith}
+use Rattle.key_versions.specs.declared.write_numbers.WriteNumbers.{WriteNumbers}
+use Rattle.key_versions.specs.declared.write_numbers.WriteNumbers.TheVariants.{Unknown, Consecutive, Invoked}
 
 -- whether the write names the version: it is what is written, or the nil version of the key
 abbrev pub names : Version → Write → Bool
@@ -36,3 +38,23 @@ pub record AreKeptBeside (given : List Version) (ts : List Transaction) (kept : 
   pub distinct : AreNumbered version_eq kept.versions
   pub named : (v : Version) → has_version kept.versions v ≡ (has_version given v || is_named ts v)
   pub accesses : HaveAccesses kept.keys kept.versions ts kept.accesses
+
+-- Where a transaction's writes have consecutive numbers, the version that is written after so many
+-- others has the number that is as far from the first one. Otherwise nothing is known for sure.
+abbrev pub HasNumber : WriteNumbers → List Version → (place : ℕ) → Version → Type 0
+HasNumber Unknown versions place v = ⊤
+HasNumber (Consecutive first) versions place v = slice_get versions (first + place) ≡ Some v
+HasNumber (Invoked writes) versions place v = ⊤
+
+-- the versions of these writes, one after the other, have the numbers that are known of them
+abbrev pub HaveNumbers : WriteNumbers → List Version → List Write → Type 0
+HaveNumbers numbers versions writes =
+    (place : ℕ) (w : Write)
+    → slice_get writes place ≡ Some w
+    → HasNumber numbers versions place (version_of w)
+
+-- what is known of the numbers of the writes after n
+abbrev pub numbers_after : WriteNumbers → (n : ℕ) → WriteNumbers
+numbers_after Unknown n = Unknown
+numbers_after (Consecutive first) n = Consecutive (first + n)
+numbers_after (Invoked writes) n = Unknown

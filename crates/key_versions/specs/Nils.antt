@@ -20,3 +20,8 @@ IsWithNil given p =
 abbrev pub AreWithNils : List (ℕ × Option ℕ) → List (ℕ × Option ℕ) → Type 0
 AreWithNils given pairs =
     (i : ℕ) (p : ℕ × Option ℕ) → slice_get pairs i ≡ Some p → IsWithNil given p
+
+-- each of these pairs keeps its number
+abbrev pub KeepPlaces : (before after : List (ℕ × Option ℕ)) → Type 0
+KeepPlaces before after =
+    (i : ℕ) (p : ℕ × Option ℕ) → slice_get before i ≡ Some p → slice_get after i ≡ Some p

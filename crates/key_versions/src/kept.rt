@@ -2,9 +2,11 @@
 
 ghost use Rattle.std.specs.Prelude.{◌≡◌, ◌<◌, ◌++◌, ◌∷◌, [], List, length, map, set, slice_get, Some, IfOk, OnOk};
 ghost use Rattle.atom_index.specs.Numbers.{AreNumbered};
+ghost use Rattle.hist_types.specs.Journal.{writes_of};
 ghost use Rattle.hist_types.specs.Transactions.{Transaction, Version, version_eq};
 ghost use Rattle.hist_types.specs.declared.types.KeyOrder.TheVariants.{Basic, Sequential};
-ghost use Rattle.key_versions.specs.Given.{AreNamed, AreKeptBeside, IsTableBeside};
+ghost use Rattle.history_laws.specs.Writers.{writes_of_all};
+ghost use Rattle.key_versions.specs.Given.{AreNamed, AreKeptBeside, HaveNumbers, IsTableBeside};
 ghost use Rattle.key_versions.specs.Kept.{AreKept, KeepNumbers, StayBeside};
 ghost use Rattle.key_versions.specs.LastSeen.{last_seen};
 ghost use Rattle.key_versions.specs.Numbering.{versions_of};
@@ -21,6 +23,7 @@ use crate::rows::Rows;
 use crate::sequential::follow_steps;
 use crate::steps::Steps;
 use crate::table::Versions;
+use crate::write_numbers::WriteNumbers;
 use hist_types::types::KeyOrder;
 use std::alloc::{AllocError, Global};
 use std::hash::BuildHasher;
@@ -98,29 +101,35 @@ impl<'a, S: BuildHasher + Copy> KeptVersions<'a, S> {
         })
     }
 
-    /// Takes the next transaction of a history, where some versions had numbers before.
-    fn take(&mut self, txn: &Txn<'a>) -> Result<(), AllocError>
-        requires { (given : List Version) × (ts : List Transaction)
+    /// Takes the next transaction of a history, where some versions had numbers before, and returns how many writes it has.
+    fn take(&mut self, txn: &Txn<'a>, numbers: WriteNumbers<'_>) -> Result<usize, AllocError>
+        requires kept { (given : List Version) × (ts : List Transaction)
             × AreKeptBeside given ts self.old }
+        requires numbers { HaveNumbers numbers self.old.versions (writes_of txn.now.mops) }
         ensures kept { (given : List Version) (ts : List Transaction)
             → AreKeptBeside given ts self.old
             → OnOk result (AreKeptBeside given (ts ++ txn.now ∷ []) self.new) }
+        ensures writes { IfOk result (λ writes. writes ≡ length (writes_of txn.now.mops)) }
+        ensures numbers { OnOk result (KeepNumbers self.old.versions self.new.versions) }
         ensures keys { self.new.keys ≡ self.old.keys }
     {
         self.numbering
-            .take(txn, self.keys, &[], &mut self.accessed)?;
+            .take(txn, self.keys, numbers, &mut self.accessed)?;
         self.accesses.push(&self.accessed)?;
-        Ok(())
+        Ok(self.accessed.writes.len())
     }
 
     /// Takes all transactions of a history, one after the other.
-    fn take_all(&mut self, txns: &[Txn<'a>]) -> Result<(), AllocError>
-        requires { AreKeptBeside self.old.versions [] self.old }
+    fn take_all(&mut self, txns: &[Txn<'a>], numbers: WriteNumbers<'_>) -> Result<(), AllocError>
+        requires kept { AreKeptBeside self.old.versions [] self.old }
+        requires numbers { HaveNumbers numbers self.old.versions (writes_of_all txns.now) }
         ensures kept { OnOk result (AreKeptBeside self.old.versions txns.now self.new) }
         ensures keys { self.new.keys ≡ self.old.keys }
     {
+        let mut next = numbers;
         for txn in txns {
-            self.take(txn)?;
+            let writes = self.take(txn, next)?;
+            next = next.after(writes)?;
         }
         Ok(())
     }
@@ -130,15 +139,17 @@ impl<'a, S: BuildHasher + Copy> KeptVersions<'a, S> {
         alloc: Global,
         numbering: Numbering<'a, S>,
         txns: &[Txn<'a>],
+        numbers: WriteNumbers<'_>,
         keys: KeyOrder,
     ) -> Result<Self, AllocError>
         requires distinct { AreNumbered version_eq (versions_of numbering) }
         requires named { AreNamed txns.now (versions_of numbering) }
+        requires numbers { HaveNumbers numbers (versions_of numbering) (writes_of_all txns.now) }
         ensures kept { IfOk result (AreKept txns.now) }
         ensures keys { IfOk result (λ kept. kept.keys ≡ keys) }
     {
         let mut kept = KeptVersions::with_capacity(alloc, numbering, txns.len(), keys)?;
-        kept.take_all(txns)?;
+        kept.take_all(txns, numbers)?;
         Ok(kept)
     }
 
@@ -153,7 +164,7 @@ impl<'a, S: BuildHasher + Copy> KeptVersions<'a, S> {
         ensures keys { self.new.keys ≡ self.old.keys }
     {
         self.numbering
-            .take(txn, self.keys, &[], &mut self.accessed)?;
+            .take(txn, self.keys, WriteNumbers::Unknown, &mut self.accessed)?;
         self.accesses.push(&self.accessed)?;
         Ok(())
     }
@@ -169,9 +180,9 @@ impl<'a, S: BuildHasher + Copy> KeptVersions<'a, S> {
         ensures keys { self.new.keys ≡ self.old.keys }
     {
         if txn.status() == Status::Ok {
-            let invoked = self.accesses.writes(place);
+            let numbers = WriteNumbers::Invoked(self.accesses.writes(place));
             self.numbering
-                .take(txn, self.keys, invoked, &mut self.accessed)?;
+                .take(txn, self.keys, numbers, &mut self.accessed)?;
             self.accesses.set(place, &self.accessed)?;
         }
         Ok(())

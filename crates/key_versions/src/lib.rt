@@ -4,7 +4,6 @@
 ghost use Rattle.std.specs.Prelude.{◌≡◌, IfOk, IfErr};
 ghost use Rattle.hist_types.specs.Refusals.{memory_fault};
 ghost use Rattle.history_laws.specs.Writers.{writes_of_all};
-ghost use Rattle.journal_core.specs.Writes.{AreSameWrites};
 ghost use Rattle.key_versions.specs.Kept.{AreKept};
 ghost use Rattle.key_versions.specs.Tables.{IsTableOf};
 
@@ -25,10 +24,12 @@ mod sequential;
 mod steps;
 pub mod table;
 pub mod types;
+mod write_numbers;
 
 use crate::kept::KeptVersions;
 use crate::numbering::{Numbering, numbering_of};
 use crate::table::Versions;
+use crate::write_numbers::WriteNumbers;
 use hist_types::types::{Fault, KeyOrder};
 use journal_core::written::Written;
 use std::alloc::Global;
@@ -59,14 +60,15 @@ pub fn versions<'a, S: BuildHasher + Copy>(
     ensures err { IfErr result (λ fault. fault ≡ memory_fault) }
 {
     let numbering = Numbering::with_capacity(alloc, hasher, txns.as_slice().len())?;
-    let kept = KeptVersions::of(alloc, numbering, txns.as_slice(), keys)?;
+    let numbers = WriteNumbers::Unknown;
+    let kept = KeptVersions::of(alloc, numbering, txns.as_slice(), numbers, keys)?;
     let table = kept.into_table(alloc, txns)?;
     Ok(table)
 }
 
-/// What the transactions read and write, by the numbers that the journal gave to what it saw written, where it can be. Transactions
-/// come in the order of their invocations, and so did their writes, so a write is compared with the journal's next one, and mostly
-/// nothing is looked up.
+/// What the transactions read and write, by the numbers that the journal gave to what it saw written. Transactions come in the
+/// order of their invocations, and so did their writes, so each write has the next of these numbers: its key and its value are
+/// not looked at.
 ///
 /// The only error is out of memory.
 pub fn kept_of_written<'a>(
@@ -75,12 +77,13 @@ pub fn kept_of_written<'a>(
     written: Written<'a>,
     keys: KeyOrder,
 ) -> Result<KeptVersions<'a, BuildHasherDefault<FoldHasher>>, Fault>
-    requires { AreSameWrites written.items (writes_of_all txns.now) }
+    requires { written.items ≡ writes_of_all txns.now }
     ensures kept { IfOk result (AreKept txns.now) }
     ensures keys { IfOk result (λ kept. kept.keys ≡ keys) }
     ensures err { IfErr result (λ fault. fault ≡ memory_fault) }
 {
     let numbering = numbering_of(alloc, written)?;
-    let kept = KeptVersions::of(alloc, numbering, txns.as_slice(), keys)?;
+    let numbers = WriteNumbers::Consecutive(0);
+    let kept = KeptVersions::of(alloc, numbering, txns.as_slice(), numbers, keys)?;
     Ok(kept)
 }

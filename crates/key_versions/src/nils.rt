@@ -2,7 +2,7 @@
 
 ghost use Rattle.std.specs.Prelude.{◌≡◌, ◌<◌, None, Some, length, IfOk, OnOk, OnErr};
 ghost use Rattle.atom_index.specs.Numbers.{AreNumbered, number_in, with_item, pair_eq};
-ghost use Rattle.key_versions.specs.Nils.{AreNilsIn, AreOfKeysBelow, AreWithNils};
+ghost use Rattle.key_versions.specs.Nils.{AreNilsIn, AreOfKeysBelow, AreWithNils, KeepPlaces};
 
 use atom_index::pairs::PairIndex;
 use std::alloc::AllocError;
@@ -62,6 +62,7 @@ pub(crate) fn add_nils<S: BuildHasher>(
     requires nils { AreNilsIn pairs.old.items nils.old.items }
     ensures numbered { OnOk result (AreNumbered pair_eq pairs.new.items) }
     ensures pairs { OnOk result (AreWithNils pairs.old.items pairs.new.items) }
+    ensures places { OnOk result (KeepPlaces pairs.old.items pairs.new.items) }
     ensures nils { OnOk result (AreNilsIn pairs.new.items nils.new.items) }
     ensures len { OnOk result (length nils.new.items ≡ length nils.old.items) }
 {

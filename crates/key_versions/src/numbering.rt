@@ -1,21 +1,24 @@
 //! Numbers for versions.
 
-ghost use Rattle.std.specs.Prelude.{◌≡◌, ◌<◌, ◌∷◌, slice_get, [], true, Some, length, IfOk, IfSome, OnOk, None};
+ghost use Rattle.std.specs.Prelude.{◌≡◌, ◌<◌, ◌+◌, ◌∷◌, slice_get, [], true, Some, length, IfOk, IfSome, OnOk, None};
 ghost use Rattle.atom_index.specs.Numbers.{AreNumbered, number_in, with_item};
 ghost use Rattle.hist_types.specs.Atoms.{atom_eq};
+ghost use Rattle.hist_types.specs.Journal.{writes_of};
 ghost use Rattle.hist_types.specs.Transactions.{Version, version_eq};
 ghost use Rattle.hist_types.specs.Versions.{nil_of};
 ghost use Rattle.edn_ops.specs.Shapes.{is_write};
 ghost use Rattle.key_versions.specs.Histories.{named_by};
 ghost use Rattle.key_versions.specs.Numbering.{Numbers, key_at, version_by, version_with, versions_in, versions_of, AreInRange, with_versions, IsAccess, IsAccessIfAny, IsVersionOfKey};
 ghost use Rattle.key_versions.specs.Named.{version_named, IsNamed};
-ghost use Rattle.key_versions.specs.Given.{AreGiven};
+ghost use Rattle.key_versions.specs.Given.{AreGiven, HasNumber, HaveNumbers};
+ghost use Rattle.key_versions.specs.declared.write_numbers.WriteNumbers.TheVariants.{Consecutive};
 ghost use Rattle.key_versions.specs.TxnAccesses.{AreAccessesOf, AreSeenBy};
 
 use crate::accessed::Accessed;
 use crate::nils::{add_nils, nil_number};
 use crate::pending::Access;
 use crate::rows::number_of;
+use crate::write_numbers::WriteNumbers;
 use atom_index::atoms::AtomIndex;
 use atom_index::pairs::PairIndex;
 use hist_types::types::KeyOrder;
@@ -36,10 +39,6 @@ pub(crate) struct Numbering<'a, S: BuildHasher> {
     pairs: PairIndex<S>,
     /// The nil version of each key, if it has a number.
     nils: Vec<Option<u32>>,
-    /// How many versions the journal numbered. They have the first numbers.
-    written: u32,
-    /// How many of these were compared with writes of the transactions.
-    compared: u32,
 }
 
 // Written out, as what is derived is repeated wherever one is dropped.
@@ -50,8 +49,6 @@ impl<'a, S: BuildHasher + Drop> Drop for Numbering<'a, S> {
             values: _,
             pairs: _,
             nils: _,
-            written: _,
-            compared: _,
         } = self;
     }
 }
@@ -80,19 +77,21 @@ pub(crate) struct Numbered<'a> {
     pub pairs: Vec<(u32, Option<u32>)>,
 }
 
-/// The versions that the journal numbered when they were written, and the nil versions of their keys.
+/// The versions that the journal numbered when they were written, in that order, and after them the nil versions of their keys.
 pub(crate) fn numbering_of<'a>(
     alloc: Global,
     written: Written<'a>,
 ) -> Result<Numbering<'a, BuildHasherDefault<FoldHasher>>, AllocError>
-    ensures { IfOk result (λ numbering. AreGiven written.entry.items (versions_of numbering)) }
+    ensures given { IfOk result
+        (λ numbering. AreGiven written.entry.items (versions_of numbering)) }
+    ensures numbers { IfOk result (λ numbering.
+        HaveNumbers (Consecutive 0) (versions_of numbering) written.entry.items) }
 {
     let WrittenTables {
         keys,
         values,
         mut pairs,
     } = written.into_tables();
-    let count = number_of(pairs.len())?;
     let mut nils = vec![in alloc; None; keys.len()]?;
     pairs.reserve(keys.len())?;
     add_nils(&mut pairs, &mut nils)?;
@@ -101,8 +100,6 @@ pub(crate) fn numbering_of<'a>(
         values,
         pairs,
         nils,
-        written: count,
-        compared: 0,
     })
 }
 
@@ -132,8 +129,6 @@ impl<'a, S: BuildHasher> Numbering<'a, S> {
             values: AtomIndex::with_hasher(alloc, hasher),
             pairs: PairIndex::with_hasher(alloc, hasher),
             nils: Vec::new(alloc),
-            written: 0,
-            compared: 0,
         }
     }
 
@@ -148,8 +143,6 @@ impl<'a, S: BuildHasher> Numbering<'a, S> {
             values: AtomIndex::with_hasher(alloc, hasher),
             pairs: PairIndex::with_capacity_and_hasher(alloc, versions, hasher)?,
             nils: Vec::new(alloc),
-            written: 0,
-            compared: 0,
         })
     }
 
@@ -272,44 +265,45 @@ impl<'a, S: BuildHasher> Numbering<'a, S> {
         }
     }
 
-    /// The number that the next write most likely has: the one that it had when its transaction was invoked, or else the next of
-    /// those that the journal gave.
-    fn expected(&mut self, invoked: Option<&Access>) -> Option<u32>
-        ensures { self.new ≡ self.old }
-    {
-        if let Some(access) = invoked {
-            return Some(access.version);
-        }
-        let next = self.compared;
-        if next >= self.written {
-            return None;
-        }
-        self.compared = next + 1;
-        Some(next)
-    }
-
-    /// The version that is written, if it has the number that is expected.
-    fn expected_version(
+    /// The version that is written, if it is the one that was written when the transaction was invoked.
+    fn invoked_version(
         &mut self,
         write: &Mop<'a>,
         invoked: Option<&Access>,
     ) -> Result<Option<Access>, AllocError>
-        requires numbered { AreNumbered version_eq (versions_of self.old) }
+        requires distinct { AreNumbered version_eq (versions_of self.old) }
         requires is_write { is_write write.now ≡ true }
         ensures { IfOk result (IsAccessIfAny (versions_of self.old) (versions_of self.new)
             (version_named write.now)) }
     {
-        let Some(number) = self.expected(invoked) else {
+        let Some(access) = invoked else {
             return Ok(None);
         };
-        let Some(key) = self.key_of_version(number, write) else {
+        let Some(key) = self.key_of_version(access.version, write) else {
             return Ok(None);
         };
         let nil = self.nil(key)?;
         Ok(Some(Access {
             nil,
-            version: number,
+            version: access.version,
         }))
+    }
+
+    /// The version whose number is this many places after the first one.
+    fn with_number(&mut self, first: usize, place: usize) -> Result<Access, AllocError>
+        requires distinct { AreNumbered version_eq (versions_of self.old) }
+        requires within { first + place < length (versions_of self.old) }
+        ensures { (v : Version) → slice_get (versions_of self.old) (first + place) ≡ Some v
+            → IfOk result (IsNamed (versions_of self.old) (versions_of self.new) v) }
+    {
+        let pairs = self.pairs.as_slice();
+        let number = first + place;
+        let (key, _) = pairs[number];
+        let nil = self.nil(key)?;
+        Ok(Access {
+            nil,
+            version: number_of(number)?,
+        })
     }
 
     /// The version that a micro-operation names, where None is nil, if it and the nil version of its key have numbers.
@@ -325,24 +319,6 @@ impl<'a, S: BuildHasher> Numbering<'a, S> {
         Some(Access { nil, version })
     }
 
-    /// The version that a micro-operation names, if it is found where it most likely is. Most writes have the number that is
-    /// expected, so a write is compared with that version before it is looked up.
-    fn found(
-        &mut self,
-        mop: &Mop<'a>,
-        invoked: Option<&Access>,
-    ) -> Result<Option<Access>, AllocError>
-        requires { AreNumbered version_eq (versions_of self.old) }
-        ensures { IfOk result (IsAccessIfAny (versions_of self.old) (versions_of self.new)
-            (version_named mop.now)) }
-    {
-        if mop.is_write() {
-            self.expected_version(mop, invoked)
-        } else {
-            Ok(self.known(mop))
-        }
-    }
-
     /// The version that a micro-operation names. Where it has no number, it gets one.
     fn named(&mut self, mop: &Mop<'a>) -> Result<Access, AllocError>
         ensures { IfOk result
@@ -351,29 +327,63 @@ impl<'a, S: BuildHasher> Numbering<'a, S> {
         self.insert(mop.key(), mop.value())
     }
 
-    /// The version that a micro-operation names, found or looked up.
-    fn access(&mut self, mop: &Mop<'a>, invoked: Option<&Access>) -> Result<Access, AllocError>
-        requires { AreNumbered version_eq (versions_of self.old) }
+    /// The version that is written after n other writes of its transaction. It is looked up only where its number isn't known.
+    fn written(
+        &mut self,
+        write: &Mop<'a>,
+        numbers: WriteNumbers<'_>,
+        place: usize,
+    ) -> Result<Access, AllocError>
+        requires distinct { AreNumbered version_eq (versions_of self.old) }
+        requires is_write { is_write write.now ≡ true }
+        requires number { HasNumber numbers (versions_of self.old) place (version_named write.now) }
+        ensures { IfOk result
+            (IsNamed (versions_of self.old) (versions_of self.new) (version_named write.now)) }
+    {
+        match numbers {
+            WriteNumbers::Unknown => self.named(write),
+            WriteNumbers::Consecutive(first) => self.with_number(first, place),
+            WriteNumbers::Invoked(writes) => match self.invoked_version(write, writes.get(place))? {
+                Some(access) => Ok(access),
+                None => self.named(write),
+            },
+        }
+    }
+
+    /// The version that a micro-operation names, after n writes of its transaction. What is read mostly has a number, so that is
+    /// looked up first.
+    fn access(
+        &mut self,
+        mop: &Mop<'a>,
+        numbers: WriteNumbers<'_>,
+        place: usize,
+    ) -> Result<Access, AllocError>
+        requires distinct { AreNumbered version_eq (versions_of self.old) }
+        requires number { is_write mop.now ≡ true
+            → HasNumber numbers (versions_of self.old) place (version_named mop.now) }
         ensures { IfOk result
             (IsNamed (versions_of self.old) (versions_of self.new) (version_named mop.now)) }
     {
-        match self.found(mop, invoked)? {
+        if mop.is_write() {
+            return self.written(mop, numbers, place);
+        }
+        match self.known(mop) {
             Some(access) => Ok(access),
             None => self.named(mop),
         }
     }
 
     /// Numbers the versions that a transaction names, and notes which it reads and writes in place of what was noted. Of a read of
-    /// one that is not ok, the nil version of the key is numbered alone. The writes that a completed transaction was invoked with,
-    /// if they are given, are not looked up again.
+    /// one that is not ok, the nil version of the key is numbered alone.
     pub fn take(
         &mut self,
         txn: &Txn<'a>,
         keys: KeyOrder,
-        invoked: &[Access],
+        numbers: WriteNumbers<'_>,
         accessed: &mut Accessed,
     ) -> Result<(), AllocError>
-        requires { AreNumbered version_eq (versions_of self.old) }
+        requires distinct { AreNumbered version_eq (versions_of self.old) }
+        requires numbers { HaveNumbers numbers (versions_of self.old) (writes_of txn.now.mops) }
         ensures versions { OnOk result
             (versions_of self.new ≡ with_versions (versions_of self.old) (named_by txn.now)) }
         ensures accesses { OnOk result (AreAccessesOf (versions_of self.new) txn.now
@@ -388,8 +398,7 @@ impl<'a, S: BuildHasher> Numbering<'a, S> {
             let is_write = mop.is_write();
             let is_known = is_ok || is_write;
             if is_known {
-                let before = invoked.get(accessed.writes.len());
-                let access = self.access(&mop, before)?;
+                let access = self.access(&mop, numbers, accessed.writes.len())?;
                 accessed.add(access, is_write, keeps_seen)?;
             } else {
                 let key = self.key(mop.key())?;
@@ -432,8 +441,6 @@ impl<'a, S: BuildHasher> Numbering<'a, S> {
             values,
             pairs,
             nils: _,
-            written: _,
-            compared: _,
         } = self;
         Numbered {
             keys: keys.into_atoms(),

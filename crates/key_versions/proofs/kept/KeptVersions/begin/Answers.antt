@@ -5,8 +5,8 @@ use Rattle.key_versions.specs.TxnAccesses.{accesses_of}
 use Rattle.key_versions.proofs.Keeping.{beside_push, kept_by, kept_more, stays}
 use Rattle.key_versions.proofs.kept.KeptVersions.begin.Goals as goal
 
-pub take-requires : goal.take-requires
-take-requires g c =
+pub take-requires-clause-distinct : goal.take-requires-clause-distinct
+take-requires-clause-distinct g c =
     let (ts, is) = c.requires in
     let old : AreKept ts (kept_by c.self.inside.keys (versions_of c.self.inside.numbering) c.self.inside.accesses) = subst (AreKept ts) (sym c.self.view_is) is in
     old.distinct

@@ -6,8 +6,8 @@ use Rattle.key_versions.specs.TxnAccesses.{accesses_of}
 use Rattle.key_versions.proofs.Keeping.{accesses_within, beside_set, kept_by, kept_completed, kept_not_ok, stays}
 use Rattle.key_versions.proofs.kept.KeptVersions.complete.Goals as goal
 
-pub writes-invoked-requires : goal.writes-invoked-requires
-writes-invoked-requires g c =
+pub writes-requires : goal.writes-requires
+writes-requires g c =
     let (ts, is, below) = c.requires in
     accesses_within ts (kept_by c.self.inside.keys (versions_of c.self.inside.numbering) c.self.inside.accesses) c.args.self.now c.args.place c.self.view_is is below
 

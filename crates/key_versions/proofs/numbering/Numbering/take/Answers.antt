@@ -13,17 +13,27 @@ use Rattle.key_versions.specs.Numbering.{versions_of, version_with}
 use Rattle.key_versions.proofs.Numbered.{key_is}
 use Rattle.key_versions.proofs.Accessing.{accessed_by, taken_added, taken_unknown, accessed_stay, seen_added, seen_unknown, versions_numbered}
 use Rattle.key_versions.proofs.Seen.{keys_added}
+use Rattle.key_versions.proofs.WriteNumbers.{number_of_next}
 use Rattle.key_versions.proofs.numbering.Numbering.take.Goals.{then-is_ok, else-is_ok, then-is_ok-2, else-is_ok-2}
 use Rattle.key_versions.proofs.numbering.Numbering.take.Goals as goal
 
-pub access-requires : goal.access-requires
-access-requires g c =
-    subst (AreNumbered version_eq) (sym c.loop-mop.invariant.1.versions) (versions_numbered (versions_of c.args.self.now) c.requires (named_in c.eq-is_ok.result c.loop-mop.yielded))
+pub access-requires-clause-distinct : goal.access-requires-clause-distinct
+access-requires-clause-distinct g c =
+    subst (AreNumbered version_eq) (sym c.loop-mop.invariant.1.versions) (versions_numbered (versions_of c.args.self.now) c.requires.distinct (named_in c.eq-is_ok.result c.loop-mop.yielded))
+
+pub access-requires-clause-number : goal.access-requires-clause-number
+access-requires-clause-number g c = λ writes.
+    let ms = c.loop-mop.yielded in
+    let m = c.in-Some.mop in
+    let mops = c.args.txn.now.mops in
+    let whole : mops ≡ ms ++ m ∷ c.next.new.self = sym c.loop-mop.invariant.0 ∙ ap (λ (xs : List Mop). ms ++ xs) c.in-Some.ensures.steps in
+    number_of_next c.args.numbers (versions_of c.args.self.now) c.eq-is_ok.result ms c.next.new.self mops m (versions_of c.loop-mop.self)
+    c.loop-mop.accessed.writes.items c.loop-mop.accessed.reads.items c.len.result c.requires.numbers whole c.loop-mop.invariant.1 (c.len.ensures ∙ c.loop-mop.accessed.writes.ok.0) writes
 
 pub loop-mop-preserved-in-Continue-branch-2 : goal.loop-mop-preserved-in-Continue-branch-2
 loop-mop-preserved-in-Continue-branch-2 g c =
     let base = versions_of c.args.self.now in
-    let numbered : AreNumbered version_eq base = c.requires in
+    let numbered : AreNumbered version_eq base = c.requires.distinct in
     let ms = c.loop-mop.yielded in
     let m = c.in-Some.mop in
     let vs = versions_of c.loop-mop.self in
@@ -50,7 +60,7 @@ loop-mop-preserved-in-Continue-branch-2 g c =
 pub loop-mop-preserved : goal.loop-mop-preserved
 loop-mop-preserved g c =
     let base = versions_of c.args.self.now in
-    let numbered : AreNumbered version_eq base = c.requires in
+    let numbered : AreNumbered version_eq base = c.requires.distinct in
     let ms = c.loop-mop.yielded in
     let m = c.in-Some.mop in
     let vs = versions_of c.loop-mop.self in
