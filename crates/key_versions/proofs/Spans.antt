@@ -10,7 +10,7 @@ use Rattle.key_versions.specs.declared.kept_accesses.KeptSpan.{KeptSpan}
 use Rattle.key_versions.specs.declared.pending.Access.{Access}
 use Rattle.key_versions.specs.Rows.{Accessed}
 use Rattle.flat_groups.specs.Groups.{between}
-use Rattle.key_versions.specs.Spans.{IsSpan, accessed_at, IsKeptSpan, kept_at, AreAppended}
+use Rattle.key_versions.specs.Spans.{IsSpan, accessed_at, writes_start, seen_start, end_of, IsKeptSpan, kept_at, AreAppended}
 use Rattle.key_versions.specs.TxnAccesses.{TxnAccesses, accesses_by}
 use Rattle.key_versions.proofs.Changed.{all_behind}
 
@@ -148,20 +148,19 @@ told_at {N} {S} {A} at_span f numbers seen ss accesses place s is below at same 
 
 -- ---- accesses that are kept
 
-abbrev kept_span : ℕ → ℕ → ℕ → ℕ → KeptSpan
-kept_span reads writes seen end = record { reads = reads; writes = writes; seen = seen; end = end }
-
 one_kept_at : (xs ys : List Access) (s : KeptSpan) → IsKeptSpan (length xs) s → kept_at (xs ++ ys) s ≡ kept_at xs s
 one_kept_at xs ys s is =
-    let a = is.0 in
-    let b = is.1 in
-    let c = is.2 in
-    let d = is.3 in
-    let second : s.seen ≤ length xs = omega arith in
-    let first : s.writes ≤ length xs = omega arith in
-    ap (λ (rs : List Access). accesses_by rs (between s.writes s.seen (xs ++ ys)) (between s.seen s.end (xs ++ ys))) (between_kept s.reads s.writes xs ys a first)
-    ∙ ap (λ (ws : List Access). accesses_by (between s.reads s.writes xs) ws (between s.seen s.end (xs ++ ys))) (between_kept s.writes s.seen xs ys b second)
-    ∙ ap (accesses_by (between s.reads s.writes xs) (between s.writes s.seen xs)) (between_kept s.seen s.end xs ys c d)
+    let first = writes_start s in
+    let second = seen_start s in
+    let end = end_of s in
+    let first_within : first ≤ length xs = omega arith in
+    let second_within : second ≤ length xs = omega arith in
+    let a : s.start ≤ first = omega arith in
+    let b : first ≤ second = omega arith in
+    let c : second ≤ end = omega arith in
+    ap (λ (rs : List Access). accesses_by rs (between first second (xs ++ ys)) (between second end (xs ++ ys))) (between_kept s.start first xs ys a first_within)
+    ∙ ap (λ (ws : List Access). accesses_by (between s.start first xs) ws (between second end (xs ++ ys))) (between_kept first second xs ys b second_within)
+    ∙ ap (accesses_by (between s.start first xs) (between first second xs)) (between_kept second end xs ys c is)
 
 all_kept_at : (xs ys : List Access) (ss : List KeptSpan) → All (IsKeptSpan (length xs)) ss → map (kept_at (xs ++ ys)) ss ≡ map (kept_at xs) ss
 all_kept_at xs ys [] all = refl
@@ -170,40 +169,40 @@ all_kept_at xs ys (s ∷ ss) all =
     ∙ ap (λ (as1 : List TxnAccesses). kept_at xs s ∷ as1) (all_kept_at xs ys ss (all_behind (IsKeptSpan (length xs)) s ss all))
 
 pub kept_wider : (n m : ℕ) (ss : List KeptSpan) → n ≤ m → All (IsKeptSpan n) ss → All (IsKeptSpan m) ss
-kept_wider n m ss more all k d below =
-    let is = all k d below in
-    let last : (get_or ss k d).end ≤ n = is.3 in
-    let wider : (get_or ss k d).end ≤ m = omega arith in
-    (is.0, is.1, is.2, wider)
+kept_wider n m ss more all k d below = let last : end_of (get_or ss k d) ≤ n = all k d below in omega arith
 
 -- what was appended, and its span
 pub appended_accesses :
-    (xs first second now : List Access) (rs ws ss : List Access) (reads writes seen end : ℕ) → first ≡ xs ++ rs → second ≡ first ++ ws → now ≡ second ++ ss
-    → reads ≡ length xs → writes ≡ length first → seen ≡ length second → end ≡ length now
-    → AreAppended xs now rs ws ss (kept_span reads writes seen end)
-appended_accesses xs first second now rs ws ss reads writes seen end is_first is_second is_now at_reads at_writes at_seen at_end =
+    (xs first second now : List Access) (rs ws ss : List Access) (s : KeptSpan) → first ≡ xs ++ rs → second ≡ first ++ ws → now ≡ second ++ ss
+    → s.start ≡ length xs → s.reads ≡ length rs → s.writes ≡ length ws → s.seen ≡ length ss
+    → AreAppended xs now rs ws ss s
+appended_accesses xs first second now rs ws ss s is_first is_second is_now start reads writes seen =
     let one = length-append xs rs in
     let two = length-append first ws in
     let three = length-append second ss in
     let count_first : length first ≡ length (xs ++ rs) = ap length is_first in
     let count_second : length second ≡ length (first ++ ws) = ap length is_second in
     let count_now : length now ≡ length (second ++ ss) = ap length is_now in
-    let a : reads ≤ writes = omega arith in
-    let b : writes ≤ seen = omega arith in
-    let c : seen ≤ end = omega arith in
-    let d : end ≤ length now = omega arith in
+    let at_writes : writes_start s ≡ length first = omega arith in
+    let at_seen : seen_start s ≡ length second = omega arith in
+    let at_end : end_of s ≡ length now = omega arith in
     let whole : now ≡ xs ++ (rs ++ (ws ++ ss)) =
     is_now ∙ ap (λ (ys : List Access). ys ++ ss) (is_second ∙ ap (λ (ys : List Access). ys ++ ws) is_first)
     ∙ append_assoc (xs ++ rs) ws ss ∙ append_assoc xs rs (ws ++ ss) in
-    let their_reads : between reads writes now ≡ rs =
-    rw (at_reads, at_writes, is_first, whole) (ap (between (length xs) (length (xs ++ rs))) (sym (append_assoc xs rs (ws ++ ss))) ∙ appended xs rs (ws ++ ss)) in
-    let their_writes : between writes seen now ≡ ws = rw (at_writes, at_seen, is_now, is_second) (appended first ws ss) in
-    let their_seen : between seen end now ≡ ss = rw (at_seen, at_end, is_now) (last_appended second ss) in
+    let their_reads : between s.start (writes_start s) now ≡ rs =
+    ap (λ n. between n (writes_start s) now) start ∙ ap (λ n. between (length xs) n now) (at_writes ∙ count_first)
+    ∙ ap (between (length xs) (length (xs ++ rs))) (whole ∙ sym (append_assoc xs rs (ws ++ ss))) ∙ appended xs rs (ws ++ ss) in
+    let their_writes : between (writes_start s) (seen_start s) now ≡ ws =
+    ap (λ n. between n (seen_start s) now) at_writes ∙ ap (λ n. between (length first) n now) (at_seen ∙ count_second)
+    ∙ ap (between (length first) (length (first ++ ws))) (is_now ∙ ap (λ (ys : List Access). ys ++ ss) is_second) ∙ appended first ws ss in
+    let their_seen : between (seen_start s) (end_of s) now ≡ ss =
+    ap (λ n. between n (end_of s) now) at_seen ∙ ap (λ n. between (length second) n now) (at_end ∙ count_now)
+    ∙ ap (between (length second) (length (second ++ ss))) is_now ∙ last_appended second ss in
     record {
       all = whole;
-      span = (a, b, c, d);
-      at = ap (λ (x : List Access). accesses_by x (between writes seen now) (between seen end now)) their_reads
-          ∙ ap (λ (x : List Access). accesses_by rs x (between seen end now)) their_writes ∙ ap (accesses_by rs ws) their_seen;
+      span = omega arith;
+      at = ap (λ (x : List Access). accesses_by x (between (writes_start s) (seen_start s) now) (between (seen_start s) (end_of s) now)) their_reads
+          ∙ ap (λ (x : List Access). accesses_by rs x (between (seen_start s) (end_of s) now)) their_writes ∙ ap (accesses_by rs ws) their_seen;
     }
 
 module _ (xs now : List Access) (rs ws ss : List Access) (s : KeptSpan) (is : AreAppended xs now rs ws ss s) (spans : List KeptSpan) (all : All (IsKeptSpan (length xs)) spans) where

@@ -1,6 +1,6 @@
 -- What transactions read and install, side by side in one list of numbers, and what is kept of them,
 -- side by side in one list of accesses.
-use Rattle.std.specs.Prelude.{◌≡◌, ◌≤◌, ◌++◌, ℕ, List, length}
+use Rattle.std.specs.Prelude.{◌≡◌, ◌≤◌, ◌+◌, ◌++◌, ℕ, List, length}
 use Rattle.flat_groups.specs.Groups.{between}
 use Rattle.key_versions.specs.declared.accesses.Span.{Span}
 use Rattle.key_versions.specs.declared.kept_accesses.KeptSpan.{KeptSpan}
@@ -20,17 +20,27 @@ accessed_at numbers s =
       installs = between s.installs s.end numbers;
     }
 
+-- where the writes of a transaction start, and what it sees, and where that ends
+abbrev pub writes_start : KeptSpan → ℕ
+writes_start s = s.start + s.reads
+
+abbrev pub seen_start : KeptSpan → ℕ
+seen_start s = writes_start s + s.writes
+
+abbrev pub end_of : KeptSpan → ℕ
+end_of s = seen_start s + s.seen
+
 -- a span among n accesses
 abbrev pub IsKeptSpan : ℕ → KeptSpan → Type 0
-IsKeptSpan n s = (s.reads ≤ s.writes) × (s.writes ≤ s.seen) × (s.seen ≤ s.end) × (s.end ≤ n)
+IsKeptSpan n s = end_of s ≤ n
 
 -- what the transaction with this span reads, writes and sees
 abbrev pub kept_at : List Access → KeptSpan → TxnAccesses
 kept_at accesses s =
     accesses_by
-    (between s.reads s.writes accesses)
-    (between s.writes s.seen accesses)
-    (between s.seen s.end accesses)
+    (between s.start (writes_start s) accesses)
+    (between (writes_start s) (seen_start s) accesses)
+    (between (seen_start s) (end_of s) accesses)
 
 -- these were appended, and the span is theirs
 pub record AreAppended (before after : List Access) (rs ws ss : List Access)

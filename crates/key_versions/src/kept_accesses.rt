@@ -2,7 +2,7 @@
 
 ghost use Rattle.std.specs.Prelude.{◌≡◌, ◌<◌, ◌≤◌, ◌++◌, ◌∷◌, [], length, map, set, slice_get, Some, IfOk, OnOk};
 ghost use Rattle.key_versions.specs.TxnAccesses.{accesses_of};
-ghost use Rattle.key_versions.specs.Spans.{AreAppended};
+ghost use Rattle.key_versions.specs.Spans.{writes_start, seen_start, end_of, AreAppended};
 
 use crate::accessed::Accessed;
 use crate::pending::Access;
@@ -11,13 +11,44 @@ use crate::rows::number_of;
 use std::alloc::{AllocError, Global};
 use std::marker::Model;
 
-/// Where the accesses of a transaction are: its reads, after them its writes, and then what it sees.
+/// Where the accesses of a transaction are, and how many: its reads, after them its writes, and then what it sees.
 #[derive(Clone, Copy, Debug, Default, PartialEq, Eq)]
 pub(crate) struct KeptSpan {
-    reads: u32,
-    writes: u32,
-    seen: u32,
-    end: u32,
+    start: u32,
+    reads: u16,
+    writes: u16,
+    seen: u16,
+}
+
+const _: () = prove!(size_of::<KeptSpan>() <= 12);
+
+impl KeptSpan {
+    /// Where its writes start, and its reads end.
+    fn writes_start(self) -> usize
+        ensures { result ≡ writes_start self }
+    {
+        self.start as usize + usize::from(self.reads)
+    }
+
+    /// Where what it sees starts, and its writes end.
+    fn seen_start(self) -> usize
+        ensures { result ≡ seen_start self }
+    {
+        self.writes_start() + usize::from(self.writes)
+    }
+
+    fn end(self) -> usize
+        ensures { result ≡ end_of self }
+    {
+        self.seen_start() + usize::from(self.seen)
+    }
+}
+
+/// How many there are. More than 65,535, which no transaction has, are out of memory.
+fn count_of(accesses: &[Access]) -> Result<u16, AllocError>
+    ensures { IfOk result (λ count. count ≡ length accesses.now) }
+{
+    u16::try_from(accesses.len()).map_err(|_| AllocError)
 }
 
 /// The accesses of each transaction, by place.
@@ -51,25 +82,22 @@ impl Model for KeptAccesses {
 }
 
 /// Appends the accesses of a transaction.
-// Out of line, its result is written in pieces of 4 bytes and read back at once as 16, which stalls.
+// Out of line, its result is written in pieces and read back at once as a whole, which stalls.
 #[inline(always)]
 fn append(accesses: &mut Vec<Access>, accessed: &Accessed) -> Result<KeptSpan, AllocError>
     ensures ok { IfOk result (AreAppended accesses.old.items accesses.new.items
         accessed.now.reads.items accessed.now.writes.items accessed.now.seen.items) }
     ensures kept { length accesses.old.items ≤ length accesses.new.items }
 {
-    let reads = number_of(accesses.len())?;
+    let start = number_of(accesses.len())?;
     push_all(accesses, accessed.reads.as_slice())?;
-    let writes = number_of(accesses.len())?;
     push_all(accesses, accessed.writes.as_slice())?;
-    let seen = number_of(accesses.len())?;
     push_all(accesses, accessed.seen.as_slice())?;
-    let end = number_of(accesses.len())?;
     Ok(KeptSpan {
-        reads,
-        writes,
-        seen,
-        end,
+        start,
+        reads: count_of(accessed.reads.as_slice())?,
+        writes: count_of(accessed.writes.as_slice())?,
+        seen: count_of(accessed.seen.as_slice())?,
     })
 }
 
@@ -124,7 +152,7 @@ impl KeptAccesses {
         ensures { slice_get (map (λ a. a.reads) self.now) place ≡ Some result.now }
     {
         let span = self.spans[place];
-        &self.accesses[span.reads as usize..span.writes as usize]
+        &self.accesses[span.start as usize..span.writes_start()]
     }
 
     pub fn writes(&self, place: usize) -> &[Access]
@@ -132,7 +160,7 @@ impl KeptAccesses {
         ensures { slice_get (map (λ a. a.writes) self.now) place ≡ Some result.now }
     {
         let span = self.spans[place];
-        &self.accesses[span.writes as usize..span.seen as usize]
+        &self.accesses[span.writes_start()..span.seen_start()]
     }
 
     pub fn seen(&self, place: usize) -> &[Access]
@@ -140,6 +168,6 @@ impl KeptAccesses {
         ensures { slice_get (map (λ a. a.seen) self.now) place ≡ Some result.now }
     {
         let span = self.spans[place];
-        &self.accesses[span.seen as usize..span.end as usize]
+        &self.accesses[span.seen_start()..span.end()]
     }
 }

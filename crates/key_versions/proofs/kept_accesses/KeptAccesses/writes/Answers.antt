@@ -5,5 +5,6 @@ use Rattle.key_versions.proofs.kept_accesses.KeptAccesses.writes.Goals as goal
 
 pub returns : goal.returns
 returns c =
-    told_at kept_at (λ (a : TxnAccesses). a.writes) c.self.inside.accesses.items c.deref.result.now c.self.inside.spans.items c.args.self.now c.args.place c.index-span.result.now
-    c.self.view_is c.requires c.index-span.ensures c.deref.ensures.value
+    rw (c.writes_start.ensures, c.seen_start.ensures)
+    (told_at kept_at (λ (a : TxnAccesses). a.writes) c.self.inside.accesses.items c.deref.result.now c.self.inside.spans.items c.args.self.now c.args.place c.index-span.result.now
+    c.self.view_is c.requires c.index-span.ensures c.deref.ensures.value)
