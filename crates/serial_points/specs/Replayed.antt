@@ -82,6 +82,10 @@ pub record IsReplayed (ts : List Transaction) (accesses : List TxnAccesses) (poi
       → HasAccess b.reads number
       → slice_index points reader < slice_index points place
 
+-- there are points of a replay
+abbrev pub HasReplay : List Transaction → List TxnAccesses → Type 0
+HasReplay ts accesses = (points : List ℕ) × IsReplayed ts accesses points
+
 -- where its transactions can be replayed, it shows nothing
 abbrev pub ReplaysShowNothing : List Operation → Type 0
 ReplaysShowNothing events =

@@ -1,5 +1,5 @@
 -- A replay that goes on: what is known of those that were put so far.
-use Rattle.std.specs.Prelude.{◌≡◌, ◌⊎◌, ◌<◌, ℕ, List, Bool, false, slice_get, slice_index, slice_index_or, Some, All, Contains, IsTrue, IsFalse}
+use Rattle.std.specs.Prelude.{◌≡◌, ◌⊎◌, ◌↔◌, ◌<◌, ℕ, List, length, Bool, false, slice_get, slice_index, slice_index_or, Some, All, Contains, IsTrue, IsFalse}
 use Rattle.hist_types.specs.Transactions.{Transaction}
 use Rattle.key_versions.specs.TxnAccesses.{TxnAccesses}
 use Rattle.key_versions.specs.declared.pending.Access.{Access}
@@ -48,48 +48,56 @@ MarkInstalled before after writes =
 
 -- ---- those that were put
 
--- Each one that was put has a point between its invocation and its completion, below the next
--- point. What one reads was installed before, and those that read what it follows were put before. A
--- version that is marked as written was installed, and one that is followed is marked.
-pub record IsReplaying (ts : List Transaction) (accesses : List TxnAccesses) (replay : Replay) :
+-- Each one that was put, and no other one, has a point, which is between its invocation and its
+-- completion, and below the next point. What one reads was installed before, and those that read what
+-- it follows were put before. A version that is marked as written was installed, and one that is
+-- followed is marked.
+pub record IsReplayingBy
+    (ts : List Transaction) (accesses : List TxnAccesses) (points : List ℕ) (replay : Replay) :
     Type 0 where
+  pub counted : length points ≡ length replay.put.items
+  pub put : (place : ℕ) → IsTrue (is_marked replay.put.items place) ↔ IsPut points place
   pub above : 0 < replay.next
-  pub below : (place : ℕ) → slice_index replay.points.items place < replay.next
+  pub below : (place : ℕ) → slice_index points place < replay.next
   pub begun :
       (place : ℕ) (t : Transaction)
       → slice_get ts place ≡ Some t
-      → IsPut replay.points.items place
-      → IsNotBefore (slice_index replay.points.items place) t
+      → IsPut points place
+      → IsNotBefore (slice_index points place) t
   pub ended :
       (place : ℕ) (t : Transaction)
       → slice_get ts place ≡ Some t
-      → IsPut replay.points.items place
-      → IsNotAfter (slice_index replay.points.items place) t
+      → IsPut points place
+      → IsNotAfter (slice_index points place) t
   pub reads :
       (place : ℕ) (a : TxnAccesses) (read : Access)
       → slice_get accesses place ≡ Some a
-      → IsPut replay.points.items place
+      → IsPut points place
       → Contains a.reads read
-      → IsReadOfPut ts accesses replay.points.items place read
+      → IsReadOfPut ts accesses points place read
   pub followed :
       (place reader number : ℕ) (a b : TxnAccesses)
       → slice_get accesses place ≡ Some a
       → slice_get accesses reader ≡ Some b
-      → IsPut replay.points.items place
-      → IsPut replay.points.items reader
+      → IsPut points place
+      → IsPut points reader
       → ¬ (reader ≡ place)
       → FollowsNumber a number
       → HasAccess b.reads number
-      → slice_index replay.points.items reader < slice_index replay.points.items place
+      → slice_index points reader < slice_index points place
   pub written :
       (number : ℕ)
       → IsTrue (is_marked replay.written number)
       → (writer : ℕ)
-      × IsPut replay.points.items writer
+      × IsPut points writer
       × InstallsUnfailed ts accesses number writer
   pub marked :
       (place number : ℕ) (a : TxnAccesses)
       → slice_get accesses place ≡ Some a
-      → IsPut replay.points.items place
+      → IsPut points place
       → FollowsNumber a number
       → IsTrue (is_marked replay.followed number)
+
+-- there are such points
+abbrev pub IsReplaying : List Transaction → List TxnAccesses → Replay → Type 0
+IsReplaying ts accesses replay = (points : List ℕ) × IsReplayingBy ts accesses points replay

@@ -1,11 +1,11 @@
 //! Transactions that are put one after the other.
 
-ghost use Rattle.std.specs.Prelude.{◌≡◌, ◌⊎◌, ◌<◌, ℕ, List, length, map, slice_get, true, Some, All, IfOk, IfSome, IsTrue};
+ghost use Rattle.std.specs.Prelude.{◌≡◌, ◌⊎◌, ◌<◌, ℕ, List, length, map, slice_get, true, Some, All, IfOk, IsTrue};
 ghost use Rattle.hist_types.specs.Transactions.{Transaction};
 ghost use Rattle.key_versions.specs.Kept.{AreKept};
 ghost use Rattle.key_versions.specs.TxnAccesses.{TxnAccesses};
 ghost use Rattle.serial_points.specs.Points.{IsNotBefore, IsNotAfter};
-ghost use Rattle.serial_points.specs.Replayed.{IsPut, IsReplayed};
+ghost use Rattle.serial_points.specs.Replayed.{HasReplay};
 ghost use Rattle.serial_points.specs.Replaying.{is_marked, AreStillMarked, AreUnmarked, IsReadable, AreKeysMarked, AreUpdatedMarked, MarkInstalled, IsReplaying};
 ghost use Rattle.serial_points.specs.Users.{updates};
 
@@ -89,19 +89,6 @@ fn are_readable(written: &Marks, followed: &Marks, reads: &[Access]) -> bool
     true
 }
 
-/// Marks nil of each key that is written.
-fn mark_keys(followed: &mut Marks, writes: &[Access]) -> bool
-    ensures marked { result ≡ true → AreKeysMarked followed.new writes.now }
-    ensures stay { AreStillMarked followed.old followed.new }
-{
-    for write in writes {
-        if !followed.set(write.nil) {
-            return false;
-        }
-    }
-    true
-}
-
 /// Marks the version, if the writes update it.
 fn mark_if_updated(followed: &mut Marks, read: Access, writes: &[Access]) -> bool
     ensures marked { result ≡ true → IsTrue (updates writes.now read)
@@ -138,12 +125,15 @@ fn mark_if_last(written: &mut Marks, writes: &[Access], i: usize) -> bool
     written.set(writes[i].version)
 }
 
-/// Marks the last version that is written of each key.
-fn mark_installed(written: &mut Marks, writes: &[Access]) -> bool
-    ensures { MarkInstalled written.old written.new writes.now }
+/// Marks nil of each key that is written as followed, and the last version that is written of each key as written.
+#[inline(always)]
+fn mark_writes(written: &mut Marks, followed: &mut Marks, writes: &[Access]) -> bool
+    ensures keys { result ≡ true → AreKeysMarked followed.new writes.now }
+    ensures stay { AreStillMarked followed.old followed.new }
+    ensures written { MarkInstalled written.old written.new writes.now }
 {
     for i in 0..writes.len() {
-        if !mark_if_last(written, writes, i) {
+        if !followed.set(writes[i].nil) || !mark_if_last(written, writes, i) {
             return false;
         }
     }
@@ -158,11 +148,12 @@ fn is_in_time(point: u64, txn: &Txn<'_>) -> bool
     is_not_before(point, txn) && (txn.status() != Status::Ok || is_not_after(point, txn))
 }
 
-/// A replay of a history: the transactions that were put so far, each with a point above those of all that were put before.
+/// A replay of a history: the transactions that were put so far, each with a point above those of all that were put before. The
+/// points themselves aren't kept.
 #[derive(Drop)]
 pub(crate) struct Replay {
-    /// By place. It is 0 for one that isn't put.
-    points: Vec<u64>,
+    /// Who is put, by place.
+    put: Vec<bool>,
     /// The versions that those that are put install.
     written: Marks,
     /// The versions that those that are put follow: nil of each key that they write, and what they read and update.
@@ -178,7 +169,7 @@ impl Replay {
             → IfOk result (IsReplaying ts accesses) }
     {
         Ok(Replay {
-            points: vec![in alloc; 0; txns]?,
+            put: vec![in alloc; false; txns]?,
             written: Marks::new(alloc, versions)?,
             followed: Marks::new(alloc, versions)?,
             next: 1,
@@ -187,10 +178,10 @@ impl Replay {
 
     /// Whether the transaction at the place is put.
     pub fn is_put(&self, place: usize) -> bool
-        ensures { result ≡ true → IsPut self.now.points.items place }
+        ensures { result ≡ is_marked self.now.put.items place }
     {
-        match self.points.get(place) {
-            Some(point) => *point > 0,
+        match self.put.get(place) {
+            Some(put) => *put,
             None => false,
         }
     }
@@ -209,26 +200,27 @@ impl Replay {
         self.written.has(version)
     }
 
-    /// Puts no more transactions before the event with the index.
-    pub fn reach(&mut self, index: usize)
+    /// Puts no more transactions before the event that completed this one.
+    pub fn reach(&mut self, txn: &Txn<'_>)
         ensures { (ts : List Transaction) (accesses : List TxnAccesses)
             → IsReplaying ts accesses self.old → IsReplaying ts accesses self.new }
     {
-        self.next = self.next.max((index as u64).saturating_mul(POINTS));
+        if let Some(index) = txn.completion() {
+            self.next = self.next.max(index.saturating_mul(POINTS));
+        }
     }
 
     /// Marks what a transaction that is now put installs and follows.
     fn mark(&mut self, reads: &[Access], writes: &[Access]) -> bool
-        ensures points { self.new.points ≡ self.old.points }
+        ensures put { self.new.put ≡ self.old.put }
         ensures next { self.new.next ≡ self.old.next }
         ensures keys { result ≡ true → AreKeysMarked self.new.followed writes.now }
         ensures updated { result ≡ true → AreUpdatedMarked self.new.followed reads.now writes.now }
         ensures stay { AreStillMarked self.old.followed self.new.followed }
         ensures written { MarkInstalled self.old.written self.new.written writes.now }
     {
-        mark_keys(&mut self.followed, writes)
+        mark_writes(&mut self.written, &mut self.followed, writes)
             && mark_updated(&mut self.followed, reads, writes)
-            && mark_installed(&mut self.written, writes)
     }
 
     /// Puts the transaction at the place, which reads this, after all that are put. False if it can't be put now, or is put already:
@@ -252,27 +244,27 @@ impl Replay {
         if is_failed(txn) || !is_in_time(self.next, txn) {
             return false;
         }
-        if place >= self.points.len() || self.points[place] > 0 {
+        if place >= self.put.len() || self.put[place] {
             return false;
         }
         let Some(next) = self.next.checked_add(1) else {
             return false;
         };
-        self.points[place] = self.next;
+        self.put[place] = true;
         self.next = next;
         self.mark(reads, versions.writes(place))
     }
 
-    /// The points, by place, if each ok transaction is put.
-    pub fn finish(self, txns: &[Txn<'_>]) -> Option<Vec<u64>>
-        ensures { (accesses : List TxnAccesses) → IsReplaying txns.now accesses self
-            → IfSome result (λ points. IsReplayed txns.now accesses points.items) }
+    /// Whether each ok transaction is put.
+    pub fn finish(&self, txns: &[Txn<'_>]) -> bool
+        ensures { (accesses : List TxnAccesses) → result ≡ true
+            → IsReplaying txns.now accesses self.now → HasReplay txns.now accesses }
     {
         for (place, txn) in txns.iter().enumerate() {
             if txn.status() == Status::Ok && !self.is_put(place) {
-                return None;
+                return false;
             }
         }
-        Some(self.points)
+        true
     }
 }

@@ -1,7 +1,8 @@
-use Rattle.std.proofs.Common.{sym, ◌∙◌, subst}
+use Rattle.std.proofs.Common.{◌≡◌, Bool, true, sym, ◌∙◌}
 use Rattle.std.specs.Bool.{OnTrue}
-use Rattle.serial_points.specs.Replayed.{ShowsNothing}
-use Rattle.serial_points.proofs.Shown.{points_show}
+use Rattle.std.proofs.lemmas.Result.{IfOk-weaker}
+use Rattle.serial_points.specs.Replayed.{HasReplay, ShowsNothing}
+use Rattle.serial_points.proofs.Shown.{replay_shows}
 use Rattle.serial_points.proofs.replay.replays.Goals as goal
 
 pub returns : goal.returns
@@ -10,5 +11,5 @@ returns g c =
     let kept = c.args.versions.now in
     let (events, rules, same, are) = c.requires in
     let basic = sym c.keys.ensures ∙ c.in-Basic.is in
-    subst (λ b. OnTrue b (ShowsNothing kept.keys ts)) (sym c.is_some.ensures)
-    (points_show events ts kept c.in_ok-points.points rules same are basic c.in_ok-points.ensures)
+    IfOk-weaker c.replay.result (λ (done : Bool). done ≡ true → HasReplay ts kept.accesses) (λ (clean : Bool). OnTrue clean (ShowsNothing kept.keys ts))
+    (λ done replayed. replay_shows events ts kept done rules same are basic replayed) c.replay.ensures

@@ -2,7 +2,7 @@
 use Rattle.std.proofs.Common.{◌≡◌, ℕ, ◌<◌, IsTrue, Some}
 use Rattle.std.specs.Prelude.{slice_get}
 use Rattle.hist_types.specs.Transactions.{Transaction, is_ok}
-use Rattle.serial_points.specs.Replayed.{IsPut}
+use Rattle.serial_points.specs.Replaying.{is_marked}
 use Rattle.serial_points.proofs.replaying.Replay.finish.Given as goal
 
 abbrev pub invariant-loop-place : goal.invariant-loop-place
@@ -11,4 +11,4 @@ invariant-loop-place l =
     → k < l.place
     → slice_get l.txns k ≡ Some t
     → IsTrue (is_ok t)
-    → IsPut l.self.points.items k
+    → IsTrue (is_marked l.self.put.items k)
