@@ -1,17 +1,33 @@
 (ns jepcheck.live
-  "A wrapper of a Jepsen client that writes each operation to `jepcheck serve` as it happens:
+  "Checks a Jepsen test while it runs: a wrapper of its client writes each operation to `jepcheck serve` as it happens.
 
-    mkfifo in out
-    jepcheck serve in out &
+    (let [run (live/start \"/usr/local/bin/jepcheck\")]
+      {:client    (live/checked (MyClient. ..) run)
+       :generator (live/until-refuted run (gen/clients ..))
+       :checker   (checker/compose {:live (live/checker run), ..})
+       ..})
 
-    (let [session (live/session \"in\" \"out\")]
-      {:client (live/checked (MyClient. ..) session) ..})
+  `start` runs the program with as many cells as there may be:
 
-  One session does for all clients: a line and its reply are one step."
-  (:require [clojure.java.io :as io]
+    jepcheck serve --cells 1048576 IN OUT IN OUT
+
+  with one session for all clients, in which a line and its reply are one step, and one for verdicts, so that these hold up nobody.
+  `(live/verdict run)` asks for one at any time. `until-refuted` ends the operations once a verdict, of which one is asked for every
+  second, says `strict refuted`; `checker` gives the last verdict and ends the program. The completion of each operation has, as
+  :txn, the name that verdicts have for it, as \"T21\"."
+  (:require [clojure.edn :as edn]
+            [clojure.java.io :as io]
+            [clojure.java.shell :as shell]
             [clojure.string :as str]
-            [jepsen.client :as client])
-  (:import (java.io BufferedReader BufferedWriter EOFException)))
+            [jepcheck.checker :as verdicts]
+            [jepsen.checker :as checker]
+            [jepsen.client :as client]
+            [jepsen.generator :as gen])
+  (:import (java.io BufferedReader BufferedWriter EOFException StringWriter)
+           (java.nio.file Files)
+           (java.nio.file.attribute FileAttribute)))
+
+;; Sessions.
 
 (defn session
   "Opens a pair of named pipes, in the order in which `jepcheck serve` does. Waits for it."
@@ -41,41 +57,155 @@
 
         :else [reply]))))
 
-(defn refusal
-  "Records an invocation or a completion. Returns the refusal, if it is refused, else nil."
-  [session op]
-  (let [line (binding [*print-length* nil, *print-level* nil]
-               (pr-str (select-keys op [:type :process :value])))
-        [reply] (ask session line)]
-    (when (str/starts-with? reply "refused ")
-      reply)))
+(defn start
+  "Starts the program, with a session for clients and one for verdicts. More words are options of `serve`."
+  [program & options]
+  (let [dir (.toFile (Files/createTempDirectory "jepcheck-" (make-array FileAttribute 0)))
+        pipes (mapv #(str (io/file dir %)) ["clients.in" "clients.out" "verdicts.in" "verdicts.out"])
+        {:keys [exit err]} (apply shell/sh "mkfifo" pipes)
+        _ (when-not (zero? exit) (throw (ex-info err {})))
+        words (concat [program "serve" "--cells" "1048576"] options pipes)
+        process (-> (ProcessBuilder. ^java.util.List (mapv str words))
+                    (.redirectErrorStream true)
+                    (.redirectOutput (io/file dir "said.txt"))
+                    .start)
+        ended (future (.waitFor process) (slurp (io/file dir "said.txt")))
+        sessions (future (mapv #(apply session %) (partition 2 pipes)))
+        opened (loop []
+                 (cond
+                   (realized? sessions) @sessions
+                   (realized? ended) (do (future-cancel sessions)
+                                         (throw (ex-info (str "jepcheck has ended: " (str/trim @ended)) {})))
+                   :else (do (Thread/sleep 10) (recur))))]
+    {:clients (first opened), :analyst (second opened), :process process, :refuted (atom false)}))
 
-(defn- complete! [client test op]
+(defn stop
+  "Ends the sessions, and so the program."
+  [{:keys [clients analyst ^Process process]}]
+  (doseq [it [clients analyst]]
+    (try (ask it "quit") (catch java.io.IOException _)))
+  (.waitFor process))
+
+(defn verdict
+  "The verdict on what was recorded so far, as a map: :refuted?, :anomalies with their :level and :steps, and :prefix, how many
+  events it is of."
+  [{:keys [analyst]}]
+  (verdicts/parse (str (str/join "\n" (ask analyst "verdict")) "\n")))
+
+;; The client.
+
+(defn- record!
+  "Records an invocation or a completion. Returns the reply."
+  [{:keys [clients]} op]
+  (let [out (StringWriter.)]
+    (binding [*print-length* nil, *print-level* nil]
+      (verdicts/write-op out (dissoc op :index)))
+    (first (ask clients (str/trimr (str out))))))
+
+(defn- refused? [reply]
+  (str/starts-with? reply "refused "))
+
+(defn- complete!
+  "Runs an operation. An exception is recorded as :info, and goes on to Jepsen, which logs it."
+  [client run test op]
   (try (client/invoke! client test op)
-       (catch Exception e
-         (assoc op :type :info, :error (.getMessage e)))))
+       (catch Throwable e
+         (record! run (assoc op :type :info))
+         (throw e))))
 
-;; The invocation is recorded before the database sees anything of it, and the completion after the database has replied. If the
-;; invocation is refused, the transaction is not run. If the completion is, the operation ends as :info, which retires its process.
-(defrecord Checked [client session]
+(defn- invoke-recorded!
+  "The invocation is recorded before the database sees anything of it, and the completion after the database has replied. If the
+  invocation is refused, the transaction is not run. If the completion is, the operation ends as :info, which retires its process."
+  [client run test op]
+  (let [invoked (record! run op)]
+    (if (refused? invoked)
+      (assoc op :type :fail, :error [:jepcheck invoked])
+      (let [completion (assoc (complete! client run test op) :txn (str/replace invoked "event " "T"))
+            completed (record! run completion)]
+        (if (refused? completed)
+          (let [unknown (assoc op :type :info, :error [:jepcheck completed])]
+            (record! run unknown)
+            unknown)
+          completion)))))
+
+(defrecord Checked [client run]
   client/Client
   (open! [this test node]
     (assoc this :client (client/open! client test node)))
   (setup! [_ test]
     (client/setup! client test))
   (invoke! [_ test op]
-    (if-let [refused (refusal session op)]
-      (assoc op :type :fail, :error [:jepcheck refused])
-      (let [completion (complete! client test op)]
-        (if-let [refused (refusal session completion)]
-          (let [unknown (assoc op :type :info, :error [:jepcheck refused])]
-            (refusal session unknown)
-            unknown)
-          completion))))
+    (if (contains? #{:txn nil} (:f op))
+      (invoke-recorded! client run test op)
+      (client/invoke! client test op)))
   (teardown! [_ test]
     (client/teardown! client test))
   (close! [_ test]
     (client/close! client test)))
 
-(defn checked [client session]
-  (Checked. client session))
+(defn checked [client run]
+  (Checked. client run))
+
+;; The generator.
+
+(defrecord UntilRefuted [run inner]
+  gen/Generator
+  (op [_ test context]
+    (when-not @(:refuted run)
+      (when-let [[op after] (gen/op inner test context)]
+        [op (UntilRefuted. run after)])))
+  (update [_ test context event]
+    (UntilRefuted. run (gen/update inner test context event))))
+
+(defn until-refuted
+  "A generator that ends once a verdict says `strict refuted`. One is asked for every second."
+  [{:keys [^Process process refuted] :as run} generator]
+  (future
+    (while (and (.isAlive process) (not @refuted))
+      (Thread/sleep 1000)
+      (try (reset! refuted (:refuted? (verdict run)))
+           (catch java.io.IOException _))))
+  (UntilRefuted. run generator))
+
+;; The checker.
+
+(defn- save!
+  "Writes what was recorded, and the verdict on it."
+  [{:keys [analyst]} dir text events]
+  (with-open [out (io/writer (io/file dir "history.edn"))]
+    (doseq [at (range 0 events 1024)
+            line (rest (ask analyst (str "read " at " " (min events (+ at 1024)))))]
+      (.write out (str line "\n"))))
+  (spit (io/file dir "verdict.txt") text))
+
+(defn- op-named
+  "The completion of a transaction, or else its invocation as it was recorded."
+  [{:keys [analyst]} by-name t]
+  (let [number (parse-long (subs t 1))]
+    (or (by-name t)
+        (edn/read-string (second (ask analyst (str "read " number " " (inc number))))))))
+
+(defn- check-run [run {:keys [allowed fs explain-by]} test history opts]
+  (let [dir (verdicts/directory test opts "jepcheck-live")
+        text (str (str/join "\n" (ask (:analyst run) "verdict")) "\n")
+        verdict (verdicts/parse text)
+        ops (verdicts/transactions history fs)
+        by-name (into {} (map (juxt :txn identity)) (filter :txn ops))
+        nothing (verdicts/nothing-to-see ops verdict false)
+        result (verdicts/judge verdict allowed #(op-named run by-name %) nothing)]
+    (save! run dir text (:prefix verdict))
+    (verdicts/explained result explain-by dir)))
+
+(defn checker
+  "A checker that gives the verdict on what was recorded, and ends the program. For its options and its result see
+  jepcheck.checker."
+  ([run]
+   (checker run {}))
+  ([run options]
+   (let [options (verdicts/complete options)]
+     (reify checker/Checker
+       (check [_ test history opts]
+         (try (check-run run options test history opts)
+              (catch java.io.IOException e
+                {:valid? :unknown, :error (ex-message e)})
+              (finally (stop run))))))))
