@@ -3,7 +3,6 @@ use Rattle.std.proofs.Common.{◌≡◌, ◌∙◌, ℕ, suc, ◌+◌, List, [],
 use Rattle.std.proofs.lemmas.List.{append_assoc}
 use Rattle.std.specs.List.{list_all, prefix_len}
 use Rattle.command_line.specs.Lines.{first_line, IsOneLine, IsComplaint}
-use Rattle.command_line.specs.declared.words.TheConstants.{SEE_HELP}
 
 -- each element at the front of a list passes a test, as far as they do
 front_passes : (q : ℕ → Bool) (xs : List ℕ) → list_all q (take (prefix_len q xs) xs) ≡ true
@@ -21,10 +20,10 @@ pub first_line_is_one : (text : List ℕ) → IsOneLine (first_line text)
 first_line_is_one text = front_passes _ text
 
 -- a first line with its line feed, and the closing line
-pub complaint_of : (message text : List ℕ) → text ≡ (first_line message ++ codes "\n") ++ SEE_HELP.now → IsComplaint text
-complaint_of message text is =
+pub complaint_of : (message closing text : List ℕ) → text ≡ (first_line message ++ codes "\n") ++ closing → IsComplaint closing text
+complaint_of message closing text is =
     record {
       message = first_line message;
       one_line = first_line_is_one message;
-      text_is = is ∙ append_assoc (first_line message) (codes "\n") SEE_HELP.now;
+      text_is = is ∙ append_assoc (first_line message) (codes "\n") closing;
     }

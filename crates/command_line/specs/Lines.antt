@@ -1,5 +1,5 @@
 -- The command lines that the program takes, and what every other one gets.
-use Rattle.std.specs.Prelude.{◌≡◌, ◌==◌, ℕ, ◌/◌, ◌%◌, ◌^◌, List, [], ◌∷◌, ◌++◌, length, map, codes, Bool, true, not, ◌&&◌, nat_lt, nat_le, if◌then◌else◌, Option, Some, None, IfSome, option_map, option_and_then, string_bytes}
+use Rattle.std.specs.Prelude.{◌≡◌, ◌==◌, ℕ, ◌/◌, ◌%◌, ◌^◌, List, [], ◌∷◌, ◌++◌, length, map, codes, Bool, true, false, not, ◌&&◌, nat_lt, nat_le, if◌then◌else◌, Option, Some, None, IfSome, option_map, option_and_then, string_bytes}
 use Rattle.std.specs.Char.{is_ascii_digit}
 use Rattle.std.specs.List.{before_first, list_all}
 use Rattle.std.specs.Str.{bytes_eq}
@@ -16,7 +16,7 @@ use Rattle.command_line.specs.declared.types.Asked.TheVariants.{Run, Serve}
 use Rattle.command_line.specs.declared.types.LineFault.{LineFault}
 use Rattle.command_line.specs.declared.types.LineFault.TheVariants.{Usage, Memory}
 use Rattle.command_line.specs.declared.types.TheConstants.{MAX_WORKERS}
-use Rattle.command_line.specs.declared.words.TheConstants.{HELP, SEE_HELP}
+use Rattle.command_line.specs.declared.words.TheConstants.{HELP, SEE_HELP, SEE_SERVE}
 use Rattle.command_line.specs.declared.types.Command.{Command}
 use Rattle.command_line.specs.declared.types.Command.TheVariants.{Reads, Edges, Check}
 
@@ -220,18 +220,29 @@ first_line text = before_first (λ b. b == 10) text
 abbrev pub IsOneLine : List ℕ → Type 0
 IsOneLine message = list_all (λ b. not (b == 10)) message ≡ true
 
--- one line, and the line that says how a history is given and where help is
-pub record IsComplaint (text : List ℕ) : Type 0 where
+-- the word after the program's name is `serve`
+abbrev pub names_serve : (words : List (List ℕ)) → Bool
+names_serve [] = false
+names_serve (program ∷ []) = false
+names_serve (program ∷ command ∷ rest) = bytes_eq command (codes "serve")
+
+-- the last line of what is said of faulty words: how the command is used that they name, and where
+-- help is
+abbrev pub closing_line : (words : List (List ℕ)) → List ℕ
+closing_line words = if names_serve words then SEE_SERVE.now else SEE_HELP.now
+
+-- one line, and a closing line
+pub record IsComplaint (closing : List ℕ) (text : List ℕ) : Type 0 where
   pub message : List ℕ
   pub one_line : IsOneLine message
-  pub text_is : text ≡ message ++ (codes "\n" ++ SEE_HELP.now)
+  pub text_is : text ≡ message ++ (codes "\n" ++ closing)
 
 -- what is said of a line that asks for help: the help
 abbrev pub Helps : LineFault → Type 0
 Helps (Usage text) = string_bytes text ≡ HELP.now
 Helps Memory = Unit {0}
 
--- what is said of every other faulty line
-abbrev pub SaysWhatIsWrong : LineFault → Type 0
-SaysWhatIsWrong (Usage text) = IsComplaint (string_bytes text)
-SaysWhatIsWrong Memory = Unit {0}
+-- what is said of every other faulty line, with this closing line
+abbrev pub SaysWhatIsWrong : (closing : List ℕ) → LineFault → Type 0
+SaysWhatIsWrong closing (Usage text) = IsComplaint closing (string_bytes text)
+SaysWhatIsWrong closing Memory = Unit {0}

@@ -6,7 +6,7 @@ ghost use Rattle.std.specs.IoError.{error_kind};
 ghost use Rattle.std.specs.List.{list_all};
 ghost use Rattle.std.specs.declared.io.ErrorKind.TheVariants.{OutOfMemory};
 ghost use Rattle.clap.specs.Words.{app_of, first_of, found_of, kind_of, rows_of, rule_of, subcommand_rows_of};
-ghost use Rattle.command_line.specs.Lines.{cells_rule, keys_rule, paths_rule, workers_rule, program_app, number_to, cells_in, workers_in, keys_in, HasKeys, AreForCheck, AsksForCheck, come_in_pairs, AreForSessions, AsksForSessions, IsAskedBy, first_line, AskFor, AskForHelp, MayAskForHelp, IsComplaint, Helps, SaysWhatIsWrong};
+ghost use Rattle.command_line.specs.Lines.{cells_rule, keys_rule, paths_rule, workers_rule, program_app, number_to, cells_in, workers_in, keys_in, HasKeys, AreForCheck, AsksForCheck, come_in_pairs, AreForSessions, AsksForSessions, IsAskedBy, first_line, AskFor, AskForHelp, MayAskForHelp, IsComplaint, Helps, SaysWhatIsWrong, closing_line};
 ghost use Rattle.command_line.specs.declared.types.Asked.{Asked};
 ghost use Rattle.hist_types.specs.declared.types.KeyOrder.{KeyOrder};
 
@@ -19,7 +19,7 @@ use std::io;
 
 /// What the program is, its version first.
 const HELP: &str = "\
-jepcheck 0.1.0: reports where a run of a Jepsen test broke strict serializability.
+jepcheck 0.2.0: reports where a run of a Jepsen test broke strict serializability.
 
 Usage: jepcheck check [--workers N] [--keys ORDER] < HISTORY
        jepcheck reads < HISTORY
@@ -63,9 +63,14 @@ Example:
 Verdicts and refusals are explained in docs/GUIDE.md.
 ";
 
-/// How a history is given, and where help is. A faulty command line gets this as its last line.
+/// How a history is given, and where help is. A faulty command line gets this as its last line,
 const SEE_HELP: &str = "The history is read from standard input: jepcheck check < FILE. \
                         For more, try 'jepcheck --help'.\n";
+
+/// or this, if it names `serve`.
+const SEE_SERVE: &str = "Each session has two paths: \
+                         jepcheck serve [--cells N] [--keys ORDER] IN OUT [IN OUT ...]. \
+                         For more, try 'jepcheck --help'.\n";
 
 /// There are fewer pairs of paths than this: each has a number of 32 bits.
 const MAX_PAIRS: usize = 4_294_967_296;
@@ -147,13 +152,23 @@ fn first_line(text: &str) -> &str
     }
 }
 
-/// The first line of a message, and the line that says how a history is given and where help is.
-fn complaint(alloc: Global, message: &str) -> Result<String, AllocError>
-    ensures { IfOk result (λ text. IsComplaint (string_bytes text)) }
+/// The last line of what is said of these words.
+fn closing_line(words: &[String]) -> &'static str
+    ensures { result.now ≡ closing_line (map string_bytes words.now) }
+{
+    match words {
+        [_, command, ..] if command.as_str() == "serve" => SEE_SERVE,
+        _ => SEE_HELP,
+    }
+}
+
+/// The first line of a message, and a closing line.
+fn complaint(alloc: Global, message: &str, closing: &str) -> Result<String, AllocError>
+    ensures { IfOk result (λ text. IsComplaint closing.now (string_bytes text)) }
 {
     let mut text = String::from_str(alloc, first_line(message))?;
     text.push_str("\n")?;
-    text.push_str(SEE_HELP)?;
+    text.push_str(closing)?;
     Ok(text)
 }
 
@@ -167,22 +182,23 @@ fn help(alloc: Global) -> LineFault
     }
 }
 
-/// The fault of a line with this message, of which the first line is printed.
-fn wrong(alloc: Global, message: &str) -> LineFault
-    ensures { SaysWhatIsWrong result }
+/// The fault of a line with this message, of which the first line is printed, and this closing line.
+fn wrong(alloc: Global, message: &str, closing: &str) -> LineFault
+    ensures { SaysWhatIsWrong closing.now result }
 {
-    match complaint(alloc, message) {
+    match complaint(alloc, message, closing) {
         Ok(text) => LineFault::Usage(text),
         Err(error) => LineFault::from(error),
     }
 }
 
 /// The fault of a line that the parse refuses, a request for help among them.
-fn line_fault(alloc: Global, error: &clap::Error) -> LineFault
+fn line_fault(alloc: Global, error: &clap::Error, closing: &str) -> LineFault
     ensures memory { kind_of error.now ≡ ErrorKind.OutOfMemory → result ≡ LineFault.Memory }
     ensures help { kind_of error.now ≡ ErrorKind.DisplayHelp → Helps result }
-    ensures wrong { kind_of error.now ≢ ErrorKind.DisplayHelp → SaysWhatIsWrong result }
-    ensures either { Helps result ⊎ SaysWhatIsWrong result }
+    ensures wrong { kind_of error.now ≢ ErrorKind.DisplayHelp
+        → SaysWhatIsWrong closing.now result }
+    ensures either { Helps result ⊎ SaysWhatIsWrong closing.now result }
 {
     match error.kind() {
         ErrorKind::OutOfMemory => LineFault::Memory,
@@ -190,9 +206,10 @@ fn line_fault(alloc: Global, error: &clap::Error) -> LineFault
         ErrorKind::MissingRequiredArgument => wrong(
             alloc,
             "error: serve needs paths, for each session one to read and one to write",
+            closing,
         ),
         _ => match format!(in alloc; "{error}") {
-            Ok(message) => wrong(alloc, &message),
+            Ok(message) => wrong(alloc, &message, closing),
             Err(error) => LineFault::from(error),
         },
     }
@@ -201,11 +218,15 @@ fn line_fault(alloc: Global, error: &clap::Error) -> LineFault
 /// The fault of a line whose words can't be had: out of memory, or one of them isn't UTF-8.
 pub fn unread_line(alloc: Global, error: &io::Error) -> LineFault
     ensures memory { error_kind error.now ≡ OutOfMemory → result ≡ LineFault.Memory }
-    ensures wrong { SaysWhatIsWrong result }
+    ensures wrong { SaysWhatIsWrong SEE_HELP.now result }
 {
     match error.kind() {
         io::ErrorKind::OutOfMemory => LineFault::Memory,
-        _ => wrong(alloc, "error: a word of the command line is not UTF-8"),
+        _ => wrong(
+            alloc,
+            "error: a word of the command line is not UTF-8",
+            SEE_HELP,
+        ),
     }
 }
 
@@ -283,62 +304,76 @@ fn keys_found(command: &clap::ArgMatches<'_>) -> Option<KeyOrder>
 }
 
 /// The fault of a line that names an order of keys that there isn't.
-fn no_order(alloc: Global, name: &str) -> LineFault
-    ensures { SaysWhatIsWrong result }
+fn no_order(alloc: Global, name: &str, closing: &str) -> LineFault
+    ensures { SaysWhatIsWrong closing.now result }
 {
     match format!(in alloc;
         "error: invalid value '{name}' for '--keys <ORDER>': neither basic nor sequential"
     ) {
-        Ok(message) => wrong(alloc, &message),
+        Ok(message) => wrong(alloc, &message, closing),
         Err(error) => LineFault::from(error),
     }
 }
 
 /// Which order of keys is asked for, where a command was met with these arguments.
-fn keys_asked(alloc: Global, command: &clap::ArgMatches<'_>) -> Result<KeyOrder, LineFault>
+fn keys_asked(
+    alloc: Global,
+    command: &clap::ArgMatches<'_>,
+    closing: &str,
+) -> Result<KeyOrder, LineFault>
     ensures only { IfOk result (λ keys. HasKeys keys (rows_of (found_of command.now))) }
     ensures asked { IfErr result (λ _.
         (keys : KeyOrder) → ¬ HasKeys keys (rows_of (found_of command.now))) }
-    ensures wrong { IfErr result SaysWhatIsWrong }
+    ensures wrong { IfErr result (SaysWhatIsWrong closing.now) }
 {
     match keys_found(command) {
         Some(keys) => Ok(keys),
-        None => Err(no_order(alloc, command.get_str("keys").unwrap_or(""))),
+        None => Err(no_order(alloc, command.get_str("keys").unwrap_or(""), closing)),
     }
 }
 
 /// What is asked for where `check` was met with these arguments.
-fn check_asked(alloc: Global, check: &clap::ArgMatches<'_>) -> Result<Command, LineFault>
+fn check_asked(
+    alloc: Global,
+    check: &clap::ArgMatches<'_>,
+    closing: &str,
+) -> Result<Command, LineFault>
     ensures only { IfOk result (λ command. AsksForCheck command (rows_of (found_of check.now))) }
     ensures asked { IfErr result (λ _. (workers : ℕ) (keys : KeyOrder)
         → ¬ AreForCheck workers keys (rows_of (found_of check.now))) }
-    ensures wrong { IfErr result SaysWhatIsWrong }
+    ensures wrong { IfErr result (SaysWhatIsWrong closing.now) }
 {
     let Some(workers) = workers_found(check) else {
         return Err(wrong(
             alloc,
             "error: the value of '--workers <N>' is not written in digits",
+            closing,
         ));
     };
-    let keys = keys_asked(alloc, check)?;
+    let keys = keys_asked(alloc, check, closing)?;
     Ok(Command::Check { workers, keys })
 }
 
 /// What is asked for where `serve` was met with these arguments.
-fn sessions_asked(alloc: Global, serve: &clap::ArgMatches<'_>) -> Result<Asked, LineFault>
+fn sessions_asked(
+    alloc: Global,
+    serve: &clap::ArgMatches<'_>,
+    closing: &str,
+) -> Result<Asked, LineFault>
     ensures only { IfOk result (λ asked. AsksForSessions asked (rows_of (found_of serve.now))) }
     ensures asked { (cells : ℕ) (keys : KeyOrder) (paths : List (List ℕ))
         → AreForSessions cells keys paths (rows_of (found_of serve.now))
         → IfErr result (λ fault. fault ≡ LineFault.Memory) }
-    ensures wrong { IfErr result SaysWhatIsWrong }
+    ensures wrong { IfErr result (SaysWhatIsWrong closing.now) }
 {
     let Some(cells) = cells_found(serve) else {
         return Err(wrong(
             alloc,
             "error: the value of '--cells <N>' is not written in digits",
+            closing,
         ));
     };
-    let keys = keys_asked(alloc, serve)?;
+    let keys = keys_asked(alloc, serve, closing)?;
     match serve.get_raw("paths") {
         Some(paths) if come_in_pairs(paths) => Ok(Asked::Serve {
             cells,
@@ -348,23 +383,30 @@ fn sessions_asked(alloc: Global, serve: &clap::ArgMatches<'_>) -> Result<Asked, 
         _ => Err(wrong(
             alloc,
             "error: the paths do not come in pairs, each of one to read and one to write",
+            closing,
         )),
     }
 }
 
 /// What is asked for by the subcommand that was met.
-fn asked_by(alloc: Global, matches: &clap::ArgMatches<'_>) -> Result<Asked, LineFault>
+fn asked_by(
+    alloc: Global,
+    matches: &clap::ArgMatches<'_>,
+    closing: &str,
+) -> Result<Asked, LineFault>
     ensures only { IfOk result (λ asked. IsAskedBy asked (subcommand_rows_of matches.now)) }
     ensures asked { (asked : Asked) → IsAskedBy asked (subcommand_rows_of matches.now)
         → IfErr result (λ fault. fault ≡ LineFault.Memory) }
-    ensures wrong { IfErr result SaysWhatIsWrong }
+    ensures wrong { IfErr result (SaysWhatIsWrong closing.now) }
 {
     match matches.subcommand() {
         Some(("reads", _)) => Ok(Asked::Run(Command::Reads)),
-        Some(("edges", edges)) => Ok(Asked::Run(Command::Edges(keys_asked(alloc, edges)?))),
-        Some(("check", check)) => Ok(Asked::Run(check_asked(alloc, check)?)),
-        Some(("serve", serve)) => sessions_asked(alloc, serve),
-        _ => Err(wrong(alloc, "error: no command is named")),
+        Some(("edges", edges)) => Ok(Asked::Run(Command::Edges(keys_asked(
+            alloc, edges, closing,
+        )?))),
+        Some(("check", check)) => Ok(Asked::Run(check_asked(alloc, check, closing)?)),
+        Some(("serve", serve)) => sessions_asked(alloc, serve, closing),
+        _ => Err(wrong(alloc, "error: no command is named", closing)),
     }
 }
 
@@ -376,13 +418,15 @@ pub fn asked_for(alloc: Global, words: &[String]) -> Result<Asked, LineFault>
         → IfErr result (λ fault. fault ≡ LineFault.Memory) }
     // A request for help is answered with it, and every other line with what is wrong.
     ensures help { AskForHelp (map string_bytes words.entry.now) → IfErr result Helps }
-    ensures wrong { ¬ MayAskForHelp (map string_bytes words.entry.now)
-        → IfErr result SaysWhatIsWrong }
-    // Whatever is wrong with a line, its text is the help, or one line on what is wrong and the closing line.
-    ensures either { IfErr result (λ fault. Helps fault ⊎ SaysWhatIsWrong fault) }
+    ensures wrong { let words = map string_bytes words.entry.now in
+        ¬ MayAskForHelp words → IfErr result (SaysWhatIsWrong (closing_line words)) }
+    // Whatever is wrong with a line, its text is the help, or one line on what is wrong and the line that closes it.
+    ensures either { let closing = closing_line (map string_bytes words.entry.now) in
+        IfErr result (λ fault. Helps fault ⊎ SaysWhatIsWrong closing fault) }
 {
+    let closing = closing_line(words);
     match program(alloc)?.try_get_matches_from(words) {
-        Ok(matches) => asked_by(alloc, &matches),
-        Err(error) => Err(line_fault(alloc, &error)),
+        Ok(matches) => asked_by(alloc, &matches, closing),
+        Err(error) => Err(line_fault(alloc, &error, closing)),
     }
 }

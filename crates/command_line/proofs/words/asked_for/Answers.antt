@@ -1,4 +1,4 @@
-use Rattle.std.proofs.Common.{◌≡◌, ◌⊎◌, inl, inr}
+use Rattle.std.proofs.Common.{◌≡◌, sym, ◌⊎◌, inl, inr}
 use Rattle.std.proofs.lemmas.Result.{IfOk-weaker}
 use Rattle.clap.specs.Words.{kind_of}
 use Rattle.clap.specs.declared.error.kind.ErrorKind.TheVariants.{OutOfMemory, DisplayHelp}
@@ -32,4 +32,5 @@ returns-in-Err-clause-help c = λ asked.
 
 pub returns-in-Err-clause-wrong : goal.returns-in-Err-clause-wrong
 returns-in-Err-clause-wrong c = λ unasked.
-    c.line_fault.ensures.wrong (fails_by_no_request _ _ c.in-Err.error c.in_ok-program.ensures c.in-Err.ensures.kinds unasked)
+    rw (sym c.closing_line-closing.ensures)
+      (c.line_fault.ensures.wrong (fails_by_no_request _ _ c.in-Err.error c.in_ok-program.ensures c.in-Err.ensures.kinds unasked))
