@@ -7,6 +7,12 @@ pub mod Runs
 pub mod Ordered
 pub mod Counting
 pub mod AnsweringSteps
+pub mod Chains
+pub mod Standing
+pub mod Filling
+pub mod Members
+pub mod Gathered
+pub mod OneHistory
 pub mod Judging
 pub mod Knowing
 pub mod SeenMore

@@ -1,11 +1,11 @@
 //! Laws of a row and its seats: the contracts of functions that do nothing.
 
-ghost use Rattle.std.specs.Prelude.{◌≡◌, ◌<◌, ◌≤◌, ℕ, List, [], ◌∷◌, ◌++◌, length, Result, Ok};
-ghost use mathlib.Core.List.{IsPrefix};
+ghost use Rattle.std.specs.Prelude.{◌≡◌, ◌≤◌, ℕ, List, [], length, Result};
 ghost use Rattle.hist_types.specs.Handed.{HandsOver};
 ghost use Rattle.hist_types.specs.Interleavings.{World, at_first, Step, IsOutcomeOf, AreAgreed, HaveRisingCalls, AreOthersAfterSeen, FindsNoOwnBlock, AllCount, AreJudged, IsOneHistory};
-ghost use Rattle.hist_types.specs.LegalAnswers.{StampedBlock, row_events, counting_blocks, View, next_block, Request, write, Answer, accepted, IsLegal};
-ghost use Rattle.live_journal.specs.Steps.{AddsNoBlock, IsAnsweredBySteps};
+ghost use Rattle.hist_types.specs.LegalAnswers.{StampedBlock, row_events, counting_blocks};
+ghost use Rattle.live_journal.specs.Callers.{Caller, AreCallersOf, HaveOneHistory, AreMadeBySteps};
+ghost use Rattle.live_journal.specs.Seats.{Journal};
 ghost use Rattle.hist_types.specs.Operations.{Operation};
 ghost use Rattle.hist_types.specs.declared.types.Fault.{Fault};
 ghost use Rattle.hist_types.specs.declared.types.KeyOrder.{KeyOrder};
@@ -35,20 +35,13 @@ pub fn found_blocks_are_anothers()
         → IsOutcomeOf keys cells at_first steps w → FindsNoOwnBlock w }
 {}
 
-/// A seat gives each legal answer by steps of its own: it looks until it has seen the blocks of others that it has then seen,
-/// and then replies, or fills a cell. So it is where what it has then seen begins the row, or, if it fills a cell, is the whole
-/// row and its own block.
-pub fn legal_answers_are_steps()
-    ensures reply { (keys : KeyOrder) (cells seat : ℕ) (request : Request) (answer : Answer)
-        (w : World) (new : View)
-        → IsLegal keys cells seat request answer (w.views seat) new
-        → AddsNoBlock answer → IsPrefix new.seen w.row
-        → IsAnsweredBySteps keys cells w seat request answer new w.row }
-    ensures fill { (keys : KeyOrder) (cells seat : ℕ) (os : List Operation) (index : ℕ)
-        (w : World) (new : View)
-        → IsLegal keys cells seat (write (Ok os)) (accepted index) (w.views seat) new
-        → new.seen ≡ w.row ++ next_block seat (w.views seat) os ∷ [] → length w.row < cells
-        → IsAnsweredBySteps keys cells w seat (write (Ok os)) (accepted index) new new.seen }
+/// What callers know of their calls and seats makes one history: all calls, in one order, are those of one sequential journal, which
+/// has after each just the blocks that the call's seat has then seen. Steps of seats at one row give their answers.
+pub fn callers_have_one_history()
+    ensures history { (journal : Journal) (callers : List Caller)
+        → AreCallersOf journal callers → HaveOneHistory journal callers }
+    ensures steps { (journal : Journal) (callers : List Caller)
+        → AreCallersOf journal callers → AreMadeBySteps journal callers }
 {}
 
 /// The blocks of a row that count have all of its events, and each of them counts after those before it.
