@@ -6,3 +6,4 @@ pub mod Sessions
 pub mod Stepping
 pub mod Windows
 pub mod Words
+pub mod Seating

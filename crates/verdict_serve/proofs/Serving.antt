@@ -1,5 +1,5 @@
 -- What a session has done so far, and what a line more makes of it.
-use Rattle.std.proofs.Common.{◌≡◌, ◌∙◌, ℕ, ◌+◌, List, [], ◌∷◌, ◌++◌, length, take, min, Bool, true, false, cond, Option, Some, None, refl, sym, ap, subst}
+use Rattle.std.proofs.Common.{◌≡◌, ◌∙◌, ℕ, ◌+◌, List, [], ◌∷◌, ◌++◌, length, take, min, Bool, true, false, cond, Option, Some, None, Result, Ok, Err, IfOk, refl, sym, ap, subst}
 use Rattle.std.specs.Io.KnownBytes.{Appends}
 use Rattle.std.proofs.lemmas.List.{append-nil, append_assoc, take_at}
 use Rattle.hist_types.specs.Devices.{CountsFailure}
@@ -9,10 +9,14 @@ use Rattle.hist_types.specs.declared.device.Sink.{Ghosts as Sink}
 use Rattle.hist_types.specs.declared.device.Source.{Ghosts as Source}
 use Rattle.live_journal.specs.Seats.{Seat, IsSameSeat}
 use Rattle.hist_types.specs.Pieces.{HasTaken}
-use Rattle.verdict_serve.specs.Served.{joined, counted, HasServed, HasLostSource, HasLostSink}
+use Rattle.verdict_serve.specs.Cuts.{IsUnbroken}
+use Rattle.verdict_serve.specs.Served.{joined, counted, HasServed, HasLostSource, HasLostSink, HasLostDevice, HasComeTo}
 use Rattle.verdict_serve.specs.Sources.{HasGiven}
 use Rattle.verdict_serve.specs.Steps.{IsLegalReply, HasAnsweredLine, HasFoundEnd, HasLostNext, HasLostReply}
+use Rattle.verdict_serve.specs.declared.session.Ended.{Ended}
 use Rattle.verdict_serve.specs.declared.session.Ended.TheVariants.{Quit, Eof}
+use Rattle.verdict_serve.specs.declared.session.SessionFault.{SessionFault}
+use Rattle.verdict_serve.specs.declared.session.SessionFault.TheVariants.{Device, Memory}
 use Rattle.verdict_serve.proofs.Sessions.{AreCut, cut_more, cut_longer, lines_of-cut, lines_of-unbroken, SayNoQuit, no_quit-more, up_to_quit-none, any-none, replies_more, as_many, joined-more, counted-more}
 use Rattle.verdict_serve.proofs.Windows.{given_none, given_both, failed_later}
 
@@ -49,6 +53,29 @@ served_with quits bytes lines l rest cut none e =
     ∙ up_to_quit-none lines (l ∷ more) none
     ∙ ap (λ (ls : List (List ℕ)). lines ++ ls) (served_first quits l more e)
     ∙ sym (append_assoc lines (l ∷ []) (cond quits [] (up_to_quit more)))
+
+-- where more bytes have no whole line, the lines before are all
+served_whole :
+    (bytes : List ℕ) (lines : List (List ℕ)) (unread given : List ℕ)
+    → AreCut bytes lines unread
+    → SayNoQuit lines
+    → IsUnbroken (unread ++ given)
+    → served_lines (bytes ++ given) ≡ lines
+served_whole bytes lines unread given cut none unbroken =
+    let cut' = cut_longer bytes lines unread given cut in
+    served_after (bytes ++ given) lines (unread ++ given) cut' none
+    ∙ ap (λ (ls : List (List ℕ)). lines ++ up_to_quit ls) (lines_of-unbroken (unread ++ given) unbroken)
+    ∙ append-nil lines
+
+no_quit_in :
+    (bytes : List ℕ) (lines : List (List ℕ)) (unread given : List ℕ)
+    → AreCut bytes lines unread
+    → SayNoQuit lines
+    → IsUnbroken (unread ++ given)
+    → say_quit (bytes ++ given) ≡ false
+no_quit_in bytes lines unread given cut none unbroken =
+    let cut' = cut_longer bytes lines unread given cut in
+    rw (lines_of-cut (bytes ++ given) lines (unread ++ given) cut', lines_of-unbroken (unread ++ given) unbroken, any-none lines [] none) refl
 
 -- a line that says quit is said by the bytes
 says_with : (bytes : List ℕ) (lines : List (List ℕ)) (l rest : List ℕ) → AreCut bytes (lines ++ l ∷ []) rest → SayNoQuit lines → says_quit l ≡ true → say_quit bytes ≡ true
@@ -159,10 +186,7 @@ module _ {S T : Type 0} (reads : Source S) (prints : Sink T) (old : Seat) (sourc
       → HasServed reads prints Eof old new source s' sink k'
   served_all unread answered seat new s s' k k' so_far end =
       let bytes = so_far.bytes ++ end.bytes in
-      let cut = cut_longer so_far.bytes so_far.lines unread end.bytes so_far.cut in
-      let none = lines_of-unbroken (unread ++ end.bytes) end.unbroken in
-      let served : served_lines bytes ≡ so_far.lines =
-      served_after bytes so_far.lines (unread ++ end.bytes) cut so_far.no_quit ∙ ap (λ (ls : List (List ℕ)). so_far.lines ++ up_to_quit ls) none ∙ append-nil so_far.lines in
+      let served = served_whole so_far.bytes so_far.lines unread end.bytes so_far.cut so_far.no_quit end.unbroken in
       let are = subst (λ (v : View). AreReplies (legal_to old) so_far.lines so_far.replies old.view v) (ap (λ (x : Seat). x.view) (sym end.same_seat)) so_far.replies_are in
       record {
         bytes = bytes;
@@ -170,28 +194,25 @@ module _ {S T : Type 0} (reads : Source S) (prints : Sink T) (old : Seat) (sourc
         given = given_both reads source s s' so_far.bytes end.bytes so_far.given end.given;
         session = subst (λ (ls : List (List ℕ)). AreReplies (legal_to old) ls so_far.replies old.view new.view) (sym served) are;
         printed = subst (λ (x : T). HasTaken prints sink x (joined so_far.replies)) (sym end.same_sink) so_far.printed;
-        ended_so = (rw (lines_of-cut bytes so_far.lines (unread ++ end.bytes) cut, none, any-none so_far.lines [] so_far.no_quit) refl, end.at_end);
+        ended_so = (no_quit_in so_far.bytes so_far.lines unread end.bytes so_far.cut so_far.no_quit end.unbroken, end.at_end);
       }
 
   pub lost_source :
       (unread : List ℕ) (answered : ℕ) (seat new : Seat) (s s' : S) (k k' : T)
       → Serving unread answered seat s k
-      → HasLostNext reads seat new s s' k k'
+      → HasLostNext reads unread seat new s s' k k'
       → HasLostSource reads prints answered old new source s' sink k'
   lost_source unread answered seat new s s' k k' so_far lost =
       let given : List ℕ = lost.failed.0 in
       let bytes = so_far.bytes ++ given in
-      let cut = cut_longer so_far.bytes so_far.lines unread given so_far.cut in
-      let more = up_to_quit (lines_of (unread ++ given)) in
-      let many = as_many (legal_to old) so_far.lines so_far.replies old.view seat.view so_far.replies_are in
-      let served : take (length so_far.replies) (served_lines bytes) ≡ so_far.lines =
-      ap (take (length so_far.replies)) (served_after bytes so_far.lines (unread ++ given) cut so_far.no_quit) ∙ take_at so_far.lines more (length so_far.replies) many in
+      let served = served_whole so_far.bytes so_far.lines unread given so_far.cut so_far.no_quit lost.failed.2 in
       let are = subst (λ (v : View). AreReplies (legal_to old) so_far.lines so_far.replies old.view v) (ap (λ (x : Seat). x.view) (sym lost.same_seat)) so_far.replies_are in
       record {
         bytes = bytes;
         replies = so_far.replies;
         failed = failed_later reads source s s' so_far.bytes given so_far.given lost.failed.1;
         session = subst (λ (ls : List (List ℕ)). AreReplies (legal_to old) ls so_far.replies old.view new.view) (sym served) are;
+        no_quit = no_quit_in so_far.bytes so_far.lines unread given so_far.cut so_far.no_quit lost.failed.2;
         printed = subst (λ (x : T). HasTaken prints sink x (joined so_far.replies)) (sym lost.same_sink) so_far.printed;
         answered_are = so_far.answered_are;
       }
@@ -222,3 +243,17 @@ module _ {S T : Type 0} (reads : Source S) (prints : Sink T) (old : Seat) (sourc
         failed = subst (λ (n : ℕ). CountsFailure n (prints.failures k')) so_far.printed.no_failure lost.failed.failed;
         answered_are = so_far.answered_are;
       }
+
+-- ---- whichever way it ended
+
+pub came_to :
+    {S T : Type 0} (reads : Source S) (prints : Sink T) (end : Result Ended SessionFault) (old new : Seat) (source source' : S) (sink sink' : T)
+    → IfOk end (λ ended. HasServed reads prints ended old new source source' sink sink')
+    → ((answered : ℕ) → end ≡ Err (Device answered) → HasLostDevice reads prints answered old new source source' sink sink')
+    → (end ≡ Err Memory → new ≡ old)
+    → (end ≡ Err Memory → source' ≡ source)
+    → (end ≡ Err Memory → sink' ≡ sink)
+    → HasComeTo reads prints end old new source source' sink sink'
+came_to reads prints (Ok ended) old new source source' sink sink' served lost seat from to = served
+came_to reads prints (Err (Device answered)) old new source source' sink sink' served lost seat from to = lost answered refl
+came_to reads prints (Err Memory) old new source source' sink sink' served lost seat from to = (seat refl, from refl, to refl)

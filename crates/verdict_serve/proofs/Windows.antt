@@ -117,5 +117,12 @@ module _ {S : Type 0} (device : Ghosts S) where
       let whole : held ++ gives.0 ≡ bytes ++ (more ++ gives.0) = ap (λ (t : List ℕ). t ++ gives.0) e ∙ append_assoc bytes more gives.0 in
       (more ++ gives.0, given_both a b c more gives.0 first gives.1, subst (λ (t : List ℕ). IsNext next t cut) whole gives.2)
 
-  pub fails_later : (a b c : S) (more : List ℕ) → HasGiven device a b more → HasFailed device b c → HasFailed device a c
-  fails_later a b c more first fails = (more ++ fails.0, failed_later a b c more fails.0 first fails.1)
+  pub fails_later :
+      (a b c : S) (bytes more held : List ℕ)
+      → held ≡ bytes ++ more
+      → HasGiven device a b more
+      → HasFailed device held b c
+      → HasFailed device bytes a c
+  fails_later a b c bytes more held e first fails =
+      let whole : held ++ fails.0 ≡ bytes ++ (more ++ fails.0) = ap (λ (t : List ℕ). t ++ fails.0) e ∙ append_assoc bytes more fails.0 in
+      (more ++ fails.0, failed_later a b c more fails.0 first fails.1, subst IsUnbroken whole fails.2)

@@ -5,3 +5,4 @@ pub mod Sayings
 pub mod Served
 pub mod Steps
 pub mod Windows
+pub mod Places

@@ -3,7 +3,7 @@ use Rattle.std.specs.Prelude.{◌≡◌, ℕ, List, ◌++◌}
 use Rattle.std.specs.Io.KnownBytes.{Consumes}
 use Rattle.hist_types.specs.Devices.{CountsFailure}
 use Rattle.hist_types.specs.declared.device.Source.{Ghosts}
-use Rattle.verdict_serve.specs.Cuts.{Cut, IsNext}
+use Rattle.verdict_serve.specs.Cuts.{Cut, IsNext, IsUnbroken}
 use Rattle.verdict_serve.specs.declared.lines.Next.{Next}
 
 -- the source gave these bytes, and didn't fail
@@ -18,9 +18,10 @@ pub record HasFailedAfter {S : Type 0} (device : Ghosts S) (source source' : S) 
   pub taken : Consumes (device.remaining source) (device.remaining source') given
   pub failed : CountsFailure (device.failures source) (device.failures source')
 
--- the source failed, after it gave some bytes or none
-abbrev pub HasFailed : {S : Type 0} → Ghosts S → (source source' : S) → Type 0
-HasFailed device source source' = (given : List ℕ) × HasFailedAfter device source source' given
+-- The source failed, and with these bytes that it gave before it has given no whole line.
+abbrev pub HasFailed : {S : Type 0} → Ghosts S → (before : List ℕ) → (source source' : S) → Type 0
+HasFailed device before source source' =
+    (given : List ℕ) × HasFailedAfter device source source' given × IsUnbroken (before ++ given)
 
 -- with these bytes that it gave before, the source gives this next, and this is left of them then
 abbrev pub GivesNext :

@@ -88,10 +88,10 @@ step_for saying = steps.Answered
 
 -- ---- failures
 
--- the source failed, and nothing else happened
-pub record HasLostNext {S T : Type 0} (reads : Source S) (old new : Seat)
+-- the source failed before it gave a whole line, and nothing else happened
+pub record HasLostNext {S T : Type 0} (reads : Source S) (before : List ℕ) (old new : Seat)
     (source source' : S) (sink sink' : T) : Type 0 where
-  pub failed : HasFailed reads source source'
+  pub failed : HasFailed reads before source source'
   pub same_seat : new ≡ old
   pub same_sink : sink' ≡ sink
 
@@ -109,5 +109,5 @@ abbrev pub HasStopped :
     {S T : Type 0} → Source S → Sink T → (before : List ℕ) → (old new : Seat)
     → (source source' : S) → (sink sink' : T) → Type 0
 HasStopped reads prints before old new source source' sink sink' =
-    HasLostNext reads old new source source' sink sink'
+    HasLostNext reads before old new source source' sink sink'
     ⊎ HasLostReply reads prints before old new source source' sink sink'

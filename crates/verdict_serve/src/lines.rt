@@ -51,7 +51,7 @@ fn skip<R: Wait, S: Source>(window: &mut Window, rt: &R, source: &mut S) -> Resu
     ensures ok { IfOk result (λ next. GivesNext S.Source next (held window.old) source.old source.new
         (cut_after 0 (held window.new))) }
     ensures end { result ≡ Ok Next.End → IsAtEnd (S.remaining source.new) }
-    ensures err { OnErr result (HasFailed S.Source source.old source.new) }
+    ensures err { OnErr result (HasFailed S.Source (held window.old) source.old source.new) }
 {
     if window.skip_line(rt, source)? {
         return Ok(Next::Overlong);
@@ -87,7 +87,7 @@ impl Lines {
         ensures ok { IfOk result
             (λ next. GivesNext S.Source next self.old.unread source.old source.new self.new) }
         ensures end { result ≡ Ok Next.End → IsAtEnd (S.remaining source.new) }
-        ensures err { OnErr result (HasFailed S.Source source.old source.new) }
+        ensures err { OnErr result (HasFailed S.Source self.old.unread source.old source.new) }
     {
         self.window.consume(self.given);
         self.given = 0;

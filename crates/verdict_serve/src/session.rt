@@ -171,7 +171,8 @@ pub fn session<R: Wait, H: BuildHasher + Copy, S: Source, T: Sink>(
     // Each line of the source has one reply, by a legal answer to the seat, and the sink took them whole.
     ensures ended { IfOk result (λ ended. HasServed S.Source T.Sink ended
         seat.old seat.new source.old source.new sink.old sink.new) }
-    // A device failed: the lines answered so far have their replies, and of the next one a beginning was taken.
+    // A device failed. If the source did, each line that it gave has its reply; if the sink did, the lines answered so far have
+    // theirs, and of the next one a beginning was taken.
     ensures device { (answered : ℕ) → result ≡ Err (SessionFault.Device answered)
         → HasLostDevice S.Source T.Sink answered
         seat.old seat.new source.old source.new sink.old sink.new }

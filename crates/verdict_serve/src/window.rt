@@ -140,7 +140,7 @@ impl Window {
         ensures ok { IfOk result (λ found. (given : List ℕ) × (held self.new ≡ held self.old ++ given)
             × HasGiven S.Source source.old source.new given × IsFound found (held self.new)) }
         ensures end { result ≡ Ok Found.End → IsAtEnd (S.remaining source.new) }
-        ensures err { OnErr result (HasFailed S.Source source.old source.new) }
+        ensures err { OnErr result (HasFailed S.Source (held self.old) source.old source.new) }
     {
         let mut searched = 0;
         loop {
@@ -163,7 +163,7 @@ impl Window {
         ensures ok { IfOk result (λ more. (given : List ℕ)
             × HasGiven S.Source source.old source.new given × IsSkipped more given (held self.new)) }
         ensures end { result ≡ Ok false → IsAtEnd (S.remaining source.new) }
-        ensures err { OnErr result (HasFailed S.Source source.old source.new) }
+        ensures err { OnErr result (HasFailed S.Source [] source.old source.new) }
     {
         self.clear();
         for _ in rt.forever() {

@@ -15,4 +15,6 @@ returns-in-Full-clause-ok g c =
 pub returns-in-Full-clause-err : goal.returns-in-Full-clause-err
 returns-in-Full-clause-err g c =
     let found = rw c.in-Full.is at c.in_ok-place.ensures.ok in
-    IfErr-weaker c.skip.result _ _ (λ error fails. fails_later g.S.Source _ _ _ found.0 found.2 fails) c.skip.ensures.err
+    let whole : held c.find_line_end.new.self ≡ c.args.self.now.unread ++ found.0 =
+    found.1 ∙ ap (λ (t : List ℕ). t ++ found.0) (c.consume.ensures ∙ ap (λ (cut : Cut). cut.unread) c.self.view_is) in
+    IfErr-weaker c.skip.result _ _ (λ error fails. fails_later g.S.Source _ _ _ _ found.0 _ whole found.2 fails) c.skip.ensures.err
