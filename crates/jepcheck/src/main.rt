@@ -1,15 +1,7 @@
 //! A strict serializability checker of journals of register transactions.
 #![tactic(auto)]
 
-#[cfg(test)]
-mod devices;
-#[cfg(test)]
-mod runs;
 mod serve;
-#[cfg(test)]
-mod sessions;
-#[cfg(test)]
-mod workers;
 
 use crate::serve::{open_pairs, serve};
 use command_line::types::{Asked, LineFault};

@@ -7,12 +7,10 @@ use thiserror::Error;
 
 #[derive(Debug, Drop, Error)]
 pub enum Stopped {
-    #[error("usage: seat_calls [once-more | contended | bench SEATS EVENTS | begins EVENTS]")]
+    #[error("usage: the words that src/main.rt tells of")]
     Usage,
-    #[error("not an atom")]
-    NotAnAtom,
-    #[error("a wrong answer")]
-    WrongAnswer,
+    #[error("a line that asks for nothing")]
+    BadLine,
     #[error("{0}")]
     Refused(Fault),
     #[error("{0}")]

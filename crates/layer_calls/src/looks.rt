@@ -1,0 +1,95 @@
+//! What is told of a history without a graph.
+
+ghost use Rattle.std.specs.Prelude.{◌≡◌};
+ghost use Rattle.hist_types.specs.Transactions.{transactions_of};
+
+use crate::stopped::Stopped;
+use clean_order::attempt::Attempt;
+use clean_order::{
+    settles, settles_dirty_writes, settles_plain, settles_single_at_plain, settles_snapshots,
+    settles_writes,
+};
+use cycle_find::single::{
+    circular_flow, lost_update, single_at_plain, single_in_process, write_skew,
+};
+use dep_edges::deps::Deps;
+use dep_edges::edges;
+use hist_types::types::{Fault, KeyOrder};
+use journal_core::journal::Core;
+use journal_core::prefix::Prefix;
+use key_versions::versions;
+use op_block::block::Block;
+use std::alloc::Global;
+use std::hash::{BuildHasherDefault, FoldHasher};
+use txn_pairs::pair;
+use txn_pairs::types::Txns;
+
+/// What an order of the nodes tells.
+#[derive(Clone, Copy, Debug)]
+struct Settled {
+    settles: bool,
+    settles_writes: bool,
+    settles_dirty_writes: bool,
+    settles_plain: bool,
+    settles_snapshots: bool,
+    settles_single_at_plain: bool,
+}
+
+/// What a look at each version finds.
+#[derive(Clone, Copy, Debug)]
+struct Found {
+    has_circular_flow: bool,
+    has_single_at_plain: bool,
+    has_single_in_process: bool,
+    has_lost_update: bool,
+    has_write_skew: bool,
+}
+
+fn settled_of(alloc: Global, deps: &Deps<'_, '_>) -> Result<Settled, Fault> {
+    let mut attempt = Attempt::new(alloc, deps)?;
+    Ok(Settled {
+        settles: settles(alloc, deps, &mut attempt)?,
+        settles_writes: settles_writes(alloc, deps, &attempt)?,
+        settles_dirty_writes: settles_dirty_writes(alloc, deps, &attempt)?,
+        settles_plain: settles_plain(deps, &attempt),
+        settles_snapshots: settles_snapshots(alloc, deps, &attempt)?,
+        settles_single_at_plain: settles_single_at_plain(alloc, deps, &attempt)?,
+    })
+}
+
+fn found_of(alloc: Global, deps: &Deps<'_, '_>) -> Result<Found, Fault> {
+    Ok(Found {
+        has_circular_flow: circular_flow(alloc, deps)?.is_some(),
+        has_single_at_plain: single_at_plain(alloc, deps)?.is_some(),
+        has_single_in_process: single_in_process(alloc, deps)?.is_some(),
+        has_lost_update: lost_update(alloc, deps)?.is_some(),
+        has_write_skew: write_skew(alloc, deps)?.is_some(),
+    })
+}
+
+/// Looks at transactions of events that keep the rules.
+fn told_of<'a>(
+    alloc: Global,
+    prefix: &Prefix<'a>,
+    txns: &Txns<'a>,
+) -> Result<(Settled, Found), Fault>
+    requires { txns.now ≡ transactions_of prefix.now }
+{
+    // Called for its clause that the events keep the rules, which the proof cites.
+    let _rules = prefix.events();
+    let hasher = BuildHasherDefault::<FoldHasher>::new();
+    let versions = versions(alloc, txns, hasher, KeyOrder::Basic)?;
+    let deps = edges(alloc, txns, &versions)?;
+    Ok((settled_of(alloc, &deps)?, found_of(alloc, &deps)?))
+}
+
+/// Looks at the history of standard input, and prints what is told.
+pub fn run<R: Print>(rt: &R, alloc: Global, block: &Block) -> Result<(), Stopped> {
+    let core = Core::new(alloc).append(block)?;
+    let prefix = core.prefix()?;
+    let txns = pair(alloc, prefix.as_events())?;
+    let (settled, found) = told_of(alloc, &prefix, &txns)?;
+    println!(rt; "{settled:?}")?;
+    println!(rt; "{found:?}")?;
+    Ok(())
+}
