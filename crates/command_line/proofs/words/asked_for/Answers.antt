@@ -33,4 +33,4 @@ returns-in-Err-clause-help c = λ asked.
 pub returns-in-Err-clause-wrong : goal.returns-in-Err-clause-wrong
 returns-in-Err-clause-wrong c = λ unasked.
     rw (sym c.closing_line-closing.ensures)
-      (c.line_fault.ensures.wrong (fails_by_no_request _ _ c.in-Err.error c.in_ok-program.ensures c.in-Err.ensures.kinds unasked))
+    (c.line_fault.ensures.wrong (fails_by_no_request _ _ c.in-Err.error c.in_ok-program.ensures c.in-Err.ensures.kinds unasked))
