@@ -13,6 +13,9 @@
   (def examples one)
   (def folder two))
 (def program (System/getenv "JEPCHECK"))
+(def notice
+  "What the launcher says of a program that isn't proved."
+  #"jepcheck: this build isn't proved.*\n")
 (def wrong (atom 0))
 
 (defn expect [about got wanted]
@@ -83,7 +86,7 @@
          ["odd options" (history "stale-read") [program {:keys "odd"}]
           [:unknown (str "status 2: error: invalid value 'odd' for '--keys <ORDER>': neither basic nor sequential") nil]]]
         :let [{:keys [valid? error op] :as result} (apply check history (or (seq words) [program]))]]
-  (expect about [valid? (first (str/split-lines error)) op] wanted))
+  (expect about [valid? (first (str/split-lines (str/replace error notice ""))) op] wanted))
 (let [{:keys [valid? error]} (check (history "stale-read") "/no/such/jepcheck")]
   (expect "a missing program" [valid? (str/starts-with? error "Cannot run program \"/no/such/jepcheck\"")] [:unknown true]))
 (expect "which program" (str/replace (:program (check [(op :ok 3)] program)) #"\d+" "N") "jepcheck N.N.N")

@@ -320,6 +320,7 @@ def script(words, verdict):
         encoding="utf-8",
         check=False,
     )
-    if run.stderr or run.returncode not in (0, 1, 67):
+    if run.returncode not in (0, 1, 67) or not run.stdout:
         raise ValueError(f"{words[0]} ended with status {run.returncode}: {run.stderr.strip()}")
+    sys.stderr.write(run.stderr)
     return run.returncode, run.stdout
