@@ -32,7 +32,7 @@ def is_current(program):
 
 
 def build(name, program):
-    """Builds a program without proofs, unless another run does so meanwhile. Whether it is there then."""
+    """Builds a program without proofs, unless another run does meanwhile. False if it can't."""
     program.parent.mkdir(parents=True, exist_ok=True)
     with open(program.parent / "building", "w", encoding="utf-8") as lock:
         fcntl.flock(lock, fcntl.LOCK_EX)
