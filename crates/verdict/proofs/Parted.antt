@@ -1,14 +1,13 @@
 -- Each key is in the piece of one of the workers.
-use Rattle.std.proofs.Common.{◌≡◌, ◌<◌, ◌≤◌, ◌+◌, ◌*◌, ◌/◌, ◌∙◌, ℕ, zero, suc, List, [], ◌∷◌, length, map, get_or, All, Contains, Some, Ok, Result, slice_get, refl, sym, ap, subst, arith, inl, inr}
+use Rattle.std.proofs.Common.{◌≡◌, ◌<◌, ◌≤◌, ◌+◌, ◌/◌, ◌∙◌, ℕ, zero, suc, List, [], ◌∷◌, length, map, get_or, Some, Ok, Result, slice_get, refl, sym, ap, subst, arith, inl, inr}
 use Rattle.std.specs.declared.alloc.AllocError.{AllocError}
 use Rattle.std.proofs.Math.Nat.{mul-div_cancel_left, zero-div}
 use Rattle.std.proofs.lemmas.Bool.{cases_lt}
 use Rattle.std.proofs.lemmas.List.{length-map}
 use Rattle.std.proofs.lemmas.Option.{slice_get-get_or, slice_get-map, slice_get_within, get_or_from_slice_get}
 use Rattle.std.specs.Prelude.{option_map, IfOk}
-use Rattle.hist_types.proofs.Members.{In, Contains_from_in}
-use Rattle.dep_edges.specs.Pieces.{Piece, IsOf, IsPieceOf, ArePiecesOf}
-use Rattle.dep_edges.specs.Tables.{IsNumber}
+use Rattle.hist_types.proofs.Members.{Contains_from_in}
+use Rattle.dep_edges.specs.Pieces.{Piece, IsOf, ArePiecesOf}
 use Rattle.dep_edges.proofs.Lists.{all_in}
 use Rattle.dep_edges.proofs.Marks.{place_in}
 use Rattle.dep_edges.proofs.Writers.{in_at}

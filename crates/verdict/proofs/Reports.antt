@@ -9,7 +9,7 @@ use Rattle.report_laws.proofs.ExplainedVerdicts.{verdict_refutes}
 use Rattle.hist_types.specs.Operations.{Operation}
 use Rattle.hist_types.specs.Phenomena.{g1a, g1b, stray}
 use Rattle.hist_types.specs.Reports.{Findings, AreFindings, Report, IsVerdictOf, no_findings}
-use Rattle.hist_types.specs.Transactions.{Transaction, transactions_of}
+use Rattle.hist_types.specs.Transactions.{Transaction}
 use Rattle.hist_types.specs.declared.types.KeyOrder.{KeyOrder}
 use Rattle.serial_points.specs.CleanReads.{HasNoBadRead}
 use Rattle.verdict.specs.Tables.{AreBadReadsOf, AreTables, AreTablesOf, IsVerdictFor, history_of, keys_in}

@@ -1,4 +1,5 @@
 pub mod Tables
-pub mod Lowest
+pub mod Board
+pub mod Graphs
 pub mod Analysed
 pub mod KeyPieces

@@ -16,15 +16,17 @@ ghost use Rattle.hist_types.specs.declared.types.KeyOrder.{KeyOrder};
 ghost use Rattle.report_laws.specs.Explained.{RefutesExplanations};
 
 pub mod analysis;
+mod board;
 mod changes;
-mod findings;
+mod known;
 pub mod laws;
+mod looks;
 mod pairs;
 pub mod tables;
 pub mod types;
 pub mod wide;
 
-use crate::findings::findings_of;
+use crate::looks::findings_of;
 use crate::tables::Tables;
 use crate::types::{BadReads, Verdict};
 use dep_edges::deps::Deps;

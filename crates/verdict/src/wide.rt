@@ -8,7 +8,7 @@ ghost use Rattle.report_laws.specs.Explained.{RefutesExplanations};
 ghost use Rattle.verdict.specs.KeyPieces.{IsNumberOfWorkers, IsWorker, IsMemoryOrThread, AreOfOneHistory, IsFoundBy, EachFinds, first_key};
 ghost use Rattle.verdict.specs.Tables.{AreTables, AreTablesOf, history_of, keys_in};
 
-use crate::findings::findings_of_wide;
+use crate::looks::findings_of;
 use crate::tables::Tables;
 use crate::types::Verdict;
 use crate::{bad_reads, reported, verdict_from};
@@ -209,7 +209,7 @@ pub fn verdict_from_wide<'a, R: Threads + Wait + Sync, G: Gate + Sync>(
         return Ok(verdict_from(alloc, tables)?);
     }
     let deps = deps_by(rt, alloc, tables, workers, gate)?;
-    let findings = findings_of_wide(rt, alloc, tables, &deps)?;
+    let findings = findings_of(alloc, tables, &deps)?;
     let reads = bad_reads(&deps);
     Ok(reported(alloc, tables.events, tables.txns, findings, reads)?)
 }
