@@ -101,8 +101,8 @@ pub record WasServed {S T : Type 0} (reads : Source S) (prints : Sink T) (seat :
   pub same : IsSameSeat seat new
   pub came_to : HasComeTo reads prints end seat new client.source source client.sink sink
 
--- There are as many ends as clients. Each client was served to its end by a new seat of the journal,
--- the first one by one with this number, and each other one by one with the next number.
+-- There are as many ends as clients. Each client was served to its end by a new seat of the
+-- journal: the first one by the seat with this number, and each other one by that with the next.
 abbrev pub WereServed :
     {S T : Type 0} → Source S → Sink T → Journal → (number : ℕ) → List (Client S T)
     → List (Result Ended SessionFault) → Type 0

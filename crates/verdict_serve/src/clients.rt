@@ -122,7 +122,8 @@ pub fn sessions<
     // Each client has a session of its own, by a seat whose number no other has.
     ensures served { IfOk result
         (λ ends. WereServed S.Source T.Sink journal.entry.now 0 clients.items ends.items) }
-    ensures err { IfErr result (λ fault. (fault ≡ memory_fault) ⊎ (fault ≡ without_place NoThread)) }
+    ensures err { IfErr result
+        (λ fault. (fault ≡ memory_fault) ⊎ (fault ≡ without_place NoThread)) }
 {
     thread::scope(
         thread::scope_env(),
