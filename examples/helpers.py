@@ -1,21 +1,24 @@
 #!/usr/bin/env python3
-"""The helper programs, which make calls that `jepcheck` doesn't make: crates/seat_calls and
-crates/layer_calls.
+"""What checks share: the helper programs, which make calls that `jepcheck` doesn't make,
+crates/seat_calls and crates/layer_calls; and runs that say nothing of a build without proofs.
 
-    from helpers import helper
+    from helpers import helper, without_notices
 
     helper("seat_calls")     # the path of the program, or None if it isn't there and can't be built
+    with without_notices():  # leaves out what the launcher says of such a build on standard error
 
 The proved program is taken if no source file is newer. Else one is built without proofs, in a
 minute or two, unless JEPCHECK_PROVED is 1. As a program, helpers.py NAME prints the path, and
 helpers.py builds both, side by side.
 """
 import concurrent.futures
+import contextlib
 import fcntl
 import os
 import pathlib
 import subprocess
 import sys
+import tempfile
 import time
 
 TOP = pathlib.Path(__file__).resolve().parent.parent
@@ -58,6 +61,21 @@ def helper(name):
         return None
     program = out / "unproved" / name
     return program if is_current(program) or build(name, program) else None
+
+
+@contextlib.contextmanager
+def without_notices():
+    with tempfile.TemporaryFile("w+", encoding="utf-8") as said:
+        sys.stderr.flush()
+        stderr = os.dup(2)
+        os.dup2(said.fileno(), 2)
+        try:
+            yield
+        finally:
+            sys.stderr.flush()
+            os.dup2(stderr, 2)
+            said.seek(0)
+            sys.stderr.writelines(line for line in said if "this build isn't proved" not in line)
 
 
 if __name__ == "__main__":

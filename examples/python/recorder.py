@@ -1,51 +1,62 @@
-"""Records the history of a test of a database, as a file or with `jepcheck serve`, and has it checked.
+"""Records the history of a test of a database, as a file or with `jepcheck serve`, and checks it.
 
     from recorder import Recorder, assert_promised
 
-    with Recorder("history.edn") as recorder:              # or Recorder(("client.in", "client.out")), a session of `serve`
-        ...                                                # then in each thread or task, over and over:
+    with Recorder("history.edn") as recorder:
+        # In each thread or task, over and over:
         with recorder.begin([("r", "x"), ("w", "x", recorder.value())]) as transaction:
             try:
-                seen = database.run(transaction.mops)      # what each read returned, in their order; None if nothing is there
+                seen = database.run(transaction.mops)  # what each read returned, in their order
                 transaction.ok(seen)
             except database.RolledBack:
-                transaction.fail()                         # only if it certainly didn't happen
-    assert_promised("history.edn", "snapshot isolation")   # raises an AssertionError that tells how it was broken
+                transaction.fail()  # only if it certainly didn't happen
+    assert_promised("history.edn", "snapshot isolation")
 
-Whatever threads and asyncio tasks do with it, the history is one that the program takes, with its lines in the order in which
-things happened: `begin` returns once the invocation is recorded, and each task, or thread outside of tasks, has a process of its
-own, and a new one after each transaction whose end isn't known.
+Whatever threads and asyncio tasks do with it, the history is one that the program takes, with its
+lines in the order in which things happened: `begin` returns once the invocation is recorded, and
+each task, or thread outside of tasks, has a process of its own, and a new one after each
+transaction whose end isn't known.
 
-    Recorder(target)           a file that is created or emptied, by its path; or a session, by the paths of its pipes (IN, OUT)
-    Recorder(target, 3, 8)     number 3 of 8 recorders, as of 8 programs that have a session each: it leaves the other numbers to
-                               them. If the session has a past, from a program that died, this goes on where that one was: what it
-                               left open is unknown, and no process and no value comes again
-      .begin(mops)             records an invocation, and returns the Transaction. Reads are ("r", key), writes ("w", key, value).
-                               Begin it before the database can see anything of it. Don't run it if this raises NotRecorded
-      .value()                 an integer that no recorder of this history gave before. No value may be written twice to a key
-      .verdict()               the Verdict of what was recorded so far
-      .close()                 what is open then remains unknown
+    Recorder(target)         a file that is created or emptied, by its path; or a session of
+                             `serve`, by the paths of its pipes, (IN, OUT)
+    Recorder(target, 3, 8)   number 3 of 8 recorders, as of 8 programs that have a session each: it
+                             leaves the other numbers to them. If the session has a past, from a
+                             program that died, this goes on where that one was: what was left open
+                             is unknown, and no process and no value comes again
+      .begin(mops)           records an invocation, and returns the Transaction. Reads are
+                             ("r", key), writes ("w", key, value). Begin it before the database can
+                             see anything of it, and don't run it if this raises NotRecorded
+      .value()               an integer that no recorder of this history gave before. No value may
+                             be written twice to a key
+      .verdict()             the Verdict of what was recorded so far
+      .close()               what is open then remains unknown
     Transaction
-      .ok(values)              it committed, and its reads returned these values, in the order of the reads
-      .fail(error)             it certainly didn't happen
-      .info(error)             nobody knows. Leaving `with`, also by an exception, records this if nothing else was
-      .mops, .name, .index     [("r", "x", None), ("w", "x", 1)]; "T21", as verdicts call it; 21
-      .process, .status        its process; "open", "ok", "fail" or "info"
-    Session(IN, OUT)           the pipes of a session, for threads that share them
-      .ask("verdict")          writes a line, and returns the lines of the reply
-      .settle()                returns the replies that a client left unread, and ends the line that it left unfinished
-      .events()                each event so far
-    check(history, keys)       the Verdict of a file. ValueError if it isn't checked, or has no operation of a client
-    explain(history, keys)     what examples/explain tells of it
+      .ok(values)            it committed, and its reads returned these, in the order of the reads
+      .fail(error)           it certainly didn't happen
+      .info(error)           nobody knows. Leaving `with`, by an exception too, records this if
+                             nothing else was
+      .mops, .name, .index   [("r", "x", None), ("w", "x", 1)]; "T21", as verdicts call it; 21
+      .process, .status      its process; "open", "ok", "fail" or "info"
+    Session(IN, OUT)         the pipes of a session, for threads that share them
+      .ask("verdict")        writes a line, and returns the lines of the reply
+      .settle()              ends the line that a client left unfinished, and returns the replies
+                             that it left unread
+      .events()              each event so far
+    check(history, keys)     the Verdict of a file. ValueError if it isn't checked, or has no
+                             operation of a client
+    explain(history, keys)   what examples/explain tells of it
     assert_promised(history, level, keys)
-                               raises an AssertionError with that if this run broke the level (strict serializability, if none is
-                               given), or if nothing in it could have shown that it did
+                             raises an AssertionError with that if this run broke the level (strict
+                             serializability, if none is given), or if nothing in it could have
+                             shown that it did
 
-Keys and values are integers of 64 bits and strings; what a register holds at first is None. An `error` may be anything, and is recorded as text. For Verdict
-and `keys` see history.py, which has to be in this folder or the one above it, and so have explain and levels if they are used.
-Needs Python 3.9 and nothing but its standard library.
+Keys and values are integers of 64 bits and strings; what a register holds at first is None. An
+`error` may be anything, and is recorded as text. For Verdict and `keys` see history.py, which has
+to be in this folder or the one above it, and so have explain and levels if they are used. Needs
+Python 3.9 and nothing but its standard library.
 """
 import asyncio
+import contextlib
 import itertools
 import operator
 import os
@@ -60,7 +71,7 @@ import weakref
 HERE = os.path.dirname(os.path.realpath(__file__))
 BESIDE = HERE if os.path.exists(os.path.join(HERE, "history.py")) else os.path.dirname(HERE)
 sys.path.append(BESIDE)
-from history import ESCAPED, check, checked, operation, read_verdict
+from history import ESCAPED, check, checked, operation, read_verdict, waiting
 
 ESCAPES = str.maketrans(ESCAPED)
 WRITTEN = re.compile(r"\[:w .*? (\d+)\]")  # an integer that was written, or what looks like one
@@ -90,13 +101,16 @@ def readable(error):
     return str(error)[:LONGEST_ERROR].encode(errors="replace").decode()
 
 
-def micro_operation(f, key, *value):
+def micro_operation(mop):
     """A read or a write of an invocation, checked."""
-    if f not in ("r", "w") or (f == "r" and value not in ((), (None,))) or (f == "w" and len(value) != 1):
-        raise ValueError(f"a read is ('r', key), a write ('w', key, value), and not {(f, key, *value)!r}")
-    if f == "w" and value[0] is None:
+    it = () if isinstance(mop, str) else tuple(mop)
+    is_read = it[:1] == ("r",) and len(it) > 1 and it[2:] in ((), (None,))
+    if not is_read and not (it[:1] == ("w",) and len(it) == 3):
+        raise ValueError(f"a read is ('r', key), a write ('w', key, value), and not {mop!r}")
+    f, key, value = (*it, None)[:3]
+    if f == "w" and value is None:
         raise ValueError(f"None is what key {key!r} holds at first, and is never written")
-    return f, key, value[0] if value else None
+    return f, key, value
 
 
 class NotRecorded(Exception):
@@ -104,16 +118,25 @@ class NotRecorded(Exception):
 
 
 class Session:
-    """The client's end of the pipes of a session. It waits until `jepcheck serve` opens them, which is IN first."""
+    """The client's end of the pipes of a session. Waits until `serve` opens them, IN first."""
 
     def __init__(self, path_in, path_out):
-        self.lines = open(os.open(path_in, os.O_WRONLY), "w", encoding="utf-8", newline="\n")  # never makes a file
-        self.replies = open(path_out, encoding="utf-8", newline="\n")
+        with waiting(f"waiting until `jepcheck serve` opens {path_in} and {path_out}"):
+            lines = os.open(path_in, os.O_WRONLY)  # never makes a file
+            self.lines = open(lines, "w", encoding="utf-8", newline="\n")
+            self.replies = open(path_out, encoding="utf-8", newline="\n")
         self.lock, self.is_settled = threading.Lock(), True
 
     def close(self):
-        self.lines.close()
+        with contextlib.suppress(BrokenPipeError):
+            self.lines.close()
         self.replies.close()
+
+    def write(self, *lines):
+        try:
+            print(*lines, sep="\n", file=self.lines, flush=True)
+        except BrokenPipeError as error:
+            raise EOFError("jepcheck has ended") from error
 
     def line(self):
         reply = self.replies.readline()
@@ -122,12 +145,12 @@ class Session:
         return reply[:-1]
 
     def ask(self, line):
-        """Writes a line, waits for the reply, and returns its lines: one, except for `read` and `verdict`."""
+        """Writes a line, and returns the lines of the reply: one, but of `read` and `verdict`."""
         with self.lock:
             if not self.is_settled:  # an exception came between a line and its reply
                 self._settle()
             self.is_settled = False
-            print(line, file=self.lines, flush=True)
+            self.write(line)
             reply = [self.line()]
             if reply[0].startswith("events "):
                 reply += [self.line() for _ in range(int(reply[0].split()[1]))]
@@ -144,7 +167,7 @@ class Session:
     def _settle(self):
         # An unfinished line ends, and one is asked whose reply nobody has asked for before.
         mark = random.randint(1, 9999)
-        print("", " " * mark + "0", sep="\n", file=self.lines, flush=True)
+        self.write("", " " * mark + "0")
         replies = list(iter(self.line, f"refused 27 NotAMap byte {mark}"))
         self.is_settled = True
         return replies
@@ -177,8 +200,9 @@ class Transaction:
         reads = [f for f, _, _ in self.mops].count("r")
         if len(values) != reads:
             raise ValueError(f"{reads} reads returned {len(values)} values: {values!r}")
-        values = iter(values)
-        self._end("ok", [(f, key, next(values) if f == "r" else value) for f, key, value in self.mops])
+        seen = iter(values)
+        mops = [(f, key, next(seen) if f == "r" else value) for f, key, value in self.mops]
+        self._end("ok", mops)
 
     def fail(self, error=None):
         self._end("fail", self.mops, error)
@@ -213,22 +237,26 @@ class Recorder:
         else:
             self.session = Session(*target)
         self._number, self._of, self._processes, self._values = number, of, None, None
-        self._free = weakref.WeakKeyDictionary()  # the processes of each task or thread that have nothing open
+        # Of each task or thread the processes that have nothing open.
+        self._free = weakref.WeakKeyDictionary()
         self._numbering, self._writing = threading.Lock(), threading.Lock()
         self._events, self._start = 0, time.monotonic_ns()
 
     def _numbers(self):
-        """The numbers of processes and the values that nobody has taken, under the lock. What was left open is closed first."""
+        """The processes and the values that nobody has taken. What was left open is closed first.
+        Only for who has the lock."""
         if self._processes is None:
             running, process, value = self._past() if self.session else ((), -self._of, 0)
             for it in running:
                 self._write("info", it, [])
-            self._values = itertools.count(-(-value // self._of) * self._of + self._number + 1, self._of)
+            first = -(-value // self._of) * self._of + self._number + 1
+            self._values = itertools.count(first, self._of)
             self._processes = itertools.count(process + self._of + self._number, self._of)
         return self._processes, self._values
 
     def _past(self):
-        """What a recorder with this number left behind: the processes that it left open, and the greatest process and value."""
+        """What a recorder with this number left behind: the processes that are open, and the
+        greatest process and value."""
         running, process, value = set(), -self._of, 0
         self.session.settle()
         for line in self.session.events():
@@ -240,7 +268,7 @@ class Recorder:
         return running, process, value
 
     def begin(self, mops):
-        mops = [micro_operation(*it) for it in mops]
+        mops = list(map(micro_operation, mops))
         with self._numbering:
             free = self._free.setdefault(current_client(), [])
             process = free.pop() if free else next(self._numbers()[0])
@@ -275,8 +303,8 @@ class Recorder:
                 raise NotRecorded(reply)
             return int(reply.split()[1])
         with self._writing:
-            event = self._events
-            self._file.write(f"{{:index {event}, :time {time.monotonic_ns() - self._start}, {operation}\n")
+            event, now = self._events, time.monotonic_ns() - self._start
+            self._file.write(f"{{:index {event}, :time {now}, {operation}\n")
             self._file.flush()
             self._events += 1
         return event

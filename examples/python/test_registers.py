@@ -1,5 +1,6 @@
-"""Tests of two databases with pytest and recorder.py: `pytest test_registers.py`. One database is broken, and its test fails with
-the cycle that shows this. JEPCHECK is the program to run, if it isn't the one of this repository."""
+"""Tests of two databases with pytest and recorder.py: `pytest test_registers.py`. One database is
+broken, and its test fails with the cycle that shows this. JEPCHECK is the program to run, if it
+isn't the one of this repository."""
 import asyncio
 import concurrent.futures
 import random
@@ -32,7 +33,7 @@ class OneAtATime:
 
 
 class Copies:
-    """Registers whose transactions work on copies, and write them back whatever others have written meanwhile."""
+    """Registers whose transactions work on copies, and write them back whatever others wrote."""
 
     def __init__(self):
         self.values = {}
@@ -56,7 +57,8 @@ def in_a_file(tmp_path):
 
 
 def some_mops(recorder):
-    """The reads and writes of a transaction. Each key is read before it is written, which shows the order of the writes."""
+    """The reads and writes of a transaction. Each key is read before it is written, which shows the
+    order of the writes."""
     mops = []
     for key in random.sample(range(KEYS), 2):
         mops.append(("r", key))

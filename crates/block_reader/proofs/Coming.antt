@@ -1,5 +1,5 @@
 -- Reading on through a source's text.
-use Rattle.std.proofs.Common.{◌≡◌, ◌⊎◌, inl, inr, ℕ, ◌+◌, ◌-◌, ◌≤◌, List, [], ◌++◌, length, take, drop, Option, Some, None, Result, Ok, Err, IsErrAnd, IfErr, true, false, refl, sym, ◌∙◌, ap, subst, arith, append_assoc, length-append, drop-drop}
+use Rattle.std.proofs.Common.{◌≡◌, ◌⊎◌, inl, inr, ℕ, ◌+◌, ◌-◌, ◌≤◌, List, [], ◌++◌, length, take, drop, Option, Some, None, Result, Ok, Err, IsErrAnd, IfErr, true, refl, sym, ◌∙◌, ap, subst, arith, append_assoc, length-append, drop-drop}
 use Rattle.std.proofs.KnownBytes.{Consumes-nil, Consumes-trans}
 use Rattle.std.proofs.Math.Seq.{drop-append_seam}
 use Rattle.std.proofs.lemmas.Bool.{false≢true}
@@ -7,18 +7,17 @@ use Rattle.std.proofs.lemmas.List.{length-take, take-append-drop}
 use Rattle.std.specs.Io.KnownBytes.{Consumes, IsAtEnd}
 use Rattle.hist_types.specs.Operations.{Operation}
 use Rattle.hist_types.specs.Devices.{CountsFailure}
-use Rattle.hist_types.specs.Pieces.{HasReadMore, IsCounted}
+use Rattle.hist_types.specs.Pieces.{HasReadMore}
 use Rattle.hist_types.specs.Refusals.{memory_fault}
 use Rattle.hist_types.specs.declared.device.Source.{Ghosts as Source}
 use Rattle.hist_types.specs.declared.types.Fault.{Fault}
-use Rattle.hist_types.specs.declared.whole.ReadFault.{ReadFault}
-use Rattle.hist_types.specs.declared.whole.ReadFault.TheVariants.{Device, Memory}
-use Rattle.reading_laws.specs.Parts.{EndsWithMap, GivesFrom, FailsFrom}
+use Rattle.reading_laws.specs.Parts.{EndsWithMap}
+use Rattle.hist_types.specs.Reading.{GivesFrom, FailsFrom}
 use Rattle.block_reader.specs.Parts.{ReadsThrough}
-use Rattle.block_reader.specs.Rounds.{AreAlike, HasGivenAll, HasReadAll, IsNew, HasPassed, HasCome, IsFaultOf}
+use Rattle.block_reader.specs.Rounds.{HasGivenAll, HasReadAll, IsNew, HasPassed, HasCome, IsFaultOf, IsCounted}
 use Rattle.block_reader.specs.declared.rounds.Reading.{Reading}
 use Rattle.block_reader.specs.declared.rounds.InputFault.{InputFault}
-use Rattle.block_reader.specs.declared.rounds.InputFault.TheVariants.{Text}
+use Rattle.block_reader.specs.declared.rounds.InputFault.TheVariants.{Device, Text}
 use Rattle.block_reader.specs.Starts.{IsBehindMap}
 use Rattle.block_reader.proofs.StartsMore.{ends_behind_map}
 use Rattle.block_reader.proofs.Through.{nothing_through}
@@ -35,7 +34,7 @@ come_new device source reading new = record {
 
 pub come_filled :
     {S : Type 0} (device : Source S) (source now later : S) (reading reading' : Reading) (os : List Operation)
-    → HasCome device source now reading os → HasReadMore device now later reading.window reading'.window
+    → HasCome device source now reading os → HasReadMore device now later reading.window.bytes reading'.window.bytes
     → device.failures later ≡ device.failures now → reading'.offset ≡ reading.offset
     → (reading'.ended ≡ true → IsAtEnd (device.remaining later))
     → HasCome device source later reading' os
@@ -43,7 +42,7 @@ come_filled device source now later reading reading' os come read same stays end
     record {
       front = come.front;
       given =
-          subst (Consumes (device.remaining source) (device.remaining later)) (append_assoc come.front reading.window read.more ∙ ap (λ xs. come.front ++ xs) (sym read.behind))
+          subst (Consumes (device.remaining source) (device.remaining later)) (append_assoc come.front reading.window.bytes read.more ∙ ap (λ xs. come.front ++ xs) (sym read.behind))
           (Consumes-trans _ _ _ _ _ come.given read.given);
       no_failure = same ∙ come.no_failure;
       long = come.long ∙ sym stays;
@@ -61,18 +60,18 @@ through_both a b os ps first second text behind offset later fault has rest =
 
 pub come_on :
     {S : Type 0} (device : Source S) (source now : S) (reading reading' : Reading) (end : ℕ) (os ps : List Operation)
-    → HasCome device source now reading os → end ≤ length reading.window → ReadsThrough (take end reading.window) ps → HasPassed end reading reading'
+    → HasCome device source now reading os → end ≤ length reading.window.bytes → ReadsThrough (take end reading.window.bytes) ps → HasPassed end reading reading'
     → HasCome device source now reading' (os ++ ps)
 come_on device source now reading reading' end os ps come within through passed =
-    let front = take end reading.window in
+    let front = take end reading.window.bytes in
     record {
       front = come.front ++ front;
       given =
           subst (Consumes (device.remaining source) (device.remaining now))
-          (ap (λ xs. come.front ++ xs) (sym (take-append-drop end reading.window)) ∙ (sym (append_assoc come.front front (drop end reading.window)) ∙ ap (λ xs. (come.front ++ front) ++ xs) (sym passed.window)))
+          (ap (λ xs. come.front ++ xs) (sym (take-append-drop end reading.window.bytes)) ∙ (sym (append_assoc come.front front (drop end reading.window.bytes)) ∙ ap (λ xs. (come.front ++ front) ++ xs) (sym passed.window)))
           come.given;
       no_failure = come.no_failure;
-      long = length-append come.front front ∙ omega (arith, come.long, passed.offset, length-take end reading.window);
+      long = length-append come.front front ∙ omega (arith, come.long, passed.offset, length-take end reading.window.bytes);
       through = through_both come.front front os ps come.through through;
       at_end = λ ended. come.at_end (sym passed.ended ∙ ended);
     }
@@ -83,7 +82,7 @@ lines_end window end found =
     subst (λ n. EndsWithMap (take n window)) same (ends_behind_map window 0 end (omega arith) found.within found.brace found.line)
 
 given_all : {S : Type 0} (device : Source S) (source now : S) (reading : Reading) (os : List Operation)
-    → (come : HasCome device source now reading os) → reading.ended ≡ true → HasGivenAll device source now (come.front ++ reading.window)
+    → (come : HasCome device source now reading os) → reading.ended ≡ true → HasGivenAll device source now (come.front ++ reading.window.bytes)
 given_all device source now reading os come ended = record { given = come.given; at_end = come.at_end ended; no_failure = come.no_failure }
 
 whole : (front window : List ℕ) (offset : ℕ) (os ps : List Operation) (fault : Option Fault) → length front ≡ offset → ReadsThrough front os
@@ -94,38 +93,40 @@ whole front window offset os ps fault long through gives =
 pub come_all :
     {S : Type 0} (device : Source S) (source now : S) (reading : Reading) (os ps : List Operation)
     → HasCome device source now reading os → reading.ended ≡ true
-    → ((front : List ℕ) → length front ≡ reading.offset → GivesFrom (front ++ reading.window) reading.offset ps None)
+    → ((front : List ℕ) → length front ≡ reading.offset → GivesFrom (front ++ reading.window.bytes) reading.offset ps None)
     → HasReadAll device source now (os ++ ps)
 come_all device source now reading os ps come ended gives =
     record {
-      text = come.front ++ reading.window;
+      text = come.front ++ reading.window.bytes;
       all = given_all device source now reading os come ended;
-      gives = whole come.front reading.window reading.offset os ps None come.long come.through (gives come.front come.long);
+      gives = whole come.front reading.window.bytes reading.offset os ps None come.long come.through (gives come.front come.long);
     }
 
 pub come_fails :
     {S : Type 0} (device : Source S) (source now : S) (reading : Reading) (os : List Operation) (fault : Fault)
     → HasCome device source now reading os → reading.ended ≡ true
-    → ((front : List ℕ) → length front ≡ reading.offset → (fault ≡ memory_fault) ⊎ FailsFrom (front ++ reading.window) reading.offset fault)
+    → ((front : List ℕ) → length front ≡ reading.offset → (fault ≡ memory_fault) ⊎ FailsFrom (front ++ reading.window.bytes) reading.offset fault)
     → IsFaultOf device source now (Text fault)
 come_fails device source now reading os fault come ended fails = elim (fails come.front come.long) [
   | inl memory ↦ inl (memory, come.no_failure)
   | inr failed ↦ inr (
-    come.front ++ reading.window,
+    come.front ++ reading.window.bytes,
     given_all device source now reading os come ended,
-    (os ++ failed.0, whole come.front reading.window reading.offset os failed.0 (Some fault) come.long come.through failed.1),
+    (os ++ failed.0, whole come.front reading.window.bytes reading.offset os failed.0 (Some fault) come.long come.through failed.1),
   )
 ]
 
 -- a failure since then is one of the whole
-pub come_counted :
+come_counted :
     {S : Type 0} (device : Source S) (source now later : S) (reading : Reading) (os : List Operation)
-    → HasCome device source now reading os → (fault : ReadFault) (given : InputFault) → AreAlike fault given
-    → IsCounted fault (device.failures now) (device.failures later) → IsFaultOf device source later given
-come_counted device source now later reading os come Device given alike counted =
-    subst (IsFaultOf device source later) (sym alike) (subst (λ n. CountsFailure n (device.failures later)) come.no_failure counted)
-come_counted device source now later reading os come Memory given alike counted =
-    subst (IsFaultOf device source later) (sym alike) (inl (refl, counted ∙ come.no_failure))
+    → HasCome device source now reading os
+    → (fault : InputFault)
+    → IsCounted fault (device.failures now) (device.failures later)
+    → IsFaultOf device source later fault
+come_counted device source now later reading os come Device counted =
+    subst (λ n. CountsFailure n (device.failures later)) come.no_failure counted
+come_counted device source now later reading os come (Text fault) counted =
+    inl (counted.0, counted.1 ∙ come.no_failure)
 
 pub come_memory :
     {S : Type 0} (device : Source S) (source now : S) (reading : Reading) (os : List Operation)
@@ -145,8 +146,12 @@ fault_same device source now fault (Ok found) h is = absurd h
 fault_same device source now fault (Err given) h is = subst (IsFaultOf device source now) (sym h) is
 
 pub fault_counted :
-    {S T : Type 0} (device : Source S) (source now later : S) (reading : Reading) (os : List Operation) (fault : ReadFault) (result : Result T InputFault)
-    → HasCome device source now reading os → IsErrAnd result (AreAlike fault) → IsCounted fault (device.failures now) (device.failures later)
+    {S T : Type 0} (device : Source S) (source now later : S) (reading : Reading) (os : List Operation)
+    (fault : InputFault) (result : Result T InputFault)
+    → HasCome device source now reading os
+    → IsErrAnd result (λ given. given ≡ fault)
+    → IsCounted fault (device.failures now) (device.failures later)
     → IfErr result (IsFaultOf device source later)
-fault_counted device source now later reading os fault (Ok found) come h counted = absurd h
-fault_counted device source now later reading os fault (Err given) come h counted = come_counted device source now later reading os come fault given h counted
+fault_counted device source now later reading os fault result come h counted =
+    fault_same device source later fault result h
+    (come_counted device source now later reading os come fault counted)

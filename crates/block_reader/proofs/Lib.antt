@@ -4,4 +4,5 @@ pub mod CallTexts
 pub mod Through
 pub mod StartsMore
 pub mod Rests
+pub mod Windows
 pub mod Coming

@@ -5,7 +5,8 @@ use Rattle.std.proofs.lemmas.Bool.Decides.{leb_tells}
 use Rattle.std.proofs.lemmas.List.{map-append, length-map, length_push}
 use Rattle.std.proofs.lemmas.List.Sums.{sum_by_push}
 use Rattle.hist_types.specs.Entries.{PlacedOperation, operation_of}
-use Rattle.hist_types.specs.Handed.{HandsOver, bytes_of, fit_in_a_block, one_block, without_place}
+use Rattle.hist_types.specs.Handed.{HandsOver, bytes_of, fit_in_a_block, one_block}
+use Rattle.hist_types.specs.Refusals.{without_place}
 use Rattle.hist_types.specs.Operations.{Operation}
 use Rattle.reading_laws.specs.Placed.{IsIn}
 use Rattle.hist_types.specs.declared.limits.TheConstants.{MAX_BLOCK_OPERATIONS, MAX_BLOCK_BYTES}

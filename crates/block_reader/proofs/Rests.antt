@@ -1,11 +1,12 @@
 -- The rest of a text reads the same behind any front of the same length.
-use Rattle.std.proofs.Common.{◌≡◌, ◌⊎◌, inl, inr, ℕ, ◌+◌, List, [], ◌++◌, length, drop, Option, None, sym, ◌∙◌, subst}
+use Rattle.std.proofs.Common.{◌≡◌, ◌⊎◌, inl, inr, ℕ, List, [], ◌++◌, length, drop, Option, None, sym, ◌∙◌, subst}
 use Rattle.std.proofs.lemmas.List.{append-nil, drop_at}
 use Rattle.hist_types.specs.Operations.{Operation}
 use Rattle.hist_types.specs.Refusals.{memory_fault}
 use Rattle.hist_types.specs.Tokens.{IsCut}
 use Rattle.hist_types.specs.declared.types.Fault.{Fault}
-use Rattle.reading_laws.specs.Parts.{HasPartAt, GivesOperations, GivesFrom, FailsFrom}
+use Rattle.reading_laws.specs.Parts.{HasPartAt}
+use Rattle.hist_types.specs.Reading.{GivesOperations, GivesFrom, FailsFrom}
 
 -- the law of what is left of a text
 abbrev pub RestLaw : Type 0

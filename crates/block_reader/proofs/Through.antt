@@ -4,7 +4,8 @@ use Rattle.std.proofs.Math.Seq.{drop-append_seam, take-add}
 use Rattle.std.proofs.lemmas.List.{take_all}
 use Rattle.hist_types.specs.Operations.{Operation}
 use Rattle.hist_types.specs.declared.types.Fault.{Fault}
-use Rattle.reading_laws.specs.Parts.{HasPartAt, EndsWithMap, GivesOperations, GivesFrom}
+use Rattle.reading_laws.specs.Parts.{HasPartAt, EndsWithMap}
+use Rattle.hist_types.specs.Reading.{GivesOperations, GivesFrom}
 use Rattle.block_reader.specs.Parts.{end_of_part, part_at, AreStarts, ReadsThrough, front_of}
 
 -- the law of parts that read by themselves

@@ -3,4 +3,5 @@ pub mod Reading
 pub mod Parts
 pub mod OneBlock
 pub mod Starts
+pub mod Windows
 pub mod Rounds

@@ -2,7 +2,8 @@
 use Rattle.std.specs.Prelude.{◌≡◌, ℕ, ◌+◌, ◌<◌, ◌≤◌, List, ◌++◌, length, get_or, slice_range, take, Option}
 use Rattle.hist_types.specs.Operations.{Operation}
 use Rattle.hist_types.specs.declared.types.Fault.{Fault}
-use Rattle.reading_laws.specs.Parts.{HasPartAt, EndsWithMap, GivesOperations, GivesFrom}
+use Rattle.reading_laws.specs.Parts.{HasPartAt, EndsWithMap}
+use Rattle.hist_types.specs.Reading.{GivesOperations, GivesFrom}
 use Rattle.block_reader.specs.Blocks.{operations_in}
 use Rattle.block_reader.specs.declared.parts.Part.{Part}
 

@@ -4,7 +4,7 @@ use Rattle.hist_types.specs.Entries.{Entry, operations_of}
 use Rattle.hist_types.specs.Operations.{Operation}
 use Rattle.hist_types.specs.Refusals.{memory_fault}
 use Rattle.hist_types.specs.declared.types.Fault.{Fault}
-use Rattle.reading_laws.specs.Parts.{GivesFrom, FailsFrom}
+use Rattle.hist_types.specs.Reading.{GivesFrom, FailsFrom}
 use Rattle.edn_lex.specs.State.{state_at}
 use Rattle.edn_ops.specs.Reader.{Reader, Goes}
 

@@ -5,18 +5,16 @@ use Rattle.hist_types.specs.Devices.{CountsFailure}
 use Rattle.hist_types.specs.Operations.{Operation}
 use Rattle.hist_types.specs.Refusals.{memory_fault}
 use Rattle.hist_types.specs.declared.device.Source.{Ghosts as Source}
-use Rattle.hist_types.specs.declared.whole.ReadFault.{ReadFault}
-use Rattle.hist_types.specs.declared.whole.ReadFault.TheVariants as read_faults
-use Rattle.reading_laws.specs.Parts.{GivesOperations, GivesFault}
+use Rattle.hist_types.specs.Reading.{GivesOperations, GivesFault}
 use Rattle.block_reader.specs.Parts.{ReadsThrough}
 use Rattle.block_reader.specs.declared.rounds.Reading.{Reading}
 use Rattle.block_reader.specs.declared.rounds.InputFault.{InputFault}
 use Rattle.block_reader.specs.declared.rounds.InputFault.TheVariants as faults
 
--- a fault of a source, as one of its text
-abbrev pub AreAlike : ReadFault → InputFault → Type 0
-AreAlike read_faults.Device fault = fault ≡ faults.Device
-AreAlike read_faults.Memory fault = fault ≡ faults.Text memory_fault
+-- a failure of the source is counted there, and that memory ran out isn't
+abbrev pub IsCounted : InputFault → (old new : ℕ) → Type 0
+IsCounted faults.Device old new = CountsFailure old new
+IsCounted (faults.Text fault) old new = (fault ≡ memory_fault) × (new ≡ old)
 
 -- the source gave this text and then ended, and never failed
 pub record HasGivenAll {S : Type 0} (device : Source S) (source source' : S)
@@ -43,13 +41,13 @@ IsFaultOf device source source' (faults.Text fault) =
 
 -- nothing of it was read
 pub record IsNew (reading : Reading) : Type 0 where
-  pub window : reading.window ≡ []
+  pub window : reading.window.bytes ≡ []
   pub offset : reading.offset ≡ 0
   pub going : reading.ended ≡ false
 
 -- so many of the window's first bytes are read through
 pub record HasPassed (count : ℕ) (reading reading' : Reading) : Type 0 where
-  pub window : reading'.window ≡ drop count reading.window
+  pub window : reading'.window.bytes ≡ drop count reading.window.bytes
   pub offset : reading'.offset ≡ reading.offset + count
   pub ended : reading'.ended ≡ reading.ended
 
@@ -58,7 +56,7 @@ pub record HasPassed (count : ℕ) (reading reading' : Reading) : Type 0 where
 pub record HasCome {S : Type 0} (device : Source S) (source source' : S) (reading : Reading)
     (operations : List Operation) : Type 0 where
   pub front : List ℕ
-  pub given : Consumes (device.remaining source) (device.remaining source') (front ++ reading.window)
+  pub given : Consumes (device.remaining source) (device.remaining source') (front ++ reading.window.bytes)
   pub no_failure : device.failures source' ≡ device.failures source
   pub long : length front ≡ reading.offset
   pub through : ReadsThrough front operations

@@ -2,7 +2,7 @@
 
 ghost use Rattle.std.specs.Prelude.{◌≡◌, ◌⊎◌, ◌≤◌, length, false, None, IfOk, IfErr, OnErr};
 ghost use Rattle.hist_types.specs.Refusals.{memory_fault};
-ghost use Rattle.reading_laws.specs.Parts.{GivesFrom, FailsFrom};
+ghost use Rattle.hist_types.specs.Reading.{GivesFrom, FailsFrom};
 ghost use Rattle.block_reader.specs.Blocks.{operations_in};
 ghost use Rattle.block_reader.specs.Reading.{ReadsOn};
 

@@ -9,3 +9,4 @@ mod rest;
 pub mod round;
 pub mod rounds;
 pub mod starts;
+pub mod window;

@@ -1,8 +1,8 @@
 //! The block that one write hands over to a journal: all operations of a text, or the invocation or completion of a transaction.
 
 ghost use Rattle.std.specs.Prelude.{◌≡◌, ◌⊎◌, ℕ, [], Ok, Err, IfOk, IfErr, OnOk};
-ghost use Rattle.hist_types.specs.Handed.{HandsOver, operation_of_call, transaction_handed, without_place};
-ghost use Rattle.hist_types.specs.Refusals.{memory_fault};
+ghost use Rattle.hist_types.specs.Handed.{HandsOver, operation_of_call, transaction_handed};
+ghost use Rattle.hist_types.specs.Refusals.{without_place, memory_fault};
 ghost use Rattle.edn_ops.specs.Reader.{reader_at_start};
 ghost use Rattle.edn_ops.specs.SourceTexts.{operation, AreMopTexts};
 ghost use Rattle.op_block.specs.Contents.{operations_of};

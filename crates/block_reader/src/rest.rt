@@ -2,7 +2,7 @@
 
 ghost use Rattle.std.specs.Prelude.{◌≡◌, ◌⊎◌, ℕ, List, ◌++◌, length, None, IfOk, IfErr};
 ghost use Rattle.hist_types.specs.Refusals.{memory_fault};
-ghost use Rattle.reading_laws.specs.Parts.{GivesFrom, FailsFrom};
+ghost use Rattle.hist_types.specs.Reading.{GivesFrom, FailsFrom};
 ghost use Rattle.block_reader.specs.Blocks.{operations_in};
 
 use crate::alone::blocks_from;

@@ -2,16 +2,15 @@
 
 ghost use Rattle.std.specs.Prelude.{◌≡◌, ◌≤◌, List, [], ◌++◌, length, IfOk, IfErr, OnOk};
 ghost use Rattle.hist_types.specs.Operations.{Operation};
-ghost use Rattle.hist_types.specs.Pieces.{IsCounted};
 ghost use Rattle.block_reader.specs.Blocks.{operations_in};
-ghost use Rattle.block_reader.specs.Rounds.{HasReadAll, IsNew, HasPassed, HasCome, IsFaultOf};
+ghost use Rattle.block_reader.specs.Rounds.{HasReadAll, IsNew, HasPassed, HasCome, IsFaultOf, IsCounted};
 
 use crate::rest::blocks_of_rest;
 use crate::round::{Consumer, read_round};
 use crate::starts::{helpers_of, last_line};
-use hist_types::device::Source;
+use crate::window::Window;
+use hist_types::device::{Failed, Source};
 use hist_types::types::Fault;
-use hist_types::whole::{ReadFault, Window};
 use op_block::block::Block;
 use std::alloc::{AllocError, Global};
 use std::sync::OnceLock;
@@ -35,16 +34,14 @@ pub enum InputFault {
     Text(Fault),
 }
 
-impl From<ReadFault> for InputFault {
-    ghost use Rattle.block_reader.specs.Rounds.{AreAlike};
+impl From<Failed> for InputFault {
+    ghost use Rattle.std.specs.Prelude.{◌≡◌};
+    ghost use Rattle.block_reader.specs.declared.rounds.InputFault.TheVariants.{Device};
 
-    ghost from_gives = { λ fault given. AreAlike fault given };
+    ghost from_gives = { λ _ given. given ≡ Device };
 
-    fn from(fault: ReadFault) -> InputFault {
-        match fault {
-            ReadFault::Device => InputFault::Device,
-            ReadFault::Memory => InputFault::Text(Fault::memory()),
-        }
+    fn from(_: Failed) -> InputFault {
+        InputFault::Device
     }
 }
 
@@ -123,7 +120,7 @@ impl Reading {
     }
 
     /// Reads until there are so many bytes or the source ends. Behind its end nothing is asked of it.
-    fn fill<S: Source>(&mut self, source: &mut S, wanted: usize) -> Result<(), ReadFault>
+    fn fill<S: Source>(&mut self, source: &mut S, wanted: usize) -> Result<(), InputFault>
         ensures ok { (began : S) (operations : List Operation)
             → HasCome S.Source began source.old self.old operations
             → OnOk result (HasCome S.Source began source.new self.new operations) }
@@ -138,7 +135,7 @@ impl Reading {
 
     /// Passes the front of the window that ends there, which was read through.
     fn pass(&mut self, end: usize) -> Result<(), AllocError>
-        requires { end ≤ length self.old.window }
+        requires { end ≤ length self.old.window.bytes }
         ensures { IfOk result (λ _. HasPassed end self.old self.new) }
     {
         self.offset = self.offset.checked_add(end).ok_or(AllocError)?;

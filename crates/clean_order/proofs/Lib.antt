@@ -1,3 +1,3 @@
-pub mod Walks
-pub mod ByRank
+pub mod ByVersion
 pub mod Timely
+pub mod Certified

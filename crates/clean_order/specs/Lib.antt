@@ -1,3 +1,3 @@
-pub mod Rising
-pub mod Ranked
+pub mod Listed
+pub mod AtVersions
 pub mod Highest

@@ -1,10 +1,10 @@
 //! What was tried to order a history's transactions.
 
 use crate::ends::ends;
-use crate::putting::ranks;
-use crate::rising::Reads;
+use crate::propose_schedules::ranks;
 use dep_edges::deps::Deps;
 use dep_edges::history::History;
+use schedules::types::EdgeKinds;
 use std::alloc::{AllocError, Global};
 
 /// Who completed when, and ranks for as many transactions as could be put, if that was tried. Nothing is claimed of them.
@@ -44,7 +44,7 @@ impl Attempt {
         alloc: Global,
         history: &History<'_, '_>,
     ) -> Result<bool, AllocError> {
-        let put = ranks(alloc, history, Reads::ALL, &self.ends)?;
+        let put = ranks(alloc, history, EdgeKinds::ALL, &self.ends)?;
         self.ranks = put.ranks;
         self.timely = put.timely;
         Ok(put.is_all)

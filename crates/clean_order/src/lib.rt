@@ -1,34 +1,30 @@
-//! An order of a history's transactions along which every edge goes forward, which rules out cycles without a graph.
+//! Schedules of a history's transactions, which show without a graph that no cycle is there.
 #![tactic(auto)]
 
-ghost use Rattle.std.specs.Prelude.{IfOk};
+ghost use Rattle.std.specs.Prelude.{IfOk, true, false};
 ghost use Rattle.std.specs.Bool.{OnTrue};
-ghost use Rattle.hist_types.specs.Reports.{AreFindings, no_findings};
-ghost use Rattle.clean_order.specs.Rising.{ShowsNoDirtyWrites, ShowsNoWrites, ShowsNoneButItem, ShowsNoSingleAtPlain, ShowsNothingAtPlain};
+ghost use Rattle.schedules.specs.Cycles.{HasNoneRuledOut};
+ghost use Rattle.schedules.specs.declared.types.TheConstants.EdgeKinds.{ALL, PLAIN};
 
 pub mod attempt;
 mod earlier;
 pub mod ends;
-pub mod laws;
-mod putting;
-mod rising;
+mod keeping;
+mod propose_schedules;
 
 use crate::attempt::Attempt;
-use crate::putting::{Snapshots, ranks};
-use crate::rising::{
-    Reads, dependencies_rise, dirty_writes_rise, rises, rises_wide, snapshots_rise,
-    snapshots_rise_at_plain, writes_rise,
-};
+use crate::keeping::keeps;
+use crate::propose_schedules::{Snapshots, ranks};
 use dep_edges::deps::Deps;
+use schedules::types::EdgeKinds;
 use std::alloc::{AllocError, Global};
-use std::thread::Threads;
 
 /// True only if no cycle shows any phenomenon at any level. False says nothing: the history may have one, or not.
 ///
 /// Transactions get ranks, one after the other in the order of their completions, each after what it depends on and after what
-/// completed before its invocation. If that can be done, the ranks rise along all edges, which one more pass makes sure of. It is
-/// true of each history whose nodes can be ordered so, thus of each one without a cycle in which no version that a transaction
-/// wrote over was read.
+/// completed before its invocation. If that can be done, a serial schedule by these ranks keeps all edges, which one more pass makes
+/// sure of. It is true of each history whose nodes can be ordered so, thus of each one without a cycle in which no version that a
+/// transaction wrote over was read.
 ///
 /// It takes a few numbers for each transaction and each version, and linear time.
 pub fn settles(
@@ -37,71 +33,46 @@ pub fn settles(
     attempt: &mut Attempt,
 ) -> Result<bool, AllocError>
     ensures { IfOk result (λ settled.
-        OnTrue settled (AreFindings deps.now.table.keys deps.now.txns no_findings)) }
+        OnTrue settled (HasNoneRuledOut deps.now.table.keys ALL true deps.now.txns)) }
 {
-    let history = deps.history();
-    Ok(attempt.put(alloc, history)? && rises(deps, history, attempt.ranks(), attempt.ends()))
+    if !attempt.put(alloc, deps.history())? {
+        return Ok(false);
+    }
+    let ranks = attempt.ranks();
+    Ok(keeps(deps, EdgeKinds::ALL, ranks, ranks, attempt.ends()))
 }
 
-/// As `settles`, with two threads if another can be started.
-pub fn settles_wide<R: Threads>(
-    rt: &R,
+/// True only if no cycle of edges of these kinds shows a phenomenon. False says nothing.
+///
+/// It is what `settles` does, with these edges alone.
+pub fn settles_kinds(
     alloc: Global,
     deps: &Deps<'_, '_>,
-    attempt: &mut Attempt,
+    attempt: &Attempt,
+    kinds: EdgeKinds,
 ) -> Result<bool, AllocError>
     ensures { IfOk result (λ settled.
-        OnTrue settled (AreFindings deps.now.table.keys deps.now.txns no_findings)) }
+        OnTrue settled (HasNoneRuledOut deps.now.table.keys kinds true deps.now.txns)) }
 {
-    let history = deps.history();
-    Ok(
-        attempt.put(alloc, history)?
-            && rises_wide(rt, deps, history, attempt.ranks(), attempt.ends()),
-    )
-}
-
-/// True only if no cycle shows G0 or G1c at any level. False says nothing.
-///
-/// It is what `settles` does, with the ww and wr edges and the order edges alone.
-pub fn settles_writes(
-    alloc: Global,
-    deps: &Deps<'_, '_>,
-    attempt: &Attempt,
-) -> Result<bool, AllocError>
-    ensures { IfOk result (λ settled. OnTrue settled
-        (ShowsNoWrites deps.now.table.keys deps.now.txns)) }
-{
-    let history = deps.history();
-    let put = ranks(alloc, history, Reads::WR, attempt.ends())?;
-    Ok(put.is_all && writes_rise(deps, history, &put.ranks, attempt.ends()))
-}
-
-/// True only if no cycle shows G0 at any level. False says nothing.
-///
-/// It is what `settles` does, with the ww edges and the order edges alone.
-pub fn settles_dirty_writes(
-    alloc: Global,
-    deps: &Deps<'_, '_>,
-    attempt: &Attempt,
-) -> Result<bool, AllocError>
-    ensures { IfOk result (λ settled. OnTrue settled
-        (ShowsNoDirtyWrites deps.now.table.keys deps.now.txns)) }
-{
-    let history = deps.history();
-    let put = ranks(alloc, history, Reads::NONE, attempt.ends())?;
-    Ok(put.is_all && dirty_writes_rise(deps, history, &put.ranks, attempt.ends()))
+    let put = ranks(alloc, deps.history(), kinds, attempt.ends())?;
+    if !put.is_all {
+        return Ok(false);
+    }
+    let ranks = put.ranks.as_slice();
+    Ok(keeps(deps, kinds, ranks, ranks, attempt.ends()))
 }
 
 /// True only if no cycle shows any phenomenon at the level plain. False says nothing.
 ///
 /// It looks at the dependency edges alone, along the ranks that `settles` gave.
 pub fn settles_plain(deps: &Deps<'_, '_>, attempt: &Attempt) -> bool
-    ensures { OnTrue result (ShowsNothingAtPlain deps.now.table.keys deps.now.txns) }
+    ensures { OnTrue result (HasNoneRuledOut deps.now.table.keys PLAIN true deps.now.txns) }
 {
-    dependencies_rise(deps, deps.history(), attempt.ranks())
+    let ranks = attempt.ranks();
+    keeps(deps, EdgeKinds::PLAIN, ranks, ranks, attempt.ends())
 }
 
-/// True only if no cycle shows G0, G1c or G-single at any level. False says nothing.
+/// True only if no cycle of edges of these kinds shows G0, G1c or G-single. False says nothing.
 ///
 /// It is what `settles` does, with two ranks for each transaction: one of its start, when its snapshot was taken, and one of its
 /// commit. A transaction starts after the commits of those that it depends on otherwise than by an rw edge, and commits after the
@@ -114,49 +85,19 @@ pub fn settles_snapshots(
     alloc: Global,
     deps: &Deps<'_, '_>,
     attempt: &Attempt,
+    kinds: EdgeKinds,
 ) -> Result<bool, AllocError>
-    ensures { IfOk result (λ settled. OnTrue settled
-        (ShowsNoneButItem deps.now.table.keys deps.now.txns)) }
+    ensures { IfOk result (λ settled.
+        OnTrue settled (HasNoneRuledOut deps.now.table.keys kinds false deps.now.txns)) }
 {
-    let history = deps.history();
     match Snapshots::of(
         alloc,
-        history,
+        deps.history(),
         attempt.ranks(),
         attempt.timely(),
         attempt.ends(),
     )? {
         None => Ok(false),
-        Some(ranks) => Ok(snapshots_rise(
-            deps,
-            history,
-            ranks.starts(),
-            ranks.commits(),
-            attempt.ends(),
-        )),
-    }
-}
-
-/// True only if no cycle shows G-single at the level plain. False says nothing.
-///
-/// It is what `settles_snapshots` does, with the dependency edges alone.
-pub fn settles_single_at_plain(
-    alloc: Global,
-    deps: &Deps<'_, '_>,
-    attempt: &Attempt,
-) -> Result<bool, AllocError>
-    ensures { IfOk result (λ settled. OnTrue settled
-        (ShowsNoSingleAtPlain deps.now.table.keys deps.now.txns)) }
-{
-    let history = deps.history();
-    match Snapshots::of(
-        alloc,
-        history,
-        attempt.ranks(),
-        attempt.timely(),
-        attempt.ends(),
-    )? {
-        None => Ok(false),
-        Some(ranks) => Ok(snapshots_rise_at_plain(deps, history, ranks.starts(), ranks.commits())),
+        Some(ranks) => Ok(keeps(deps, kinds, ranks.starts(), ranks.commits(), attempt.ends())),
     }
 }

@@ -5,9 +5,11 @@ use Rattle.std.specs.List.{before_first, list_all}
 use Rattle.std.specs.Str.{bytes_eq}
 use Rattle.std.specs.Str.Parse.{digits_value}
 use Rattle.clap.specs.Lexer.{usize_max}
-use Rattle.clap.specs.Words.{App, Row, Rule, Text, new_app, new_rule, with_rule, with_subcommand, subcommand_of, fault_of, first_of, all_of, IsAmong}
+use Rattle.clap.specs.Words.{App, Row, Rule, Text, app_of, new_app, new_rule, with_rule, with_subcommand, subcommand_of, fault_of, first_of, all_of, IsAmong}
+use Rattle.clap.specs.declared.builder.command.Command.{Command as AClapCommand}
+use Rattle.clap.specs.declared.builder.command.Command.TheViews.{out-Command}
 use Rattle.clap.specs.declared.builder.value_parser.ValueParser.TheVariants.{Unsigned}
-use Rattle.hist_types.specs.declared.limits.TheConstants.{MAX_CELLS}
+use Rattle.hist_types.specs.declared.limits.TheConstants.{MAX_CELLS, MAX_WORKERS}
 use Rattle.hist_types.specs.declared.types.KeyOrder.{KeyOrder}
 use Rattle.hist_types.specs.declared.types.KeyOrder.TheVariants.{Basic, Sequential}
 use Rattle.clap.specs.declared.error.kind.ErrorKind.TheVariants.{DisplayHelp}
@@ -15,7 +17,6 @@ use Rattle.command_line.specs.declared.types.Asked.{Asked}
 use Rattle.command_line.specs.declared.types.Asked.TheVariants.{Run, Serve}
 use Rattle.command_line.specs.declared.types.LineFault.{LineFault}
 use Rattle.command_line.specs.declared.types.LineFault.TheVariants.{Usage, Memory}
-use Rattle.command_line.specs.declared.types.TheConstants.{MAX_WORKERS}
 use Rattle.command_line.specs.declared.words.TheConstants.{HELP, SEE_HELP, SEE_SERVE}
 use Rattle.command_line.specs.declared.types.Command.{Command}
 use Rattle.command_line.specs.declared.types.Command.TheVariants.{Reads, Edges, Check}
@@ -140,6 +141,11 @@ app_with_keys name = with_rule (new_app name) keys_rule
 
 abbrev pub check_app : App
 check_app = with_rule (with_rule (new_app (codes "check")) workers_rule) keys_rule
+
+-- a subcommand of this shape, with no global argument
+abbrev pub IsSubcommand : App → AClapCommand → Type 0
+IsSubcommand app command =
+    (app_of command ≡ app) × ((out-Command command).has_globals ≡ false)
 
 -- a subcommand for each command, and one to serve
 abbrev pub program_app : App

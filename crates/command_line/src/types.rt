@@ -3,9 +3,6 @@
 use hist_types::types::KeyOrder;
 use std::alloc::AllocError;
 
-/// The most threads that may work on one history.
-pub const MAX_WORKERS: usize = 64;
-
 /// What is done with a history.
 #[derive(Clone, Copy, Debug, PartialEq, Eq)]
 pub enum Command {

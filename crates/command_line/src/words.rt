@@ -6,13 +6,13 @@ ghost use Rattle.std.specs.IoError.{error_kind};
 ghost use Rattle.std.specs.List.{list_all};
 ghost use Rattle.std.specs.declared.io.ErrorKind.TheVariants.{OutOfMemory};
 ghost use Rattle.clap.specs.Words.{app_of, first_of, found_of, kind_of, rows_of, rule_of, subcommand_rows_of};
-ghost use Rattle.command_line.specs.Lines.{cells_rule, keys_rule, paths_rule, workers_rule, program_app, number_to, cells_in, workers_in, keys_in, HasKeys, AreForCheck, AsksForCheck, come_in_pairs, AreForSessions, AsksForSessions, IsAskedBy, first_line, AskFor, AskForHelp, MayAskForHelp, IsComplaint, Helps, SaysWhatIsWrong, closing_line};
+ghost use Rattle.command_line.specs.Lines.{cells_rule, keys_rule, paths_rule, workers_rule, app_with_keys, check_app, serve_app, program_app, IsSubcommand, number_to, cells_in, workers_in, keys_in, HasKeys, AreForCheck, AsksForCheck, come_in_pairs, AreForSessions, AsksForSessions, IsAskedBy, first_line, AskFor, AskForHelp, MayAskForHelp, IsComplaint, Helps, SaysWhatIsWrong, closing_line};
 ghost use Rattle.command_line.specs.declared.types.Asked.{Asked};
 ghost use Rattle.hist_types.specs.declared.types.KeyOrder.{KeyOrder};
 
-use crate::types::{Asked, Command, LineFault, MAX_WORKERS};
+use crate::types::{Asked, Command, LineFault};
 use clap::error::ErrorKind;
-use hist_types::limits::MAX_CELLS;
+use hist_types::limits::{MAX_CELLS, MAX_WORKERS};
 use hist_types::types::KeyOrder;
 use std::alloc::{AllocError, Global};
 use std::io;
@@ -95,7 +95,7 @@ fn workers_option<'a>(alloc: Global) -> clap::Arg<'a>
     clap::Arg::new(alloc, "workers")
         .long("workers")
         .value_name("N")
-        .value_parser(clap::value_parser!(usize).range(1..=MAX_WORKERS as i64))
+        .value_parser(clap::value_parser!(usize).range(1..=i64::from(MAX_WORKERS)))
         .default_value("1")
 }
 
@@ -121,25 +121,42 @@ fn paths_argument<'a>(alloc: Global) -> clap::Arg<'a>
         .required(true)
 }
 
+/// The subcommand `edges`.
+fn edges_command<'a>(alloc: Global) -> Result<clap::Command<'a>, AllocError>
+    ensures { IfOk result (IsSubcommand (app_with_keys (codes "edges"))) }
+{
+    clap::Command::new(alloc, "edges").arg(keys_option(alloc))
+}
+
+/// The subcommand `check`.
+fn check_command<'a>(alloc: Global) -> Result<clap::Command<'a>, AllocError>
+    ensures { IfOk result (IsSubcommand check_app) }
+{
+    clap::Command::new(alloc, "check")
+        .arg(workers_option(alloc))?
+        .arg(keys_option(alloc))
+}
+
+/// The subcommand `serve`.
+fn serve_command<'a>(alloc: Global) -> Result<clap::Command<'a>, AllocError>
+    ensures { IfOk result (IsSubcommand serve_app) }
+{
+    clap::Command::new(alloc, "serve")
+        .arg(cells_option(alloc))?
+        .arg(keys_option(alloc))?
+        .arg(paths_argument(alloc))
+}
+
 /// The lines that there are.
 fn program<'a>(alloc: Global) -> Result<clap::Command<'a>, AllocError>
     ensures { IfOk result (λ program. app_of program ≡ program_app) }
 {
-    let reads = clap::Command::new(alloc, "reads");
-    let edges = clap::Command::new(alloc, "edges").arg(keys_option(alloc))?;
-    let check = clap::Command::new(alloc, "check")
-        .arg(workers_option(alloc))?
-        .arg(keys_option(alloc))?;
-    let serve = clap::Command::new(alloc, "serve")
-        .arg(cells_option(alloc))?
-        .arg(keys_option(alloc))?
-        .arg(paths_argument(alloc))?;
     clap::Command::new(alloc, "jepcheck")
         .subcommand_required(true)
-        .subcommand(reads)?
-        .subcommand(edges)?
-        .subcommand(check)?
-        .subcommand(serve)
+        .subcommand(clap::Command::new(alloc, "reads"))?
+        .subcommand(edges_command(alloc)?)?
+        .subcommand(check_command(alloc)?)?
+        .subcommand(serve_command(alloc)?)
 }
 
 /// The text up to its first line feed.
@@ -292,7 +309,7 @@ fn workers_found(check: &clap::ArgMatches<'_>) -> Option<usize>
     ensures { result ≡ option_and_then workers_in
         (first_of (codes "workers") (rows_of (found_of check.now))) }
 {
-    number_to(MAX_WORKERS, check.get_str("workers")?)
+    number_to(MAX_WORKERS as usize, check.get_str("workers")?)
 }
 
 /// Which order of keys is named, where a command was met with these arguments.

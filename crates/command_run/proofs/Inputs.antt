@@ -5,7 +5,7 @@ use Rattle.hist_types.specs.Operations.{Operation}
 use Rattle.hist_types.specs.Refusals.{memory_fault}
 use Rattle.hist_types.specs.declared.device.Source.{Ghosts as Source}
 use Rattle.hist_types.specs.declared.types.Fault.{Fault}
-use Rattle.reading_laws.specs.Parts.{GivesOperations}
+use Rattle.hist_types.specs.Reading.{GivesOperations}
 use Rattle.block_reader.specs.Rounds.{HasReadAll, IsFaultOf}
 use Rattle.block_reader.specs.declared.rounds.InputFault.{InputFault}
 use Rattle.block_reader.specs.declared.rounds.InputFault.TheVariants.{Device, Text}

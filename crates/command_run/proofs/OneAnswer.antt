@@ -6,7 +6,7 @@ use Rattle.hist_types.specs.Operations.{Operation}
 use Rattle.hist_types.specs.Entries.{operations_of}
 use Rattle.reading_laws.specs.Readings.{HasOneReading}
 use Rattle.hist_types.specs.Phenomena.{height}
-use Rattle.hist_types.specs.Reading.{Reads}
+use Rattle.hist_types.specs.Reading.{GivesOperations, GivesFault, Reads}
 use Rattle.hist_types.specs.Reports.{finding, Report, IsVerdictOf, names_phenomenon, reads_report, names_read, edges_report}
 use Rattle.hist_types.specs.Texts.{reads_text, edges_text, refusal_line}
 use Rattle.hist_types.specs.Transactions.{Transaction, transactions_of}
@@ -17,7 +17,6 @@ use Rattle.hist_types.specs.declared.types.Level.TheVariants.{Plain, Process, Re
 use Rattle.hist_types.specs.declared.types.Phenomenon.{Phenomenon}
 use Rattle.hist_types.specs.declared.types.Phenomenon.TheVariants.{G0, G1c, GSingle, G2Item}
 use Rattle.hist_types.specs.declared.types.KeyOrder.{KeyOrder}
-use Rattle.reading_laws.specs.Parts.{GivesOperations, GivesFault}
 use Rattle.command_run.specs.Answers.{GivesEvents, journal_fault, IsRefused, IsVerdict, Reports, IsReport, IsAnswer}
 use Rattle.command_run.specs.SameAnswers.{level_found, DifferInWitnessesAlone}
 use Rattle.command_run.specs.Statuses.{status_by}

@@ -1,9 +1,8 @@
 -- What is printed, and what runs leave.
-use Rattle.std.proofs.Common.{◌≡◌, ℕ, List, [], Option, Some, None, refl, sym, subst, codes, inl, inr, arith}
+use Rattle.std.proofs.Common.{◌≡◌, ℕ, List, [], Option, Some, None, refl, sym, subst, inl, inr, arith}
 use Rattle.std.proofs.KnownBytes.{Appends-nil, Consumes-all}
 use Rattle.std.specs.Prelude.{◌≤◌, ◌⊎◌, IfSome}
 use Rattle.std.specs.Io.KnownBytes.{IsAtEnd}
-use Rattle.std.specs.Fmt.{digits}
 use Rattle.hist_types.specs.Devices.{CountsFailure}
 use Rattle.hist_types.specs.declared.device.Source.{Ghosts as Source}
 use Rattle.hist_types.specs.declared.device.Sink.{Ghosts}
@@ -13,19 +12,10 @@ use Rattle.command_run.specs.Runs.{HasPrintedLack, HasAnswered, FailedBy, HasRun
 use Rattle.command_run.specs.Sources.{HasGiven}
 use Rattle.command_run.specs.Statuses.{code_of, lack_line}
 use Rattle.command_run.specs.declared.answer.Lack.{Lack}
-use Rattle.command_run.specs.declared.answer.Lack.TheVariants.{Memory, Thread}
+use Rattle.command_run.specs.declared.answer.Lack.TheVariants.{Memory}
 use Rattle.command_run.specs.declared.answer.Status.{Status}
 use Rattle.command_run.specs.declared.answer.Status.TheVariants as statuses
 use Rattle.command_line.specs.declared.types.Command.{Command}
-
--- the line of each lack
-pub memory_line : codes "refused 10 Memory\n" ≡ lack_line Memory
-unfolding digits
-memory_line = refl
-
-pub thread_line : codes "refused 11 NoThread\n" ≡ lack_line Thread
-unfolding digits
-thread_line = refl
 
 -- what is known of all texts is known of one that a source may give
 of_any : (known : Option (List ℕ)) (P : List ℕ → Type 0) → ((text : List ℕ) → P text) → (text : List ℕ) × IfSome known (λ rest. text ≡ rest) × P text

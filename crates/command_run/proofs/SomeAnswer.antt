@@ -6,7 +6,7 @@ use Rattle.hist_types.specs.Operations.{Operation}
 use Rattle.hist_types.specs.Journal.{first_broken}
 use Rattle.hist_types.specs.Entries.{Entry, operations_of}
 use Rattle.reading_laws.specs.Readings.{HasOneReading}
-use Rattle.hist_types.specs.Reading.{Reads}
+use Rattle.hist_types.specs.Reading.{GivesOperations, Reads}
 use Rattle.hist_types.specs.Refusals.{event_fault}
 use Rattle.hist_types.specs.Phenomena.{g1a, g1b, stray}
 use Rattle.hist_types.specs.Reports.{AreFindings, Report, IsVerdictOf, names_phenomenon, reads_report, names_read, edges_report}
@@ -16,7 +16,6 @@ use Rattle.hist_types.specs.declared.types.Fault.{Fault}
 use Rattle.hist_types.specs.declared.types.Refusal.{Refusal}
 use Rattle.hist_types.specs.declared.types.Phenomenon.TheVariants.{G0, G1c, GSingle, G2Item}
 use Rattle.command_run.proofs.Deciding.{has_finding}
-use Rattle.reading_laws.specs.Parts.{GivesOperations}
 use Rattle.command_run.specs.Answers.{GivesEvents, IsRefused, IsVerdict, HasAnswer}
 use Rattle.command_run.specs.Statuses.{status_by}
 use Rattle.command_run.specs.declared.answer.Status.{Status}

@@ -8,7 +8,7 @@ use Rattle.hist_types.specs.Texts.{reads_text, edges_text, verdict_text, refusal
 use Rattle.hist_types.specs.declared.types.Fault.{Fault}
 use Rattle.hist_types.specs.declared.types.KeyOrder.{KeyOrder}
 use Rattle.hist_types.specs.declared.types.KeyOrder.TheVariants.{Basic}
-use Rattle.reading_laws.specs.Parts.{GivesOperations, GivesFault}
+use Rattle.hist_types.specs.Reading.{GivesOperations, GivesFault}
 use Rattle.command_run.specs.Statuses.{status_by, lack_line}
 use Rattle.command_run.specs.declared.answer.Lack.{Lack}
 use Rattle.command_run.specs.declared.answer.Status.{Status}

@@ -1,7 +1,6 @@
 -- How a run ends.
 use Rattle.std.specs.Prelude.{ℕ, List, Bool, if◌then◌else◌}
-use Rattle.hist_types.specs.Handed.{without_place}
-use Rattle.hist_types.specs.Refusals.{memory_fault}
+use Rattle.hist_types.specs.Refusals.{without_place, memory_fault}
 use Rattle.hist_types.specs.Texts.{refusal_line}
 use Rattle.hist_types.specs.declared.types.Refusal.TheVariants.{NoThread}
 use Rattle.command_run.specs.declared.answer.Lack.{Lack}

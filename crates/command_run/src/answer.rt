@@ -1,12 +1,11 @@
 //! Answers, and how a run ends.
 
-ghost use Rattle.std.specs.Prelude.{◌≡◌, IfOk};
+ghost use Rattle.std.specs.Prelude.{◌≡◌};
 ghost use Rattle.hist_types.specs.Texts.{refusal_line};
 ghost use Rattle.command_run.specs.Statuses.{code_of, status_by, lack_line};
 
-use hist_types::types::Fault;
-use report_text::text::refusal_line;
-use std::alloc::{AllocError, Global};
+use hist_types::types::{At, Fault, Refusal};
+use std::alloc::AllocError;
 
 /// How a run ended.
 #[derive(Clone, Copy, Debug, PartialEq, Eq)]
@@ -55,13 +54,17 @@ impl From<AllocError> for Lack {
 }
 
 impl Lack {
-    /// What is printed of it.
-    pub fn line(self) -> &'static [u8]
-        ensures { result.now ≡ lack_line self }
+    /// The refusal that is printed of it.
+    pub fn fault(self) -> Fault
+        ensures { refusal_line result ≡ lack_line self }
     {
-        match self {
-            Lack::Memory => b"refused 10 Memory\n",
-            Lack::Thread => b"refused 11 NoThread\n",
+        let refusal = match self {
+            Lack::Memory => Refusal::Memory,
+            Lack::Thread => Refusal::NoThread,
+        };
+        Fault {
+            refusal,
+            at: At::Nowhere,
         }
     }
 }
@@ -82,15 +85,4 @@ pub fn status_by(named: bool) -> Status
     } else {
         Status::NoPhenomenon
     }
-}
-
-/// The answer to a refused input.
-pub fn refuse(alloc: Global, fault: Fault) -> Result<Answer, AllocError>
-    ensures status { IfOk result (λ answer. answer.status ≡ Status.Refused) }
-    ensures printed { IfOk result (λ answer. answer.printed.items ≡ refusal_line fault) }
-{
-    Ok(Answer {
-        status: Status::Refused,
-        printed: refusal_line(alloc, fault)?,
-    })
 }

@@ -1,24 +1,26 @@
 //! The run of a command, from a source's bytes to a sink's.
 
-ghost use Rattle.std.specs.Prelude.{◌≡◌, ◌⊎◌, ℕ, List, IfOk, IfErr};
+ghost use Rattle.std.specs.Prelude.{◌≡◌, ◌⊎◌, None, IfOk, IfErr};
 ghost use Rattle.verdict.specs.KeyPieces.{IsNumberOfWorkers, IsMemoryOrThread};
 ghost use Rattle.hist_types.specs.Pieces.{HasTaken, HasTakenInPart};
-ghost use Rattle.command_run.specs.Answers.{IsAnswer, IsRefused, Reports, keys_of};
+ghost use Rattle.command_run.specs.Answers.{IsAnswer, Reports, keys_of};
 ghost use Rattle.command_run.specs.Runs.{HasPrintedLack, HasRun};
 ghost use Rattle.command_run.specs.Sources.{HasGiven, HasNoReport};
 ghost use Rattle.command_line.specs.declared.types.Command.{Command};
 
-use crate::answer::{Answer, Lack, Status, refuse};
+use crate::answer::{Answer, Lack, Status};
 use crate::judged::Judged;
 use crate::judging::judged_of;
 use crate::{check, edges, reads};
 use block_reader::rounds::{InputFault, cells_for};
-use command_line::types::{Command, MAX_WORKERS};
+use command_line::types::Command;
 use hist_types::device::{Failed, Sink, Source};
+use hist_types::limits::MAX_WORKERS;
 use hist_types::types::{Fault, KeyOrder, Refusal};
 use hist_types::whole::write_all;
 use history_laws::versions_written_once;
 use key_versions::kept_of_written;
+use report_text::short::refusal_line;
 use std::alloc::Global;
 use std::sync::Wait;
 use std::thread::Threads;
@@ -39,7 +41,7 @@ fn workers_of(command: Command) -> usize
 {
     match command {
         Command::Reads | Command::Edges(_) => 1,
-        Command::Check { workers, .. } => workers.clamp(1, MAX_WORKERS),
+        Command::Check { workers, .. } => workers.clamp(1, MAX_WORKERS as usize),
     }
 }
 
@@ -87,17 +89,14 @@ fn judge<R: Threads + Wait + Sync, S: Source>(
     Ok(report_on(rt, alloc, command, judged)?)
 }
 
-/// The answer to a text that is refused so, unless the fault is that the program lacks something.
-fn answer_to_refused(alloc: Global, fault: Fault) -> Result<Answer, Lack>
-    ensures lack { IsMemoryOrThread fault → IfOk result (λ _. ⊥) }
-    ensures answer { (command : Command) (text : List ℕ) → IsRefused text fault
-        → IfOk result (λ answer. IsAnswer command text answer.status answer.printed.items) }
-    ensures status { IfOk result (λ answer. answer.status ≡ Status.Refused) }
+/// What the program lacks by this fault. None where the fault is the text's.
+fn lack_by(fault: Fault) -> Option<Lack>
+    ensures { result ≡ None → IsMemoryOrThread fault → ⊥ }
 {
     match fault.refusal {
-        Refusal::Memory => Err(Lack::Memory),
-        Refusal::NoThread => Err(Lack::Thread),
-        _ => Ok(refuse(alloc, fault)?),
+        Refusal::Memory => Some(Lack::Memory),
+        Refusal::NoThread => Some(Lack::Thread),
+        _ => None,
     }
 }
 
@@ -117,7 +116,7 @@ fn print<T: Sink>(sink: &mut T, status: Status, printed: &[u8]) -> Status
 pub fn print_lack<T: Sink>(sink: &mut T, lack: Lack) -> Status
     ensures { HasPrintedLack T.Sink lack result sink.old sink.new }
 {
-    print(sink, Status::Lacking, lack.line())
+    print(sink, Status::Lacking, &refusal_line(lack.fault()))
 }
 
 /// Reads the whole source and prints the command's answer to it.
@@ -134,9 +133,9 @@ pub fn run<R: Threads + Wait + Sync, S: Source, T: Sink>(
     match judge(rt, alloc, command, source) {
         Ok(answer) => print(sink, answer.status, &answer.printed),
         Err(InputFault::Device) => Status::DeviceFault,
-        Err(InputFault::Text(fault)) => match answer_to_refused(alloc, fault) {
-            Ok(answer) => print(sink, answer.status, &answer.printed),
-            Err(lack) => print_lack(sink, lack),
+        Err(InputFault::Text(fault)) => match lack_by(fault) {
+            None => print(sink, Status::Refused, &refusal_line(fault)),
+            Some(lack) => print_lack(sink, lack),
         },
     }
 }

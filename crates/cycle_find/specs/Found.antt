@@ -1,11 +1,10 @@
 -- What a search for a phenomenon answers.
-use Rattle.std.specs.Prelude.{◌≡◌, ◌↔◌, ℕ, ◌<◌, List, ◌++◌, Contains, Option, Some, None, ⊤}
+use Rattle.std.specs.Prelude.{◌↔◌, ℕ, ◌<◌, List, ◌++◌, Contains, Option, Some, None, ⊤}
 use Rattle.hist_types.specs.Edges.{Edge, dependency_edges}
 use Rattle.hist_types.specs.Phenomena.{IsShownBy, Shows}
 use Rattle.hist_types.specs.ThinnedOrder.{thinned_edges}
 use Rattle.hist_types.specs.Witness.{dependencies_in, HasFewest}
 use Rattle.hist_types.specs.declared.types.Phenomenon.{Phenomenon}
-use Rattle.hist_types.specs.declared.types.Phenomenon.TheVariants.{GSingle, G2Item}
 use Rattle.hist_types.specs.declared.types.Level.{Level}
 use Rattle.hist_types.specs.declared.types.Level.TheVariants.{Plain, Process, Realtime}
 use Rattle.edge_graph.specs.Kinds.{AreAmong}
@@ -25,11 +24,6 @@ IsFound phenomenon es (Some walk) = Shows phenomenon es walk
 pub record ShowsByFewest (phenomenon : Phenomenon) (es walk : List Edge) : Type 0 where
   pub shows : Shows phenomenon es walk
   pub fewest : HasFewest phenomenon es walk
-
--- a walk that shows G-single, and so G2-item, each with the fewest dependency edges
-pub record ShowsSingle (es walk : List Edge) : Type 0 where
-  pub single : ShowsByFewest GSingle es walk
-  pub item : ShowsByFewest G2Item es walk
 
 -- each walk that shows the phenomenon has more than n of them
 abbrev pub NeedsMoreThan : (n : ℕ) → Phenomenon → List Edge → Type 0

@@ -1,5 +1,5 @@
 -- The two edges of a closed walk that is found without a graph.
-use Rattle.std.specs.Prelude.{◌≡◌, ℕ, List, [], ◌∷◌, IsTrue, Contains}
+use Rattle.std.specs.Prelude.{◌≡◌, ℕ, List, IsTrue, Contains}
 use Rattle.hist_types.specs.Edges.{process, Edge, dependency_edges, order_edges}
 use Rattle.hist_types.specs.Transactions.{Transaction}
 use Rattle.hist_types.specs.declared.types.Level.TheVariants.{Process}
@@ -24,13 +24,3 @@ pub record IsProcessEdgeBetween (ts : List Transaction) (from to : ℕ) (e : Edg
   pub among : Contains (order_edges Process ts) e
   pub label : e.label ≡ process (txn_at ts from).process
   pub joins : Joins ts from to e
-
--- the walk is a dependency edge of the one kinds from one transaction to another, and one of the other
--- kinds back
-pub record GoesThereAndBack (h : History) (out back_kinds : Kinds) (from to : ℕ) (walk : List Edge)
-    : Type 0 where
-  pub there : Edge
-  pub back : Edge
-  pub is : walk ≡ there ∷ back ∷ []
-  pub goes : IsDependencyBetween h out from to there
-  pub returns : IsDependencyBetween h back_kinds to from back

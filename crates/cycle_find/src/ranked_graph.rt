@@ -1,11 +1,11 @@
 //! Graphs that are ready for searches.
 
-ghost use Rattle.std.specs.Prelude.{◌≡◌, IfOk, IfSome};
+ghost use Rattle.std.specs.Prelude.{◌≡◌, IfOk};
 ghost use Rattle.std.specs.Bool.{OnTrue};
 ghost use Rattle.hist_types.specs.Phenomena.{IsShownBy};
-ghost use Rattle.hist_types.specs.declared.types.Level.TheVariants.{Plain, Realtime};
+ghost use Rattle.hist_types.specs.declared.types.Level.TheVariants.{Realtime};
 ghost use Rattle.edge_graph.specs.Parts.{edges_in};
-ghost use Rattle.cycle_find.specs.Found.{ShowNoneOverAny, ShowsByFewest};
+ghost use Rattle.cycle_find.specs.Found.{ShowNoneOverAny};
 ghost use Rattle.cycle_find.specs.Ranked.{AreRanksAtAll};
 ghost use Rattle.cycle_find.specs.Sharing.{AreSharing};
 ghost use Rattle.cycle_find.specs.Tasks.{site_of};
@@ -15,8 +15,6 @@ use crate::ranked_level::RankedLevel;
 use crate::ranking::{ranks_over, ranks_within};
 use crate::settle::shows_none;
 use crate::sharing::Shared;
-use crate::two_dependencies::TwoDependencies;
-use crate::types::Walk;
 use edge_graph::graph::Graph;
 use edge_graph::types::Dependencies;
 use graph_search::arcs::Arcs;
@@ -118,28 +116,6 @@ impl<'r, 'g, 'v, 'a> RankedGraph<'r, 'g, 'v, 'a> {
             Some(dependencies) => uses_only(phenomenon, dependencies),
             None => false,
         }
-    }
-
-    /// The closed walk along two edges between two transactions that shows the phenomenon at the level plain, if there is one. They
-    /// go by their places, and the edge that the phenomenon needs leads from the first of them. No closed walk that shows it there
-    /// has fewer dependency edges.
-    pub fn between(
-        &self,
-        phenomenon: Phenomenon,
-        from: usize,
-        to: usize,
-    ) -> Result<Option<Walk<'a>>, AllocError>
-        ensures { IfOk result (λ found.
-            IfSome found (ShowsByFewest phenomenon (edges_in self.now Plain))) }
-    {
-        let pairs = TwoDependencies::new(
-            self.alloc,
-            self.graph,
-            phenomenon,
-            &self.ranks,
-            &self.shared,
-        );
-        pairs.close(from, to)
     }
 
     /// The graph with what the searches at a level share.

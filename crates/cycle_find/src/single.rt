@@ -6,19 +6,21 @@
 ghost use Rattle.std.specs.Prelude.{IfOk, IfSome};
 ghost use Rattle.hist_types.specs.Edges.{edges_at};
 ghost use Rattle.hist_types.specs.declared.types.Level.TheVariants.{Plain, Process};
-ghost use Rattle.hist_types.specs.declared.types.Phenomenon.TheVariants.{G1c, G2Item};
-ghost use Rattle.cycle_find.specs.Found.{ShowsByFewest, ShowsSingle};
-ghost use Rattle.edge_graph.specs.Kinds.{kinds_of};
-ghost use Rattle.cycle_find.specs.Single.{GoesThereAndBack, IsDependencyBetween, IsProcessEdgeBetween};
+ghost use Rattle.hist_types.specs.declared.types.Phenomenon.TheVariants.{G1c, GSingle, G2Item};
+ghost use Rattle.cycle_find.specs.Dependencies as walks;
+ghost use Rattle.cycle_find.specs.Found.{ShowsByFewest};
+ghost use Rattle.edge_graph.specs.Kinds.{AreAmong};
+ghost use Rattle.cycle_find.specs.Single.{IsDependencyBetween, IsProcessEdgeBetween};
 
 use crate::completions::is_before;
+use crate::kinds::{needed, way_back};
 use crate::one_dependency::Ends;
 use crate::single_ends::{in_process, losing, mutual};
 use crate::types::Walk;
 use dep_edges::deps::Deps;
 use dep_edges::edge::{Edge, Label};
 use edge_graph::types::{Dependencies, Kinds};
-use hist_types::types::Level;
+use hist_types::types::{Level, Phenomenon};
 use std::alloc::{AllocError, Global};
 
 /// A dependency edge of the kinds from one transaction to another, if there is one. It looks through all that leave the first.
@@ -67,18 +69,20 @@ fn process_edge<'a>(deps: &Deps<'_, 'a>, from: usize, to: usize) -> Option<Edge<
     None
 }
 
-/// The closed walk along an edge of these dependencies from one transaction to another and one of the others back, if both are there.
+/// The closed walk along an edge that the phenomenon needs, from one transaction to another, and an
+/// edge of these dependencies back, if both are there.
 fn there_and_back<'a>(
     alloc: Global,
     deps: &Deps<'_, 'a>,
+    phenomenon: Phenomenon,
     ends: Ends,
-    there: Dependencies,
     back: Dependencies,
 ) -> Result<Option<Walk<'a>>, AllocError>
+    requires { AreAmong back (walks.way_back phenomenon) }
     ensures { IfOk result (λ found. IfSome found
-        (GoesThereAndBack deps.now (kinds_of there Plain) (kinds_of back Plain) ends.from ends.to)) }
+        (ShowsByFewest phenomenon (edges_at deps.now.table.keys Plain deps.now.txns))) }
 {
-    let out = Kinds::of(there, Level::Plain);
+    let out = Kinds::of(needed(phenomenon), Level::Plain);
     let Some(edge) = dependency(alloc, deps, ends.from, ends.to, out)? else {
         return Ok(None);
     };
@@ -90,6 +94,22 @@ fn there_and_back<'a>(
     Ok(Some(Walk::closing(edge, rest)?))
 }
 
+/// The closed walk along two edges between two transactions, by their places, that shows the
+/// phenomenon, if there is one. The edge that the phenomenon needs leads from the first of them.
+pub fn between<'a>(
+    alloc: Global,
+    deps: &Deps<'_, 'a>,
+    phenomenon: Phenomenon,
+    from: usize,
+    to: usize,
+) -> Result<Option<Walk<'a>>, AllocError>
+    ensures { IfOk result (λ found. IfSome found
+        (ShowsByFewest phenomenon (edges_at deps.now.table.keys Plain deps.now.txns))) }
+{
+    let ends = Ends { from, to };
+    there_and_back(alloc, deps, phenomenon, ends, way_back(phenomenon))
+}
+
 /// A closed walk along an rw edge and a ww or wr edge back, if one look at each version finds one: two transactions of which each
 /// depends on the other.
 ///
@@ -99,12 +119,11 @@ pub fn single_at_plain<'a>(
     deps: &Deps<'_, 'a>,
 ) -> Result<Option<Walk<'a>>, AllocError>
     ensures { IfOk result (λ found.
-        IfSome found (ShowsSingle (edges_at deps.now.table.keys Plain deps.now.txns))) }
+        IfSome found (ShowsByFewest GSingle (edges_at deps.now.table.keys Plain deps.now.txns))) }
 {
-    let rw = Dependencies::Rw;
     let direct = Dependencies::WrAndWw;
-    match mutual(alloc, deps, rw, direct)? {
-        Some(ends) => there_and_back(alloc, deps, ends, rw, direct),
+    match mutual(alloc, deps, Dependencies::Rw, direct)? {
+        Some(ends) => there_and_back(alloc, deps, Phenomenon::GSingle, ends, direct),
         None => Ok(None),
     }
 }
@@ -117,10 +136,9 @@ pub fn circular_flow<'a>(alloc: Global, deps: &Deps<'_, 'a>) -> Result<Option<Wa
     ensures { IfOk result (λ found.
         IfSome found (ShowsByFewest G1c (edges_at deps.now.table.keys Plain deps.now.txns))) }
 {
-    let wr = Dependencies::Wr;
     let direct = Dependencies::WrAndWw;
-    match mutual(alloc, deps, wr, direct)? {
-        Some(ends) => there_and_back(alloc, deps, ends, wr, direct),
+    match mutual(alloc, deps, Dependencies::Wr, direct)? {
+        Some(ends) => there_and_back(alloc, deps, Phenomenon::G1c, ends, direct),
         None => Ok(None),
     }
 }
@@ -136,7 +154,7 @@ pub fn lost_update<'a>(alloc: Global, deps: &Deps<'_, 'a>) -> Result<Option<Walk
 {
     let rw = Dependencies::Rw;
     match losing(deps) {
-        Some(ends) => there_and_back(alloc, deps, ends, rw, rw),
+        Some(ends) => there_and_back(alloc, deps, Phenomenon::G2Item, ends, rw),
         None => Ok(None),
     }
 }
@@ -151,7 +169,7 @@ pub fn write_skew<'a>(alloc: Global, deps: &Deps<'_, 'a>) -> Result<Option<Walk<
 {
     let rw = Dependencies::Rw;
     match mutual(alloc, deps, rw, rw)? {
-        Some(ends) => there_and_back(alloc, deps, ends, rw, rw),
+        Some(ends) => there_and_back(alloc, deps, Phenomenon::G2Item, ends, rw),
         None => Ok(None),
     }
 }
@@ -165,7 +183,7 @@ pub fn single_in_process<'a>(
     deps: &Deps<'_, 'a>,
 ) -> Result<Option<Walk<'a>>, AllocError>
     ensures { IfOk result (λ found.
-        IfSome found (ShowsSingle (edges_at deps.now.table.keys Process deps.now.txns))) }
+        IfSome found (ShowsByFewest GSingle (edges_at deps.now.table.keys Process deps.now.txns))) }
 {
     let Some(ends) = in_process(alloc, deps)? else {
         return Ok(None);

@@ -8,10 +8,10 @@
 //! follows. The followers of a version are gone through again only where one of its readers is a follower as well; where two of
 //! them are, they make such a walk. Two numbers for each vertex and two for each pair of a version and a follower are stored.
 
-ghost use Rattle.std.specs.Prelude.{◌≡◌, ◌+◌, ◌<◌, ℕ, length, All, Contains, IfOk, OnOk};
+ghost use Rattle.std.specs.Prelude.{◌≡◌, ◌<◌, ℕ, length, All, Contains, IfOk, OnOk};
 ghost use Rattle.std.specs.Bool.{OnFalse};
 ghost use Rattle.dep_edges.specs.Tables.{IsPlace};
-ghost use Rattle.edge_graph.specs.Vertices.{IsArc, graph_by};
+ghost use Rattle.edge_graph.specs.Vertices.{graph_by};
 ghost use Rattle.edge_graph.specs.declared.types.Dependencies.TheVariants.{Rw};
 ghost use Rattle.edge_graph.specs.declared.types.Dependencies.TheVariants as dependencies;
 ghost use Rattle.flat_groups.specs.Groups.{IsNumbered};
@@ -20,7 +20,7 @@ ghost use Rattle.hist_types.specs.declared.types.Level.TheVariants.{Plain};
 ghost use Rattle.cycle_find.specs.Dependencies as walks;
 ghost use Rattle.cycle_find.specs.Found.{IsFewestOr, IsFoundByFewest};
 ghost use Rattle.cycle_find.specs.OneDependency.{IsVertex};
-ghost use Rattle.cycle_find.specs.Tasks.{task_of, needed_kinds};
+ghost use Rattle.cycle_find.specs.Tasks.{task_of};
 ghost use Rattle.cycle_find.specs.Ranked.{AreRanksOver};
 ghost use Rattle.cycle_find.specs.Sharing.{AreSharing};
 ghost use Rattle.edge_graph.specs.Kinds.{kinds_of};
@@ -466,7 +466,7 @@ impl<'r, 'g, 'v, 'a> TwoDependencies<'r, 'g, 'v, 'a> {
     }
 
     /// The closed walk along an edge from one transaction to the other, and an edge back.
-    pub fn close(&self, from: usize, to: usize) -> Result<Option<Walk<'a>>, AllocError>
+    fn close(&self, from: usize, to: usize) -> Result<Option<Walk<'a>>, AllocError>
         ensures { IfOk result (IsFewestOr self.now (¬ IsPair self.now from to)) }
     {
         if from >= self.graph.len() || to >= self.graph.len() {

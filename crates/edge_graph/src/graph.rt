@@ -7,10 +7,8 @@ ghost use Rattle.dep_edges.specs.Tables.{IsPlace, txn_at};
 ghost use Rattle.hist_types.specs.declared.types.Level.TheVariants.{Plain};
 ghost use Rattle.edge_graph.specs.Costs.{IsFreeArc, IsPaidArc, AreAsCheap};
 ghost use Rattle.edge_graph.specs.Kinds.{kinds_of};
-ghost use Rattle.edge_graph.specs.LaidOut.{AreRows};
 ghost use Rattle.edge_graph.specs.Made.{order_edges_over, order_edges_to, AddsDependencies, IsMade};
 ghost use Rattle.edge_graph.specs.Parts.{IsOrderOf, IsMadeOf, AddsEdgesFrom};
-ghost use Rattle.edge_graph.specs.Successors.{AreTurned};
 ghost use Rattle.edge_graph.specs.Vertices.{IsArc, AreArcs, AreArcsThat, RwByVersions};
 ghost use Rattle.edge_graph.specs.Walks.{IsEdgeIfAny, IsOrderEdgeIfAny, IsTxnWalk, AreEdgesAlong};
 ghost use Rattle.edge_graph.specs.declared.types.Dependencies.TheVariants.{Rw};
@@ -19,7 +17,6 @@ use crate::arcs::{GraphArcs, SplitArcs};
 use crate::layout;
 use crate::orders::Orders;
 use crate::rows::Rows;
-use crate::threads::try_join;
 use crate::types::{Dependencies, Kinds};
 use dep_edges::deps::Deps;
 use dep_edges::edge::{Edge, Label};
@@ -28,7 +25,6 @@ use hist_types::types::Level;
 use order_frontier::types::Order;
 use std::alloc::{AllocError, Global};
 use std::marker::Model;
-use std::thread::Threads;
 use txn_pairs::types::Txn;
 
 /// A history's transactions with their dependency edges and, of an order, the edges to nodes. A transaction goes by its place.
@@ -137,26 +133,6 @@ fn add_order_edges<'a>(
     Ok(())
 }
 
-/// The rows of the arcs of dependencies, and the order as successors, made by two threads if another can be started.
-fn rows_and_orders_wide<'v, 'a, R: Threads>(
-    rt: &R,
-    alloc: Global,
-    deps: &Deps<'v, 'a>,
-    history: &History<'v, 'a>,
-    order: &Order,
-) -> Result<(Rows, Orders), AllocError>
-    requires history { history.now.txns ≡ deps.now.txns }
-    requires order { IsOrderOf deps.now.txns order.now }
-    ensures rows { IfOk result (λ made. AreRows history.now.txns history.now.table made.0) }
-    ensures orders { IfOk result (λ made. AreTurned deps.now.txns order.now made.1) }
-{
-    try_join(
-        rt,
-        &mut || layout::rows(alloc, deps, history),
-        &mut || Orders::new(alloc, deps, order),
-    )
-}
-
 impl<'g, 'v, 'a> Graph<'g, 'v, 'a> {
     /// The graph over the history's dependency edges and an order of its transactions, with all of their pairs or thinned.
     pub fn new(alloc: Global, deps: &'g Deps<'v, 'a>, order: &'g Order) -> Result<Self, AllocError>
@@ -166,43 +142,14 @@ impl<'g, 'v, 'a> Graph<'g, 'v, 'a> {
         let history = deps.history();
         let rows = layout::rows(alloc, deps, history)?;
         let orders = Orders::new(alloc, deps, order)?;
-        Ok(Graph::of(alloc, deps, history, order, rows, orders))
-    }
-
-    /// As `new`, with two threads if another can be started.
-    pub fn new_wide<R: Threads>(
-        rt: &R,
-        alloc: Global,
-        deps: &'g Deps<'v, 'a>,
-        order: &'g Order,
-    ) -> Result<Self, AllocError>
-        requires { IsOrderOf deps.now.txns order.now }
-        ensures { IfOk result (IsMadeOf deps.now.table.keys deps.now.txns order.now) }
-    {
-        let history = deps.history();
-        let (rows, orders) = rows_and_orders_wide(rt, alloc, deps, history, order)?;
-        Ok(Graph::of(alloc, deps, history, order, rows, orders))
-    }
-
-    fn of(
-        alloc: Global,
-        deps: &'g Deps<'v, 'a>,
-        history: &'g History<'v, 'a>,
-        order: &'g Order,
-        rows: Rows,
-        orders: Orders,
-    ) -> Self
-        requires { IsMade deps.now history.now order.now rows orders }
-        ensures { IsMadeOf deps.now.table.keys deps.now.txns order.now result }
-    {
-        Graph {
+        Ok(Graph {
             alloc,
             deps,
             history,
             order,
             rows,
             orders,
-        }
+        })
     }
 
     /// How many transactions there are.

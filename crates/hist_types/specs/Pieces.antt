@@ -1,9 +1,7 @@
--- Whole inputs and outputs: what a sink took of some bytes, and how a source failed.
+-- Whole inputs and outputs: what a sink took of some bytes, and what was read of a source.
 use Rattle.std.specs.Prelude.{◌≡◌, ◌⊎◌, ℕ, List, ◌++◌, take}
 use Rattle.std.specs.Io.KnownBytes.{Appends, Consumes}
 use Rattle.hist_types.specs.Devices.{CountsFailure}
-use Rattle.hist_types.specs.declared.whole.ReadFault.{ReadFault}
-use Rattle.hist_types.specs.declared.whole.ReadFault.TheVariants.{Device, Memory}
 use Rattle.hist_types.specs.declared.device.Sink.{Ghosts}
 use Rattle.hist_types.specs.declared.device.Source.{Ghosts as Source}
 
@@ -31,8 +29,3 @@ pub record HasReadMore {S : Type 0} (device : Source S) (source source' : S)
   pub more : List ℕ
   pub behind : bytes' ≡ bytes ++ more
   pub given : Consumes (device.remaining source) (device.remaining source') more
-
--- a fault of the device is counted there, and one of memory isn't
-abbrev pub IsCounted : ReadFault → ℕ → ℕ → Type 0
-IsCounted Device old new = CountsFailure old new
-IsCounted Memory old new = new ≡ old

@@ -17,7 +17,8 @@
 -- before it.
 use Rattle.std.specs.Prelude.{◌≡◌, ℕ, List, [], ◌∷◌, ◌++◌, Bool, true, false, not, ◌&&◌, ◌||◌, if◌then◌else◌, Option, Some, None, Result, Ok, Err}
 use Rattle.hist_types.specs.Forms.{plain, OpenCollection, Open, is_map, is_vector_or_list, has_drop, with_form, with_mark, with_opener, form_of, waiting}
-use Rattle.hist_types.specs.Entries.{Entry, entry_of, ◌>>=◌, refuse_if}
+use Rattle.hist_types.specs.Entries.{Entry, entry_of, operations_of, ◌>>=◌, refuse_if}
+use Rattle.hist_types.specs.Operations.{Operation}
 use Rattle.hist_types.specs.Tokens.{Item, ItemKind, Opener, Closer, Drop, Tag, HasTokens, HasTokensFrom, byte_fault}
 use Rattle.hist_types.specs.declared.types.Fault.{Fault}
 use Rattle.hist_types.specs.declared.types.Refusal.TheVariants.{Unclosed, StrayCloser, DanglingTag, NotAMap}
@@ -152,3 +153,24 @@ ReadsFrom offset text entries fault =
     × (ending : Option Fault)
     × HasTokensFrom offset text tokens ending
     × (reading_of tokens ending ≡ record { entries = entries; fault = fault })
+
+-- From the offset on, as if nothing stood before it, the text reads as these operations, and then
+-- it ends or there is a fault.
+pub record GivesFrom (text : List ℕ) (offset : ℕ) (operations : List Operation)
+    (fault : Option Fault) : Type 0 where
+  pub entries : List Entry
+  pub read : ReadsFrom offset text entries fault
+  pub given : operations_of entries ≡ operations
+
+-- the text reads as these operations, up to its end
+abbrev pub GivesOperations : List ℕ → List Operation → Type 0
+GivesOperations text operations = GivesFrom text 0 operations None
+
+-- From the offset on, as if nothing stood before it, the reading of the text ends with this fault.
+abbrev pub FailsFrom : List ℕ → ℕ → Fault → Type 0
+FailsFrom text offset fault =
+    (operations : List Operation) × GivesFrom text offset operations (Some fault)
+
+-- the text's reading ends with this fault
+abbrev pub GivesFault : List ℕ → Fault → Type 0
+GivesFault text fault = FailsFrom text 0 fault

@@ -54,6 +54,10 @@ name_of refusal = (title_of refusal).name
 abbrev pub event_fault : Refusal × ℕ → Fault
 event_fault broken = record { refusal = broken.0; at = Event broken.1 }
 
--- out of memory, which has no place
+-- a refusal that has no place
+abbrev pub without_place : Refusal → Fault
+without_place refusal = record { refusal = refusal; at = Nowhere }
+
+-- out of memory
 abbrev pub memory_fault : Fault
-memory_fault = record { refusal = Memory; at = Nowhere }
+memory_fault = without_place Memory

@@ -25,7 +25,8 @@ use Rattle.std.specs.Option.{option_map_or}
 use Rattle.std.specs.Str.Parse.{digits_value}
 use Rattle.hist_types.specs.Bytes.{line_feed}
 use Rattle.hist_types.specs.CanonicalText.{operation_text}
-use Rattle.hist_types.specs.Handed.{without_place, HandsOver}
+use Rattle.hist_types.specs.Handed.{HandsOver}
+use Rattle.hist_types.specs.Refusals.{without_place}
 use Rattle.hist_types.specs.LegalAnswers as journal
 use Rattle.hist_types.specs.LegalAnswers.{View, Request, Answer, IsLegal, IsLegalAt}
 use Rattle.hist_types.specs.Operations.{Operation}

@@ -5,10 +5,7 @@ ghost use Rattle.hist_types.specs.Transactions.{transactions_of};
 
 use crate::stopped::Stopped;
 use clean_order::attempt::Attempt;
-use clean_order::{
-    settles, settles_dirty_writes, settles_plain, settles_single_at_plain, settles_snapshots,
-    settles_writes,
-};
+use clean_order::{settles, settles_kinds, settles_plain, settles_snapshots};
 use cycle_find::single::{
     circular_flow, lost_update, single_at_plain, single_in_process, write_skew,
 };
@@ -19,6 +16,7 @@ use journal_core::journal::Core;
 use journal_core::prefix::Prefix;
 use key_versions::versions;
 use op_block::block::Block;
+use schedules::types::EdgeKinds;
 use std::alloc::Global;
 use std::hash::{BuildHasherDefault, FoldHasher};
 use txn_pairs::pair;
@@ -49,11 +47,11 @@ fn settled_of(alloc: Global, deps: &Deps<'_, '_>) -> Result<Settled, Fault> {
     let mut attempt = Attempt::new(alloc, deps)?;
     Ok(Settled {
         settles: settles(alloc, deps, &mut attempt)?,
-        settles_writes: settles_writes(alloc, deps, &attempt)?,
-        settles_dirty_writes: settles_dirty_writes(alloc, deps, &attempt)?,
+        settles_writes: settles_kinds(alloc, deps, &attempt, EdgeKinds::WITHOUT_RW)?,
+        settles_dirty_writes: settles_kinds(alloc, deps, &attempt, EdgeKinds::WITHOUT_READS)?,
         settles_plain: settles_plain(deps, &attempt),
-        settles_snapshots: settles_snapshots(alloc, deps, &attempt)?,
-        settles_single_at_plain: settles_single_at_plain(alloc, deps, &attempt)?,
+        settles_snapshots: settles_snapshots(alloc, deps, &attempt, EdgeKinds::ALL)?,
+        settles_single_at_plain: settles_snapshots(alloc, deps, &attempt, EdgeKinds::PLAIN)?,
     })
 }
 

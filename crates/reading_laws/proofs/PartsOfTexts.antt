@@ -8,11 +8,11 @@ use Rattle.std.proofs.lemmas.Option.{none-some, same_Some}
 use Rattle.hist_types.specs.Entries.{Entry, operation, skipped, operations_of, operation_of}
 use Rattle.hist_types.specs.Forms.{Form, Open, OpenCollection}
 use Rattle.hist_types.specs.Operations.{Operation}
-use Rattle.hist_types.specs.Reading.{Reading, Step, step, fault_at_end, refuse_unfinished, after_entries, and_then_read, reading_from, nothing_open}
+use Rattle.hist_types.specs.Reading.{GivesOperations, GivesFrom, Reading, Step, step, fault_at_end, refuse_unfinished, after_entries, and_then_read, reading_from, nothing_open}
 use Rattle.hist_types.specs.Tokens.{Item, ItemKind, open_after, is_token, tokens_of, IsCut, BeginsWith}
 use Rattle.hist_types.specs.declared.types.Fault.{Fault}
 use Rattle.reading_laws.specs.Nesting.{AreForms, entries_by_form}
-use Rattle.reading_laws.specs.Parts.{HasPartAt, EndsWithMap, GivesOperations, GivesFrom}
+use Rattle.reading_laws.specs.Parts.{HasPartAt, EndsWithMap}
 use Rattle.reading_laws.proofs.FormEntries.{all_some, all_some-map, give, run, prefix, run_after, run-forms, reading-run, read_forms}
 use Rattle.reading_laws.proofs.FrontsGrown.{EndsSo, item_ends, BeginsWith-more, ends_so_behind}
 use Rattle.reading_laws.proofs.MapAlone.{ReadsOn, behind}

@@ -5,14 +5,14 @@
 ghost use Rattle.std.specs.Prelude.{◌↔◌, ◌≡◌, ◌+◌, ℕ, List, [], ◌++◌, Option, None, length, drop, IsTrue, All};
 ghost use Rattle.hist_types.specs.Operations.{Operation};
 ghost use Rattle.hist_types.specs.declared.types.Fault.{Fault};
-ghost use Rattle.reading_laws.specs.Parts.{HasPartAt, EndsWithMap, GivesOperations, GivesFrom};
+ghost use Rattle.reading_laws.specs.Parts.{HasPartAt, EndsWithMap};
 ghost use Rattle.hist_types.specs.Bytes.{is_run_byte};
 ghost use Rattle.reading_laws.specs.Readings.{HasOneReading, IsReadIn, IsReadInPart, HasPartsOf, IsOfTokens, HasAtom, IsFaultlessToken, RunEndsAt};
 ghost use Rattle.hist_types.specs.Entries.{PlacedOperation, Entry};
 ghost use Rattle.hist_types.specs.Forms.{Form};
 ghost use Rattle.reading_laws.specs.Nesting.{AreForms, AreNoOtherForms, ActAs, FillAnyCollection, FillAlone, HoldWhatIsBetween, IsOfForms, IsMapOfForms};
 ghost use Rattle.reading_laws.specs.Placed.{KeepsLimits, IsTextOf, IsIn, IsTokenAlone};
-ghost use Rattle.hist_types.specs.Reading.{Reads};
+ghost use Rattle.hist_types.specs.Reading.{GivesOperations, GivesFrom, Reads};
 ghost use Rattle.hist_types.specs.Tokens.{IsCut, HasTokens, run_of, run_len, Item, ItemKind};
 
 /// A run is the longest row of its bytes at the front of a text.

@@ -6,4 +6,5 @@
 mod leaving;
 mod lines;
 pub mod report;
+pub mod short;
 pub mod text;

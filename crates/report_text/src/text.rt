@@ -1,14 +1,13 @@
 //! The texts of reports.
 
 ghost use Rattle.std.specs.Prelude.{◌≡◌, IfOk};
-ghost use Rattle.hist_types.specs.Texts.{verdict_text, reads_text, edges_text, refusal_line};
+ghost use Rattle.hist_types.specs.Texts.{verdict_text, reads_text, edges_text};
 
 use crate::leaving::append_all_edges;
 use crate::lines::{
     append_bad_read_lines, append_finding, append_head, append_number_line, append_strict,
 };
 use crate::report::{EdgesReport, ReadsReport, VerdictReport};
-use hist_types::types::Fault;
 use std::alloc::{AllocError, Global};
 
 impl VerdictReport<'_> {
@@ -55,12 +54,4 @@ impl EdgesReport<'_, '_, '_> {
         append_number_line(&mut text, "edges", count)?;
         Ok(text)
     }
-}
-
-/// The line of a refusal.
-pub fn refusal_line(alloc: Global, fault: Fault) -> Result<Vec<u8>, AllocError>
-    ensures { IfOk result (λ line. line.items ≡ refusal_line fault) }
-{
-    let line = format!(in alloc; "{fault}\n")?;
-    Ok(line.into_bytes())
 }

@@ -1,6 +1,6 @@
 //! Calls of one seat, and what they return as text.
 
-ghost use Rattle.std.specs.Prelude.{◌≡◌, IfOk, OnOk};
+ghost use Rattle.std.specs.Prelude.{◌≡◌, IfOk};
 ghost use Rattle.edn_ops.specs.SourceTexts.{AreMopTexts};
 
 use crate::hashers::Counting;
@@ -182,12 +182,22 @@ fn outcome_of(kind: OpKind) -> Option<Outcome> {
 }
 
 /// A seat of the row that its type names.
-#[derive(Drop)]
 pub struct SeatOf<'j, 'c, N: Naming> {
     alloc: Global,
     pub seat: CountedSeat<'j, 'c>,
     of: PhantomData<N>,
     ghost row: { seat.row ≡ N.cells },
+}
+
+// Written out, as what is derived is repeated wherever one is dropped.
+impl<N: Naming> Drop for SeatOf<'_, '_, N> {
+    fn drop(self) {
+        let SeatOf {
+            alloc: _,
+            seat: _,
+            of: _,
+        } = self;
+    }
 }
 
 impl<'j, 'c, N: Naming> SeatOf<'j, 'c, N> {

@@ -34,13 +34,24 @@ pub type CountedJournal<'c> = Journal<Counting<'c>>;
 const MOST_THREADS: usize = 64;
 
 /// A seat, the calls that wait, and what calls have returned.
-#[derive(Drop)]
 struct Worker<'j, 'c, N: Naming> {
     seat: SeatOf<'j, 'c, N>,
     calls: Vec<Call>,
     said: Said,
     /// Whether memory ran out for what calls have returned.
     is_cut: bool,
+}
+
+// Written out, as what is derived is repeated wherever one is dropped.
+impl<N: Naming> Drop for Worker<'_, '_, N> {
+    fn drop(self) {
+        let Worker {
+            seat: _,
+            calls: _,
+            said: _,
+            is_cut: _,
+        } = self;
+    }
 }
 
 impl<'j, 'c, N: Naming> Worker<'j, 'c, N> {
@@ -123,7 +134,6 @@ fn new_seat<'j, 'c, R: Print>(
 }
 
 /// A journal and its seats.
-#[derive(Drop)]
 struct Table<'j, 'c, N: Naming> {
     alloc: Global,
     journal: &'j CountedJournal<'c>,
@@ -131,6 +141,18 @@ struct Table<'j, 'c, N: Naming> {
     /// Whether calls wait, to be made side by side.
     is_waiting: bool,
     ghost named: { journal.now.row ≡ N.cells },
+}
+
+// Written out, as what is derived is repeated wherever one is dropped.
+impl<N: Naming> Drop for Table<'_, '_, N> {
+    fn drop(self) {
+        let Table {
+            alloc: _,
+            journal: _,
+            workers: _,
+            is_waiting: _,
+        } = self;
+    }
 }
 
 /// What a line says of a seat: its number, a word, and the rest.

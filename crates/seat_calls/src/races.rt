@@ -3,7 +3,7 @@
 //!     SEAT OPERATIONS
 //!     first OTHER OPERATIONS    before the next write, the other seat writes this
 
-ghost use Rattle.std.specs.Prelude.{◌≡◌, IfOk};
+ghost use Rattle.std.specs.Prelude.{◌≡◌};
 
 use crate::hashers::Counting;
 use crate::stopped::Stopped;
@@ -68,12 +68,22 @@ impl Cells for Raced<'_> {
 }
 
 /// What a seat has seen that writes through these cells.
-#[derive(Drop)]
 struct Racer<'j, 'r, 'c> {
     alloc: Global,
     cells: &'j Raced<'r>,
     seen: Seen<'j, Counting<'c>>,
     ghost row: { seen.seat.row ≡ cells.now.row.now },
+}
+
+// Written out, as what is derived is repeated wherever one is dropped.
+impl Drop for Racer<'_, '_, '_> {
+    fn drop(self) {
+        let Racer {
+            alloc: _,
+            cells: _,
+            seen: _,
+        } = self;
+    }
 }
 
 impl<'j, 'r, 'c> Racer<'j, 'r, 'c> {

@@ -33,6 +33,7 @@ use Rattle.serial_points.specs.Falls.{HaveFallen, PassesAt, PassesUnlessOk, Pass
 use Rattle.serial_points.specs.KeptPoints.{BasicPoints, HasBasicPoints, FallAndPass, UsersAdvance}
 use Rattle.serial_points.specs.NextPoints.{HasMoved, AreNextPoints}
 use Rattle.serial_points.specs.Points.{IsNotBefore, IsNotAfter, ArePoints}
+use Rattle.serial_points.proofs.Points.{by_points, point_begun, point_ended, points_rise}
 use Rattle.serial_points.specs.Users.{updates, places_at, IsListed, AreUsers, IsAmongUsers, UsersStay}
 use Rattle.serial_points.specs.declared.falls.Fall.{Fall}
 use Rattle.serial_points.specs.declared.users.Users.{Users}
@@ -343,16 +344,17 @@ module _ (events : List Operation) (event : Operation) (before after : KeptVersi
   -- ---- an invocation
 
   same_at_nodes : (point next : ℕ → ℕ) → ((u : Transaction) → Contains (nodes later) u → next u.invocation ≡ point u.invocation) → ArePoints Basic later point → ArePoints Basic later next
-  same_at_nodes point next same are = record {
-    begun = λ u i. subst (λ n. IsNotBefore n u) (sym (same u i)) (are.begun u i);
-    ended = λ u i. subst (λ n. IsNotAfter n u) (sym (same u i)) (are.ended u i);
-    forward = λ e c.
-        let (s, u, v, ends) = ends_by (events ++ event ∷ []) e rules c in
-        let less : point s.invocation < point u.invocation = subst (λ n. point s.invocation < point n) ends.to (subst (λ n. point n < point e.to) ends.from (are.forward e c)) in
-        let first = same s ends.first in
-        let second = same u ends.second in
-        rises_between next e s.invocation u.invocation ends.from ends.to (omega (arith, less, first, second));
-  }
+  same_at_nodes point next same are =
+      by_points Basic later next
+      (λ u i. subst (λ n. IsNotBefore n u) (sym (same u i)) (point_begun Basic later point are u i))
+      (λ u i. subst (λ n. IsNotAfter n u) (sym (same u i)) (point_ended Basic later point are u i))
+      (λ e c.
+      let (s, u, v, ends) = ends_by (events ++ event ∷ []) e rules c in
+      let rises = points_rise Basic later point are e c in
+      let less : point s.invocation < point u.invocation = subst (λ n. point s.invocation < point n) ends.to (subst (λ n. point n < point e.to) ends.from rises) in
+      let first = same s ends.first in
+      let second = same u ends.second in
+      rises_between next e s.invocation u.invocation ends.from ends.to (omega (arith, less, first, second)))
 
   not_a_node : (a : TxnAccesses) → slice_get after.accesses place ≡ Some a → AreUnread users.readers a.writes → is_ok t ≡ false → is_node later t ≡ true → ⊥
   not_a_node a there unread not_ok node =

@@ -15,7 +15,7 @@ use Rattle.history_laws.proofs.ThinningTimes.{transactions_timed}
 use Rattle.history_laws.proofs.VersionMembers.{pairs_by_membership}
 use Rattle.history_laws.proofs.WrittenOnce.{installed_or_over, nil_unwritten, one_writer}
 use Rattle.serial_points.specs.ByVersion.{IsAnother, Follows, DependsBy, AreJoinedByVersions, IsBelow, IsAbovePredecessors, IsBelowSuccessors, EdgesIntoRise, EdgesOutOfRise, AllEdgesRise}
-use Rattle.clean_order.specs.Rising.{RisesAlong}
+use Rattle.serial_points.specs.ByVersion.{RisesAlong}
 
 -- ---- from edges to versions
 

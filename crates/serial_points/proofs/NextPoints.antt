@@ -15,7 +15,8 @@ use Rattle.history_laws.proofs.WrittenOnce.{installed_or_over}
 use Rattle.serial_points.specs.ByVersion.{IsAnother, DependsBy}
 use Rattle.serial_points.specs.NextPoints.{IsOfEvent, HasMoved, AreNextPoints, PointsMove}
 use Rattle.serial_points.specs.Points.{IsNotBefore, IsNotAfter, ArePoints}
-use Rattle.clean_order.specs.Rising.{Rises}
+use Rattle.serial_points.proofs.Points.{by_points, point_begun, point_ended, points_rise}
+use Rattle.serial_points.specs.ByVersion.{Rises}
 use Rattle.serial_points.proofs.ByVersion.{node_among, ends_by, edge_by, rises_between}
 use Rattle.serial_points.proofs.OneEvent.{others_stay}
 
@@ -96,7 +97,7 @@ module _ (events : List Operation) (event : Operation) (t : Transaction) (kept :
     begun : (u : Transaction) → Contains (nodes after) u → IsNotBefore (next u.invocation) u
     begun u i = elim (moved_or_not u i) [
       | inl moved ↦ looked.begun u i moved
-      | inr (other, there, same) ↦ (let was = are.begun u there in omega (arith, was, same))
+      | inr (other, there, same) ↦ (let was = point_begun Basic before point are u there in omega (arith, was, same))
     ]
 
     ended : (u : Transaction) → Contains (nodes after) u → IsNotAfter (next u.invocation) u
@@ -107,7 +108,7 @@ module _ (events : List Operation) (event : Operation) (t : Transaction) (kept :
       | inr other ↦ (λ completion ok at.
           let another : IsAnother t u = λ e. eqb-false u.invocation t.invocation other (sym e) in
           let there : Contains (nodes before) u = Contains_from_in u (nodes before) (ok_is_node before u (stays u i another) ok) in
-          let was = are.ended u there completion ok at in
+          let was = point_ended Basic before point are u there completion ok at in
           let lower = looked.falls u there another in
           at_most (next u.invocation) (point u.invocation) lower was)
     ]
@@ -123,7 +124,7 @@ module _ (events : List Operation) (event : Operation) (t : Transaction) (kept :
                 let first : IsAnother t s = λ e. eqb-false s.invocation t.invocation other (sym e) in
                 let node : Contains (nodes before) s = was_node s u v ends.first first (node_among before u there) ends.depends in
                 let (label, old) = edge_by Basic before v s u node there ends.other ends.depends in
-                let was = are.forward (edge s u label) old in
+                let was = points_rise Basic before point are (edge s u label) old in
                 let lower = looked.falls s node first in
                 let rises : next s.invocation < next u.invocation = omega (arith, was, lower, same) in
                 rises_between next e s.invocation u.invocation ends.from ends.to rises)
@@ -134,8 +135,6 @@ pub points_move :
     (events : List Operation) (event : Operation)
     → KeepsRules (events ++ event ∷ [])
     → PointsMove events event
-points_move events event kept t point next i of are looked = record {
-  begun = begun events event t kept i of point next are looked;
-  ended = ended events event t kept i of point next are looked;
-  forward = forward events event t kept i of point next are looked;
-}
+points_move events event kept t point next i of are looked =
+    by_points Basic (transactions_of (events ++ event ∷ [])) next (begun events event t kept i of point next are looked)
+    (ended events event t kept i of point next are looked) (forward events event t kept i of point next are looked)

@@ -32,6 +32,7 @@ use Rattle.serial_points.specs.CleanReads.{IsCleanRead}
 use Rattle.serial_points.specs.KeptPoints.{BasicPoints, HasBasicPoints, IsBasicNext, IsUnreadAt, IsCleanAt, AdvancesBy, HasSettled, PointsAdvance, UsersAdvance}
 use Rattle.serial_points.specs.NextPoints.{WritesNothingRead}
 use Rattle.serial_points.specs.Points.{ArePoints}
+use Rattle.serial_points.proofs.Points.{by_points}
 use Rattle.serial_points.specs.Strays.{unwritten, StraysAdvance}
 use Rattle.serial_points.specs.Users.{IsListed, ListVersions, ListKeys, ListUpdated, AreUsers}
 use Rattle.serial_points.specs.declared.falls.Fall.{Fall}
@@ -390,10 +391,6 @@ points_of_none kept points users are none used = record {
   are_points = (
     λ n. 0,
     λ k u at. absurd (none-some u at),
-    record {
-      begun = λ t i. absurd (no_transaction t i);
-      ended = λ t i. absurd (no_transaction t i);
-      forward = λ e i. absurd (in_from_Contains e [] i);
-    },
+    by_points Basic [] (λ n. 0) (λ t i. absurd (no_transaction t i)) (λ t i. absurd (no_transaction t i)) (λ e i. absurd (in_from_Contains e [] i)),
   );
 }

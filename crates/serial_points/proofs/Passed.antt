@@ -20,7 +20,7 @@ use Rattle.serial_points.specs.Bounds.{BoundAll, FloorAll}
 use Rattle.serial_points.specs.ByPlace.{AreListed, IsAboveWriter, IsAboveReaders}
 use Rattle.serial_points.specs.ByVersion.{Follows, IsBelow, IsBelowSuccessors}
 use Rattle.serial_points.specs.Passing.{AllLower, AllHigher, IsAboveReadersOf, HasNilFollowers, PassesInto, PassesOutOf}
-use Rattle.clean_order.specs.Ranked.{IsLowerIfOther}
+use Rattle.clean_order.specs.AtVersions.{IsLowerIfOther}
 use Rattle.serial_points.specs.Users.{updates, places_at, IsListed, AreUsers}
 use Rattle.serial_points.specs.declared.users.Users.{Users}
 use Rattle.serial_points.proofs.Accesses.{has_accesses, installs_writes, read_access, same_number, write_access}

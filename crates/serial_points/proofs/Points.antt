@@ -1,47 +1,55 @@
--- Points rise along order edges too.
-use Rattle.std.proofs.Common.{inl, inr, ◌≤◌, ◌<◌, ℕ, ◌+◌, List, Contains, ap, arith}
-use Rattle.hist_types.specs.Edges.{Edge, dependency_edges, order_labels, order_edges, edges_at}
+-- Points make a serial schedule that keeps each edge if they are between events and rise along dependency edges.
+use Rattle.std.proofs.Common.{◌≡◌, ◌<◌, ℕ, List, Bool, true, false, if◌then◌else◌, Contains, refl, arith}
+use Rattle.hist_types.specs.Edges.{Label, ww, wr, rw, process, realtime, dependency_edges}
+use Rattle.hist_types.specs.Phenomena.{is_rw}
 use Rattle.hist_types.specs.Reports.{AreFindings, no_findings}
 use Rattle.hist_types.specs.Transactions.{Transaction, nodes}
 use Rattle.hist_types.specs.declared.types.KeyOrder.{KeyOrder}
-use Rattle.hist_types.specs.declared.types.Level.{Level}
-use Rattle.hist_types.proofs.Members.{in_from_Contains, Contains_from_in, in_append}
-use Rattle.history_laws.proofs.ThinningPaths.{ended_before, ends_of, ordered_from_label, ordered_in_time}
-use Rattle.serial_points.specs.Points.{point_at, ArePoints}
-use Rattle.clean_order.specs.Rising.{RisesAlong, RisesAtEachLevel}
-use Rattle.clean_order.proofs.Walks.{none_found}
+use Rattle.schedules.specs.Schedules.{is_of}
+use Rattle.schedules.specs.declared.types.TheConstants.EdgeKinds.{ALL}
+use Rattle.schedules.proofs.Phenomena as phenomena
+use Rattle.schedules.proofs.Phenomena.{none_there}
+use Rattle.serial_points.specs.ByVersion.{Rises}
+use Rattle.serial_points.specs.Points.{IsNotBefore, IsNotAfter, at_points, ArePoints}
 
--- an event before another one has earlier points
-earlier_event : (m n point other : ℕ) → m < n → point < point_at (m + 1) → point_at n ≤ other → point < other
-earlier_event m n point other before ended begun = omega (arith, before, ended, begun)
+to_kept : (is_rw : Bool) (m n : ℕ) → m < n → (if is_rw then m else m) < (if is_rw then n else n)
+to_kept true m n less = less
+to_kept false m n less = less
 
-order_rises :
-    (keys : KeyOrder) (level : Level) (ts : List Transaction) (point : ℕ → ℕ)
-    → ArePoints keys ts point → (e : Edge) → Contains (order_edges level ts) e → RisesAlong point e
-order_rises keys level ts point are e c =
-    let (t, u, label, found) = ends_of (nodes ts) (order_labels level) e (in_from_Contains e (order_edges level ts) c) in
-    let (completion, before) = ended_before t u (ordered_in_time level t u (ordered_from_label level t u label found.labelled)) in
-    let ended : point t.invocation < point_at (completion + 1) =
-    are.ended t (Contains_from_in t (nodes ts) found.first) completion before.ok before.ended in
-    let begun : point_at u.invocation ≤ point u.invocation = are.begun u (Contains_from_in u (nodes ts) found.second) in
-    let rises : point t.invocation < point u.invocation =
-    earlier_event completion u.invocation (point t.invocation) (point u.invocation) before.before ended begun in
-    let from = ap (λ (d : Edge). point d.from) found.is in
-    let to = ap (λ (d : Edge). point d.to) found.is in
-    omega (arith, rises, from, to)
+from_kept : (is_rw : Bool) (m n : ℕ) → (if is_rw then m else m) < (if is_rw then n else n) → m < n
+from_kept true m n less = less
+from_kept false m n less = less
 
-pub points_rise :
-    (keys : KeyOrder) (ts : List Transaction) (point : ℕ → ℕ)
-    → ArePoints keys ts point
-    → RisesAtEachLevel keys point ts
-points_rise keys ts point are level e c =
-    elim (in_append e (dependency_edges keys ts) (order_edges level ts) (in_from_Contains e (edges_at keys level ts) c)) [
-      | inl i ↦ are.forward e (Contains_from_in e (dependency_edges keys ts) i)
-      | inr i ↦ order_rises keys level ts point are e (Contains_from_in e (order_edges level ts) i)
-    ]
+of_all : (l : Label) → is_of ALL l ≡ true
+of_all (ww v w) = refl
+of_all (wr v) = refl
+of_all (rw v w) = refl
+of_all (process p) = refl
+of_all (realtime c i) = refl
 
-pub nothing_found :
-    (keys : KeyOrder) (ts : List Transaction) (point : ℕ → ℕ)
-    → ArePoints keys ts point
-    → AreFindings keys ts no_findings
-nothing_found keys ts point are = none_found keys point ts (points_rise keys ts point are)
+module _ (keys : KeyOrder) (ts : List Transaction) (point : ℕ → ℕ) where
+  pub by_points :
+      ((t : Transaction) → Contains (nodes ts) t → IsNotBefore (point t.invocation) t)
+      → ((t : Transaction) → Contains (nodes ts) t → IsNotAfter (point t.invocation) t)
+      → Rises point (dependency_edges keys ts)
+      → ArePoints keys ts point
+  by_points begun ended forward = record {
+    first = λ n. omega arith;
+    dependencies = λ e i of. to_kept (is_rw e) (point e.from) (point e.to) (forward e i);
+    order = λ _. record { clock = λ m n h. omega (arith, h); begun = begun; ended = ended };
+  }
+
+  module _ (are : ArePoints keys ts point) where
+    pub point_begun : (t : Transaction) → Contains (nodes ts) t → IsNotBefore (point t.invocation) t
+    point_begun = (are.order refl).begun
+
+    pub point_ended : (t : Transaction) → Contains (nodes ts) t → IsNotAfter (point t.invocation) t
+    point_ended = (are.order refl).ended
+
+    pub points_rise : Rises point (dependency_edges keys ts)
+    points_rise e i = from_kept (is_rw e) (point e.from) (point e.to) (are.dependencies e i (of_all e.label))
+
+    pub nothing_found : AreFindings keys ts no_findings
+    nothing_found =
+        phenomena.nothing_found keys ts (λ phenomenon level rules reach.
+        none_there keys ALL ts (at_points point) are level reach true (λ _ n. omega arith) phenomenon rules)

@@ -24,7 +24,7 @@ use Rattle.dep_edges.specs.Tables.{txn_at}
 use Rattle.dep_edges.proofs.Lists.{all_in, within_at}
 use Rattle.dep_edges.proofs.Marks.{place_in}
 use Rattle.dep_edges.proofs.Writers.{in_at, writer_wrote}
-use Rattle.clean_order.specs.Ranked.{IsLowerIfOther}
+use Rattle.clean_order.specs.AtVersions.{IsLowerIfOther}
 use Rattle.serial_points.specs.ByPlace.{AreListed, IsAboveByLookUps, IsAboveWriter, IsAboveReaders}
 use Rattle.serial_points.specs.ByVersion.{Follows, IsAbovePredecessors}
 use Rattle.serial_points.specs.CleanReads.{ReadsAreClean}
@@ -38,7 +38,7 @@ use Rattle.serial_points.proofs.Counted.{one_if}
 use Rattle.serial_points.proofs.Installed.{installer_updates, installs_number}
 use Rattle.serial_points.proofs.NextPoints.{reader_is_ok}
 use Rattle.serial_points.proofs.Passed.{reader_at}
-use Rattle.serial_points.proofs.Points.{nothing_found}
+use Rattle.serial_points.proofs.Points.{by_points, nothing_found}
 
 -- ---- what a transaction follows, by number
 
@@ -176,15 +176,15 @@ module _ (events : List Operation) (rules : KeepsRules events) (kept : KeptVersi
         subst (IsAbovePredecessors ts point) is (look_ups_suffice events rules points point place listed within (above_by_look_ups place t at is put))
 
     are_points : ArePoints Basic ts point
-    are_points = record {
-      begun = λ t i.
-          let (place, at, put) = node_at t i in
-          subst (λ p. IsNotBefore p t) (sym (listed place t at)) (replayed.begun place t at put);
-      ended = λ t i.
-          let (place, at, put) = node_at t i in
-          subst (λ p. IsNotAfter p t) (sym (listed place t at)) (replayed.ended place t at put);
-      forward = all_rise events rules point above_predecessors;
-    }
+    are_points =
+        by_points Basic ts point
+        (λ t i.
+        let (place, at, put) = node_at t i in
+        subst (λ p. IsNotBefore p t) (sym (listed place t at)) (replayed.begun place t at put))
+        (λ t i.
+        let (place, at, put) = node_at t i in
+        subst (λ p. IsNotAfter p t) (sym (listed place t at)) (replayed.ended place t at put))
+        (all_rise events rules point above_predecessors)
 
   -- ---- reads
 

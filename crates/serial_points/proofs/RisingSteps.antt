@@ -11,7 +11,7 @@ use Rattle.history_laws.proofs.ThinningPaths.{some_passes}
 use Rattle.key_versions.specs.Kept.{StayBeside}
 use Rattle.key_versions.specs.TxnAccesses.{TxnAccesses}
 use Rattle.key_versions.specs.declared.pending.Access.{Access}
-use Rattle.clean_order.specs.Ranked.{IsLowerIfOther}
+use Rattle.clean_order.specs.AtVersions.{IsLowerIfOther}
 use Rattle.serial_points.specs.Bounds.{BoundAll}
 use Rattle.serial_points.specs.Falls.{IsAmong}
 use Rattle.serial_points.specs.KeptPoints.{AdvancesBy, PointsAdvance}

@@ -10,6 +10,7 @@ use Rattle.hist_types.proofs.Members.{in_from_Contains, Contains_from_in}
 use Rattle.hist_types.proofs.Rows.History.{x, sets, gets, finds_nil, invoke, ok, committed, unfinished, wr_edge, rw_nil_edge}
 use Rattle.hist_types.proofs.Rows.Realtime.{missed_write}
 use Rattle.serial_points.specs.Points.{point_at, ArePoints}
+use Rattle.serial_points.proofs.Points.{by_points, point_begun, point_ended, points_rise}
 use Rattle.serial_points.specs.NextPoints.{HasMoved, AreNextPoints}
 
 -- ---- a write that is read before it is confirmed
@@ -36,7 +37,7 @@ early_read-legal = (refl, refl, refl)
 
 -- The write takes place as the reader is invoked, and the read right after it.
 early_read-points : ArePoints Basic (transactions_of early_read) (λ n. point_at 1 + n)
-early_read-points = record { begun = begun; ended = ended; forward = forward }
+early_read-points = by_points Basic (transactions_of early_read) (λ n. point_at 1 + n) begun ended forward
   where
     begun : (t : Transaction) → Contains (writer ∷ reader ∷ []) t → point_at t.invocation ≤ point_at 1 + t.invocation
     begun t c = elim (in_from_Contains t (writer ∷ reader ∷ []) c) [
@@ -74,13 +75,13 @@ early_read-points = record { begun = begun; ended = ended; forward = forward }
 early_read-not_level : ¬ ArePoints Basic (transactions_of early_read) (λ n. point_at 1)
 early_read-not_level are =
     let e : Edge = wr_edge 0 1 x 1 in
-    let rises : point_at 1 < point_at 1 = are.forward e (Contains_from_in e (e ∷ []) (inl refl)) in
+    let rises : point_at 1 < point_at 1 = points_rise Basic (transactions_of early_read) (λ n. point_at 1) are e (Contains_from_in e (e ∷ []) (inl refl)) in
     omega (arith, rises)
 
 -- The read is over before the writer's completion, so it can't take place after that.
 early_read-not_later : ¬ ArePoints Basic (transactions_of early_read) (λ n. point_at 3 + n)
 early_read-not_later are =
-    let late : point_at 3 + 1 < point_at 3 = are.ended reader (Contains_from_in reader (writer ∷ reader ∷ []) (inr (inl refl))) 2 refl refl in
+    let late : point_at 3 + 1 < point_at 3 = point_ended Basic (transactions_of early_read) (λ n. point_at 3 + n) are reader (Contains_from_in reader (writer ∷ reader ∷ []) (inr (inl refl))) 2 refl refl in
     omega (arith, late)
 
 -- ---- a write that is missed
@@ -91,9 +92,9 @@ missed_write-no_points point are =
     let first : Transaction = committed 0 0 1 (sets x 1 ∷ []) in
     let last : Transaction = committed 2 4 5 (finds_nil x ∷ []) in
     let e : Edge = rw_nil_edge 4 0 x 1 in
-    let back : point 4 < point 0 = are.forward e (Contains_from_in e (e ∷ []) (inl refl)) in
-    let over : point 0 < point_at 2 = are.ended first (Contains_from_in first (nodes (transactions_of missed_write)) (inl refl)) 1 refl refl in
-    let begun : point_at 4 ≤ point 4 = are.begun last (Contains_from_in last (nodes (transactions_of missed_write)) (inr (inr (inl refl)))) in
+    let back : point 4 < point 0 = points_rise Basic (transactions_of missed_write) point are e (Contains_from_in e (e ∷ []) (inl refl)) in
+    let over : point 0 < point_at 2 = point_ended Basic (transactions_of missed_write) point are first (Contains_from_in first (nodes (transactions_of missed_write)) (inl refl)) 1 refl refl in
+    let begun : point_at 4 ≤ point 4 = point_begun Basic (transactions_of missed_write) point are last (Contains_from_in last (nodes (transactions_of missed_write)) (inr (inr (inl refl)))) in
     omega (arith, back, over, begun)
 
 -- ---- an ok that makes another transaction a node

@@ -19,12 +19,13 @@ use Rattle.history_laws.proofs.VersionMembers.{has_from_in, pairs_by_membership}
 use Rattle.key_versions.specs.Kept.{KeptVersions, AreKept}
 use Rattle.key_versions.specs.TxnAccesses.{TxnAccesses}
 use Rattle.dep_edges.proofs.Marks.{place_in}
-use Rattle.clean_order.specs.Rising.{RisesAlong}
+use Rattle.serial_points.specs.ByVersion.{RisesAlong}
 use Rattle.serial_points.specs.ByPlace.{AreListed}
 use Rattle.serial_points.specs.ByVersion.{IsAnother}
 use Rattle.serial_points.specs.KeptPoints.{KeptPoints, HasPoints}
 use Rattle.serial_points.specs.KeptSteps.{HasSteps}
 use Rattle.serial_points.specs.Points.{ArePoints}
+use Rattle.serial_points.proofs.Points.{by_points, point_begun, point_ended, points_rise}
 use Rattle.serial_points.specs.Stepping.{has_install, HasReader, Uses}
 use Rattle.serial_points.specs.Users.{HasAccess, AreUsers}
 use Rattle.serial_points.specs.declared.steps.Steps.{Steps}
@@ -128,14 +129,11 @@ module _ (ts : List Transaction) (kept : KeptVersions) (points : List ℕ) (user
     rises_by (realtime c n) is depends = elim depends [ ]
 
   pub sequential_points : ArePoints Sequential ts point
-  sequential_points = record {
-    begun = basic.begun;
-    ended = basic.ended;
-    forward = λ e c.
-        let (t, u, i, j, other, is, depends) = (edges_by_versions Sequential ts e).0 c in
-        rises_by e t u i j other (ap (λ (x : Edge). x.from) is) (ap (λ (x : Edge). x.to) is)
-        (λ d. basic.forward e ((edges_by_versions Basic ts e).1 (t, u, i, j, other, is, d))) e.label refl depends;
-  }
+  sequential_points =
+      by_points Sequential ts point (point_begun Basic ts point basic) (point_ended Basic ts point basic) (λ e c.
+      let (t, u, i, j, other, is, depends) = (edges_by_versions Sequential ts e).0 c in
+      rises_by e t u i j other (ap (λ (x : Edge). x.from) is) (ap (λ (x : Edge). x.to) is)
+      (λ d. points_rise Basic ts point basic e ((edges_by_versions Basic ts e).1 (t, u, i, j, other, is, d))) e.label refl depends)
 
 -- points that are kept are points of the events, however keys are ordered
 pub points_by_keys :

@@ -19,6 +19,7 @@ use Rattle.history_laws.proofs.VersionMembers.{has_from_in, pairs_by_membership}
 use Rattle.txn_pairs.specs.Places.{completed}
 use Rattle.serial_points.specs.NextPoints.{PointsStay, WritesNothingRead}
 use Rattle.serial_points.specs.Points.{point_at, ArePoints}
+use Rattle.serial_points.proofs.Points.{by_points, point_begun, point_ended, points_rise}
 use Rattle.serial_points.proofs.ByVersion.{node_among}
 use Rattle.serial_points.proofs.NextPoints.{ok_is_node, reader_is_ok}
 use Rattle.serial_points.proofs.OneEvent.{invoked, completes, open_not_failed}
@@ -130,14 +131,14 @@ module _ (keys : KeyOrder) (ts later : List Transaction) (nothing : AddNothing k
       )
 
   pub points_before : (point : ℕ → ℕ) → ArePoints keys ts point → ArePoints keys later point
-  points_before point are = record {
-    begun = λ u i. let (t, j, was) = node_before u i in subst (λ n. point_at n ≤ point n) was.invocation (are.begun t j);
-    ended = λ u i completion ok at.
-        let (t, j, was) = node_before u i in
-        let same : t ≡ u = was_ok t u was ok in
-        are.ended u (subst (Contains (nodes ts)) same j) completion ok at;
-    forward = λ e c. are.forward e (edge_before e c);
-  }
+  points_before point are =
+      by_points keys later point
+      (λ u i. let (t, j, was) = node_before u i in subst (λ n. point_at n ≤ point n) was.invocation (point_begun keys ts point are t j))
+      (λ u i completion ok at.
+      let (t, j, was) = node_before u i in
+      let same : t ≡ u = was_ok t u was ok in
+      point_ended keys ts point are u (subst (Contains (nodes ts)) same j) completion ok at)
+      (λ e c. points_rise keys ts point are e (edge_before e c))
 
 -- ---- an invocation that writes nothing read
 

@@ -9,7 +9,6 @@ use Rattle.hist_types.specs.Edges.{Label, Edge, edge, dependency_edges}
 use Rattle.hist_types.specs.Operations.{Operation}
 use Rattle.hist_types.specs.Transactions.{Transaction, Version, transactions_of, nodes, installs, is_known_to_read}
 use Rattle.hist_types.specs.declared.types.KeyOrder.TheVariants.{Basic}
-use Rattle.clean_order.specs.Rising.{RisesAlong, Rises}
 
 -- they are two transactions
 abbrev pub IsAnother : Transaction → Transaction → Type 0
@@ -46,6 +45,14 @@ AreJoinedByVersions events =
     ↔ ((v : Version) × DependsBy v t u)
 
 -- ---- points
+
+-- the point of what the edge leads to is above that of what it leaves
+abbrev pub RisesAlong : (point : ℕ → ℕ) → Edge → Type 0
+RisesAlong point e = point e.from < point e.to
+
+-- points rise along each edge
+abbrev pub Rises : (point : ℕ → ℕ) → List Edge → Type 0
+Rises point es = (e : Edge) → Contains es e → RisesAlong point e
 
 -- points rise along each of the edges that leads into the transaction, or out of it
 abbrev pub RisesInto : (point : ℕ → ℕ) → Transaction → List Edge → Type 0

@@ -2,7 +2,7 @@
 -- and writes is given, and of other ones where they are listed as users of the versions.
 use Rattle.std.specs.Prelude.{◌≡◌, ◌⊎◌, ◌<◌, ℕ, List, [], slice_index, All, IsTrue}
 use Rattle.key_versions.specs.declared.pending.Access.{Access}
-use Rattle.clean_order.specs.Ranked.{IsLowerIfOther}
+use Rattle.clean_order.specs.AtVersions.{IsLowerIfOther}
 use Rattle.serial_points.specs.Users.{places_at, updates}
 use Rattle.serial_points.specs.declared.users.Users.{Users}
 

@@ -1,17 +1,17 @@
 -- Serialization points (after Herlihy and Wing's linearization points; the form is this project's
 -- own).
 --
--- Each node of a history has a point, not before its invocation and, if it is ok, not after its
--- completion, so that each dependency edge leads to a later point. What completed before a node was
--- invoked has an earlier point anyway. So a history with such points has no cycle at any level.
+-- Each transaction has a point, at which it starts and commits: that of a node not before its
+-- invocation and, if it is ok, not after its completion, so that each edge leads to a later point. So
+-- a history with such points has no cycle at any level.
 --
 -- An event has 2 ^ 32 points, from its index times 2 ^ 32 on, so that many transactions may have
 -- theirs between it and the next event.
-use Rattle.std.specs.Prelude.{◌≡◌, ◌≤◌, ◌<◌, ℕ, ◌+◌, ◌*◌, ◌^◌, List, Some, Contains, IsTrue}
-use Rattle.hist_types.specs.Edges.{dependency_edges}
-use Rattle.hist_types.specs.Transactions.{Transaction, is_ok, nodes}
+use Rattle.std.specs.Prelude.{◌≡◌, ◌≤◌, ◌<◌, ℕ, ◌+◌, ◌*◌, ◌^◌, List, Some, IsTrue}
+use Rattle.hist_types.specs.Transactions.{Transaction, is_ok}
 use Rattle.hist_types.specs.declared.types.KeyOrder.{KeyOrder}
-use Rattle.clean_order.specs.Rising.{Rises}
+use Rattle.schedules.specs.Schedules.{Schedule, Keeps}
+use Rattle.schedules.specs.declared.types.TheConstants.EdgeKinds.{ALL}
 
 -- the first point of the event with this index
 abbrev pub point_at : (index : ℕ) → ℕ
@@ -29,9 +29,10 @@ IsNotAfter point t =
     → t.completion ≡ Some completion
     → point < point_at (completion + 1)
 
--- a point for each node, by the index of its invocation
-pub record ArePoints (keys : KeyOrder) (ts : List Transaction) (point : ℕ → ℕ) : Type 0 where
-  pub begun :
-      (t : Transaction) → Contains (nodes ts) t → IsNotBefore (point t.invocation) t
-  pub ended : (t : Transaction) → Contains (nodes ts) t → IsNotAfter (point t.invocation) t
-  pub forward : Rises point (dependency_edges keys ts)
+-- the serial schedule by points, which are those of transactions by the index of their invocations
+abbrev pub at_points : (point : ℕ → ℕ) → Schedule
+at_points point = record { start = point; commit = point; clock = point_at }
+
+-- it keeps each edge
+abbrev pub ArePoints : KeyOrder → List Transaction → (point : ℕ → ℕ) → Type 0
+ArePoints keys ts point = Keeps keys ALL ts (at_points point)

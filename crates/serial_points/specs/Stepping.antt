@@ -8,7 +8,7 @@ use Rattle.std.specs.List.{list_any}
 use Rattle.hist_types.specs.Transactions.{Transaction, is_ok}
 use Rattle.key_versions.specs.TxnAccesses.{TxnAccesses}
 use Rattle.key_versions.specs.declared.pending.Access.{Access}
-use Rattle.clean_order.specs.Ranked.{IsLowerIfOther}
+use Rattle.clean_order.specs.AtVersions.{IsLowerIfOther}
 use Rattle.serial_points.specs.Clean.{AreUnread}
 use Rattle.serial_points.specs.Falls.{fall_at}
 use Rattle.serial_points.specs.Passing.{IsAboveReadersOf}

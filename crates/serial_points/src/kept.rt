@@ -10,7 +10,7 @@ ghost use Rattle.serial_points.specs.CleanReads.{HasNoBadRead};
 ghost use Rattle.serial_points.specs.KeptPoints.{HasPoints, IsNext};
 
 use crate::advance::{add_users, advance};
-use crate::search::search;
+use crate::search::{Proposal, search};
 use crate::stepping::steps_pass;
 use crate::steps::Steps;
 use crate::strays::strays_after;
@@ -32,6 +32,7 @@ pub struct Points {
     users: Users,
     steps: Steps,
     strays: u64,
+    proposal: Proposal,
 }
 
 impl Model for Points {
@@ -56,6 +57,7 @@ impl Points {
             users: Users::new(alloc),
             steps: Steps::new(alloc, keys)?,
             strays: 0,
+            proposal: Proposal::new(alloc),
         })
     }
 
@@ -79,19 +81,12 @@ impl Points {
             mut users,
             steps,
             strays,
+            mut proposal,
         } = self;
         add_users(&mut users, txns, versions, place)?;
         let steps = steps.after(txns, versions, place)?;
-        let falls = search(
-            alloc,
-            points.as_slice(),
-            &users,
-            &steps.lists,
-            txns,
-            versions,
-            place,
-        )?;
-        let falls = falls.as_slice();
+        search(&users, &steps.lists, txns, versions, &mut proposal, place)?;
+        let falls = proposal.falls();
         if !advance(
             &mut points,
             &mut users,
@@ -124,6 +119,7 @@ impl Points {
             users,
             steps,
             strays,
+            proposal,
         }))
     }
 

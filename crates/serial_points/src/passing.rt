@@ -2,7 +2,7 @@
 
 ghost use Rattle.std.specs.Prelude.{◌≡◌, true};
 ghost use Rattle.serial_points.specs.Passing.{AllLower, AllHigher, IsAboveReadersOf, AboveWriters, AboveReaders, AboveNilReaders, PassesInto, BelowReaders, BelowUpdaters, BelowKeyWriters, PassesOutOf};
-ghost use Rattle.clean_order.specs.Ranked.{IsLowerIfOther};
+ghost use Rattle.clean_order.specs.AtVersions.{IsLowerIfOther};
 
 use crate::bounds::point_of;
 use crate::places::Places;

@@ -1,4 +1,5 @@
-//! A search for points that may be next. Nothing rests on what it finds: its points are looked at afterwards.
+//! A search for points that may be next. Nothing rests on what it finds: its points are looked at
+//! afterwards.
 
 ghost use Rattle.std.specs.Prelude.{◌<◌, length};
 ghost use Rattle.key_versions.specs.Kept.{AreKept};
@@ -13,45 +14,91 @@ use std::hash::BuildHasher;
 use txn_pairs::types::{Status, Txn};
 
 /// How many falls one event may have. With more, the search ends, and its points won't pass.
-const MOST_FALLS: usize = 4096;
+const MOST_FALLS: usize = 16_384;
 
-/// The point at the place, after the falls.
-fn point_at(points: &[u64], falls: &[Fall], place: u32) -> u64 {
-    let mut point = match points.get(place as usize) {
-        Some(point) => *point,
-        None => 0,
-    };
-    for fall in falls {
-        if fall.place == place {
-            point = fall.point;
+/// The points that the last search proposed, and those of its falls, one after the other.
+#[derive(Drop)]
+pub(crate) struct Proposal {
+    /// By place.
+    points: Vec<u64>,
+    falls: Vec<Fall>,
+}
+
+impl Proposal {
+    pub fn new(alloc: Global) -> Self {
+        Proposal {
+            points: Vec::new(alloc),
+            falls: Vec::new(alloc),
         }
     }
-    point
+
+    pub fn falls(&self) -> &[Fall] {
+        self.falls.as_slice()
+    }
+
+    fn at(&self, place: usize) -> u64 {
+        match self.points.get(place) {
+            Some(point) => *point,
+            None => 0,
+        }
+    }
+
+    /// The point at the place is now this one.
+    fn lower(&mut self, place: u32, point: u64) -> Result<(), AllocError> {
+        if let Some(own) = self.points.get_mut(place as usize) {
+            *own = point;
+        }
+        self.falls.push(Fall { place, point })?;
+        Ok(())
+    }
+
+    /// The point at the place falls below this one, where it isn't below it.
+    fn lower_below(&mut self, place: u32, point: u64) -> Result<(), AllocError> {
+        if self.at(place as usize) < point {
+            return Ok(());
+        }
+        self.lower(place, point.saturating_sub(1))
+    }
+
+    /// No point has fallen yet, and there is one for the transaction at the place.
+    fn begin(&mut self, place: usize) -> Result<(), AllocError> {
+        self.falls.clear();
+        if place == self.points.len() {
+            self.points.push(u64::MAX)?;
+        }
+        Ok(())
+    }
 }
 
 /// The least point of the others at the places.
-fn least(points: &[u64], places: &[u32], place: usize) -> u64 {
+fn least(proposal: &Proposal, places: &[u32], place: usize) -> u64 {
     let mut least = u64::MAX;
     for other in places {
         if *other as usize != place {
-            least = least.min(point_at(points, &[], *other));
+            least = least.min(proposal.at(*other as usize));
         }
     }
     least
 }
 
 /// A bound below the points of the others that write the key with this nil version.
-fn least_follower(points: &[u64], users: &Users, place: usize, nil: u32, writes: &[Access]) -> u64 {
+fn least_follower(
+    proposal: &Proposal,
+    users: &Users,
+    place: usize,
+    nil: u32,
+    writes: &[Access],
+) -> u64 {
     let floor = users.floors.at(nil);
     if floor > 0 && !has_key(writes, nil) {
         return floor;
     }
-    least(points, users.key_writers.at(nil), place)
+    least(proposal, users.key_writers.at(nil), place)
 }
 
 /// The least point of the others that install the version.
 fn least_installer<'a, S: BuildHasher + Copy>(
-    points: &[u64],
+    proposal: &Proposal,
     users: &Users,
     txns: &[Txn<'a>],
     versions: &KeptVersions<'a, S>,
@@ -62,7 +109,7 @@ fn least_installer<'a, S: BuildHasher + Copy>(
 {
     let mut least = u64::MAX;
     for other in users.writers.at(version) {
-        let point = point_at(points, &[], *other);
+        let point = proposal.at(*other as usize);
         if *other as usize != place
             && point < least
             && !has_no_install(txns, versions, *other as usize, version)
@@ -75,7 +122,7 @@ fn least_installer<'a, S: BuildHasher + Copy>(
 
 /// The least point of the others that install a version to which a process went from this one.
 fn least_later<'a, S: BuildHasher + Copy>(
-    points: &[u64],
+    proposal: &Proposal,
     users: &Users,
     lists: &StepLists,
     txns: &[Txn<'a>],
@@ -87,14 +134,14 @@ fn least_later<'a, S: BuildHasher + Copy>(
 {
     let mut least = u64::MAX;
     for later in lists.later.at(version) {
-        least = least.min(least_installer(points, users, txns, versions, place, *later));
+        least = least.min(least_installer(proposal, users, txns, versions, place, *later));
     }
     least
 }
 
 /// The least of these, for the versions that the transaction at the place reads.
 fn least_after_reads<'a, S: BuildHasher + Copy>(
-    points: &[u64],
+    proposal: &Proposal,
     users: &Users,
     lists: &StepLists,
     txns: &[Txn<'a>],
@@ -106,14 +153,14 @@ fn least_after_reads<'a, S: BuildHasher + Copy>(
 {
     let mut above = u64::MAX;
     for read in reads {
-        above = above.min(least_later(points, users, lists, txns, versions, place, read.version));
+        above = above.min(least_later(proposal, users, lists, txns, versions, place, read.version));
     }
     above
 }
 
 /// The least of these, for the versions that the transaction at the place installs.
 fn least_after_installs<'a, S: BuildHasher + Copy>(
-    points: &[u64],
+    proposal: &Proposal,
     users: &Users,
     lists: &StepLists,
     txns: &[Txn<'a>],
@@ -125,7 +172,7 @@ fn least_after_installs<'a, S: BuildHasher + Copy>(
 {
     let mut above = u64::MAX;
     for write in writes {
-        let later = least_later(points, users, lists, txns, versions, place, write.version);
+        let later = least_later(proposal, users, lists, txns, versions, place, write.version);
         if later < above && !updates(writes, *write) {
             above = later;
         }
@@ -136,7 +183,7 @@ fn least_after_installs<'a, S: BuildHasher + Copy>(
 /// The highest point that the transaction at the place, which is now ok and reads and writes this, may have where processes took no
 /// steps.
 fn highest_without_steps(
-    points: &[u64],
+    proposal: &Proposal,
     users: &Users,
     txn: &Txn<'_>,
     place: usize,
@@ -148,21 +195,17 @@ fn highest_without_steps(
         None => u64::MAX,
     };
     for read in reads {
-        above = above.min(least(points, users.updaters.at(read.version), place));
+        above = above.min(least(proposal, users.updaters.at(read.version), place));
         if read.version == read.nil {
-            above = above.min(least_follower(points, users, place, read.nil, writes));
+            above = above.min(least_follower(proposal, users, place, read.nil, writes));
         }
     }
-    let own = match points.get(place) {
-        Some(point) => *point,
-        None => 0,
-    };
-    own.min(above.saturating_sub(1))
+    proposal.at(place).min(above.saturating_sub(1))
 }
 
 /// The highest point that the transaction at the place, which is now ok, may have.
 fn highest<'a, S: BuildHasher + Copy>(
-    points: &[u64],
+    proposal: &Proposal,
     users: &Users,
     lists: &StepLists,
     txns: &[Txn<'a>],
@@ -174,105 +217,89 @@ fn highest<'a, S: BuildHasher + Copy>(
 {
     let reads = versions.reads(place);
     let writes = versions.writes(place);
-    let after_reads = least_after_reads(points, users, lists, txns, versions, place, reads);
-    let after_installs = least_after_installs(points, users, lists, txns, versions, place, writes);
+    let after_reads = least_after_reads(proposal, users, lists, txns, versions, place, reads);
+    let after_installs = least_after_installs(
+        proposal, users, lists, txns, versions, place, writes,
+    );
     let above = after_reads.min(after_installs);
-    highest_without_steps(points, users, &txns[place], place, reads, writes).min(
+    highest_without_steps(proposal, users, &txns[place], place, reads, writes).min(
         above.saturating_sub(1),
     )
 }
 
 /// Makes those at the places fall below the point at this place, where they are not.
-fn push_below(
-    points: &[u64],
-    falls: &mut Vec<Fall>,
-    places: &[u32],
-    place: u32,
-) -> Result<(), AllocError> {
-    let point = point_at(points, falls.as_slice(), place);
+fn lower_all(proposal: &mut Proposal, places: &[u32], place: u32) -> Result<(), AllocError> {
+    let point = proposal.at(place as usize);
     for other in places {
-        if *other != place && point_at(points, falls.as_slice(), *other) >= point {
-            falls.push(Fall {
-                place: *other,
-                point: point.saturating_sub(1),
-            })?;
+        if *other != place {
+            proposal.lower_below(*other, point)?;
         }
     }
     Ok(())
 }
 
 /// Makes those fall that read the version, where they are not below the point at this place.
-fn push_readers_below(
-    points: &[u64],
+fn lower_readers(
     users: &Users,
-    falls: &mut Vec<Fall>,
+    proposal: &mut Proposal,
     place: u32,
     version: u32,
 ) -> Result<(), AllocError> {
-    let point = point_at(points, falls.as_slice(), place);
-    push_below(
-        points,
-        falls,
-        users.unbounded_readers(version, point),
-        place,
-    )
+    let readers = users.unbounded_readers(version, proposal.at(place as usize));
+    lower_all(proposal, readers, place)
 }
 
-/// Makes those nodes fall that install the version, where they are not below the point at this place.
-fn push_installers_below<'a, S: BuildHasher + Copy>(
-    points: &[u64],
+/// Makes those nodes fall that install the version, where they are not below the point at this
+/// place.
+fn lower_installers<'a, S: BuildHasher + Copy>(
     users: &Users,
     txns: &[Txn<'a>],
     versions: &KeptVersions<'a, S>,
-    falls: &mut Vec<Fall>,
+    proposal: &mut Proposal,
     place: u32,
     version: u32,
 ) -> Result<(), AllocError>
     requires { AreKept txns.now versions.now }
 {
-    let point = point_at(points, falls.as_slice(), place);
+    let point = proposal.at(place as usize);
     for writer in users.writers.at(version) {
         if *writer != place
-            && point_at(points, falls.as_slice(), *writer) >= point
+            && proposal.at(*writer as usize) >= point
             && !is_left_out(users, txns, versions, *writer as usize, version)
         {
-            falls.push(Fall {
-                place: *writer,
-                point: point.saturating_sub(1),
-            })?;
+            proposal.lower_below(*writer, point)?;
         }
     }
     Ok(())
 }
 
-/// Makes those nodes fall that read or install one of the versions, where they are not below the point at this place.
-fn push_users_below<'a, S: BuildHasher + Copy>(
-    points: &[u64],
+/// Makes those nodes fall that read or install one of the versions, where they are not below the
+/// point at this place.
+fn lower_users<'a, S: BuildHasher + Copy>(
     users: &Users,
     txns: &[Txn<'a>],
     versions: &KeptVersions<'a, S>,
-    falls: &mut Vec<Fall>,
+    proposal: &mut Proposal,
     place: u32,
     earlier: &[u32],
 ) -> Result<(), AllocError>
     requires { AreKept txns.now versions.now }
 {
     for version in earlier {
-        push_readers_below(points, users, falls, place, *version)?;
-        push_installers_below(points, users, txns, versions, falls, place, *version)?;
+        lower_readers(users, proposal, place, *version)?;
+        lower_installers(users, txns, versions, proposal, place, *version)?;
     }
     Ok(())
 }
 
-/// Makes those fall that read or install a version from which a process went to one that the transaction at the place, which writes
-/// this, installs.
-fn push_steps_below<'a, S: BuildHasher + Copy>(
-    points: &[u64],
+/// Makes those fall that read or install a version from which a process went to one that the
+/// transaction at the place, which writes this, installs.
+fn lower_for_steps<'a, S: BuildHasher + Copy>(
     users: &Users,
     lists: &StepLists,
     txns: &[Txn<'a>],
     versions: &KeptVersions<'a, S>,
-    falls: &mut Vec<Fall>,
+    proposal: &mut Proposal,
     place: u32,
     writes: &[Access],
 ) -> Result<(), AllocError>
@@ -281,20 +308,19 @@ fn push_steps_below<'a, S: BuildHasher + Copy>(
     for write in writes {
         let earlier = lists.earlier.at(write.version);
         if !earlier.is_empty() && !updates(writes, *write) {
-            push_users_below(points, users, txns, versions, falls, place, earlier)?;
+            lower_users(users, txns, versions, proposal, place, earlier)?;
         }
     }
     Ok(())
 }
 
 /// Makes those fall that the transaction at the place depends on.
-fn push_all_below<'a, S: BuildHasher + Copy>(
-    points: &[u64],
+fn lower_predecessors<'a, S: BuildHasher + Copy>(
     users: &Users,
     lists: &StepLists,
     txns: &[Txn<'a>],
     versions: &KeptVersions<'a, S>,
-    falls: &mut Vec<Fall>,
+    proposal: &mut Proposal,
     place: u32,
 ) -> Result<(), AllocError>
     requires kept { AreKept txns.now versions.now }
@@ -303,24 +329,24 @@ fn push_all_below<'a, S: BuildHasher + Copy>(
     let reads = versions.reads(place as usize);
     let writes = versions.writes(place as usize);
     for read in reads {
-        push_below(points, falls, users.writers.at(read.version), place)?;
+        lower_all(proposal, users.writers.at(read.version), place)?;
         if updates(writes, *read) {
-            push_readers_below(points, users, falls, place, read.version)?;
+            lower_readers(users, proposal, place, read.version)?;
         }
     }
     for write in writes {
-        push_readers_below(points, users, falls, place, write.nil)?;
+        lower_readers(users, proposal, place, write.nil)?;
     }
-    push_steps_below(points, users, lists, txns, versions, falls, place, writes)
+    lower_for_steps(users, lists, txns, versions, proposal, place, writes)
 }
 
-/// Makes those fall that read or install the earlier version of a step, where they aren't below who installs the later one.
-fn push_step_below<'a, S: BuildHasher + Copy>(
-    points: &[u64],
+/// Makes those fall that read or install the earlier version of a step, where they aren't below who
+/// installs the later one.
+fn lower_for_step<'a, S: BuildHasher + Copy>(
     users: &Users,
     txns: &[Txn<'a>],
     versions: &KeptVersions<'a, S>,
-    falls: &mut Vec<Fall>,
+    proposal: &mut Proposal,
     step: (u32, u32),
 ) -> Result<(), AllocError>
     requires { AreKept txns.now versions.now }
@@ -328,38 +354,36 @@ fn push_step_below<'a, S: BuildHasher + Copy>(
     let (later, earlier) = step;
     for writer in users.writers.at(later) {
         if !has_no_install(txns, versions, *writer as usize, later) {
-            push_users_below(points, users, txns, versions, falls, *writer, &[earlier])?;
+            lower_users(users, txns, versions, proposal, *writer, &[earlier])?;
         }
     }
     Ok(())
 }
 
 /// Makes those fall that read or install the earlier version of a fresh step.
-fn push_fresh_below<'a, S: BuildHasher + Copy>(
-    points: &[u64],
+fn lower_for_fresh_steps<'a, S: BuildHasher + Copy>(
     users: &Users,
     lists: &StepLists,
     txns: &[Txn<'a>],
     versions: &KeptVersions<'a, S>,
-    falls: &mut Vec<Fall>,
+    proposal: &mut Proposal,
 ) -> Result<(), AllocError>
     requires { AreKept txns.now versions.now }
 {
     for step in lists.fresh.as_slice() {
-        push_step_below(points, users, txns, versions, falls, *step)?;
+        lower_for_step(users, txns, versions, proposal, *step)?;
     }
     Ok(())
 }
 
-/// Makes the one at the place fall, if it isn't ok, where it isn't below this point and below who installs a version to which a
-/// process went from one that it installs.
-fn push_new_node<'a, S: BuildHasher + Copy>(
-    points: &[u64],
+/// Makes the one at the place fall, if it isn't ok, where it isn't below this point and below who
+/// installs a version to which a process went from one that it installs.
+fn lower_new_node<'a, S: BuildHasher + Copy>(
     users: &Users,
     lists: &StepLists,
     txns: &[Txn<'a>],
     versions: &KeptVersions<'a, S>,
-    falls: &mut Vec<Fall>,
+    proposal: &mut Proposal,
     writer: u32,
     point: u64,
 ) -> Result<(), AllocError>
@@ -370,26 +394,18 @@ fn push_new_node<'a, S: BuildHasher + Copy>(
         return Ok(());
     }
     let writes = versions.writes(place);
-    let above = least_after_installs(points, users, lists, txns, versions, place, writes).min(
-        point,
-    );
-    if point_at(points, falls.as_slice(), writer) >= above {
-        falls.push(Fall {
-            place: writer,
-            point: above.saturating_sub(1),
-        })?;
-    }
-    Ok(())
+    let later = least_after_installs(proposal, users, lists, txns, versions, place, writes);
+    proposal.lower_below(writer, later.min(point))
 }
 
-/// Makes those fall that write what the transaction at the place, with this point, is the first one to read.
-fn push_new_nodes<'a, S: BuildHasher + Copy>(
-    points: &[u64],
+/// Makes those fall that write what the transaction at the place, with this point, is the first one
+/// to read.
+fn lower_new_nodes<'a, S: BuildHasher + Copy>(
     users: &Users,
     lists: &StepLists,
     txns: &[Txn<'a>],
     versions: &KeptVersions<'a, S>,
-    falls: &mut Vec<Fall>,
+    proposal: &mut Proposal,
     place: usize,
     point: u64,
 ) -> Result<(), AllocError>
@@ -399,48 +415,42 @@ fn push_new_nodes<'a, S: BuildHasher + Copy>(
     for read in versions.reads(place) {
         if !has_another(users.readers.at(read.version), place) {
             for writer in users.writers.at(read.version) {
-                push_new_node(points, users, lists, txns, versions, falls, *writer, point)?;
+                lower_new_node(users, lists, txns, versions, proposal, *writer, point)?;
             }
         }
     }
     Ok(())
 }
 
-/// Points that fall if the transaction at the place is now ok.
+/// Proposes points for after the last event, of the transaction at the place.
 pub(crate) fn search<'a, S: BuildHasher + Copy>(
-    alloc: Global,
-    points: &[u64],
     users: &Users,
     lists: &StepLists,
     txns: &[Txn<'a>],
     versions: &KeptVersions<'a, S>,
+    proposal: &mut Proposal,
     place: usize,
-) -> Result<Vec<Fall>, AllocError>
+) -> Result<(), AllocError>
     requires { AreKept txns.now versions.now }
 {
-    let mut falls = Vec::new(alloc);
+    proposal.begin(place)?;
     if place >= txns.len() || txns[place].status() != Status::Ok {
-        return Ok(falls);
+        return Ok(());
     }
-    let point = highest(points, users, lists, txns, versions, place);
+    let point = highest(proposal, users, lists, txns, versions, place);
     let number = u32::try_from(place).map_err(|_| AllocError)?;
-    falls.push(Fall {
-        place: number,
-        point,
-    })?;
-    push_new_nodes(
-        points, users, lists, txns, versions, &mut falls, place, point,
-    )?;
-    push_fresh_below(points, users, lists, txns, versions, &mut falls)?;
+    proposal.lower(number, point)?;
+    lower_new_nodes(users, lists, txns, versions, proposal, place, point)?;
+    lower_for_fresh_steps(users, lists, txns, versions, proposal)?;
     for i in 0..MOST_FALLS {
-        if i >= falls.len() {
+        let Some(fall) = proposal.falls.get(i) else {
             break;
-        }
-        let place = falls[i].place;
+        };
+        let place = fall.place;
         if place as usize >= txns.len() {
             break;
         }
-        push_all_below(points, users, lists, txns, versions, &mut falls, place)?;
+        lower_predecessors(users, lists, txns, versions, proposal, place)?;
     }
-    Ok(falls)
+    Ok(())
 }

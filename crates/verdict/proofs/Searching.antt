@@ -86,7 +86,7 @@ fewest_at g phenomenon level walk thinned fewest other shows =
     of_all other (subst (λ ts. Shows phenomenon (edges_at g.keys level ts) other) same shows)
 
 -- a walk over the graph with the fewest has the fewest of all
-pub shown_by_fewest :
+shown_by_fewest :
     (g : Parts) (phenomenon : Phenomenon) (level : Level) (walk : List Edge)
     → IsThinned g
     → ShowsByFewest phenomenon (edges_in g level) walk

@@ -1,8 +1,7 @@
 -- The pieces of the keys at which several workers look.
 use Rattle.std.specs.Prelude.{◌≡◌, ◌≤◌, ◌<◌, ◌+◌, ◌*◌, ◌/◌, ◌⊎◌, ℕ, List, Result, IfOk, slice_index_or}
 use Rattle.std.specs.declared.alloc.AllocError.{AllocError}
-use Rattle.hist_types.specs.Handed.{without_place}
-use Rattle.hist_types.specs.Refusals.{memory_fault}
+use Rattle.hist_types.specs.Refusals.{without_place, memory_fault}
 use Rattle.hist_types.specs.declared.limits.TheConstants.{MAX_WORKERS}
 use Rattle.hist_types.specs.declared.types.Fault.{Fault}
 use Rattle.hist_types.specs.declared.types.Refusal.TheVariants.{NoThread}

@@ -3,3 +3,4 @@ pub mod Board
 pub mod Graphs
 pub mod Analysed
 pub mod KeyPieces
+pub mod Staying

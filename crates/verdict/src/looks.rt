@@ -6,6 +6,7 @@ ghost use Rattle.hist_types.specs.Reports.{AreFindings};
 ghost use Rattle.verdict.specs.Board.{AreSettled, IsRight};
 ghost use Rattle.verdict.specs.Tables.{AreTables, history_of};
 
+mod again;
 mod circular_flow;
 mod dirty_writes;
 mod graph;
@@ -40,6 +41,8 @@ fn look_at_all<'a>(
     ensures right { OnOk result (IsRight deps.now.table.keys deps.now.txns board.new) }
     ensures settled { OnOk result (AreSettled board.new) }
 {
+    // Each at plain: what the last verdict of a session showed by two transactions. A few edges.
+    again::look(deps, &tables.pairs, board)?;
     // All four, nowhere: where all transactions can be put in one order. Linear.
     order::look(deps, attempt, board)?;
     // G2-item at plain: write skew. Linear, at most 32 steps for each transaction and version.

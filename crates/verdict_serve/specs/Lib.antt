@@ -4,5 +4,5 @@ pub mod Sources
 pub mod Sayings
 pub mod Served
 pub mod Steps
-pub mod Windows
+pub mod Searches
 pub mod Places

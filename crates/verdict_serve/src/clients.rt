@@ -2,8 +2,7 @@
 
 ghost use Rattle.std.specs.Prelude.{◌≡◌, ◌⊎◌, [], IfOk, IfErr};
 ghost use Rattle.std.specs.List.{AllZip};
-ghost use Rattle.hist_types.specs.Handed.{without_place};
-ghost use Rattle.hist_types.specs.Refusals.{memory_fault};
+ghost use Rattle.hist_types.specs.Refusals.{without_place, memory_fault};
 ghost use Rattle.hist_types.specs.declared.types.Refusal.TheVariants.{NoThread};
 ghost use Rattle.verdict_serve.specs.Places.{seated_from, HasEnd, IsEndAt};
 ghost use Rattle.verdict_serve.specs.Served.{WereServed};

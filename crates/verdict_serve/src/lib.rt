@@ -7,4 +7,3 @@ pub mod lines;
 mod replies;
 mod sayings;
 pub mod session;
-mod window;

@@ -1,23 +1,31 @@
 //! Sessions: each line is carried out, and its reply written whole, before the next line is read.
 
 ghost use Rattle.std.specs.Prelude.{◌≡◌, ◌≤◌, ℕ, Err, IfOk, OnErr, MatchOption, length};
-ghost use Rattle.hist_types.specs.Sessions.{overlong, quit, verdict, read, import};
+ghost use Rattle.hist_types.specs.LegalAnswers.{refused};
+ghost use Rattle.hist_types.specs.Sessions.{overlong, quit, verdict, read, import, reply_of};
 ghost use Rattle.live_journal.specs.Seats.{IsSameSeat};
 ghost use Rattle.verdict_serve.specs.Sayings.{said};
 ghost use Rattle.verdict_serve.specs.Served.{HasServed, HasLostDevice};
-ghost use Rattle.verdict_serve.specs.Steps.{HasAnswered, IsSaidBy, HasStepped, HasStopped, step_for};
+ghost use Rattle.verdict_serve.specs.Steps.{HasAnswered, IsPrinted, IsSaidBy, HasStepped, HasStopped, step_for};
 ghost use Rattle.hist_types.specs.declared.limits.TheConstants.{MAX_LINE_BYTES};
 
 use crate::lines::{Lines, Next};
-use crate::replies::{event_reply, events_reply, refusal_reply};
+use crate::replies::events_reply;
 use crate::sayings::{Saying, saying_of};
 use hist_types::device::{Failed, Sink, Source};
-use hist_types::types::Fault;
+use hist_types::types::{At, Fault, Refusal};
 use hist_types::whole::write_all;
 use live_journal::seat::Seat;
+use report_text::short::{number_line, refusal_line};
 use std::alloc::{AllocError, Global};
 use std::hash::BuildHasher;
 use std::sync::Wait;
+
+/// What an overlong line is refused for.
+const OVERLONG: Fault = Fault {
+    refusal: Refusal::BlockFull,
+    at: At::Nowhere,
+};
 
 /// How a session ended.
 #[derive(Clone, Copy, Debug, PartialEq, Eq)]
@@ -47,6 +55,16 @@ enum Step {
     End,
 }
 
+/// Writes the reply to a line that is refused. One without operations is no fault of a client.
+fn write_refusal<T: Sink>(sink: &mut T, fault: Fault) -> Result<(), Failed>
+    ensures { IsPrinted T.Sink result sink.old sink.new (reply_of (refused fault)) }
+{
+    match fault.refusal {
+        Refusal::EmptyImport => write_all(sink, b"skipped\n"),
+        _ => write_all(sink, &refusal_line(fault)),
+    }
+}
+
 fn answer_verdict<H: BuildHasher + Copy, T: Sink>(
     seat: &mut Seat<'_, H>,
     sink: &mut T,
@@ -56,7 +74,7 @@ fn answer_verdict<H: BuildHasher + Copy, T: Sink>(
 {
     match seat.verdict() {
         Ok(verdict) => write_all(sink, verdict.text()),
-        Err(fault) => write_all(sink, &refusal_reply(fault)),
+        Err(fault) => write_refusal(sink, fault),
     }
 }
 
@@ -73,9 +91,9 @@ fn answer_read<H: BuildHasher + Copy, T: Sink>(
     match seat.read(from, to) {
         Ok(events) => match events_reply(alloc, &events) {
             Ok(reply) => write_all(sink, &reply),
-            Err(AllocError) => write_all(sink, &refusal_reply(Fault::memory())),
+            Err(AllocError) => write_refusal(sink, Fault::memory()),
         },
-        Err(fault) => write_all(sink, &refusal_reply(fault)),
+        Err(fault) => write_refusal(sink, fault),
     }
 }
 
@@ -88,8 +106,8 @@ fn answer_import<H: BuildHasher + Copy, T: Sink>(
     ensures seat { IsSameSeat seat.old seat.new }
 {
     match seat.import(text) {
-        Ok(index) => write_all(sink, &event_reply(index)),
-        Err(fault) => write_all(sink, &refusal_reply(fault)),
+        Ok(index) => write_all(sink, &number_line(b"event", index)),
+        Err(fault) => write_refusal(sink, fault),
     }
 }
 
@@ -104,7 +122,7 @@ fn answer<H: BuildHasher + Copy, T: Sink>(
     ensures seat { IsSameSeat seat.old seat.new }
 {
     match saying {
-        Saying::Overlong => write_all(sink, b"refused 37 BlockFull\n"),
+        Saying::Overlong => write_all(sink, &refusal_line(OVERLONG)),
         Saying::Quit => write_all(sink, b"bye\n"),
         Saying::Verdict => answer_verdict(seat, sink),
         Saying::Read { from, to } => answer_read(alloc, seat, sink, from, to),

@@ -1,20 +1,23 @@
 (ns jepcheck.live
-  "Checks a Jepsen test while it runs: a wrapper of its client writes each operation to `jepcheck serve` as it happens.
+  "Checks a Jepsen test while it runs: a wrapper of its client writes each operation to `jepcheck
+  serve` as it happens.
 
     (let [run (live/start \"/usr/local/bin/jepcheck\")]
       {:client    (live/checked (MyClient. ..) run)
-       :generator (live/until-refuted run (gen/clients ..))
-       :checker   (checker/compose {:live (live/checker run), ..})
+       :generator (live/until-refuted run {:allowed :read-committed} (gen/clients ..))
+       :checker   (checker/compose {:live (live/checker run {:allowed :read-committed}), ..})
        ..})
 
   `start` runs the program with as many cells as there may be:
 
     jepcheck serve --cells 1048576 IN OUT IN OUT
 
-  with one session for all clients, in which a line and its reply are one step, and one for verdicts, so that these hold up nobody.
-  `(live/verdict run)` asks for one at any time. `until-refuted` ends the operations once a verdict, of which one is asked for every
-  second, says `strict refuted`; `checker` gives the last verdict and ends the program. The completion of each operation has, as
-  :txn, the name that verdicts have for it, as \"T21\"."
+  with one session for all clients, in which a line and its reply are one step, and one for
+  verdicts, so that these hold up nobody. `(live/verdict run)` asks for one at any time.
+  `until-refuted` ends the operations once a verdict, of which one is asked for every second, finds
+  what isn't allowed; `checker` gives the last verdict and ends the program. For their options see
+  jepcheck.checker; without any, nothing is allowed. The completion of each operation has, as :txn,
+  the name that verdicts have for it, as \"T21\"."
   (:require [clojure.edn :as edn]
             [clojure.java.io :as io]
             [clojure.java.shell :as shell]
@@ -23,7 +26,7 @@
             [jepsen.checker :as checker]
             [jepsen.client :as client]
             [jepsen.generator :as gen])
-  (:import (java.io BufferedReader BufferedWriter EOFException StringWriter)
+  (:import (java.io BufferedReader BufferedWriter EOFException IOException StringWriter)
            (java.nio.file Files)
            (java.nio.file.attribute FileAttribute)))
 
@@ -35,15 +38,19 @@
   (let [lines (io/writer in)]
     {:lines lines, :replies (io/reader out)}))
 
+(defn- write-line [^BufferedWriter lines line]
+  (try (.write lines (str line "\n"))
+       (.flush lines)
+       (catch IOException _ (throw (EOFException. "jepcheck has ended")))))
+
 (defn- reply-line [^BufferedReader replies]
   (or (.readLine replies) (throw (EOFException. "jepcheck has ended"))))
 
 (defn ask
   "Writes a line, waits for the reply, and returns its lines: one, except for `read` and `verdict`."
-  [{:keys [^BufferedWriter lines replies] :as session} line]
+  [{:keys [lines replies] :as session} line]
   (locking session
-    (.write lines (str line "\n"))
-    (.flush lines)
+    (write-line lines line)
     (let [reply (reply-line replies)]
       (cond
         (str/starts-with? reply "events ")
@@ -58,10 +65,12 @@
         :else [reply]))))
 
 (defn start
-  "Starts the program, with a session for clients and one for verdicts. More words are options of `serve`."
+  "Starts the program, with a session for clients and one for verdicts. More words are options of
+  `serve`."
   [program & options]
   (let [dir (.toFile (Files/createTempDirectory "jepcheck-" (make-array FileAttribute 0)))
-        pipes (mapv #(str (io/file dir %)) ["clients.in" "clients.out" "verdicts.in" "verdicts.out"])
+        pipes (for [session ["clients" "verdicts"], way ["in" "out"]]
+                (str (io/file dir (str session "." way))))
         {:keys [exit err]} (apply shell/sh "mkfifo" pipes)
         _ (when-not (zero? exit) (throw (ex-info err {})))
         words (concat [program "serve" "--cells" "1048576"] options pipes)
@@ -74,21 +83,30 @@
         opened (loop []
                  (cond
                    (realized? sessions) @sessions
-                   (realized? ended) (do (future-cancel sessions)
-                                         (throw (ex-info (str "jepcheck has ended: " (str/trim @ended)) {})))
+                   (realized? ended) (let [why (str "jepcheck has ended: " (str/trim @ended))]
+                                       (future-cancel sessions)
+                                       (throw (ex-info why {})))
                    :else (do (Thread/sleep 10) (recur))))]
-    {:clients (first opened), :analyst (second opened), :process process, :refuted (atom false)}))
+    {:clients (first opened)
+     :analyst (second opened)
+     :process process
+     :dir dir
+     :sequential? (boolean (some #{"sequential" "--keys=sequential"} options))}))
 
 (defn stop
   "Ends the sessions, and so the program."
-  [{:keys [clients analyst ^Process process]}]
-  (doseq [it [clients analyst]]
-    (try (ask it "quit") (catch java.io.IOException _)))
-  (.waitFor process))
+  [{:keys [clients analyst ^Process process dir]}]
+  (doseq [{:keys [^BufferedWriter lines ^BufferedReader replies] :as it} [clients analyst]]
+    (try (ask it "quit")
+         (.close lines)
+         (.close replies)
+         (catch IOException _)))
+  (.waitFor process)
+  (run! #(io/delete-file % true) (reverse (file-seq dir))))
 
 (defn verdict
-  "The verdict on what was recorded so far, as a map: :refuted?, :anomalies with their :level and :steps, and :prefix, how many
-  events it is of."
+  "The verdict on what was recorded so far, as a map: :refuted?, :anomalies with their :level and
+  :steps, and :prefix, how many events it is of."
   [{:keys [analyst]}]
   (verdicts/parse (str (str/join "\n" (ask analyst "verdict")) "\n")))
 
@@ -114,13 +132,15 @@
          (throw e))))
 
 (defn- invoke-recorded!
-  "The invocation is recorded before the database sees anything of it, and the completion after the database has replied. If the
-  invocation is refused, the transaction is not run. If the completion is, the operation ends as :info, which retires its process."
+  "The invocation is recorded before the database sees anything of it, and the completion after the
+  database has replied. If the invocation is refused, the transaction is not run. If the completion
+  is, the operation ends as :info, which retires its process."
   [client run test op]
   (let [invoked (record! run op)]
     (if (refused? invoked)
       (assoc op :type :fail, :error [:jepcheck invoked])
-      (let [completion (assoc (complete! client run test op) :txn (str/replace invoked "event " "T"))
+      (let [txn (str/replace invoked "event " "T")
+            completion (assoc (complete! client run test op) :txn txn)
             completed (record! run completion)]
         (if (refused? completed)
           (let [unknown (assoc op :type :info, :error [:jepcheck completed])]
@@ -148,24 +168,28 @@
 
 ;; The generator.
 
-(defrecord UntilRefuted [run inner]
+(defrecord UntilRefuted [refuted inner]
   gen/Generator
   (op [_ test context]
-    (when-not @(:refuted run)
+    (when-not @refuted
       (when-let [[op after] (gen/op inner test context)]
-        [op (UntilRefuted. run after)])))
+        [op (UntilRefuted. refuted after)])))
   (update [_ test context event]
-    (UntilRefuted. run (gen/update inner test context event))))
+    (UntilRefuted. refuted (gen/update inner test context event))))
 
 (defn until-refuted
-  "A generator that ends once a verdict says `strict refuted`. One is asked for every second."
-  [{:keys [^Process process refuted] :as run} generator]
-  (future
-    (while (and (.isAlive process) (not @refuted))
-      (Thread/sleep 1000)
-      (try (reset! refuted (:refuted? (verdict run)))
-           (catch java.io.IOException _))))
-  (UntilRefuted. run generator))
+  "A generator that ends once a verdict finds what isn't allowed. One is asked for every second."
+  ([run generator]
+   (until-refuted run {} generator))
+  ([{:keys [^Process process] :as run} options generator]
+   (let [{:keys [allowed]} (verdicts/complete options)
+         refuted (atom false)]
+     (future
+       (while (and (.isAlive process) (not @refuted))
+         (Thread/sleep 1000)
+         (try (reset! refuted (some? (seq (verdicts/forbidden (:anomalies (verdict run)) allowed))))
+              (catch IOException _))))
+     (UntilRefuted. refuted generator))))
 
 ;; The checker.
 
@@ -186,19 +210,21 @@
         (edn/read-string (second (ask analyst (str "read " number " " (inc number))))))))
 
 (defn- check-run [run {:keys [allowed fs explain-by]} test history opts]
-  (let [dir (verdicts/directory test opts "jepcheck-live")
-        text (str (str/join "\n" (ask (:analyst run) "verdict")) "\n")
-        verdict (verdicts/parse text)
-        ops (verdicts/transactions history fs)
-        by-name (into {} (map (juxt :txn identity)) (filter :txn ops))
-        nothing (verdicts/nothing-to-see ops verdict false)
-        result (verdicts/judge verdict allowed #(op-named run by-name %) nothing)]
-    (save! run dir text (:prefix verdict))
-    (verdicts/explained result explain-by dir)))
+  (let [text (str (str/join "\n" (ask (:analyst run) "verdict")) "\n")
+        verdict (verdicts/parse text)]
+    (if-not verdict
+      {:valid? :unknown, :error (str/trim text)}
+      (let [dir (verdicts/directory test opts "jepcheck-live")
+            ops (verdicts/transactions history fs)
+            by-name (into {} (map (juxt :txn identity)) (filter :txn ops))
+            nothing (verdicts/nothing-to-see ops verdict (:sequential? run))
+            result (verdicts/judge verdict allowed #(op-named run by-name %) nothing)]
+        (save! run dir text (:prefix verdict))
+        (verdicts/explained result explain-by dir)))))
 
 (defn checker
-  "A checker that gives the verdict on what was recorded, and ends the program. For its options and its result see
-  jepcheck.checker."
+  "A checker that gives the verdict on what was recorded, and ends the program. For its options and
+  its result see jepcheck.checker."
   ([run]
    (checker run {}))
   ([run options]
@@ -206,6 +232,6 @@
      (reify checker/Checker
        (check [_ test history opts]
          (try (check-run run options test history opts)
-              (catch java.io.IOException e
+              (catch IOException e
                 {:valid? :unknown, :error (ex-message e)})
               (finally (stop run))))))))

@@ -2,7 +2,8 @@
 use Rattle.std.proofs.Common.{◌≡◌, ℕ, List, [], ◌∷◌, length, replicate, nat_lt, true, false, Option, Some, None, Ok, Err, codes, refl}
 use Rattle.std.specs.Fmt.{digits}
 use Rattle.hist_types.specs.Entries.{PlacedOperation, operation, skipped}
-use Rattle.hist_types.specs.Handed.{without_place, one_block, handed_by, HandsOver, within_limits, transaction_handed}
+use Rattle.hist_types.specs.Handed.{one_block, handed_by, HandsOver, within_limits, transaction_handed}
+use Rattle.hist_types.specs.Refusals.{without_place}
 use Rattle.hist_types.specs.Operations.{Operation}
 use Rattle.hist_types.specs.Reading.{Reading}
 use Rattle.hist_types.specs.CanonicalText.{operation_text}

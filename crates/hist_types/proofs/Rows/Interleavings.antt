@@ -1,7 +1,7 @@
 -- Steps of seats at one row, and the worlds that they lead to.
 use Rattle.std.proofs.Common.{◌≡◌, inl, inr, ℕ, List, [], ◌∷◌, Ok, refl, ap, subst}
 use Rattle.std.specs.Bool.{⊤}
-use Rattle.hist_types.specs.Handed.{without_place}
+use Rattle.hist_types.specs.Refusals.{without_place}
 use Rattle.hist_types.specs.Interleavings.{Answered, World, at_first, Step, look, fill, reply, looked, after_fill, replied, Happens, IsOutcomeOf, IsJudged, by_point, IsRun, IsOneHistory}
 use Rattle.hist_types.specs.LegalAnswers.{View, Request, write, snapshot, Answer, accepted, counted, refused, counting_blocks, JournalAnswers}
 use Rattle.hist_types.specs.Operations.{Operation}

@@ -1,10 +1,9 @@
 -- Legal answers of a seat, one for each kind of request and answer, and near misses beside them.
 use Rattle.std.proofs.Common.{◌≡◌, inl, inr, ℕ, ◌≤◌, List, [], ◌∷◌, ◌++◌, length, Some, None, Ok, Err, refl, ap, sym, subst, arith}
 use Rattle.std.proofs.lemmas.Option.{same_Some}
-use Rattle.hist_types.specs.Handed.{without_place}
 use Rattle.hist_types.specs.LegalAnswers.{StampedBlock, View, with_more, Request, write, read, snapshot, verdict, learn, Answer, accepted, returned, counted, reported, learnt, refused, row_events, CountAfter, JournalAnswers, IsLegal}
 use Rattle.hist_types.specs.Operations.{Operation}
-use Rattle.hist_types.specs.Refusals.{memory_fault}
+use Rattle.hist_types.specs.Refusals.{without_place, memory_fault}
 use Rattle.hist_types.specs.Reports.{AreFindings, Report}
 use Rattle.hist_types.specs.Tokens.{byte_fault}
 use Rattle.hist_types.specs.Transactions.{transactions_of}

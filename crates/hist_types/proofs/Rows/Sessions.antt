@@ -2,9 +2,9 @@
 use Rattle.std.proofs.Common.{◌≡◌, inl, inr, ℕ, ◌≤◌, List, [], ◌∷◌, ◌++◌, length, Ok, Err, codes, true, false, refl, ap, ◌∙◌, arith}
 use Rattle.std.proofs.lemmas.Bool.{lt-ltb, le-ltb}
 use Rattle.std.specs.Fmt.{digits}
-use Rattle.hist_types.specs.Handed.{without_place, HandsOver}
+use Rattle.hist_types.specs.Handed.{HandsOver}
 use Rattle.hist_types.specs.LegalAnswers.{View, accepted, returned, refused}
-use Rattle.hist_types.specs.Refusals.{memory_fault}
+use Rattle.hist_types.specs.Refusals.{without_place, memory_fault}
 use Rattle.hist_types.specs.Sessions.{lines_of, overlong, quit, verdict, read, import, without_return, saying_of, saying_of_text, served_lines, say_quit, reply_of, Answering, IsReply, IsSession, IsSessionSoFar, IsSessionAlone}
 use Rattle.hist_types.specs.Tokens.{byte_fault}
 use Rattle.hist_types.specs.declared.limits.TheConstants.{MAX_LINE_BYTES}

@@ -6,9 +6,10 @@ ghost use Rattle.verdict.specs.Board.{IsRight};
 
 use crate::board::Board;
 use clean_order::attempt::Attempt;
-use clean_order::settles_dirty_writes;
+use clean_order::settles_kinds;
 use dep_edges::deps::Deps;
 use hist_types::types::{Level, Phenomenon};
+use schedules::types::EdgeKinds;
 use std::alloc::AllocError;
 
 /// Rules out G0, at each level, where no more than this is left to settle.
@@ -24,7 +25,7 @@ pub fn look<'a>(
         || !board.is_settled(Phenomenon::G2Item)
         || !board.is_settled(Phenomenon::G1c)
         || board.is_settled(Phenomenon::G0)
-        || !settles_dirty_writes(board.alloc(), deps, attempt)?
+        || !settles_kinds(board.alloc(), deps, attempt, EdgeKinds::WITHOUT_READS)?
     {
         return Ok(());
     }

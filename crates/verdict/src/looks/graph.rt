@@ -9,7 +9,6 @@ ghost use Rattle.verdict.specs.Graphs.{IsThinned};
 ghost use Rattle.verdict.specs.Tables.{AreTables, history_of};
 
 use crate::board::Board;
-use crate::pairs::{Pair, Pairs};
 use crate::tables::Tables;
 use cycle_find::ranked_graph::RankedGraph;
 use dep_edges::deps::Deps;
@@ -18,44 +17,6 @@ use hist_types::types::{Level, Phenomenon};
 use order_frontier::thinning::thinned;
 use order_frontier::types::Order;
 use std::alloc::AllocError;
-
-/// Shows the phenomenon at plain, if one transaction depends on the other and is depended on by it.
-fn look_between<'a>(
-    graph: &RankedGraph<'_, '_, '_, 'a>,
-    phenomenon: Phenomenon,
-    from: usize,
-    to: usize,
-    board: &mut Board<'a>,
-) -> Result<(), AllocError>
-    requires thinned { IsThinned graph.now }
-    requires right { IsRight graph.now.keys graph.now.txns board.old }
-    ensures right { OnOk result (IsRight graph.now.keys graph.now.txns board.new) }
-    ensures still { OnOk result (AreStillSettled board.old board.new) }
-{
-    match graph.between(phenomenon, from, to)? {
-        Some(walk) => board.show(phenomenon, Level::Plain, walk),
-        None => Ok(()),
-    }
-}
-
-/// Looks where the last verdict had a cycle, whether it is still there.
-fn look_again<'a>(
-    graph: &RankedGraph<'_, '_, '_, 'a>,
-    pairs: &Pairs,
-    phenomenon: Phenomenon,
-    board: &mut Board<'a>,
-) -> Result<(), AllocError>
-    requires thinned { IsThinned graph.now }
-    requires right { IsRight graph.now.keys graph.now.txns board.old }
-    ensures right { OnOk result (IsRight graph.now.keys graph.now.txns board.new) }
-    ensures still { OnOk result (AreStillSettled board.old board.new) }
-{
-    let Some(Pair { one, other }) = pairs.get(phenomenon) else {
-        return Ok(());
-    };
-    look_between(graph, phenomenon, one, other, board)?;
-    look_between(graph, phenomenon, other, one, board)
-}
 
 /// Searches for the phenomenon at a level, if it may be there. Below the level it isn't, or it is
 /// settled.
@@ -85,7 +46,6 @@ fn settle_at<'a>(
 /// Settles the phenomenon.
 fn settle<'a>(
     graph: &RankedGraph<'_, '_, '_, 'a>,
-    pairs: &Pairs,
     phenomenon: Phenomenon,
     board: &mut Board<'a>,
 ) -> Result<(), AllocError>
@@ -95,7 +55,6 @@ fn settle<'a>(
     ensures settles { OnOk result (IsSettled (known board.new phenomenon)) }
     ensures still { OnOk result (AreStillSettled board.old board.new) }
 {
-    look_again(graph, pairs, phenomenon, board)?;
     if graph.rules_out(phenomenon) {
         return board.rule_out(phenomenon, Level::Realtime);
     }
@@ -108,7 +67,6 @@ fn settle<'a>(
 /// no G2-item.
 fn settle_each<'a>(
     graph: &RankedGraph<'_, '_, '_, 'a>,
-    pairs: &Pairs,
     board: &mut Board<'a>,
 ) -> Result<(), AllocError>
     requires thinned { IsThinned graph.now }
@@ -116,10 +74,10 @@ fn settle_each<'a>(
     ensures right { OnOk result (IsRight graph.now.keys graph.now.txns board.new) }
     ensures settled { OnOk result (AreSettled board.new) }
 {
-    settle(graph, pairs, Phenomenon::G0, board)?;
-    settle(graph, pairs, Phenomenon::G1c, board)?;
-    settle(graph, pairs, Phenomenon::G2Item, board)?;
-    settle(graph, pairs, Phenomenon::GSingle, board)?;
+    settle(graph, Phenomenon::G0, board)?;
+    settle(graph, Phenomenon::G1c, board)?;
+    settle(graph, Phenomenon::G2Item, board)?;
+    settle(graph, Phenomenon::GSingle, board)?;
     Ok(())
 }
 
@@ -127,7 +85,6 @@ fn settle_each<'a>(
 fn look_over<'a>(
     deps: &Deps<'_, 'a>,
     order: &Order,
-    pairs: &Pairs,
     board: &mut Board<'a>,
 ) -> Result<(), AllocError>
     requires history { AreOfHistory deps.now.txns }
@@ -138,7 +95,7 @@ fn look_over<'a>(
 {
     let graph = Graph::new(board.alloc(), deps, order)?;
     let ranked = RankedGraph::new(board.alloc(), &graph)?;
-    settle_each(&ranked, pairs, board)
+    settle_each(&ranked, board)
 }
 
 /// Settles what is open. It thins the order, unless it was kept or made already, and lays out a
@@ -158,10 +115,10 @@ pub fn look<'a>(
         return Ok(());
     }
     match tables.thinned {
-        Some(order) => look_over(deps, order, &tables.pairs, board),
+        Some(order) => look_over(deps, order, board),
         None => {
             let order = thinned(board.alloc(), tables.txns.as_slice())?;
-            look_over(deps, &order, &tables.pairs, board)
+            look_over(deps, &order, board)
         }
     }
 }

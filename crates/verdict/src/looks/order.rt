@@ -11,7 +11,8 @@ use dep_edges::deps::Deps;
 use hist_types::types::{Level, Phenomenon};
 use std::alloc::AllocError;
 
-/// Rules out all four phenomena, at each level. What could be ordered is kept for later looks.
+/// Rules out all four phenomena, at each level, where G-single isn't seen. What could be ordered is
+/// kept for later looks.
 pub fn look<'a>(
     deps: &Deps<'_, 'a>,
     attempt: &mut Attempt,
@@ -20,7 +21,10 @@ pub fn look<'a>(
     requires { IsRight deps.now.table.keys deps.now.txns board.old }
     ensures { OnOk result (IsRight deps.now.table.keys deps.now.txns board.new) }
 {
-    if board.are_settled() || !settles(board.alloc(), deps, attempt)? {
+    if board.are_settled()
+        || board.is_seen(Phenomenon::GSingle)
+        || !settles(board.alloc(), deps, attempt)?
+    {
         return Ok(());
     }
     board.rule_out(Phenomenon::G0, Level::Realtime)?;

@@ -6,9 +6,10 @@ ghost use Rattle.verdict.specs.Board.{IsRight};
 
 use crate::board::Board;
 use clean_order::attempt::Attempt;
-use clean_order::settles_single_at_plain;
+use clean_order::settles_snapshots;
 use dep_edges::deps::Deps;
 use hist_types::types::{Level, Phenomenon};
+use schedules::types::EdgeKinds;
 use std::alloc::AllocError;
 
 /// Rules out G-single at plain, where it is seen at a higher level and G2-item at plain.
@@ -23,7 +24,7 @@ pub fn look<'a>(
     if !board.is_seen(Phenomenon::GSingle)
         || board.is_settled(Phenomenon::GSingle)
         || !board.is_settled(Phenomenon::G2Item)
-        || !settles_single_at_plain(board.alloc(), deps, attempt)?
+        || !settles_snapshots(board.alloc(), deps, attempt, EdgeKinds::PLAIN)?
     {
         return Ok(());
     }

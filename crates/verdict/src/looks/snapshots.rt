@@ -9,6 +9,7 @@ use clean_order::attempt::Attempt;
 use clean_order::settles_snapshots;
 use dep_edges::deps::Deps;
 use hist_types::types::{Level, Phenomenon};
+use schedules::types::EdgeKinds;
 use std::alloc::AllocError;
 
 /// Rules out G0, G1c and G-single, at each level, where G2-item is seen and may be all that there
@@ -24,7 +25,7 @@ pub fn look<'a>(
     if !board.is_seen(Phenomenon::G2Item)
         || board.is_seen(Phenomenon::GSingle)
         || board.is_settled(Phenomenon::GSingle)
-        || !settles_snapshots(board.alloc(), deps, attempt)?
+        || !settles_snapshots(board.alloc(), deps, attempt, EdgeKinds::ALL)?
     {
         return Ok(());
     }

@@ -6,9 +6,10 @@ ghost use Rattle.verdict.specs.Board.{IsRight};
 
 use crate::board::Board;
 use clean_order::attempt::Attempt;
-use clean_order::settles_writes;
+use clean_order::settles_kinds;
 use dep_edges::deps::Deps;
 use hist_types::types::{Level, Phenomenon};
+use schedules::types::EdgeKinds;
 use std::alloc::AllocError;
 
 /// Rules out G0 and G1c, at each level, where no more than these is left to settle.
@@ -23,7 +24,7 @@ pub fn look<'a>(
     if !board.is_settled(Phenomenon::GSingle)
         || !board.is_settled(Phenomenon::G2Item)
         || board.is_settled(Phenomenon::G1c)
-        || !settles_writes(board.alloc(), deps, attempt)?
+        || !settles_kinds(board.alloc(), deps, attempt, EdgeKinds::WITHOUT_RW)?
     {
         return Ok(());
     }

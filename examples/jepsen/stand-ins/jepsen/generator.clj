@@ -1,5 +1,5 @@
 (ns jepsen.generator
-  "Of Jepsen what the generator needs: the protocol, and sequences as generators."
+  "Of Jepsen what the generator needs: the protocol, and sequences and nil as generators."
   (:refer-clojure :exclude [update]))
 
 (defprotocol Generator
@@ -7,6 +7,9 @@
   (op [gen test context]))
 
 (extend-protocol Generator
+  nil
+  (update [_ _ _ _] nil)
+  (op [_ _ _] nil)
   clojure.lang.Seqable
   (update [gen _ _ _] gen)
   (op [gen _ _]

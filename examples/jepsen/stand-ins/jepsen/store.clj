@@ -5,6 +5,7 @@
 (defn path!
   "A file in the folder of a test, whose folder is made."
   [test & names]
-  (let [file (apply io/file (:store test) (:name test) (:start-time test) (map str (remove nil? (flatten names))))]
+  (let [names (map str (remove nil? (flatten names)))
+        file (apply io/file (:store test) (:name test) (:start-time test) names)]
     (io/make-parents file)
     file))

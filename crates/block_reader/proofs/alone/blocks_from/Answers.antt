@@ -1,6 +1,6 @@
 use Rattle.std.proofs.Common.{[], refl, sym, None, subst}
 use Rattle.std.proofs.lemmas.Result.{IfOk-weaker, err_from_is_err_and}
-use Rattle.reading_laws.specs.Parts.{GivesFrom}
+use Rattle.hist_types.specs.Reading.{GivesFrom}
 use Rattle.block_reader.specs.Blocks.{operations_in}
 use Rattle.block_reader.proofs.Readings.{none_read}
 use Rattle.block_reader.proofs.alone.blocks_from.Goals as goal

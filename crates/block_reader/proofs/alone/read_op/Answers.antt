@@ -2,7 +2,7 @@ use Rattle.std.proofs.Common.{◌≡◌, ◌⊎◌, ◌∙◌, [], ◌∷◌, �
 use Rattle.std.proofs.lemmas.Result.{err_from_is_err_and}
 use Rattle.hist_types.specs.Refusals.{memory_fault}
 use Rattle.hist_types.specs.Entries.{operation_of}
-use Rattle.reading_laws.specs.Parts.{FailsFrom}
+use Rattle.hist_types.specs.Reading.{FailsFrom}
 use Rattle.edn_ops.specs.Reader.{HasRead, HasEnded}
 use Rattle.block_reader.specs.Reading.{HasReadFrom}
 use Rattle.block_reader.proofs.Readings.{one_more, is_read, all_given, next_refused}

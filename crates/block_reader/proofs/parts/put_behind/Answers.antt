@@ -1,6 +1,6 @@
 use Rattle.std.proofs.Common.{◌+◌, ◌<◌, length, sym, ap, subst, ◌∙◌}
 use Rattle.std.proofs.lemmas.Grind.{flat_map-append}
-use Rattle.reading_laws.specs.Parts.{GivesOperations}
+use Rattle.hist_types.specs.Reading.{GivesOperations}
 use Rattle.op_block.specs.Contents.{operations_of}
 use Rattle.block_reader.specs.Blocks.{operations_in}
 use Rattle.block_reader.specs.Parts.{ReadsThrough, front_of, part_at}

@@ -8,7 +8,7 @@ returns-then-not-reading-clause-err g c began os come = inl (c.memory.ensures, (
 
 pub returns-in_err-blocks-clause-err : goal.returns-in_err-blocks-clause-err
 returns-in_err-blocks-clause-err g c began os come =
-    let fails = rw (c.as_slice.ensures) at c.in_err-blocks.ensures.err in
+    let fails = rw (c.as_slice.ensures.bytes) at c.in_err-blocks.ensures.err in
     fault_same g.S.Source began c.fill.new.source _ c.from_residual-in_err-blocks.result c.from_residual-in_err-blocks.ensures.1
     (come_fails g.S.Source began c.fill.new.source c.fill.new.self os _ (c.in_ok-fill.ensures.ok began os come) c.if-not-reading.false fails)
 
@@ -19,6 +19,6 @@ returns-in_err-fill-2-clause-err g c began os come =
 
 pub returns-clause-ok : goal.returns-clause-ok
 returns-clause-ok g c began before come =
-    let gives = rw (c.as_slice.ensures) at c.in_ok-blocks.ensures.ok in
+    let gives = rw (c.as_slice.ensures.bytes) at c.in_ok-blocks.ensures.ok in
     let all = come_all g.S.Source began c.fill.new.source c.fill.new.self before (operations_in c.in_ok-blocks.blocks.items) (c.in_ok-fill.ensures.ok began before come) c.if-not-reading.false gives in
     rw (c.in_ok-fill-2.ensures) all

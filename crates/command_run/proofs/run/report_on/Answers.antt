@@ -1,7 +1,7 @@
 use Rattle.std.proofs.Common.{◌≡◌, ◌∙◌, IfOk, List, ap, subst}
 use Rattle.hist_types.specs.Operations.{Operation}
 use Rattle.hist_types.specs.declared.types.KeyOrder.{KeyOrder}
-use Rattle.command_line.specs.declared.types.Command.TheVariants.{Reads, Edges, Check}
+use Rattle.command_line.specs.declared.types.Command.TheVariants.{Reads, Edges}
 use Rattle.command_run.specs.Answers.{Reports, IsVerdict, keys_of}
 use Rattle.command_run.proofs.run.report_on.Goals as goal
 

@@ -1,6 +1,6 @@
 use Rattle.std.proofs.Common.{rules}
 use Rattle.std.proofs.lemmas.List.Elements.{All-more}
-use Rattle.clean_order.specs.Ranked.{IsLowerIfOther}
+use Rattle.clean_order.specs.AtVersions.{IsLowerIfOther}
 use Rattle.serial_points.proofs.Listed.{all_gone}
 use Rattle.serial_points.proofs.passing.are_all_higher.Goals as goal
 

@@ -42,7 +42,7 @@ returns g c = λ events event before next.
     let points = c.advance.new.points.items in
     let users = c.advance.new.users in
     let steps = c.in_ok-steps.steps in
-    let falls = c.as_slice-falls.result.now in
+    let falls = c.falls-falls.result.now in
     let from_here : IsNext events event before p later after place = subst (λ q. IsNext events event before q later after place) (sym c.self.view_is) next in
     all_after events event before after p points c.add_users.new.users users steps c.in-Some.strays later falls place from_here c.in_ok-add_users.ensures.added
     c.in_ok-add_users.ensures.bounds c.in_ok-add_users.ensures.floors

@@ -1,11 +1,14 @@
+use Rattle.std.proofs.Common.{true, refl}
 use Rattle.std.proofs.lemmas.Bool.{OnTrue_at}
 use Rattle.hist_types.specs.declared.types.Level.TheVariants.{Realtime}
-use Rattle.clean_order.specs.Rising.{ShowsNoDirtyWrites}
+use Rattle.hist_types.specs.declared.types.Phenomenon.TheVariants.{G0}
 use Rattle.dep_edges.specs.Histories.{History}
+use Rattle.schedules.specs.Cycles.{HasNoneRuledOut}
+use Rattle.schedules.specs.declared.types.TheConstants.EdgeKinds.{WITHOUT_READS}
 use Rattle.verdict.proofs.looks.dirty_writes.look.Goals as goal
 
 pub returns : goal.returns
 returns c =
     let d : History = c.args.deps.now in
-    let none : ShowsNoDirtyWrites d.table.keys d.txns = OnTrue_at c.if-not-branch.false c.in_ok-settles_dirty_writes.ensures in
-    c.rule_out.ensures.right d.table.keys d.txns c.requires (none.0 Realtime)
+    let none : HasNoneRuledOut d.table.keys WITHOUT_READS true d.txns = OnTrue_at c.if-not-branch.false c.in_ok-settles_kinds.ensures in
+    c.rule_out.ensures.right d.table.keys d.txns c.requires (none G0 Realtime refl refl)

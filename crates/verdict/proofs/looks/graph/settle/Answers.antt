@@ -7,17 +7,15 @@ use Rattle.verdict.proofs.looks.graph.settle.Goals as goal
 pub returns-then-rules_out-clause-right : goal.returns-then-rules_out-clause-right
 returns-then-rules_out-clause-right c =
     let g = c.args.graph.now in
-    c.rule_out.ensures.right g.keys g.txns c.in_ok-look_again.ensures.right
-    (absent g c.args.phenomenon Realtime c.requires.thinned (OnTrue_at c.if-rules_out.true c.rules_out.ensures))
-
-pub returns-then-rules_out-clause-still : goal.returns-then-rules_out-clause-still
-returns-then-rules_out-clause-still c =
-    on_ok_weaker c.rule_out.result (λ still phenomenon top is. still phenomenon top (c.in_ok-look_again.ensures.still phenomenon top is)) c.rule_out.ensures.still
+    c.rule_out.ensures.right g.keys g.txns c.requires.right
+    (absent g c.args.phenomenon Realtime c.requires.thinned
+    (OnTrue_at c.if-rules_out.true c.rules_out.ensures))
 
 pub returns-clause-still : goal.returns-clause-still
 returns-clause-still c =
     on_ok_weaker c.settle_at-3.result
     (λ still phenomenon top is.
     still phenomenon top
-    (c.in_ok-settle_at-2.ensures.still phenomenon top (c.in_ok-settle_at.ensures.still phenomenon top (c.in_ok-look_again.ensures.still phenomenon top is))))
+    (c.in_ok-settle_at-2.ensures.still phenomenon top
+    (c.in_ok-settle_at.ensures.still phenomenon top is)))
     c.settle_at-3.ensures.still

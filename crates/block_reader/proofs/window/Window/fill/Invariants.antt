@@ -1,0 +1,8 @@
+use Rattle.std.proofs.Common.{◌≡◌}
+use Rattle.hist_types.specs.Pieces.{HasReadMore}
+use Rattle.block_reader.proofs.window.Window.fill.Given as goal
+
+abbrev pub invariant-loop : goal.invariant-loop
+invariant-loop g l =
+    HasReadMore g.S.Source l.fn.source l.source l.fn.self.bytes l.self.bytes
+    × (g.S.Source.failures l.source ≡ g.S.Source.failures l.fn.source)

@@ -1,0 +1,4 @@
+pub mod Walks
+pub mod Kept
+pub mod Phenomena
+pub mod Rows
