@@ -7,7 +7,8 @@ use dep_edges::history::History;
 use schedules::types::EdgeKinds;
 use std::alloc::{AllocError, Global};
 
-/// Who completed when, and ranks for as many transactions as could be put, if that was tried. Nothing is claimed of them.
+/// Who completed when, and ranks for as many transactions as could be put, if that was tried.
+/// Nothing is claimed of them.
 #[derive(Drop)]
 pub struct Attempt {
     ends: Vec<u32>,
@@ -38,7 +39,8 @@ impl Attempt {
         self.timely
     }
 
-    /// Gives the history's transactions ranks, where all edges count. It is false if one can't be put.
+    /// Gives the history's transactions ranks, where all edges count. It is false if one can't be
+    /// put.
     pub(crate) fn put(
         &mut self,
         alloc: Global,

@@ -1,6 +1,8 @@
-//! The certificate of a schedule: one look at each version and at each transaction shows that it keeps a history's edges.
+//! The certificate of a schedule: one look at each version and at each transaction shows that it
+//! keeps a history's edges.
 //!
-//! Starts and commits are listed as the transactions are. Where each transaction commits when it starts, both lists are the same one.
+//! Starts and commits are listed as the transactions are. Where each transaction commits when it
+//! starts, both lists are the same one.
 
 ghost use Rattle.std.specs.Prelude.{◌≡◌, ◌≤◌, ◌<◌, ◌+◌, ℕ, slice_index, All, IsTrue};
 ghost use Rattle.std.specs.Bool.{OnTrue};
@@ -130,8 +132,8 @@ fn keeps_to_readers(starts: &[u32], written: &Highest, readers: &[u32]) -> bool
     true
 }
 
-/// Whether those that wrote a version commit before the others that install one after it start, if these are nodes, and those that
-/// read it start before these commit.
+/// Whether those that wrote a version commit before the others that install one after it start, if
+/// these are nodes, and those that read it start before these commit.
 fn keeps_to_followers(
     deps: &Deps<'_, '_>,
     starts: &[u32],
@@ -209,7 +211,8 @@ fn start_first(starts: &[u32], commits: &[u32]) -> bool
     true
 }
 
-/// The highest commit of those that are listed before the index, of which those before the first one commit at this one at most.
+/// The highest commit of those that are listed before the index, of which those before the first
+/// one commit at this one at most.
 fn highest_before(commits: &[u32], ends: &[u32], commit: u32, first: usize, index: usize) -> u32
     ensures most { clock ends.now commits.now first ≤ commit + 1
         → clock ends.now commits.now index ≤ result + 1 }
@@ -249,7 +252,8 @@ fn is_later(deps: &Deps<'_, '_>, numbers: &[u32], number: u32, place: usize) -> 
     number_at(numbers, place) > number || !deps.is_node(place)
 }
 
-/// Whether order edges are kept, if they count: each node starts after the commits of those that completed before its invocation.
+/// Whether order edges are kept, if they count: each node starts after the commits of those that
+/// completed before its invocation.
 fn keeps_order(
     deps: &Deps<'_, '_>,
     kinds: EdgeKinds,
@@ -278,9 +282,11 @@ fn keeps_order(
     true
 }
 
-/// Whether the schedule keeps the history's edges of these kinds. Its clock is by who completed when.
+/// Whether the schedule keeps the history's edges of these kinds. Its clock is by who completed
+/// when.
 ///
-/// It is compiled for each call apart, so that each number is looked up once where both lists are the same one.
+/// It is compiled for each call apart, so that each number is looked up once where both lists are
+/// the same one.
 #[inline(always)]
 pub fn keeps(
     deps: &Deps<'_, '_>,

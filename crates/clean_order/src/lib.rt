@@ -19,12 +19,14 @@ use dep_edges::deps::Deps;
 use schedules::types::EdgeKinds;
 use std::alloc::{AllocError, Global};
 
-/// True only if no cycle shows any phenomenon at any level. False says nothing: the history may have one, or not.
+/// True only if no cycle shows any phenomenon at any level. False says nothing: the history may
+/// have one, or not.
 ///
-/// Transactions get ranks, one after the other in the order of their completions, each after what it depends on and after what
-/// completed before its invocation. If that can be done, a serial schedule by these ranks keeps all edges, which one more pass makes
-/// sure of. It is true of each history whose nodes can be ordered so, thus of each one without a cycle in which no version that a
-/// transaction wrote over was read.
+/// Transactions get ranks, one after the other in the order of their completions, each after what
+/// it depends on and after what completed before its invocation. If that can be done, a serial
+/// schedule by these ranks keeps all edges, which one more pass makes sure of. It is true of each
+/// history whose nodes can be ordered so, thus of each one without a cycle in which no version that
+/// a transaction wrote over was read.
 ///
 /// It takes a few numbers for each transaction and each version, and linear time.
 pub fn settles(
@@ -74,11 +76,12 @@ pub fn settles_plain(deps: &Deps<'_, '_>, attempt: &Attempt) -> bool
 
 /// True only if no cycle of edges of these kinds shows G0, G1c or G-single. False says nothing.
 ///
-/// It is what `settles` does, with two ranks for each transaction: one of its start, when its snapshot was taken, and one of its
-/// commit. A transaction starts after the commits of those that it depends on otherwise than by an rw edge, and commits after the
-/// starts of those that read what it wrote over. It is true of each history whose starts and commits can be ordered so, thus of
-/// those of strong snapshot isolation, also where they have write skew. What `settles` put before it put one ahead of its invocation
-/// starts and commits at the rank that it has from there.
+/// It is what `settles` does, with two ranks for each transaction: one of its start, when its
+/// snapshot was taken, and one of its commit. A transaction starts after the commits of those that
+/// it depends on otherwise than by an rw edge, and commits after the starts of those that read what
+/// it wrote over. It is true of each history whose starts and commits can be ordered so, thus of
+/// those of strong snapshot isolation, also where they have write skew. What `settles` put before
+/// it put one ahead of its invocation starts and commits at the rank that it has from there.
 ///
 /// It takes twice the numbers for each transaction that `settles` takes, and linear time.
 pub fn settles_snapshots(

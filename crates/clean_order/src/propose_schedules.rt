@@ -1,8 +1,9 @@
-//! Proposes schedules: ranks for transactions, one after the other. Nothing is claimed of them: whether they keep edges is looked at
-//! afterwards.
+//! Proposes schedules: ranks for transactions, one after the other. Nothing is claimed of them:
+//! whether they keep edges is looked at afterwards.
 //!
-//! Either a transaction is put once, or its start and its commit are put apart: what it depends on by a ww or wr edge commits
-//! before it starts, and those that read what it writes over start before it commits.
+//! Either a transaction is put once, or its start and its commit are put apart: what it depends on
+//! by a ww or wr edge commits before it starts, and those that read what it writes over start
+//! before it commits.
 
 use crate::earlier::{Earlier, leads_on};
 use crate::ends::BEYOND;
@@ -22,7 +23,8 @@ struct Frame {
     number: u32,
     /// How many of the versions that the transaction reads and installs need no further look.
     looked: usize,
-    /// At the next one of these the link with which the look at the versions before it goes on, where it has begun.
+    /// At the next one of these the link with which the look at the versions before it goes on,
+    /// where it has begun.
     link: Option<u32>,
     /// How many of the first readers of the version that is looked at need no further look.
     readers: u32,
@@ -48,8 +50,9 @@ fn is_among(followers: &[Follower], place: u32) -> bool {
     }
 }
 
-/// What was put so far. A transaction that is put once, and the commit of one whose start is put apart, have its place as their
-/// number. The numbers of starts come after them, and after two numbers that mean nothing. Versions go by number, too.
+/// What was put so far. A transaction that is put once, and the commit of one whose start is put
+/// apart, have its place as their number. The numbers of starts come after them, and after two
+/// numbers that mean nothing. Versions go by number, too.
 #[derive(Drop)]
 struct Putting<'h, 'v, 'a, const APART: bool> {
     history: &'h History<'v, 'a>,
@@ -60,8 +63,8 @@ struct Putting<'h, 'v, 'a, const APART: bool> {
     put: u32,
     /// How many transactions were invoked so far.
     invoked: u32,
-    /// The last rank before one was begun with that wasn't invoked yet. What has a later rank may come before what completed before
-    /// its invocation.
+    /// The last rank before one was begun with that wasn't invoked yet. What has a later rank may
+    /// come before what completed before its invocation.
     timely: u32,
     /// Those that were begun with and not put, each waiting for the one after it.
     waiting: Vec<Frame>,
@@ -159,7 +162,8 @@ impl<'h, 'v, 'a, const APART: bool> Putting<'h, 'v, 'a, APART> {
         }
     }
 
-    /// Puts each of the transactions, and whatever has to come before, by who completed when. It is false if one can't be put.
+    /// Puts each of the transactions, and whatever has to come before, by who completed when. It is
+    /// false if one can't be put.
     fn put_each(&mut self, ends: &[u32]) -> Result<bool, AllocError> {
         let invocation = self.txns.wrapping_add(1);
         for place in ends {
@@ -171,7 +175,8 @@ impl<'h, 'v, 'a, const APART: bool> Putting<'h, 'v, 'a, APART> {
         Ok(true)
     }
 
-    /// Puts what has the number, and before it whatever has to come before it. It is false if one of these waits for another already.
+    /// Puts what has the number, and before it whatever has to come before it. It is false if one
+    /// of these waits for another already.
     fn put(&mut self, number: u32) -> Result<bool, AllocError> {
         if self.is_put(number) {
             return Ok(true);
@@ -259,8 +264,9 @@ impl<'h, 'v, 'a, const APART: bool> Putting<'h, 'v, 'a, APART> {
         None
     }
 
-    /// What has to be put before this one for what the transaction reads: the one that wrote the version, if wr edges count or it
-    /// installs the next one, and if it does, the others that read it.
+    /// What has to be put before this one for what the transaction reads: the one that wrote the
+    /// version, if wr edges count or it installs the next one, and if it does, the others that read
+    /// it.
     fn before_read(&mut self, frame: &mut Frame, version: usize) -> Option<u32> {
         if version >= self.history.versions() {
             return None;
@@ -279,15 +285,17 @@ impl<'h, 'v, 'a, const APART: bool> Putting<'h, 'v, 'a, APART> {
         }
     }
 
-    /// Whether the transaction at the place, which reads a version with these followers, waits for the one that wrote it: where wr
-    /// edges count, or it is one of the followers, or the other one isn't ok, and so is put where others wait for it alone.
+    /// Whether the transaction at the place, which reads a version with these followers, waits for
+    /// the one that wrote it: where wr edges count, or it is one of the followers, or the other one
+    /// isn't ok, and so is put where others wait for it alone.
     fn waits(&self, place: u32, followers: &[Follower], writer: u32) -> bool {
         self.kinds.wr || is_among(followers, place) || !self.is_ok(writer)
     }
 
-    /// Whether the transaction at the place, which reads a version with these followers, waits for the others that read it: where it
-    /// alone installs the next one, or where several that read it do, none of which can be put once before the others. Else this is
-    /// looked at where the next version is installed.
+    /// Whether the transaction at the place, which reads a version with these followers, waits for
+    /// the others that read it: where it alone installs the next one, or where several that read it
+    /// do, none of which can be put once before the others. Else this is looked at where the next
+    /// version is installed.
     fn waits_for_readers(&self, place: u32, followers: &[Follower], version: usize) -> bool {
         match followers {
             [] => false,
@@ -301,7 +309,8 @@ impl<'h, 'v, 'a, const APART: bool> Putting<'h, 'v, 'a, APART> {
         place < self.history.txns().len() && self.history.txn(place).status() == Status::Ok
     }
 
-    /// What has to be put before this one for what the transaction installs: those that wrote or read the versions before it.
+    /// What has to be put before this one for what the transaction installs: those that wrote or
+    /// read the versions before it.
     fn before_install(&mut self, frame: &mut Frame, version: usize) -> Option<u32> {
         let mut next = frame.link.unwrap_or(self.earlier.first(version));
         for _ in 0..u64::MAX {
@@ -320,8 +329,8 @@ impl<'h, 'v, 'a, const APART: bool> Putting<'h, 'v, 'a, APART> {
         None
     }
 
-    /// The transaction that wrote the version, if it is another one that didn't fail and wasn't put. A commit that waits for its
-    /// start needs no look at it.
+    /// The transaction that wrote the version, if it is another one that didn't fail and wasn't
+    /// put. A commit that waits for its start needs no look at it.
     fn next_writer(&self, number: u32, version: usize) -> Option<u32> {
         if self.is_commit(number) || version >= self.history.versions() {
             return None;
@@ -336,7 +345,8 @@ impl<'h, 'v, 'a, const APART: bool> Putting<'h, 'v, 'a, APART> {
         Some(writer)
     }
 
-    /// The start of a reader of the version, other than the transaction, that wasn't put, if rw edges count. A start waits for none.
+    /// The start of a reader of the version, other than the transaction, that wasn't put, if rw
+    /// edges count. A start waits for none.
     fn next_reader(&mut self, frame: &mut Frame, version: usize) -> Option<u32> {
         if !self.kinds.rw || self.is_start(frame.number) || version >= self.history.versions() {
             return None;
@@ -365,7 +375,8 @@ impl<'h, 'v, 'a, const APART: bool> Putting<'h, 'v, 'a, APART> {
     }
 }
 
-/// Ranks for transactions, as far as they could be put, and after them two numbers that mean nothing.
+/// Ranks for transactions, as far as they could be put, and after them two numbers that mean
+/// nothing.
 #[derive(Drop)]
 pub struct Put {
     pub ranks: Vec<u32>,
@@ -375,8 +386,9 @@ pub struct Put {
     pub is_all: bool,
 }
 
-/// Ranks for the transactions of a history, by who completed when, each after what has to come before it: those whose writes it
-/// wrote over and, as far as their edges count, those whose writes it read and those that read what it wrote over.
+/// Ranks for the transactions of a history, by who completed when, each after what has to come
+/// before it: those whose writes it wrote over and, as far as their edges count, those whose writes
+/// it read and those that read what it wrote over.
 pub fn ranks(
     alloc: Global,
     history: &History<'_, '_>,
@@ -402,9 +414,10 @@ pub struct Snapshots {
 }
 
 impl Snapshots {
-    /// They are put by who completed when, if each can be put after what has to come before it: before a start the commits of those
-    /// whose writes the transaction read or wrote over, and before a commit its start and those of the others that read what it
-    /// wrote over. Those that have one of these ranks, up to the timely one, keep it.
+    /// They are put by who completed when, if each can be put after what has to come before it:
+    /// before a start the commits of those whose writes the transaction read or wrote over, and
+    /// before a commit its start and those of the others that read what it wrote over. Those that
+    /// have one of these ranks, up to the timely one, keep it.
     pub fn of(
         alloc: Global,
         history: &History<'_, '_>,

@@ -47,7 +47,6 @@ impl<'j, S: BuildHasher + Copy> Kept<'j, S> {
 
     /// The analysis of all blocks of a journal: the one that was kept, extended, or else a new one. The only error is out of
     /// memory.
-    #[tactic(auto, using(crate::proofs::Keeping::keeps_rules_next, crate::proofs::Keeping::operations_next))]
     pub(crate) fn of_all(
         alloc: Global,
         journal: &Core<'j>,

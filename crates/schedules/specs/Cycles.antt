@@ -1,9 +1,9 @@
 -- What a schedule rules out (after Fekete and others, Making Snapshot Isolation Serializable, and
 -- the pivots of Cahill and others, Serializable Isolation for Snapshot Databases).
 --
--- A closed walk has a pivot where it comes to a transaction by an rw edge and leaves it by one. Each
--- closed walk along edges that a schedule keeps has a pivot that starts before it commits. So a
--- serial schedule keeps no closed walk, and another one none with a single rw edge.
+-- A closed walk has a pivot where it comes to a transaction by an rw edge and leaves it by one.
+-- Each closed walk along edges that a schedule keeps has a pivot that starts before it commits. So
+-- a serial schedule keeps no closed walk, and another one none with a single rw edge.
 use Rattle.std.specs.Prelude.{ℕ, ◌<◌, List, [], ◌∷◌, Bool, false, true, ◌&&◌, if◌then◌else◌, All, Contains, IsTrue}
 use Rattle.hist_types.specs.Edges.{Edge, edges_at}
 use Rattle.hist_types.specs.Phenomena.{IsClosedWalk, is_rw, IsThere}

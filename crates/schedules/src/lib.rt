@@ -1,4 +1,5 @@
-//! Schedules, a start and a commit for each transaction, and the cycles that a history with one has none of.
+//! Schedules, a start and a commit for each transaction, and the cycles that a history with one has
+//! none of.
 #![tactic(auto)]
 
 pub mod laws;
