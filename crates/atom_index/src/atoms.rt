@@ -15,8 +15,9 @@ use std::marker::Model;
 
 /// Numbers atoms from 0 on, in the order in which they are first inserted.
 ///
-/// The small integers, which are most of the atoms of a history, are looked up in a table that grows with the number of
-/// atoms; everything else is looked up by its hash. No number depends on the hasher.
+/// The small integers, which are most of the atoms of a history, are looked up in a table that
+/// grows with the number of atoms; everything else is looked up by its hash. No number depends on
+/// the hasher.
 pub struct AtomIndex<'a, S: BuildHasher = BuildHasherDefault<FoldHasher>> {
     alloc: Global,
     /// By number.
@@ -54,7 +55,8 @@ impl<'a, S: BuildHasher> Model for AtomIndex<'a, S> {
     ghost invariant = { λ x. IsIndexed x.atoms.items x.small x.others };
 }
 
-/// The number of an atom in the map, if it is there. It takes a copy, so that callers can keep the atom in registers.
+/// The number of an atom in the map, if it is there. It takes a copy, so that callers can keep the
+/// atom in registers.
 #[inline(never)]
 fn number_of_other<S: BuildHasher>(
     others: &IndexMap<Atom<'_>, u32, S>,
@@ -153,8 +155,8 @@ impl<'a, S: BuildHasher> AtomIndex<'a, S> {
         numbers.min(atoms.min(others))
     }
 
-    /// Makes room for `additional` more atoms. Out of memory, as where there would be more than 4,294,967,295 atoms, leaves the
-    /// atoms as they are, and no less room than before.
+    /// Makes room for `additional` more atoms. Out of memory, as where there would be more than
+    /// 4,294,967,295 atoms, leaves the atoms as they are, and no less room than before.
     pub fn reserve(&mut self, additional: usize) -> Result<(), AllocError>
         ensures items { self.new.items ≡ self.old.items }
         ensures room { OnOk result (additional ≤ self.new.spare) }
@@ -187,8 +189,8 @@ impl<'a, S: BuildHasher> AtomIndex<'a, S> {
         Ok(())
     }
 
-    /// The number of an atom, which is its first one where it has none yet. Out of memory leaves the atoms as they are, and no
-    /// less room than before.
+    /// The number of an atom, which is its first one where it has none yet. Out of memory leaves
+    /// the atoms as they are, and no less room than before.
     #[inline(always)]
     pub fn insert(&mut self, atom: Atom<'a>) -> Result<u32, AllocError>
         ensures number { IfOk result

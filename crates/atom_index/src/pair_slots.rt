@@ -16,8 +16,8 @@ const FEW_KEYS: usize = 64;
 /// How many pairs there is room for at least.
 const LEAST_PAIRS: usize = 128;
 
-/// The numbers of pairs. Each key has a row, with a slot for nil and for each of its first values. How wide the rows are is
-/// chosen when the table is made, by how many pairs a key has.
+/// The numbers of pairs. Each key has a row, with a slot for nil and for each of its first values.
+/// How wide the rows are is chosen when the table is made, by how many pairs a key has.
 #[derive(Drop)]
 pub(crate) struct PairTable {
     pub numbers: Table,
@@ -27,8 +27,9 @@ pub(crate) struct PairTable {
     pub outside: usize,
 }
 
-/// How many values of a key have slots where n keys have these pairs, and may come to have as many as are wanted: half as many again
-/// as a key has pairs, and no fewer than the first ones while keys are few. Where keys have more pairs, each has its share of all.
+/// How many values of a key have slots where n keys have these pairs, and may come to have as many
+/// as are wanted: half as many again as a key has pairs, and no fewer than the first ones while
+/// keys are few. Where keys have more pairs, each has its share of all.
 fn values_of_key(keys: usize, pairs: usize, wanted: usize) -> usize
     ensures { result < MAX_NUMBERS }
 {
@@ -46,8 +47,8 @@ fn values_of_key(keys: usize, pairs: usize, wanted: usize) -> usize
     }
 }
 
-/// How many keys need rows of this width where n keys have these pairs: no more than there are pairs, and no fewer than whose rows
-/// the pairs fill.
+/// How many keys need rows of this width where n keys have these pairs: no more than there are
+/// pairs, and no fewer than whose rows the pairs fill.
 fn rows_for(keys: usize, pairs: usize, width: usize) -> usize
     requires { 0 < width }
 {
@@ -66,8 +67,8 @@ pub(crate) struct TableSize {
 }
 
 impl TableSize {
-    /// For `wanted` pairs, where n keys have these pairs now, and others of them were outside of the table before. Twice as many keys
-    /// have rows as need them.
+    /// For `wanted` pairs, where n keys have these pairs now, and others of them were outside of
+    /// the table before. Twice as many keys have rows as need them.
     pub fn of(keys: usize, pairs: usize, wanted: usize, others: usize) -> Self
         ensures wide { 0 < result.width }
         ensures fits { result.width ≤ MAX_NUMBERS }
@@ -136,7 +137,8 @@ impl PairTable {
         self.width as usize == size.width && self.numbers.len() <= size.slots
     }
 
-    /// Makes the table longer, up to this size. Rows stay as wide. Out of memory leaves it as it is.
+    /// Makes the table longer, up to this size. Rows stay as wide. Out of memory leaves it as it
+    /// is.
     pub fn lengthen(&mut self, size: TableSize) -> Result<(), AllocError>
         requires { length self.old.numbers ≤ size.slots }
         ensures width { self.new.width ≡ self.old.width }
@@ -185,8 +187,8 @@ impl PairTable {
         }
     }
 
-    /// Whether a new table is worth making where n keys have these pairs, and others of them are outside of the table: keys that
-    /// need rows have none, or too many pairs are outside.
+    /// Whether a new table is worth making where n keys have these pairs, and others of them are
+    /// outside of the table: keys that need rows have none, or too many pairs are outside.
     pub fn is_outgrown(&self, keys: usize, pairs: usize, others: usize) -> bool
         requires { 0 < self.now.width }
     {

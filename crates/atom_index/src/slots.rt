@@ -8,7 +8,8 @@ use crate::table::Table;
 use op_view::atom::Atom;
 use std::alloc::{AllocError, Global};
 
-/// The place of an atom in a table with n slots: that of an integer from 0 up to the number of slots.
+/// The place of an atom in a table with n slots: that of an integer from 0 up to the number of
+/// slots.
 pub(crate) fn slot_of(atom: &Atom, slots: usize) -> Option<usize>
     ensures { result ≡ slot_of_atom atom.now slots }
 {

@@ -14,7 +14,8 @@ use op_block::block::Block;
 use reading_laws::operations_read_alone;
 use std::alloc::Global;
 
-/// Reads the next operation into the blocks, by way of a shape that may have been used before: false at the text's end.
+/// Reads the next operation into the blocks, by way of a shape that may have been used before:
+/// false at the text's end.
 fn read_op(
     text: &[u8],
     reader: &mut OpReader<'_>,

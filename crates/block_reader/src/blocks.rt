@@ -32,7 +32,8 @@ impl Model for Blocks {
     ghost view = { λ b. operations_in b.full.items ++ operations_pushed b.last.operations };
 }
 
-/// Puts the last block after the full ones, unless it is empty. Out of memory leaves both as they were.
+/// Puts the last block after the full ones, unless it is empty. Out of memory leaves both as they
+/// were.
 #[inline(never)]
 fn close(full: &mut Vec<Block>, last: &mut BlockBuilder) -> Result<(), AllocError>
     ensures full { OnOk result (HaveAlso full.old.items last.old.operations full.new.items) }
@@ -62,7 +63,8 @@ impl Blocks {
         })
     }
 
-    /// Appends the operation that has this shape in the text. The only error is out of memory, and nothing changes then.
+    /// Appends the operation that has this shape in the text. The only error is out of memory, and
+    /// nothing changes then.
     #[inline(always)]
     pub fn push(&mut self, text: &[u8], shape: &OpShape) -> Result<(), Fault>
         requires { IsShapeIn text.now shape.now }

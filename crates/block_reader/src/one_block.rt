@@ -1,4 +1,5 @@
-//! The block that one write hands over to a journal: all operations of a text, or the invocation or completion of a transaction.
+//! The block that one write hands over to a journal: all operations of a text, or the invocation or
+//! completion of a transaction.
 
 ghost use Rattle.std.specs.Prelude.{◌≡◌, ◌⊎◌, ℕ, [], Ok, Err, IfOk, IfErr, OnOk};
 ghost use Rattle.hist_types.specs.Handed.{HandsOver, operation_of_call, transaction_handed};
@@ -30,7 +31,8 @@ fn nowhere(refusal: Refusal) -> Fault
     }
 }
 
-/// Reads operations into an empty block, up to the text's end, or up to the first one that doesn't fit, and then returns false.
+/// Reads operations into an empty block, up to the text's end, or up to the first one that doesn't
+/// fit, and then returns false.
 fn fill(text: &[u8], reader: &mut OpReader<'_>, builder: &mut BlockBuilder) -> Result<bool, Fault>
     requires start { reader.old ≡ reader_at_start text.now }
     requires empty { builder.old ≡ record { operations = []; bytes = 0 } }
@@ -51,7 +53,8 @@ fn fill(text: &[u8], reader: &mut OpReader<'_>, builder: &mut BlockBuilder) -> R
     Err(Fault::memory())
 }
 
-/// Reads the rest of a text that has too much for one block, since a fault of its reading comes before `BlockFull`.
+/// Reads the rest of a text that has too much for one block, since a fault of its reading comes
+/// before `BlockFull`.
 fn read_rest(reader: &mut OpReader<'_>) -> Result<(), Fault>
     requires { HasReadTooMany reader.old.state.text reader.old }
     ensures ok { OnOk result
@@ -70,9 +73,10 @@ fn read_rest(reader: &mut OpReader<'_>) -> Result<(), Fault>
 
 /// The block of all operations of a text. Operations whose process is no integer are skipped.
 ///
-/// The whole text is read, so a fault of its reading comes first, wherever it is in the text. Next comes `BlockFull`, if there
-/// are more than 1,024 operations or their maps have more than 1,048,576 bytes together, and then `EmptyImport`, if there is
-/// none. These two have no place. Out of memory (`Memory`) may come before any of them.
+/// The whole text is read, so a fault of its reading comes first, wherever it is in the text. Next
+/// comes `BlockFull`, if there are more than 1,024 operations or their maps have more than
+/// 1,048,576 bytes together, and then `EmptyImport`, if there is none. These two have no place. Out
+/// of memory (`Memory`) may come before any of them.
 ///
 /// It takes linear time, and memory for one block however long the text is.
 pub fn block_of_text(alloc: Global, text: &[u8], stamp: Stamp) -> Result<Block, Fault>
@@ -142,11 +146,12 @@ fn text_of_call(
     Ok(text)
 }
 
-/// The block of one operation, which invokes or completes a transaction. A fail and an info have no micro-operations: the list
-/// is ignored then.
+/// The block of one operation, which invokes or completes a transaction. A fail and an info have no
+/// micro-operations: the list is ignored then.
 ///
-/// `TooManyMicroOps` comes first, if there are more than 256 of them, and then `TooLong`, if the operation's canonical text has
-/// more than 65,536 bytes. Neither has a place. Out of memory (`Memory`) may come before `TooLong`.
+/// `TooManyMicroOps` comes first, if there are more than 256 of them, and then `TooLong`, if the
+/// operation's canonical text has more than 65,536 bytes. Neither has a place. Out of memory
+/// (`Memory`) may come before `TooLong`.
 ///
 /// The block has a copy of the canonical text, and takes time and memory for its length.
 pub fn block_of_call(
@@ -162,7 +167,8 @@ pub fn block_of_call(
     ensures err { IfErr result (λ fault. (fault ≡ memory_fault)
         ⊎ (transaction_handed kind process mops.now ≡ Err fault)) }
 {
-    // Laws, called for their clauses: canonical text reads as its operation and nothing else, and an operation is in its text.
+    // Laws, called for their clauses: canonical text reads as its operation and nothing else, and
+    // an operation is in its text.
     canonical_text_reads_back();
     operations_read_alone();
     let text = text_of_call(alloc, kind, process, mops)?;

@@ -40,7 +40,8 @@ fn read_part(alloc: Global, text: &[u8], starts: &[usize], index: usize) -> Opti
     Some(Part { index, blocks })
 }
 
-/// Reads one part after the other, each the next that no thread has taken yet. One that doesn't read by itself is left out.
+/// Reads one part after the other, each the next that no thread has taken yet. One that doesn't
+/// read by itself is left out.
 pub fn take_parts(alloc: Global, text: &[u8], starts: &[usize], next: &AtomicUsize) -> Vec<Part>
     requires { AreStarts text.now starts.now }
     ensures { All (IsPartOf text.now starts.now) result.items }
@@ -60,7 +61,8 @@ pub fn take_parts(alloc: Global, text: &[u8], starts: &[usize], next: &AtomicUsi
     parts
 }
 
-/// Puts the blocks of a part behind those of the parts before it, if it is the one with this index and memory doesn't run out.
+/// Puts the blocks of a part behind those of the parts before it, if it is the one with this index
+/// and memory doesn't run out.
 fn put_behind(
     text: &[u8],
     starts: &[usize],

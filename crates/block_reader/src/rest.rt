@@ -21,8 +21,8 @@ fn behind_blanks(alloc: Global, rest: &[u8], offset: usize) -> Result<Vec<u8>, A
     Ok(text)
 }
 
-/// The operations of the rest of a text, whose front has so many bytes and leaves nothing open. Places of faults are those of the whole
-/// text.
+/// The operations of the rest of a text, whose front has so many bytes and leaves nothing open.
+/// Places of faults are those of the whole text.
 pub(crate) fn blocks_of_rest(alloc: Global, rest: &[u8], offset: usize) -> Result<Vec<Block>, Fault>
     ensures ok { (front : List ℕ) → length front ≡ offset → IfOk result
         (λ blocks. GivesFrom (front ++ rest.now) offset (operations_in blocks.items) None) }

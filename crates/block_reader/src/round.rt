@@ -1,4 +1,5 @@
-//! One round of reading: lines of a text, by several threads, while what was read before is handed on.
+//! One round of reading: lines of a text, by several threads, while what was read before is handed
+//! on.
 
 ghost use Rattle.std.specs.Prelude.{◌≡◌, ℕ, List, ◌++◌, All, IfOk, IfSome};
 ghost use Rattle.hist_types.specs.Operations.{Operation};
@@ -62,7 +63,8 @@ fn in_order(mut parts: Vec<Part>, mut others: Vec<Part>) -> Result<Vec<Part>, Al
     Ok(parts)
 }
 
-/// Reads the parts, by this thread and so many helpers. Before this one reads along, the consumer takes the blocks of the round before.
+/// Reads the parts, by this thread and so many helpers. Before this one reads along, the consumer
+/// takes the blocks of the round before.
 fn read_parts<'a, R: Threads + Sync, C: Consumer<'a>>(
     rt: &R,
     alloc: Global,
@@ -104,8 +106,8 @@ fn read_parts<'a, R: Threads + Sync, C: Consumer<'a>>(
     }
 }
 
-/// The blocks of these lines, if each part of them reads by itself and memory doesn't run out. Before that, the consumer takes the blocks
-/// of the round before.
+/// The blocks of these lines, if each part of them reads by itself and memory doesn't run out.
+/// Before that, the consumer takes the blocks of the round before.
 pub(crate) fn read_round<'a, R: Threads + Sync, C: Consumer<'a>>(
     rt: &R,
     alloc: Global,

@@ -16,7 +16,8 @@ use std::alloc::{AllocError, Global};
 use std::sync::OnceLock;
 use std::thread::Threads;
 
-/// How many bytes a round has at least, if there are as many, where one thread reads them. They and their blocks stay in its cache.
+/// How many bytes a round has at least, if there are as many, where one thread reads them. They and
+/// their blocks stay in its cache.
 const ROUND_BYTES: usize = 1 << 17;
 
 /// How many it has where several threads do, so that each of them has a few parts.
@@ -68,7 +69,8 @@ impl From<AllocError> for InputFault {
     }
 }
 
-/// How many bytes the round has that begins after so many: a 256th part of them or more, so that few rounds are enough for any text.
+/// How many bytes the round has that begins after so many: a 256th part of them or more, so that
+/// few rounds are enough for any text.
 fn round_after(offset: usize, helpers: usize) -> usize {
     let least = if helpers == 0 {
         ROUND_BYTES
@@ -119,7 +121,8 @@ impl Reading {
         }
     }
 
-    /// Reads until there are so many bytes or the source ends. Behind its end nothing is asked of it.
+    /// Reads until there are so many bytes or the source ends. Behind its end nothing is asked of
+    /// it.
     fn fill<S: Source>(&mut self, source: &mut S, wanted: usize) -> Result<(), InputFault>
         ensures ok { (began : S) (operations : List Operation)
             → HasCome S.Source began source.old self.old operations
@@ -144,8 +147,9 @@ impl Reading {
     }
 }
 
-/// Reads one round more into the cell, by this thread and up to so many others, while the consumer takes the blocks of the round before,
-/// and returns the round's blocks and whether there may be another. Where no line ends, or a part doesn't read by itself, it gives none.
+/// Reads one round more into the cell, by this thread and up to so many others, while the consumer
+/// takes the blocks of the round before, and returns the round's blocks and whether there may be
+/// another. Where no line ends, or a part doesn't read by itself, it gives none.
 fn one_round<'a, R: Threads + Sync, S: Source, C: Consumer<'a>>(
     rt: &R,
     alloc: Global,
@@ -200,11 +204,13 @@ fn the_rest<'a, S: Source>(
     Ok(fill(cell, blocks)?)
 }
 
-/// Reads a source to its end, by this thread and up to so many others, as many as there are workers and processors, and hands the
-/// blocks of its operations to the consumer, which has them all in the end. A fault of reading comes wherever it is in the text.
+/// Reads a source to its end, by this thread and up to so many others, as many as there are workers
+/// and processors, and hands the blocks of its operations to the consumer, which has them all in
+/// the end. A fault of reading comes wherever it is in the text.
 ///
-/// The lines of a round are read in parts, while the consumer takes what the round before gave, and are then forgotten: the blocks have
-/// copies of what is wanted of them. Where a part doesn't read by itself, all that is left of the text is read at once.
+/// The lines of a round are read in parts, while the consumer takes what the round before gave, and
+/// are then forgotten: the blocks have copies of what is wanted of them. Where a part doesn't read
+/// by itself, all that is left of the text is read at once.
 pub fn read_source<'a, R: Threads + Sync, S: Source, C: Consumer<'a>>(
     rt: &R,
     alloc: Global,

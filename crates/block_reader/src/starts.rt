@@ -13,7 +13,8 @@ use std::thread::{Threads, available_parallelism};
 /// How many bytes a part has, up to the end of a line.
 const PART_BYTES: usize = 1 << 16;
 
-/// How many threads read beside the caller's: no more than there are other workers and other processors.
+/// How many threads read beside the caller's: no more than there are other workers and other
+/// processors.
 pub(crate) fn helpers_of<R: Threads>(rt: &R, workers: usize) -> usize {
     match available_parallelism(rt) {
         Ok(processors) => processors.get().min(workers).saturating_sub(1),
@@ -51,8 +52,8 @@ pub(crate) fn last_line(text: &[u8]) -> Option<usize>
     None
 }
 
-/// Where the parts of a text begin, in order: at its start alone if one thread reads it, else also behind lines that end with a map, as
-/// Jepsen prints them.
+/// Where the parts of a text begin, in order: at its start alone if one thread reads it, else also
+/// behind lines that end with a map, as Jepsen prints them.
 pub(crate) fn starts_of(
     alloc: Global,
     helpers: usize,

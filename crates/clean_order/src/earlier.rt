@@ -23,8 +23,9 @@ pub struct Earlier {
     links: Vec<Link>,
 }
 
-/// Whether what follows the version may be installed by others than its readers, as where it is nil, and where keys are sequential,
-/// or by several, of which each reads it. These have no order, unless their starts and their commits are put apart.
+/// Whether what follows the version may be installed by others than its readers, as where it is
+/// nil, and where keys are sequential, or by several, of which each reads it. These have no order,
+/// unless their starts and their commits are put apart.
 pub fn leads_on(history: &History<'_, '_>, apart: bool, number: usize) -> bool {
     if history.keys() == KeyOrder::Sequential {
         return true;
@@ -35,7 +36,8 @@ pub fn leads_on(history: &History<'_, '_>, apart: bool, number: usize) -> bool {
     history.version(number).value().is_none() || (apart && history.followers(number).len() > 1)
 }
 
-/// The index of the event that completed the transaction at the place, if it is ok, and else one that no event has.
+/// The index of the event that completed the transaction at the place, if it is ok, and else one
+/// that no event has.
 fn end_of(history: &History<'_, '_>, place: u32) -> u64 {
     let place = place as usize;
     if place >= history.txns().len() {
@@ -48,7 +50,8 @@ fn end_of(history: &History<'_, '_>, place: u32) -> u64 {
     }
 }
 
-/// The index of the event with which all that wrote or read the version had completed. It may be one that no event has.
+/// The index of the event with which all that wrote or read the version had completed. It may be
+/// one that no event has.
 fn last_end(history: &History<'_, '_>, number: usize) -> u64 {
     if number >= history.versions() {
         return 0;
@@ -70,8 +73,8 @@ fn is_invoked_after(history: &History<'_, '_>, place: u32, index: u64) -> bool {
 }
 
 impl Earlier {
-    /// A transaction that was invoked after all that wrote or read a version had completed is put after them in any case, so what it
-    /// installs needs no link.
+    /// A transaction that was invoked after all that wrote or read a version had completed is put
+    /// after them in any case, so what it installs needs no link.
     pub fn of(alloc: Global, history: &History<'_, '_>, apart: bool) -> Result<Self, AllocError> {
         let mut earlier = Earlier {
             firsts: vec![in alloc; NONE; history.versions()]?,
@@ -85,7 +88,8 @@ impl Earlier {
         Ok(earlier)
     }
 
-    /// Adds the version to those of each one that follows it, and that needs a link. Followers come in the order of their places.
+    /// Adds the version to those of each one that follows it, and that needs a link. Followers come
+    /// in the order of their places.
     fn add_followers(
         &mut self,
         history: &History<'_, '_>,

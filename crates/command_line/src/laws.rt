@@ -8,14 +8,16 @@ ghost use Rattle.command_line.specs.declared.types.Command.TheVariants.{Reads, E
 ghost use Rattle.hist_types.specs.declared.types.KeyOrder.{KeyOrder};
 ghost use Rattle.hist_types.specs.declared.types.KeyOrder.TheVariants.{Basic, Sequential};
 
-/// The program's name, whatever it is, and the word of a command ask for the command, with basic keys if it takes `--keys`.
+/// The program's name, whatever it is, and the word of a command ask for the command, with basic
+/// keys if it takes `--keys`.
 pub fn commands_are_asked_for()
     ensures reads { (name : List ℕ) → AskFor (Run Reads) (name ∷ codes "reads" ∷ []) }
     ensures edges { (name : List ℕ) → AskFor (Run (Edges Basic)) (name ∷ codes "edges" ∷ []) }
     ensures check { (name : List ℕ) → AskFor (Run (Check 1 Basic)) (name ∷ codes "check" ∷ []) }
 {}
 
-/// With `--keys`, `edges` and `check` ask for keys of the order that it names, in the next word or after `=`.
+/// With `--keys`, `edges` and `check` ask for keys of the order that it names, in the next word or
+/// after `=`.
 pub fn keys_are_asked_for()
     ensures edges { (keys : KeyOrder) (name : List ℕ) → AskFor (Run (Edges keys))
         (name ∷ codes "edges" ∷ codes "--keys" ∷ name_of_order keys ∷ []) }
@@ -27,7 +29,8 @@ pub fn keys_are_asked_for()
         (name ∷ codes "check" ∷ (codes "--keys=" ++ name_of_order keys) ∷ []) }
 {}
 
-/// `edges` and `check` ask for nothing if `--keys` names no order or is the last word, and `reads` takes no such option.
+/// `edges` and `check` ask for nothing if `--keys` names no order or is the last word, and `reads`
+/// takes no such option.
 pub fn no_keys_are_asked_for()
     ensures edges { (name : List ℕ)
         → AskForNothing (name ∷ codes "edges" ∷ codes "--keys" ∷ codes "other" ∷ []) }
@@ -41,7 +44,8 @@ pub fn no_keys_are_asked_for()
         → AskForNothing (name ∷ codes "reads" ∷ codes "--keys" ∷ name_of_order keys ∷ []) }
 {}
 
-/// With `--workers`, `check` asks for so many threads, in the next word or after `=`, before another option or after it.
+/// With `--workers`, `check` asks for so many threads, in the next word or after `=`, before
+/// another option or after it.
 pub fn workers_are_asked_for()
     ensures apart { (name : List ℕ) → AskFor (Run (Check 2 Basic))
         (name ∷ codes "check" ∷ codes "--workers" ∷ codes "2" ∷ []) }
@@ -52,8 +56,8 @@ pub fn workers_are_asked_for()
         ∷ []) }
 {}
 
-/// `check` asks for nothing if `--workers` names no number from 1 to 64 in digits alone or is the last word, and `edges` takes no
-/// such option.
+/// `check` asks for nothing if `--workers` names no number from 1 to 64 in digits alone or is the
+/// last word, and `edges` takes no such option.
 pub fn no_workers_are_asked_for()
     ensures zero { (name : List ℕ)
         → AskForNothing (name ∷ codes "check" ∷ codes "--workers=0" ∷ []) }
@@ -67,9 +71,9 @@ pub fn no_workers_are_asked_for()
         → AskForNothing (name ∷ codes "edges" ∷ codes "--workers=2" ∷ []) }
 {}
 
-/// The program's name, whatever it is, `serve` and paths two by two ask for a session for each pair, at a journal of 65,536
-/// cells or of so many as `--cells` says, with basic keys or those of the order that `--keys` names, before the paths or after
-/// them.
+/// The program's name, whatever it is, `serve` and paths two by two ask for a session for each
+/// pair, at a journal of 65,536 cells or of so many as `--cells` says, with basic keys or those of
+/// the order that `--keys` names, before the paths or after them.
 pub fn sessions_are_asked_for()
     ensures alone { (name : List ℕ) → AskToServe 65536 Basic (codes "in" ∷ codes "out" ∷ [])
         (name ∷ codes "serve" ∷ codes "in" ∷ codes "out" ∷ []) }
@@ -93,8 +97,9 @@ pub fn sessions_are_asked_for()
         ∷ codes "--cells=1048576" ∷ []) }
 {}
 
-/// `serve` asks for no session with a path alone or an odd number of them, with a number of cells that is 0, more than
-/// 1,048,576 or written with a sign, or with `--keys` that names no order or is the last word.
+/// `serve` asks for no session with a path alone or an odd number of them, with a number of cells
+/// that is 0, more than 1,048,576 or written with a sign, or with `--keys` that names no order or
+/// is the last word.
 pub fn no_sessions_are_asked_for()
     ensures one { (name : List ℕ) → AskForNothing (name ∷ codes "serve" ∷ codes "in" ∷ []) }
     ensures three { (name : List ℕ)
@@ -113,7 +118,8 @@ pub fn no_sessions_are_asked_for()
         → AskForNothing (name ∷ codes "serve" ∷ codes "in" ∷ codes "out" ∷ codes "--keys" ∷ []) }
 {}
 
-/// The program's name and `--help` ask for help, and so they do with the word of a command between them.
+/// The program's name and `--help` ask for help, and so they do with the word of a command between
+/// them.
 pub fn help_is_asked_for()
     ensures alone { GetHelp (codes "--help" ∷ []) }
     ensures command { (command : Command) → GetHelp (word_of command ∷ codes "--help" ∷ []) }

@@ -10,7 +10,8 @@ pub enum Command {
     Reads,
     /// Print the dependency edges between transactions, of keys of this order.
     Edges(KeyOrder),
-    /// Print which phenomena the history has, with what shows each, of keys of this order. So many threads may work on it.
+    /// Print which phenomena the history has, with what shows each, of keys of this order. So many
+    /// threads may work on it.
     Check { workers: usize, keys: KeyOrder },
 }
 
@@ -18,8 +19,8 @@ pub enum Command {
 #[derive(Debug, Drop)]
 pub enum Asked {
     Run(Command),
-    /// A session for each pair of paths, all at a journal of this many cells and with keys of this order. Of a pair the first
-    /// path is read from, and the second one is written to.
+    /// A session for each pair of paths, all at a journal of this many cells and with keys of this
+    /// order. Of a pair the first path is read from, and the second one is written to.
     Serve {
         cells: usize,
         keys: KeyOrder,
@@ -30,7 +31,8 @@ pub enum Asked {
 /// Why a command line asks for nothing that can be done.
 #[derive(Debug, Drop)]
 pub enum LineFault {
-    /// It asks for help, and the text is the help; or it is none of the program's lines, and the text says why.
+    /// It asks for help, and the text is the help; or it is none of the program's lines, and the
+    /// text says why.
     Usage(String),
     Memory,
 }

@@ -199,7 +199,8 @@ fn help(alloc: Global) -> LineFault
     }
 }
 
-/// The fault of a line with this message, of which the first line is printed, and this closing line.
+/// The fault of a line with this message, of which the first line is printed, and this closing
+/// line.
 fn wrong(alloc: Global, message: &str, closing: &str) -> LineFault
     ensures { SaysWhatIsWrong closing.now result }
 {
@@ -277,7 +278,8 @@ fn keys_in(text: &str) -> Option<KeyOrder>
     }
 }
 
-/// Whether paths come in pairs, of which there is one at least, and no more than seats can be numbered.
+/// Whether paths come in pairs, of which there is one at least, and no more than seats can be
+/// numbered.
 fn come_in_pairs(paths: &[&str]) -> bool
     ensures { result ≡ come_in_pairs (map (λ path. path.now) paths.now) }
 {
@@ -429,7 +431,8 @@ fn asked_by(
 
 /// What the words ask for, of which the first is the program's name.
 pub fn asked_for(alloc: Global, words: &[String]) -> Result<Asked, LineFault>
-    // The answer is what the words ask for, and where they ask for something only memory can be missing.
+    // The answer is what the words ask for, and where they ask for something only memory can be
+    // missing.
     ensures only { IfOk result (λ asked. AskFor asked (map string_bytes words.entry.now)) }
     ensures asked { (asked : Asked) → AskFor asked (map string_bytes words.entry.now)
         → IfErr result (λ fault. fault ≡ LineFault.Memory) }
@@ -437,7 +440,8 @@ pub fn asked_for(alloc: Global, words: &[String]) -> Result<Asked, LineFault>
     ensures help { AskForHelp (map string_bytes words.entry.now) → IfErr result Helps }
     ensures wrong { let words = map string_bytes words.entry.now in
         ¬ MayAskForHelp words → IfErr result (SaysWhatIsWrong (closing_line words)) }
-    // Whatever is wrong with a line, its text is the help, or one line on what is wrong and the line that closes it.
+    // Whatever is wrong with a line, its text is the help, or one line on what is wrong and the
+    // line that closes it.
     ensures either { let closing = closing_line (map string_bytes words.entry.now) in
         IfErr result (λ fault. Helps fault ⊎ SaysWhatIsWrong closing fault) }
 {

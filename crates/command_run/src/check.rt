@@ -46,8 +46,9 @@ fn answer(verdict: Verdict<'_>) -> Answer
     }
 }
 
-/// What `check` prints of events that keep the rules, by n threads. No table of versions is made where a replay shows that there is
-/// nothing to find. It fails only for want of memory or of a thread.
+/// What `check` prints of events that keep the rules, by n threads. No table of versions is made
+/// where a replay shows that there is nothing to find. It fails only for want of memory or of a
+/// thread.
 pub fn report<'a, R: Threads + Wait + Sync, S: BuildHasher + Copy>(
     rt: &R,
     alloc: Global,

@@ -13,7 +13,8 @@ use std::alloc::Global;
 use std::sync::Wait;
 use std::thread::Threads;
 
-/// What is said on standard error: the help, what is wrong with the command line, or that a device failed.
+/// What is said on standard error: the help, what is wrong with the command line, or that a device
+/// failed.
 fn complaint(command: &Result<Command, LineFault>, status: Status) -> &[u8]
     ensures { result.now ≡ complaint command.now status }
 {
@@ -24,7 +25,8 @@ fn complaint(command: &Result<Command, LineFault>, status: Status) -> &[u8]
     }
 }
 
-/// Runs the command that the command line asks for, and returns how that ended. A sink for errors that fails changes nothing.
+/// Runs the command that the command line asks for, and returns how that ended. A sink for errors
+/// that fails changes nothing.
 pub fn dispatch<R: Threads + Wait + Sync, S: Source, T: Sink, E: Sink>(
     rt: &R,
     alloc: Global,
@@ -38,7 +40,8 @@ pub fn dispatch<R: Threads + Wait + Sync, S: Source, T: Sink, E: Sink>(
     // A fault of the command line is refused, and the source is left alone.
     ensures refused { IfErr command (λ fault. HasRefusedLine T.Sink fault result sink.old sink.new) }
     ensures unread { OnErr command (source.new ≡ source.old) }
-    // The sink for errors gets the help, what is wrong with the command line, or that a device failed.
+    // The sink for errors gets the help, what is wrong with the command line, or that a device
+    // failed.
     ensures errors { HasTakenUnlessFailed E.Sink errors.old errors.new (complaint command result) }
 {
     let status = match &command {

@@ -50,7 +50,8 @@ impl<'a> Judged<'a> {
         }
     }
 
-    /// With the operations of these blocks after its own or, where one breaks a rule, the first such rule.
+    /// With the operations of these blocks after its own or, where one breaks a rule, the first
+    /// such rule.
     pub fn extended(self, blocks: &'a [Block]) -> Result<Self, Fault>
         ensures ok { IfOk result
             (λ judged. judged.core.events ≡ self.entry.core.events ++ operations_in blocks.now) }

@@ -17,7 +17,8 @@ use std::alloc::Global;
 use std::sync::OnceLock;
 use std::thread::Threads;
 
-/// Judges the blocks of a text, those of one round after those of the other. Blocks after a broken rule are passed over.
+/// Judges the blocks of a text, those of one round after those of the other. Blocks after a broken
+/// rule are passed over.
 #[derive(Drop)]
 struct Judging<'a> {
     judged: Result<Judged<'a>, Fault>,

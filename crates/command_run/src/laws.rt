@@ -12,8 +12,9 @@ ghost use Rattle.command_line.specs.declared.types.Command.TheVariants.{Check};
 
 use reading_laws::texts_have_one_reading;
 
-/// A text has one answer of a command at most, other than what the program lacks: one status, and one output with it.
-/// Only two reports of `check` over keys of one order may differ, in their witnesses alone.
+/// A text has one answer of a command at most, other than what the program lacks: one status, and
+/// one output with it. Only two reports of `check` over keys of one order may differ, in their
+/// witnesses alone.
 pub fn one_answer_to_a_text()
     ensures status { (command : Command) (text : List ℕ)
         (status other : Status) (printed others : List ℕ) → status ≢ Lacking → other ≢ Lacking
@@ -43,8 +44,8 @@ pub fn an_answer_to_each_text()
     texts_have_one_reading();
 }
 
-/// A history that `check` refutes isn't strictly serializable: where it ends with status 1, or prints `strict refuted` at the
-/// end, no order explains the history that it read.
+/// A history that `check` refutes isn't strictly serializable: where it ends with status 1, or
+/// prints `strict refuted` at the end, no order explains the history that it read.
 pub fn refuted_histories_have_no_explanation()
     ensures status { (workers : ℕ) (keys : KeyOrder) (text printed : List ℕ)
         → IsAnswer (Check workers keys) text SomePhenomenon printed → HasNoExplanation text }

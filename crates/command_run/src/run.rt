@@ -127,7 +127,8 @@ pub fn run<R: Threads + Wait + Sync, S: Source, T: Sink>(
     source: &mut S,
     sink: &mut T,
 ) -> Status
-    // What is printed answers the source's bytes, and a device fault is reported exactly where a device failed.
+    // What is printed answers the source's bytes, and a device fault is reported exactly where a
+    // device failed.
     ensures { HasRun S.Source T.Sink command result source.old source.new sink.old sink.new }
 {
     match judge(rt, alloc, command, source) {

@@ -97,8 +97,8 @@ where
     )
 }
 
-/// The table of the versions that the transactions name. Where there are several workers, a second one makes the thinned order
-/// meanwhile. The only error is out of memory.
+/// The table of the versions that the transactions name. Where there are several workers, a second
+/// one makes the thinned order meanwhile. The only error is out of memory.
 pub fn table_and_order<'a, R: Threads, S: BuildHasher + Copy>(
     rt: &R,
     alloc: Global,

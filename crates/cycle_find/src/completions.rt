@@ -59,7 +59,8 @@ pub(crate) fn lane(level: Level, txn: &Txn<'_>) -> u64
     }
 }
 
-/// Whether a follower of the version in the lane is known to have completed by the event of the index.
+/// Whether a follower of the version in the lane is known to have completed by the event of the
+/// index.
 pub(crate) fn is_known_by(
     earliest: &ProcessMap<Earliest>,
     version: usize,

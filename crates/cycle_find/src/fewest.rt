@@ -1,9 +1,11 @@
 //! The search for a closed walk with fewer dependency edges than one that was found.
 //!
-//! Such a walk is a needed edge and a way back from its second end to its first. So for a bound on the way back, which rises, each
-//! transaction to which a needed edge leads is searched from, layer by layer: order edges cost nothing. Labels say which vertices
-//! lead back in time to any transaction from which such an edge comes, for so few dependency edges; no other is entered, and most
-//! transactions aren't searched from at all. Beside its labels it stores a few numbers for each vertex and each needed arc.
+//! Such a walk is a needed edge and a way back from its second end to its first. So for a bound on
+//! the way back, which rises, each transaction to which a needed edge leads is searched from, layer
+//! by layer: order edges cost nothing. Labels say which vertices lead back in time to any
+//! transaction from which such an edge comes, for so few dependency edges; no other is entered, and
+//! most transactions aren't searched from at all. Beside its labels it stores a few numbers for
+//! each vertex and each needed arc.
 
 ghost use Rattle.std.specs.Prelude.{◌≡◌, ◌+◌, ◌<◌, ℕ, length, option_map, IfOk};
 ghost use Rattle.std.specs.List.{list_any};
@@ -86,7 +88,8 @@ pub(crate) struct Fewest<'r, 'g, 'v, 'a> {
     needed: GraphArcs<'r>,
     /// For each vertex, what leads to it by such an arc.
     leading: Groups<u32>,
-    /// For each transaction, a place that none of those is above from which a needed edge leads to it.
+    /// For each transaction, a place that none of those is above from which a needed edge leads to
+    /// it.
     last: Vec<usize>,
     /// The arcs of a way back that cost no dependency edge.
     free: SplitArcs<'r>,
@@ -133,7 +136,8 @@ impl<'r, 'g, 'v, 'a> Fewest<'r, 'g, 'v, 'a> {
         })
     }
 
-    /// A closed walk with the fewest dependency edges, by one that was found. Each has more than the floor.
+    /// A closed walk with the fewest dependency edges, by one that was found. Each has more than
+    /// the floor.
     pub fn find(&self, first: Walk<'a>, floor: usize) -> Result<Walk<'a>, AllocError>
         requires shows { Shows self.now.phenomenon (edges_in self.now.graph self.now.level) first }
         ensures shows { IfOk result
@@ -148,8 +152,8 @@ impl<'r, 'g, 'v, 'a> Fewest<'r, 'g, 'v, 'a> {
         self.find_by(&mut search, &mut marks, first, floor)
     }
 
-    /// Asks for a walk with one dependency edge more than the floor, with two more, and so on. Where that takes many rounds, it goes
-    /// on by bounds that are far apart.
+    /// Asks for a walk with one dependency edge more than the floor, with two more, and so on.
+    /// Where that takes many rounds, it goes on by bounds that are far apart.
     fn find_by(
         &self,
         search: &mut Search,
@@ -181,8 +185,8 @@ impl<'r, 'g, 'v, 'a> Fewest<'r, 'g, 'v, 'a> {
         self.find_far(search, marks, first, few)
     }
 
-    /// A closed walk with the fewest dependency edges, by one that was found, where each has more than a number. The bound doubles
-    /// until one has so few, and then halves what is left.
+    /// A closed walk with the fewest dependency edges, by one that was found, where each has more
+    /// than a number. The bound doubles until one has so few, and then halves what is left.
     fn find_far(
         &self,
         search: &mut Search,
@@ -212,8 +216,9 @@ impl<'r, 'g, 'v, 'a> Fewest<'r, 'g, 'v, 'a> {
         Ok(best)
     }
 
-    /// A closed walk whose way back has at most so many dependency edges. Where a transaction was searched from in vain, needed
-    /// edges to it are no part of one, and without those more and more vertices have a rank of their own.
+    /// A closed walk whose way back has at most so many dependency edges. Where a transaction was
+    /// searched from in vain, needed edges to it are no part of one, and without those more and
+    /// more vertices have a rank of their own.
     fn find_past(
         &self,
         search: &mut Search,
@@ -264,7 +269,8 @@ impl<'r, 'g, 'v, 'a> Fewest<'r, 'g, 'v, 'a> {
         }
     }
 
-    /// One by a needed edge that leads to the transaction, where those to earlier ones are no part of any.
+    /// One by a needed edge that leads to the transaction, where those to earlier ones are no part
+    /// of any.
     fn find_to_past(
         &self,
         search: &mut Search,
@@ -294,7 +300,8 @@ impl<'r, 'g, 'v, 'a> Fewest<'r, 'g, 'v, 'a> {
         }
     }
 
-    /// A way back from the transaction to one from which a needed edge leads to it, among the vertices of its rank.
+    /// A way back from the transaction to one from which a needed edge leads to it, among the
+    /// vertices of its rank.
     fn way_in_rank(
         &self,
         search: &mut Search,

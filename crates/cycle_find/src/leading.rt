@@ -60,7 +60,8 @@ fn raise(arcs: &GraphArcs<'_>, from: usize, number: usize, last: &mut [usize])
     }
 }
 
-/// For each vertex, the greatest of the first places from which an arc leads to it, or a way by a vertex behind them.
+/// For each vertex, the greatest of the first places from which an arc leads to it, or a way by a
+/// vertex behind them.
 pub(crate) fn last_leading(
     alloc: Global,
     arcs: &GraphArcs<'_>,

@@ -1,7 +1,8 @@
 //! The search for a closed walk with one dependency edge, by one look at each arc.
 //!
-//! Such a walk goes back from the second end of that edge to its first along order edges alone. So there is one exactly where the
-//! level's order puts the second end of a needed edge before its first.
+//! Such a walk goes back from the second end of that edge to its first along order edges alone. So
+//! there is one exactly where the level's order puts the second end of a needed edge before its
+//! first.
 
 ghost use Rattle.std.specs.Prelude.{◌≡◌, ◌+◌, ◌<◌, ℕ, length, None, IfOk, OnOk};
 ghost use Rattle.std.specs.Bool.{OnTrue, OnFalse};

@@ -57,8 +57,8 @@ fn ranks_at_all_levels(alloc: Global, graph: &Graph<'_, '_, '_>) -> Result<Ranks
     ensures { IfOk result (AreRanksAtAll graph.now) }
 {
     let ranks = ranks_over(alloc, graph, Dependencies::All, Level::Realtime)?;
-    // The order of each process goes along walks in real time, so these ranks serve for it too. That is only checked. The other
-    // dependencies are those that the ranks are over.
+    // The order of each process goes along walks in real time, so these ranks serve for it too.
+    // That is only checked. The other dependencies are those that the ranks are over.
     let in_process = graph.arcs(Dependencies::Ww, Level::Process);
     if ranks.hold_in(&in_process) {
         Ok(ranks)
@@ -67,8 +67,8 @@ fn ranks_at_all_levels(alloc: Global, graph: &Graph<'_, '_, '_>) -> Result<Ranks
     }
 }
 
-/// The most dependencies for which one look at each of their edges settles that no cycle goes along them and the order at real time
-/// alone, if there are such.
+/// The most dependencies for which one look at each of their edges settles that no cycle goes along
+/// them and the order at real time alone, if there are such.
 fn acyclic(
     alloc: Global,
     graph: &Graph<'_, '_, '_>,
@@ -108,7 +108,8 @@ impl<'r, 'g, 'v, 'a> RankedGraph<'r, 'g, 'v, 'a> {
         })
     }
 
-    /// Whether looks at single edges settled that the phenomenon isn't shown at real time. Where they didn't, that says nothing.
+    /// Whether looks at single edges settled that the phenomenon isn't shown at real time. Where
+    /// they didn't, that says nothing.
     pub fn rules_out(&self, phenomenon: Phenomenon) -> bool
         ensures { OnTrue result (¬ IsShownBy phenomenon (edges_in self.now Realtime)) }
     {

@@ -80,10 +80,11 @@ impl<'r, 'g, 'v, 'a> RankedLevel<'r, 'g, 'v, 'a> {
         self.level
     }
 
-    /// A closed walk that shows the phenomenon at the level, or none where the graph's edges have none. Of all such walks it has
-    /// the fewest dependency edges; order edges count nothing.
+    /// A closed walk that shows the phenomenon at the level, or none where the graph's edges have
+    /// none. Of all such walks it has the fewest dependency edges; order edges count nothing.
     ///
-    /// It takes a few numbers for each vertex and arc, and no edges are stored but those of the walk.
+    /// It takes a few numbers for each vertex and arc, and no edges are stored but those of the
+    /// walk.
     pub fn find(&self, phenomenon: Phenomenon) -> Result<Option<Walk<'a>>, AllocError>
         ensures found { IfOk result (IsFound phenomenon (edges_in self.now.graph self.now.level)) }
         ensures fewest { IfOk result
@@ -149,7 +150,8 @@ impl<'r, 'g, 'v, 'a> RankedLevel<'r, 'g, 'v, 'a> {
         }
     }
 
-    /// A closed walk with the fewest, by one that shows the phenomenon. Each has more than the floor.
+    /// A closed walk with the fewest, by one that shows the phenomenon. Each has more than the
+    /// floor.
     fn find_fewest(&self, phenomenon: Phenomenon, first: Walk<'a>) -> Result<Walk<'a>, AllocError>
         requires { Shows phenomenon (edges_in self.now.graph self.now.level) first }
         ensures shows { IfOk result (Shows phenomenon (edges_in self.now.graph self.now.level)) }
@@ -181,7 +183,8 @@ impl<'r, 'g, 'v, 'a> RankedLevel<'r, 'g, 'v, 'a> {
         Finder::new(self.alloc, self.graph, phenomenon, self.level, rankings).find()
     }
 
-    /// A closed walk that shows G2-item. One look at each edge, by ranks over all of them, mostly settles that there is none.
+    /// A closed walk that shows G2-item. One look at each edge, by ranks over all of them, mostly
+    /// settles that there is none.
     fn find_item(&self) -> Result<Option<Walk<'a>>, AllocError>
         ensures { IfOk result (IsFound G2Item (edges_in self.now.graph self.now.level)) }
     {
@@ -208,8 +211,9 @@ impl<'r, 'g, 'v, 'a> RankedLevel<'r, 'g, 'v, 'a> {
         finder.find()
     }
 
-    /// A closed walk that shows G-single. Where there is none, each pair of a version's reader and follower is looked at, and three
-    /// rankings over the arcs of the way back settle most of them without a search.
+    /// A closed walk that shows G-single. Where there is none, each pair of a version's reader and
+    /// follower is looked at, and three rankings over the arcs of the way back settle most of them
+    /// without a search.
     fn find_single(&self) -> Result<Option<Walk<'a>>, AllocError>
         ensures { IfOk result (IsFound GSingle (edges_in self.now.graph self.now.level)) }
     {

@@ -27,8 +27,8 @@ pub(crate) fn ranks_over(
     Ranks::of(alloc, &graph.arcs(dependencies, level))
 }
 
-/// Ranks that don't fall along any such arc between two vertices of one coarse rank. Only vertices that share theirs are
-/// searched.
+/// Ranks that don't fall along any such arc between two vertices of one coarse rank. Only vertices
+/// that share theirs are searched.
 pub(crate) fn ranks_within(
     alloc: Global,
     graph: &Graph<'_, '_, '_>,
@@ -62,8 +62,8 @@ fn from_last(alloc: Global, shared: &Shared) -> Result<Vec<u32>, AllocError>
 pub(crate) struct FarAndLate {
     /// By the highest that a vertex leads to.
     pub far: Ranks,
-    /// By a search that begins at the last vertex. Of two transactions, neither of which leads to the other, it mostly ranks the
-    /// later one higher.
+    /// By a search that begins at the last vertex. Of two transactions, neither of which leads to
+    /// the other, it mostly ranks the later one higher.
     pub late: Ranks,
 }
 
@@ -123,11 +123,13 @@ impl Arcs for ArcsLeaving<'_> {
 pub(crate) struct Rankings<'r> {
     /// Component numbers that don't fall along any arc of a closed walk.
     pub coarse: &'r Ranks,
-    /// Finer ones: where `coarse` is the same, these don't fall along any arc of a closed walk either.
+    /// Finer ones: where `coarse` is the same, these don't fall along any arc of a closed walk
+    /// either.
     pub ranks: &'r Ranks,
     /// Finer still: where `coarse` is the same, these don't fall along any arc of the way back.
     pub back: &'r Ranks,
-    /// Nor do these two. They may have vertices the other way round that `back` put in an order for no arc's sake.
+    /// Nor do these two. They may have vertices the other way round that `back` put in an order for
+    /// no arc's sake.
     pub far: &'r Ranks,
     pub late: &'r Ranks,
 }

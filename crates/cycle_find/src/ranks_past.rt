@@ -133,7 +133,8 @@ impl Past {
         self.steps > self.ranks.len()
     }
 
-    /// Counts the steps of a search from a vertex, which goes no further where no other one has its rank.
+    /// Counts the steps of a search from a vertex, which goes no further where no other one has its
+    /// rank.
     pub fn count(&mut self, vertex: usize, most: usize)
         requires { vertex < length self.old }
         ensures { self.new ≡ self.old }

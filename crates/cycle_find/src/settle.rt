@@ -1,4 +1,5 @@
-//! One look at each dependency edge, which settles that there is no cycle where ranks rise along all of them.
+//! One look at each dependency edge, which settles that there is no cycle where ranks rise along
+//! all of them.
 
 ghost use Rattle.std.specs.Prelude.{◌≡◌, ◌+◌, ◌<◌, length};
 ghost use Rattle.std.specs.Bool.{OnTrue};
@@ -20,8 +21,8 @@ use graph_search::ranks::Ranks;
 use hist_types::types::Level;
 use std::marker::Model;
 
-/// Whether one look at each edge of these dependencies settles that no cycle goes along them and the order of the level alone. False
-/// settles nothing.
+/// Whether one look at each edge of these dependencies settles that no cycle goes along them and
+/// the order of the level alone. False settles nothing.
 pub(crate) fn shows_none(
     graph: &Graph<'_, '_, '_>,
     dependencies: Dependencies,
@@ -122,7 +123,8 @@ impl<'r, 'g, 'v, 'a> RankedEdges<'r, 'g, 'v, 'a> {
         }
     }
 
-    /// Whether one does along the rw edges from the transaction, which reads the version, to others.
+    /// Whether one does along the rw edges from the transaction, which reads the version, to
+    /// others.
     fn rise_by_version(&self, from: usize, version: usize) -> bool
         requires from { IsPlace self.now.graph.txns from }
         requires version { ¬ IsPlace self.now.graph.txns version }

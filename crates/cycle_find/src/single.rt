@@ -1,7 +1,7 @@
 //! Closed walks of two edges, found without a graph.
 //!
-//! A history of a database that promises less than serializability mostly has many of them, and then no graph need be built. Where
-//! none is found, there may be one all the same.
+//! A history of a database that promises less than serializability mostly has many of them, and
+//! then no graph need be built. Where none is found, there may be one all the same.
 
 ghost use Rattle.std.specs.Prelude.{IfOk, IfSome};
 ghost use Rattle.hist_types.specs.Edges.{edges_at};
@@ -23,7 +23,8 @@ use edge_graph::types::{Dependencies, Kinds};
 use hist_types::types::{Level, Phenomenon};
 use std::alloc::{AllocError, Global};
 
-/// A dependency edge of the kinds from one transaction to another, if there is one. It looks through all that leave the first.
+/// A dependency edge of the kinds from one transaction to another, if there is one. It looks
+/// through all that leave the first.
 fn dependency<'a>(
     alloc: Global,
     deps: &Deps<'_, 'a>,
@@ -110,10 +111,11 @@ pub fn between<'a>(
     there_and_back(alloc, deps, phenomenon, ends, way_back(phenomenon))
 }
 
-/// A closed walk along an rw edge and a ww or wr edge back, if one look at each version finds one: two transactions of which each
-/// depends on the other.
+/// A closed walk along an rw edge and a ww or wr edge back, if one look at each version finds one:
+/// two transactions of which each depends on the other.
 ///
-/// `verdict` asks for it before it builds a graph. It takes linear time, and a number for each transaction.
+/// `verdict` asks for it before it builds a graph. It takes linear time, and a number for each
+/// transaction.
 pub fn single_at_plain<'a>(
     alloc: Global,
     deps: &Deps<'_, 'a>,
@@ -128,10 +130,12 @@ pub fn single_at_plain<'a>(
     }
 }
 
-/// A closed walk along a wr edge and a ww or wr edge back, if one look at each version finds one: two transactions of which each
-/// reads or writes over what the other one wrote (circular information flow).
+/// A closed walk along a wr edge and a ww or wr edge back, if one look at each version finds one:
+/// two transactions of which each reads or writes over what the other one wrote (circular
+/// information flow).
 ///
-/// `verdict` asks for it before it builds a graph. It takes linear time, and a number for each transaction.
+/// `verdict` asks for it before it builds a graph. It takes linear time, and a number for each
+/// transaction.
 pub fn circular_flow<'a>(alloc: Global, deps: &Deps<'_, 'a>) -> Result<Option<Walk<'a>>, AllocError>
     ensures { IfOk result (λ found.
         IfSome found (ShowsByFewest G1c (edges_at deps.now.table.keys Plain deps.now.txns))) }
@@ -143,11 +147,11 @@ pub fn circular_flow<'a>(alloc: Global, deps: &Deps<'_, 'a>) -> Result<Option<Wa
     }
 }
 
-/// A closed walk along two rw edges, if one look at each version finds one: two transactions that read a version, and each wrote over
-/// it, so that one of the updates is lost.
+/// A closed walk along two rw edges, if one look at each version finds one: two transactions that
+/// read a version, and each wrote over it, so that one of the updates is lost.
 ///
-/// `verdict` asks for it before it builds a graph. It looks through what a transaction reads once for each version that the
-/// transaction follows.
+/// `verdict` asks for it before it builds a graph. It looks through what a transaction reads once
+/// for each version that the transaction follows.
 pub fn lost_update<'a>(alloc: Global, deps: &Deps<'_, 'a>) -> Result<Option<Walk<'a>>, AllocError>
     ensures { IfOk result (λ found.
         IfSome found (ShowsByFewest G2Item (edges_at deps.now.table.keys Plain deps.now.txns))) }
@@ -159,10 +163,11 @@ pub fn lost_update<'a>(alloc: Global, deps: &Deps<'_, 'a>) -> Result<Option<Walk
     }
 }
 
-/// A closed walk along two rw edges, if one look at each version finds one: two transactions of which each wrote over what the other
-/// one read (write skew).
+/// A closed walk along two rw edges, if one look at each version finds one: two transactions of
+/// which each wrote over what the other one read (write skew).
 ///
-/// `verdict` asks for it before it builds a graph. It takes linear time, and a number for each transaction.
+/// `verdict` asks for it before it builds a graph. It takes linear time, and a number for each
+/// transaction.
 pub fn write_skew<'a>(alloc: Global, deps: &Deps<'_, 'a>) -> Result<Option<Walk<'a>>, AllocError>
     ensures { IfOk result (λ found.
         IfSome found (ShowsByFewest G2Item (edges_at deps.now.table.keys Plain deps.now.txns))) }
@@ -174,10 +179,11 @@ pub fn write_skew<'a>(alloc: Global, deps: &Deps<'_, 'a>) -> Result<Option<Walk<
     }
 }
 
-/// A closed walk along an rw edge and a process edge back, if one look at each version finds one: a process reads an older version
-/// than one that it wrote.
+/// A closed walk along an rw edge and a process edge back, if one look at each version finds one: a
+/// process reads an older version than one that it wrote.
 ///
-/// `verdict` asks for it before it builds a graph. It takes linear time, and two numbers for each process.
+/// `verdict` asks for it before it builds a graph. It takes linear time, and two numbers for each
+/// process.
 pub fn single_in_process<'a>(
     alloc: Global,
     deps: &Deps<'_, 'a>,

@@ -1,5 +1,5 @@
-//! Where a closed walk of two edges may be: two transactions, by one look at each version. Nothing is claimed of
-//! them here: their edges are looked up afterwards.
+//! Where a closed walk of two edges may be: two transactions, by one look at each version. Nothing
+//! is claimed of them here: their edges are looked up afterwards.
 
 ghost use Rattle.dep_edges.specs.Tables.{IsNumber};
 
@@ -13,13 +13,13 @@ use key_versions::types::Follower;
 use process_map::map::ProcessMap;
 use std::alloc::{AllocError, Global};
 
-/// How many arcs are looked at, at most, for each transaction and version. Most histories have fewer. Without a limit, the time
-/// would grow with how many versions a transaction reads or installs, since each of them is looked at for each version that it
-/// follows.
+/// How many arcs are looked at, at most, for each transaction and version. Most histories have
+/// fewer. Without a limit, the time would grow with how many versions a transaction reads or
+/// installs, since each of them is looked at for each version that it follows.
 const LOOKS: usize = 32;
 
-/// A search for two transactions of which each depends on the other: the second follows a version that the first reads, or reads
-/// one that the first wrote, and an edge leads back.
+/// A search for two transactions of which each depends on the other: the second follows a version
+/// that the first reads, or reads one that the first wrote, and an edge leads back.
 #[derive(Drop)]
 struct MutualSearch<'r, 'v, 'a> {
     deps: &'r Deps<'v, 'a>,
@@ -27,8 +27,8 @@ struct MutualSearch<'r, 'v, 'a> {
     there_by_wr: bool,
     /// Whether the edge back is an rw edge, and not a ww or wr edge.
     back_by_rw: bool,
-    /// For each transaction the number, from 1 on, of the last version so far that it reads or, if the second reads it, that it
-    /// wrote. 0 is none.
+    /// For each transaction the number, from 1 on, of the last version so far that it reads or, if
+    /// the second reads it, that it wrote. 0 is none.
     marks: Vec<u32>,
     /// How many arcs may still be looked at.
     looks: usize,
@@ -189,8 +189,8 @@ impl<'r, 'v, 'a> MutualSearch<'r, 'v, 'a> {
     }
 }
 
-/// Two transactions of which the first leads to the second by an edge of these dependencies, rw or wr edges, and the second back by one
-/// of those, rw edges or ww and wr edges, if they are found.
+/// Two transactions of which the first leads to the second by an edge of these dependencies, rw or
+/// wr edges, and the second back by one of those, rw edges or ww and wr edges, if they are found.
 pub(crate) fn mutual(
     alloc: Global,
     deps: &Deps<'_, '_>,
@@ -255,7 +255,8 @@ fn note_readers(
     Ok(())
 }
 
-/// The last reader of the version in a process, and a follower of the version that the process completed before.
+/// The last reader of the version in a process, and a follower of the version that the process
+/// completed before.
 fn stale_reader(
     history: &History<'_, '_>,
     version: usize,
@@ -281,8 +282,8 @@ fn stale_reader(
     None
 }
 
-/// Two transactions of a process of which the second follows a version that the first reads, and completed before the first was
-/// invoked, if there are any.
+/// Two transactions of a process of which the second follows a version that the first reads, and
+/// completed before the first was invoked, if there are any.
 pub(crate) fn in_process(alloc: Global, deps: &Deps<'_, '_>) -> Result<Option<Ends>, AllocError> {
     let history = deps.history();
     let mut last = ProcessMap::new(alloc);

@@ -1,12 +1,15 @@
 //! The search for a closed walk with two edges, at the level plain.
 //!
-//! There no closed walk has fewer, since an edge joins two different transactions. In one that has two, each of two transactions
-//! leads to the other: directly, by a ww or wr edge, or by way of a version, by an rw edge.
+//! There no closed walk has fewer, since an edge joins two different transactions. In one that has
+//! two, each of two transactions leads to the other: directly, by a ww or wr edge, or by way of a
+//! version, by an rw edge.
 //!
-//! It looks at each version together with what its followers read and lead to and with what its readers follow, never at all pairs
-//! of a reader and a follower. So it takes time linear in the arcs, times the number of versions that one transaction reads or
-//! follows. The followers of a version are gone through again only where one of its readers is a follower as well; where two of
-//! them are, they make such a walk. Two numbers for each vertex and two for each pair of a version and a follower are stored.
+//! It looks at each version together with what its followers read and lead to and with what its
+//! readers follow, never at all pairs of a reader and a follower. So it takes time linear in the
+//! arcs, times the number of versions that one transaction reads or follows. The followers of a
+//! version are gone through again only where one of its readers is a follower as well; where two of
+//! them are, they make such a walk. Two numbers for each vertex and two for each pair of a version
+//! and a follower are stored.
 
 ghost use Rattle.std.specs.Prelude.{◌≡◌, ◌<◌, ℕ, length, All, Contains, IfOk, OnOk};
 ghost use Rattle.std.specs.Bool.{OnFalse};
@@ -247,7 +250,8 @@ impl<'r, 'g, 'v, 'a> TwoDependencies<'r, 'g, 'v, 'a> {
         }
     }
 
-    /// One whose ww or wr edge leads from the version's follower to one of its readers, which are marked.
+    /// One whose ww or wr edge leads from the version's follower to one of its readers, which are
+    /// marked.
     fn back_to_reader(
         &self,
         version: usize,
@@ -414,7 +418,8 @@ impl<'r, 'g, 'v, 'a> TwoDependencies<'r, 'g, 'v, 'a> {
         }
     }
 
-    /// One along an rw edge by way of the version from its reader to one of its followers, and another rw edge back.
+    /// One along an rw edge by way of the version from its reader to one of its followers, and
+    /// another rw edge back.
     fn back_to_follower(
         &self,
         version: usize,
@@ -441,7 +446,8 @@ impl<'r, 'g, 'v, 'a> TwoDependencies<'r, 'g, 'v, 'a> {
         Ok(None)
     }
 
-    /// One along an rw edge by way of the version, and another rw edge by way of the other version back.
+    /// One along an rw edge by way of the version, and another rw edge by way of the other version
+    /// back.
     fn close_by(
         &self,
         from: usize,

@@ -31,8 +31,8 @@ fn place_of_ww(edges: &[Edge<'_>]) -> Option<usize>
     edges.iter().position(|edge| edge.is_ww())
 }
 
-/// The place of an edge that the walk cannot do without, whichever phenomenon it shows: an rw if it has one, else a wr,
-/// else a ww.
+/// The place of an edge that the walk cannot do without, whichever phenomenon it shows: an rw if it
+/// has one, else a wr, else a ww.
 pub fn needed(edges: &[Edge<'_>]) -> Option<usize>
     ensures place { result ≡ needed_place edges.now }
     ensures within { IfSome result (λ place. place < length edges.now) }

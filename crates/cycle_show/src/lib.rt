@@ -15,12 +15,13 @@ use cycle_find::types::Walk;
 use hist_types::types::Fault;
 use std::alloc::Global;
 
-/// Reduces a closed walk to a witness. It leaves out what lies between two visits of a transaction, joins order edges that
-/// follow each other into the one between their ends, and begins at the least transaction.
+/// Reduces a closed walk to a witness. It leaves out what lies between two visits of a transaction,
+/// joins order edges that follow each other into the one between their ends, and begins at the
+/// least transaction.
 ///
-/// Whatever phenomenon the walk shows, at whatever level, the witness shows it at that level, with no more dependency edges
-/// than the walk has. The walk's order edges may be thinned ones. It takes time and memory linear in the walk's length; only
-/// memory can run out.
+/// Whatever phenomenon the walk shows, at whatever level, the witness shows it at that level, with
+/// no more dependency edges than the walk has. The walk's order edges may be thinned ones. It takes
+/// time and memory linear in the walk's length; only memory can run out.
 pub fn tighten<'a>(alloc: Global, walk: &Walk<'a>) -> Result<Witness<'a>, Fault>
     ensures witness { IfOk result (IsWitnessOf walk.now) }
     ensures dependencies { IfOk result (λ told. dependencies_in told ≤ dependencies_in walk.now) }

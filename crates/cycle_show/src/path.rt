@@ -9,11 +9,13 @@ use dep_edges::edge::Edge;
 use std::alloc::{AllocError, Global};
 use std::collections::HashMap;
 
-/// A walk as far as it has been followed, with no transaction twice and no two order edges side by side.
+/// A walk as far as it has been followed, with no transaction twice and no two order edges side by
+/// side.
 #[derive(Drop)]
 struct Path<'a> {
     edges: Vec<Edge<'a>>,
-    /// The place of each transaction of the path. Those that have left the path may still be in here.
+    /// The place of each transaction of the path. Those that have left the path may still be in
+    /// here.
     places: HashMap<u64, usize>,
 }
 
@@ -90,8 +92,8 @@ impl<'a> Path<'a> {
     }
 }
 
-/// The closed walk without what it does twice. It is followed from after an edge that it cannot do without: what comes
-/// last is never left out.
+/// The closed walk without what it does twice. It is followed from after an edge that it cannot do
+/// without: what comes last is never left out.
 pub fn short_round<'a>(alloc: Global, walk: &[Edge<'a>]) -> Result<Vec<Edge<'a>>, AllocError>
     ensures { IfOk result (λ edges. edges.items ≡ short_round walk.now) }
 {

@@ -10,7 +10,8 @@ use dep_edges::edge::Edge;
 use std::alloc::{AllocError, Global};
 use std::marker::Model;
 
-/// A closed walk with no transaction twice and no two order edges side by side, written from its least transaction on.
+/// A closed walk with no transaction twice and no two order edges side by side, written from its
+/// least transaction on.
 #[derive(Drop)]
 pub struct Witness<'a> {
     walk: Walk<'a>,
@@ -46,7 +47,8 @@ impl<'a> Witness<'a> {
         self.walk.edges()
     }
 
-    /// How many of its edges are no order edges. The one that is reported of a phenomenon has the fewest that are possible.
+    /// How many of its edges are no order edges. The one that is reported of a phenomenon has the
+    /// fewest that are possible.
     pub fn dependency_edges(&self) -> usize
         ensures { result ≡ dependencies_in self.now }
     {

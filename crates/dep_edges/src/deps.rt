@@ -24,8 +24,8 @@ use std::alloc::{AllocError, Global};
 use std::marker::Model;
 use txn_pairs::types::Txns;
 
-/// The transactions of a history with the dependency edges between them. A transaction goes by its place. It borrows the
-/// transactions and the table of their versions, which contracts see.
+/// The transactions of a history with the dependency edges between them. A transaction goes by its
+/// place. It borrows the transactions and the table of their versions, which contracts see.
 #[derive(Drop)]
 pub struct Deps<'v, 'a> {
     history: History<'v, 'a>,
@@ -105,7 +105,8 @@ impl<'v, 'a> Deps<'v, 'a> {
         &self.history
     }
 
-    /// Whether the transaction is a node: an ok one, or an info or open one that wrote what an ok transaction reads.
+    /// Whether the transaction is a node: an ok one, or an info or open one that wrote what an ok
+    /// transaction reads.
     pub fn is_node(&self, place: usize) -> bool
         requires { IsPlace self.now.txns place }
         ensures { result ≡ is_node self.now.txns (txn_at self.now.txns place) }
@@ -207,7 +208,8 @@ impl<'v, 'a> Deps<'v, 'a> {
         Ok(())
     }
 
-    /// Gains the rw edges that leave the transaction at the place. A version that it reads more than once counts once.
+    /// Gains the rw edges that leave the transaction at the place. A version that it reads more
+    /// than once counts once.
     fn add_out_of_reads(
         &self,
         from: u64,
@@ -242,7 +244,8 @@ impl<'v, 'a> Deps<'v, 'a> {
         self.add_out_of_reads(from, place, out)
     }
 
-    /// Appends the dependency edges that leave the transaction; none where it is no node. Out of memory leaves what was there.
+    /// Appends the dependency edges that leave the transaction; none where it is no node. Out of
+    /// memory leaves what was there.
     pub fn edges_from(&self, place: usize, out: &mut Vec<Edge<'a>>) -> Result<(), AllocError>
         requires { IsPlace self.now.txns place }
         ensures ok { OnOk result
@@ -266,7 +269,8 @@ impl<'v, 'a> Deps<'v, 'a> {
         first_aborted(&self.history, self.possible)
     }
 
-    /// The first intermediate read: what an ok transaction reads and another one wrote over in itself.
+    /// The first intermediate read: what an ok transaction reads and another one wrote over in
+    /// itself.
     pub fn g1b(&self) -> Option<BadRead<'a>>
         ensures { result ≡ g1b self.now.txns }
     {

@@ -12,7 +12,8 @@ use op_view::atom::Atom;
 use std::cmp::Ordering;
 use std::marker::Model;
 
-/// Why one transaction comes before another. Keys and values are borrowed from the journal's blocks.
+/// Why one transaction comes before another. Keys and values are borrowed from the journal's
+/// blocks.
 #[derive(Drop)]
 pub enum Label<'a> {
     /// The second transaction installs a version after one of the first.
@@ -32,7 +33,8 @@ pub enum Label<'a> {
         earlier: Option<Atom<'a>>,
         later: Atom<'a>,
     },
-    /// The first transaction completed before the second was invoked by the same process, which has this number.
+    /// The first transaction completed before the second was invoked by the same process, which has
+    /// this number.
     Process {
         process: u64,
     },
@@ -191,7 +193,8 @@ impl<'a> Edge<'a> {
         matches!(self.label, Label::Rw { .. })
     }
 
-    /// Whether it is known from when transactions began and ended, and not from what they read and wrote.
+    /// Whether it is known from when transactions began and ended, and not from what they read and
+    /// wrote.
     pub fn is_order(&self) -> bool
         ensures { result ≡ is_order self.now }
     {

@@ -1,4 +1,5 @@
-//! Dependency edges between the transactions of a history, and reads of what should not have been seen.
+//! Dependency edges between the transactions of a history, and reads of what should not have been
+//! seen.
 #![tactic(auto)]
 
 ghost use Rattle.std.specs.Prelude.{◌≡◌, IfOk, IfErr};
@@ -26,8 +27,9 @@ use key_versions::table::{KeyNumbers, Versions};
 use std::alloc::{AllocError, Global};
 use txn_pairs::types::Txns;
 
-/// What the transactions depend on each other for. No edge is stored: the edges that leave a transaction are found from what
-/// it reads and installs, over the table of the versions, which has the order of the keys. The time is linear in the history.
+/// What the transactions depend on each other for. No edge is stored: the edges that leave a
+/// transaction are found from what it reads and installs, over the table of the versions, which has
+/// the order of the keys. The time is linear in the history.
 ///
 /// Only memory can run out.
 pub fn edges<'v, 'a>(
@@ -43,8 +45,9 @@ pub fn edges<'v, 'a>(
     Ok(Deps::of(alloc, txns, versions)?)
 }
 
-/// What one look at each version of some keys gives: of those from the number `from` up to but not including `to`. Pieces can be
-/// made side by side, and `join` puts them together. The time is linear in the history's versions, whichever keys are asked for.
+/// What one look at each version of some keys gives: of those from the number `from` up to but not
+/// including `to`. Pieces can be made side by side, and `join` puts them together. The time is
+/// linear in the history's versions, whichever keys are asked for.
 ///
 /// Only memory can run out.
 pub fn edges_piece(

@@ -39,8 +39,9 @@ fn mark_all(nodes: &mut [bool], places: &[u32])
     }
 }
 
-/// A mark for each transaction, whether it is a node: all ok ones are, and each info or open one that wrote a version which an
-/// ok transaction reads, also one that it wrote over. A transaction may be a node by a version of another piece.
+/// A mark for each transaction, whether it is a node: all ok ones are, and each info or open one
+/// that wrote a version which an ok transaction reads, also one that it wrote over. A transaction
+/// may be a node by a version of another piece.
 pub fn nodes(
     alloc: Global,
     history: &History<'_, '_>,

@@ -10,8 +10,8 @@ use crate::possible::Possible;
 use std::alloc::{AllocError, Global};
 use std::marker::Model;
 
-/// What one look at each version of some keys gives. It borrows nothing, so the keys of a history can be parted and each part
-/// looked at by a thread of its own.
+/// What one look at each version of some keys gives. It borrows nothing, so the keys of a history
+/// can be parted and each part looked at by a thread of its own.
 #[derive(Drop)]
 pub struct PieceDeps {
     possible: Possible,
@@ -27,7 +27,8 @@ impl Model for PieceDeps {
     ghost view = { λ p. record { possible = p.possible; writers = p.writers.items } };
 }
 
-/// The place of the transaction that wrote the version, if the version was read and the transaction didn't fail.
+/// The place of the transaction that wrote the version, if the version was read and the transaction
+/// didn't fail.
 fn read_writer(history: &History<'_, '_>, number: usize) -> Option<u32>
     requires { IsNumber history.now.table number }
     ensures { result ≡ read_writer history.now.txns (version_at history.now.table number) }

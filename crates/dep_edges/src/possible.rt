@@ -9,7 +9,8 @@ use crate::history::History;
 use crate::nodes::is_failed;
 use crate::pieces::PieceDeps;
 
-/// Which kinds of bad reads there may be. Where one is ruled out, no read has to be looked at for it.
+/// Which kinds of bad reads there may be. Where one is ruled out, no read has to be looked at for
+/// it.
 #[derive(Clone, Copy)]
 pub struct Possible {
     pub aborted: bool,

@@ -5,7 +5,8 @@ ghost use Rattle.std.specs.Prelude.{◌≡◌};
 use key_versions::types::VersionRef;
 use std::marker::Model;
 
-/// A read of an ok transaction, and a transaction that wrote its version, each by the index of its invocation.
+/// A read of an ok transaction, and a transaction that wrote its version, each by the index of its
+/// invocation.
 #[derive(Drop)]
 pub struct BadRead<'a> {
     reader: u64,

@@ -9,7 +9,8 @@ use crate::types::Dependencies;
 use graph_search::arcs::{Arcs, Successors};
 use std::marker::Model;
 
-/// The arcs of some kinds of a graph. Its vertices are the transactions, by place, and after them the versions, by number.
+/// The arcs of some kinds of a graph. Its vertices are the transactions, by place, and after them
+/// the versions, by number.
 #[derive(Drop)]
 pub struct GraphArcs<'g> {
     rows: &'g Rows,

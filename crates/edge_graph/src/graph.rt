@@ -27,8 +27,9 @@ use std::alloc::{AllocError, Global};
 use std::marker::Model;
 use txn_pairs::types::Txn;
 
-/// A history's transactions with their dependency edges and, of an order, the edges to nodes. A transaction goes by its place.
-/// No edge is stored with its label; what is stored are the arcs of a search for cycles, which are linear in the history.
+/// A history's transactions with their dependency edges and, of an order, the edges to nodes. A
+/// transaction goes by its place. No edge is stored with its label; what is stored are the arcs of
+/// a search for cycles, which are linear in the history.
 pub struct Graph<'g, 'v, 'a> {
     alloc: Global,
     deps: &'g Deps<'v, 'a>,
@@ -134,7 +135,8 @@ fn add_order_edges<'a>(
 }
 
 impl<'g, 'v, 'a> Graph<'g, 'v, 'a> {
-    /// The graph over the history's dependency edges and an order of its transactions, with all of their pairs or thinned.
+    /// The graph over the history's dependency edges and an order of its transactions, with all of
+    /// their pairs or thinned.
     pub fn new(alloc: Global, deps: &'g Deps<'v, 'a>, order: &'g Order) -> Result<Self, AllocError>
         requires { IsOrderOf deps.now.txns order.now }
         ensures { IfOk result (IsMadeOf deps.now.table.keys deps.now.txns order.now) }
@@ -185,7 +187,8 @@ impl<'g, 'v, 'a> Graph<'g, 'v, 'a> {
         self.history.readers(vertex - self.history.txns().len())
     }
 
-    /// Appends the edges of the kinds that leave the transaction. Out of memory leaves what was there.
+    /// Appends the edges of the kinds that leave the transaction. Out of memory leaves what was
+    /// there.
     pub fn edges_from(
         &self,
         place: usize,
@@ -221,7 +224,8 @@ impl<'g, 'v, 'a> Graph<'g, 'v, 'a> {
 
     /// The arcs of these dependencies and of the order of the level, for a search.
     ///
-    /// An rw edge joins two transactions exactly where the first leads to a version that leads to the second.
+    /// An rw edge joins two transactions exactly where the first leads to a version that leads to
+    /// the second.
     pub fn arcs(&self, dependencies: Dependencies, level: Level) -> GraphArcs<'_>
         ensures arcs { AreArcs self.now (kinds_of dependencies level) result }
         ensures rw { RwByVersions self.now }
@@ -230,8 +234,8 @@ impl<'g, 'v, 'a> Graph<'g, 'v, 'a> {
         GraphArcs::new(&self.rows, self.orders.at(level), dependencies)
     }
 
-    /// Of the arcs of these dependencies and of the order of the level those that cost nothing: the order's, and those that leave
-    /// versions.
+    /// Of the arcs of these dependencies and of the order of the level those that cost nothing: the
+    /// order's, and those that leave versions.
     pub fn free_arcs(&self, dependencies: Dependencies, level: Level) -> SplitArcs<'_>
         ensures { AreArcsThat self.now (IsFreeArc self.now dependencies level) result }
     {
@@ -253,8 +257,8 @@ impl<'g, 'v, 'a> Graph<'g, 'v, 'a> {
         )
     }
 
-    /// An edge of the kinds from one transaction to another, if there is one; an order edge, if one leads there. It looks through
-    /// all that leave the first.
+    /// An edge of the kinds from one transaction to another, if there is one; an order edge, if one
+    /// leads there. It looks through all that leave the first.
     pub fn edge_between(
         &self,
         from: usize,
@@ -279,8 +283,9 @@ impl<'g, 'v, 'a> Graph<'g, 'v, 'a> {
         Ok(found)
     }
 
-    /// The edges of a walk over the arcs of these dependencies and of the order of the level, from a transaction to a
-    /// transaction. Where an order edge leads to the next transaction, it is that one.
+    /// The edges of a walk over the arcs of these dependencies and of the order of the level, from
+    /// a transaction to a transaction. Where an order edge leads to the next transaction, it is
+    /// that one.
     pub fn edges_along(
         &self,
         walk: &[usize],

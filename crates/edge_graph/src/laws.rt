@@ -31,7 +31,8 @@ pub fn orders_of_a_history()
         → All NoPredecessorTwice order → names order ≡ map name_of ts → IsOrderOf ts order }
 {}
 
-/// The list of a graph's edges has exactly its edges. Those of every level are the dependency edges, and plain has no others.
+/// The list of a graph's edges has exactly its edges. Those of every level are the dependency
+/// edges, and plain has no others.
 pub fn edges_listed()
     ensures listed { (g : Parts) → (level : Level) → (e : Edge)
         → Contains (edges_in g level) e ↔ HasEdge g level e }
@@ -41,7 +42,8 @@ pub fn edges_listed()
         → Contains (edges_in g Plain) e ↔ (Contains (edges_in g level) e × IsFalse (is_order e)) }
 {}
 
-/// The graph of a history has the edges that phenomena are defined by, or over a thinned order those that show the same ones.
+/// The graph of a history has the edges that phenomena are defined by, or over a thinned order
+/// those that show the same ones.
 pub fn edges_of_a_history()
     ensures all_pairs { (keys : KeyOrder) (ts : List Transaction) → (order : List Before) → (g : Parts)
         → AreOfHistory ts → IsMadeOf keys ts order g → HasOrderEdges ts order
@@ -61,7 +63,8 @@ pub fn edges_of_one_kind()
     ensures rw { (g : Parts) → (e : Edge) → IsEdgeOf g (kinds_of Rw Plain) e → IsTrue (is_rw e) }
 {}
 
-/// Arcs of fewer dependencies are arcs of more at the same level, and arcs of plain are arcs of each level.
+/// Arcs of fewer dependencies are arcs of more at the same level, and arcs of plain are arcs of
+/// each level.
 pub fn arcs_of_more_dependencies()
     ensures level { (g : Parts) → (few more : Dependencies) → AreAmong few more
         → (level : Level) → (v w : ℕ)
@@ -82,7 +85,8 @@ pub fn arcs_of_edges()
         → IsTrue (is_rw e) → HasWayByVersion g Rw e }
 {}
 
-/// An arc between two transactions represents an edge, and a way by a version from one to another an rw edge.
+/// An arc between two transactions represents an edge, and a way by a version from one to another
+/// an rw edge.
 pub fn edges_of_arcs()
     ensures direct { (g : Parts) → (kinds : Kinds) → (from to : ℕ)
         → IsDirectArc g kinds from to → HasEdgeBetween g kinds from to }
@@ -98,14 +102,16 @@ pub fn walks_over_arcs()
         → (es : List Edge) → AreEdgesBetween g kinds from to es → HasWalkBetween g kinds from to }
 {}
 
-/// A walk over arcs that cost nothing or one is a walk over the arcs of these dependencies and of the order of the level.
+/// A walk over arcs that cost nothing or one is a walk over the arcs of these dependencies and of
+/// the order of the level.
 pub fn walks_of_costs()
     ensures { (g : Parts) → (d : Dependencies) → (level : Level) → (most from to : ℕ)
         → (walk : List ℕ) → IsWalkWithin (IsFreeArc g d level) (IsPaidArc g d) most from to walk
         → IsWalk (IsArc g (kinds_of d level)) from to walk }
 {}
 
-/// Where edges lead from one transaction to another, a walk over their arcs costs no more than they have dependencies.
+/// Where edges lead from one transaction to another, a walk over their arcs costs no more than they
+/// have dependencies.
 pub fn cheap_walks_over_arcs()
     ensures { (g : Parts) → AreOfHistory g.txns → RwByVersions g
         → (d : Dependencies) → (level : Level) → (from to : ℕ)

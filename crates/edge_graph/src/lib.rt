@@ -1,4 +1,5 @@
-//! The graph of a history's transactions: its edges by kind, and the arcs that searches for cycles go over.
+//! The graph of a history's transactions: its edges by kind, and the arcs that searches for cycles
+//! go over.
 #![tactic(auto)]
 
 pub mod arcs;

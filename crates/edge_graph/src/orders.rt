@@ -18,8 +18,8 @@ use std::alloc::{AllocError, Global};
 use std::marker::Model;
 use txn_pairs::types::Txn;
 
-/// For each transaction the places of the nodes that it comes before. In thinned order these are next to each other among all
-/// nodes, so that transactions share one list.
+/// For each transaction the places of the nodes that it comes before. In thinned order these are
+/// next to each other among all nodes, so that transactions share one list.
 #[derive(Drop)]
 pub(crate) struct LaterNodes {
     nodes: Vec<u32>,
@@ -182,7 +182,8 @@ impl Orders {
         requires { IsOrderOf deps.now.txns order.now }
         ensures { IfOk result (AreTurned deps.now.txns order.now) }
     {
-        // What is kept is made first, so that the memory of the places serves again once they are dropped.
+        // What is kept is made first, so that the memory of the places serves again once they are
+        // dropped.
         let in_process = empty_lists(alloc, order.len())?;
         let in_realtime = empty_lists(alloc, order.len())?;
         let places = places_of(alloc, deps)?;

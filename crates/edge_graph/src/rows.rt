@@ -55,8 +55,9 @@ impl Followed {
     }
 }
 
-/// A row for each vertex, in parts: for a transaction one for rw, then one for wr, then one for ww, so that what may be followed is
-/// at its end. From versions only rw leads on, so that a version has one part.
+/// A row for each vertex, in parts: for a transaction one for rw, then one for wr, then one for ww,
+/// so that what may be followed is at its end. From versions only rw leads on, so that a version
+/// has one part.
 #[derive(Drop)]
 pub(crate) struct Rows {
     txns: usize,

@@ -25,7 +25,8 @@ fn copied(run: Run, item: u32, items: &mut Vec<u32>) -> Result<Run, AllocError>
     Ok(Run { start, end })
 }
 
-/// The run's items and then the item, which is the list's last one. Only a run that ends elsewhere is copied.
+/// The run's items and then the item, which is the list's last one. Only a run that ends elsewhere
+/// is copied.
 pub(crate) fn extended(run: Run, item: u32, items: &mut Vec<u32>) -> Result<Run, AllocError>
     requires run { IsRunIn items.old.items run }
     requires last { EndsWith item items.old.items }

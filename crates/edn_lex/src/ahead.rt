@@ -47,7 +47,8 @@ pub fn behind_blanks(text: &[u8], offset: usize) -> usize
     at
 }
 
-/// The first offset from this one on where no blank is, or the text's end. Often one space comes first.
+/// The first offset from this one on where no blank is, or the text's end. Often one space comes
+/// first.
 #[inline(always)]
 pub fn behind_word(text: &[u8], offset: usize) -> usize
     requires { offset ≤ length text.now }
@@ -59,7 +60,8 @@ pub fn behind_word(text: &[u8], offset: usize) -> usize
     }
 }
 
-/// The first offset from this one on where no blank is, or the text's end. Often a comma and one blank come first.
+/// The first offset from this one on where no blank is, or the text's end. Often a comma and one
+/// blank come first.
 #[inline(always)]
 pub fn behind_comma(text: &[u8], offset: usize) -> usize
     requires { offset ≤ length text.now }
@@ -71,7 +73,8 @@ pub fn behind_comma(text: &[u8], offset: usize) -> usize
     }
 }
 
-/// The first offset from this one on where no blank is, or the text's end. Often one line feed comes first.
+/// The first offset from this one on where no blank is, or the text's end. Often one line feed
+/// comes first.
 #[inline(always)]
 pub fn behind_line(text: &[u8], offset: usize) -> usize
     requires { offset ≤ length text.now }
@@ -83,7 +86,8 @@ pub fn behind_line(text: &[u8], offset: usize) -> usize
     }
 }
 
-/// Whether the text begins with a word. This is inlined, so that a word that is known costs a compare or two.
+/// Whether the text begins with a word. This is inlined, so that a word that is known costs a
+/// compare or two.
 #[inline(always)]
 fn begins_with(text: &[u8], word: &[u8]) -> bool
     ensures { result ≡ true → word.now ≡ take (length word.now) text.now }
@@ -206,7 +210,8 @@ fn eight_at(text: &[u8], start: usize) -> u64
     ])
 }
 
-/// Whether the text has these bytes here. This is inlined, so that bytes that are known cost one compare for eight of them.
+/// Whether the text has these bytes here. This is inlined, so that bytes that are known cost one
+/// compare for eight of them.
 #[inline(always)]
 pub fn has_here(text: &[u8], start: usize, bytes: &[u8]) -> bool
     requires { start + length bytes.now ≤ length text.now }
@@ -251,8 +256,8 @@ pub fn word_before(
     }
 }
 
-/// The token of so many bytes that begins here with this one, all of them decimal digits, if it is an integer with the byte `after`
-/// after it.
+/// The token of so many bytes that begins here with this one, all of them decimal digits, if it is
+/// an integer with the byte `after` after it.
 #[inline(always)]
 pub fn digits_from(text: &[u8], start: usize, first: u8, len: usize, after: u8) -> Option<Token>
     requires room { start + len < length text.now }
@@ -278,7 +283,8 @@ pub fn digits_from(text: &[u8], start: usize, first: u8, len: usize, after: u8) 
     })
 }
 
-/// The token of so many bytes that begins here, all of them decimal digits, if it is an integer with this byte after it.
+/// The token of so many bytes that begins here, all of them decimal digits, if it is an integer
+/// with this byte after it.
 #[inline(always)]
 pub fn digits_before(text: &[u8], start: usize, len: usize, after: u8) -> Option<Token>
     requires room { start + len < length text.now }
@@ -293,8 +299,8 @@ pub fn digits_before(text: &[u8], start: usize, len: usize, after: u8) -> Option
     digits_from(text, start, text[start], len, after)
 }
 
-/// How many of the next 16 bytes come before the first that is no decimal digit, and how many before the second such byte, if two
-/// of them are none.
+/// How many of the next 16 bytes come before the first that is no decimal digit, and how many
+/// before the second such byte, if two of them are none.
 #[inline(always)]
 pub fn digit_ends(text: &[u8], start: usize) -> Option<(usize, usize)>
     requires { start + NUMBER_LOOK ≤ length text.now }
@@ -308,7 +314,8 @@ pub fn digit_ends(text: &[u8], start: usize) -> Option<(usize, usize)>
     digit_ends_of_16(text, start)
 }
 
-/// The token that begins here, if it is an integer of fewer than 16 digits alone with this byte after it.
+/// The token that begins here, if it is an integer of fewer than 16 digits alone with this byte
+/// after it.
 #[inline(always)]
 pub fn number_before(text: &[u8], start: usize, after: u8) -> Option<Token>
     requires room { start + NUMBER_LOOK ≤ length text.now }
@@ -326,8 +333,8 @@ pub fn number_before(text: &[u8], start: usize, after: u8) -> Option<Token>
     digits_before(text, start, len, after)
 }
 
-/// The token that begins here, if it is a keyword of fewer than 16 bytes, all of them decimal digits, colons and lower-case letters,
-/// with this byte after it.
+/// The token that begins here, if it is a keyword of fewer than 16 bytes, all of them decimal
+/// digits, colons and lower-case letters, with this byte after it.
 #[inline(always)]
 pub fn keyword_before(text: &[u8], start: usize, after: u8) -> Option<Token>
     requires room { start + NUMBER_LOOK ≤ length text.now }

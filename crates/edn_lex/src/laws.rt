@@ -18,7 +18,8 @@ pub fn tokens_exist()
     ensures { (text : List ℕ) → (ts : List Item) × (e : Option Fault) × HasTokens text ts e }
 {}
 
-/// What all calls of a lexer give, up to the first that gives nothing, are the text's tokens and its ending.
+/// What all calls of a lexer give, up to the first that gives nothing, are the text's tokens and
+/// its ending.
 pub fn collected_are_the_tokens()
     ensures { (text : List ℕ) (given : List (Result Token Fault))
         → Drains Gives (state_at_start text) given → AreTokensOf text given }

@@ -25,10 +25,12 @@ pub(crate) enum Collection {
     Brace,
 }
 
-/// Gives the tokens of a text one after the other (EDN), or the first fault once and then nothing. It takes no memory.
+/// Gives the tokens of a text one after the other (EDN), or the first fault once and then nothing.
+/// It takes no memory.
 ///
-/// Spans and offsets are in bytes. A fault is `BadUtf8` at the first byte of an item that begins no well-formed sequence,
-/// `UnclosedString` at the opening quote, `StrayCloser` at the closer, or `TooDeep` at the opener.
+/// Spans and offsets are in bytes. A fault is `BadUtf8` at the first byte of an item that begins no
+/// well-formed sequence, `UnclosedString` at the opening quote, `StrayCloser` at the closer, or
+/// `TooDeep` at the opener.
 #[derive(Drop)]
 pub struct Lexer<'a> {
     text: &'a [u8],
@@ -83,7 +85,8 @@ impl Collection {
 
 type OpenCollections = ArrayVec<Collection, MAX_OPEN_COLLECTIONS>;
 
-/// Opens or closes a collection where the item is an opener or a closer, unless it is not allowed here.
+/// Opens or closes a collection where the item is an opener or a closer, unless it is not allowed
+/// here.
 fn nest(within: &mut OpenCollections, kind: PieceKind, bytes: &[u8]) -> Option<Refusal>
     requires { 0 < length bytes.now }
     ensures refusal { result ≡ refusal_within kind bytes.now within.old.items }
@@ -130,7 +133,8 @@ impl<'a> Lexer<'a> {
         Lexer::at(text, 0)
     }
 
-    /// A lexer that begins at this offset, as if nothing stood before it. Offsets count from the front of the text all the same.
+    /// A lexer that begins at this offset, as if nothing stood before it. Offsets count from the
+    /// front of the text all the same.
     pub fn at(text: &'a [u8], offset: usize) -> Self
         requires { offset ≤ length text.now }
         ensures start { result ≡ state_at text.now offset }
@@ -168,8 +172,8 @@ impl<'a> Lexer<'a> {
         }
     }
 
-    /// The offset from which tokens can be looked for ahead: none after a fault, or where fewer than `LEVELS_AHEAD` more
-    /// collections may be opened.
+    /// The offset from which tokens can be looked for ahead: none after a fault, or where fewer
+    /// than `LEVELS_AHEAD` more collections may be opened.
     #[inline(always)]
     pub fn ahead(&self) -> Option<usize>
         ensures { IfSome result (LooksAhead self.now) }
@@ -190,7 +194,8 @@ impl<'a> Lexer<'a> {
         self.offset = offset;
     }
 
-    /// Passes over the item at the front of what is left, which is no blank, and gives it where it is a token.
+    /// Passes over the item at the front of what is left, which is no blank, and gives it where it
+    /// is a token.
     fn pass(&mut self) -> Result<Option<Token>, Fault>
         requires left { self.old.offset < length self.old.text }
         requires unblank { is_blank_byte (get_or self.old.text self.old.offset 0) ≡ false }

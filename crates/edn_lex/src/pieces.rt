@@ -89,7 +89,8 @@ fn hash_piece(text: &[u8]) -> Piece
     }
 }
 
-/// The item at the front of the text, which begins with no blank; none where it is a string that nothing closes.
+/// The item at the front of the text, which begins with no blank; none where it is a string that
+/// nothing closes.
 pub(crate) fn first_piece(text: &[u8]) -> Option<Piece>
     requires nonempty { 0 < length text.now }
     requires unblank { is_blank (first_byte text.now) ≡ false }

@@ -70,8 +70,8 @@ fn is_symbol(run: &[u8]) -> bool
     }
 }
 
-/// The kind of a run that is no keyword. A run with a byte of 128 or more is not looked through for digits. It is not
-/// inlined, since most runs are keywords or digits.
+/// The kind of a run that is no keyword. A run with a byte of 128 or more is not looked through for
+/// digits. It is not inlined, since most runs are keywords or digits.
 #[inline(never)]
 #[tactic(auto, using(crate::proofs::RunKinds::wide_no_int, crate::proofs::RunKinds::int_is))]
 fn other_run_kind(run: &[u8], ascii: bool) -> TokenKind

@@ -1,4 +1,5 @@
-//! Where items end. The scans of what is seldom found are not inlined, so that those of the frequent items stay short.
+//! Where items end. The scans of what is seldom found are not inlined, so that those of the
+//! frequent items stay short.
 
 ghost use Rattle.std.specs.Prelude.{◌≡◌, ◌<◌, ◌≤◌, ◌==◌, ◌+◌, ◌-◌, ℕ, Bool, List, length, take, drop, map, true, false, IsTrue, not, IfSome};
 ghost use Rattle.std.specs.Char.{is_ascii_digit};
@@ -71,7 +72,8 @@ pub(crate) fn is_blank(b: u8) -> bool
     b <= b',' && flags_of(b) & BLANK != 0
 }
 
-/// Whether no run goes on here: a blank, a bracket, a quote or a semicolon comes first, or the text's end.
+/// Whether no run goes on here: a blank, a bracket, a quote or a semicolon comes first, or the
+/// text's end.
 #[inline(always)]
 pub(crate) fn ends_run(text: &[u8]) -> bool
     ensures { result ≡ true → longest_run text.now ≡ 0 }
@@ -109,7 +111,8 @@ pub(crate) fn digits_alone(text: &[u8]) -> Option<usize>
     Some(len)
 }
 
-/// How many of 16 bytes come before the first one that has a bit, by a bit for each of them, the lowest for the first.
+/// How many of 16 bytes come before the first one that has a bit, by a bit for each of them, the
+/// lowest for the first.
 #[inline(always)]
 fn bytes_before(bits: u64) -> usize
     ensures { (has_bit : ℕ → Bool) (bytes : List ℕ) → length bytes ≡ DIGIT_LANES
@@ -143,8 +146,8 @@ pub(crate) fn digits_of_16(text: &[u8], at: usize) -> usize
     bytes_before(other_than_digits(u8x16::from_slice(&text[at..])))
 }
 
-/// How many of the next 16 bytes come before the first that is no decimal digit, and how many before the second such byte, if two
-/// of them are none.
+/// How many of the next 16 bytes come before the first that is no decimal digit, and how many
+/// before the second such byte, if two of them are none.
 #[inline(always)]
 pub(crate) fn digit_ends_of_16(text: &[u8], at: usize) -> Option<(usize, usize)>
     requires { at + DIGIT_LANES ≤ length text.now }
@@ -177,7 +180,8 @@ fn other_than_plain(bytes: u8x16) -> u64
     (no_digit & no_letter).to_bitmask()
 }
 
-/// How many of the next 16 bytes, from the first, are plain: decimal digits, colons and lower-case letters.
+/// How many of the next 16 bytes, from the first, are plain: decimal digits, colons and lower-case
+/// letters.
 #[inline(always)]
 pub(crate) fn plain_of_16(text: &[u8], at: usize) -> usize
     requires { at + DIGIT_LANES ≤ length text.now }
@@ -256,7 +260,8 @@ pub(crate) fn character_len(text: &[u8]) -> usize
     }
 }
 
-/// Where the bytes stop being UTF-8, if they do. Bytes that are known to be below 128 are not looked at.
+/// Where the bytes stop being UTF-8, if they do. Bytes that are known to be below 128 are not
+/// looked at.
 pub(crate) fn utf8_end(bytes: &[u8], ascii: bool) -> Option<usize>
     requires { IsTrue ascii → IsAscii bytes.now }
     ensures { StopsBeingUtf8 bytes.now result }

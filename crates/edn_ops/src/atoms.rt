@@ -64,7 +64,8 @@ pub(crate) fn process_of(spelling: &[u8]) -> Option<Process>
     Process::new(number)
 }
 
-/// How many decimal digits are at the front of the text, at most nine, and the number that they write.
+/// How many decimal digits are at the front of the text, at most nine, and the number that they
+/// write.
 #[inline(always)]
 fn few_digits(text: &[u8]) -> (usize, u64)
     requires { FEW_DIGITS ≤ length text.now }
@@ -80,8 +81,8 @@ fn few_digits(text: &[u8]) -> (usize, u64)
     (len, number)
 }
 
-/// The process whose number the decimal digits at the front of the text write, of which at most nine are taken, and how many
-/// they are.
+/// The process whose number the decimal digits at the front of the text write, of which at most
+/// nine are taken, and how many they are.
 #[inline(always)]
 pub(crate) fn process_ahead(text: &[u8]) -> Option<(usize, Process)>
     requires { FEW_DIGITS ≤ length text.now }
@@ -161,7 +162,8 @@ fn begins_as_int(text: &[u8]) -> bool
     }
 }
 
-/// The kind of token that an atom's text is, by its first bytes. The text of nil counts as a symbol.
+/// The kind of token that an atom's text is, by its first bytes. The text of nil counts as a
+/// symbol.
 pub fn token_kind(text: &[u8]) -> TokenKind
     ensures { kind_of result ≡ kind_by_front text.now }
 {

@@ -1,5 +1,5 @@
-//! Maps as printers write them, read in one pass over their bytes: keys are forms by themselves, and there are no tags, no `#_`
-//! and no comments.
+//! Maps as printers write them, read in one pass over their bytes: keys are forms by themselves,
+//! and there are no tags, no `#_` and no comments.
 
 ghost use Rattle.std.specs.Prelude.{◌≡◌, ◌≤◌, ◌<◌, ◌+◌, [], List, length, codes, get_or, true, false, Some, Ok, IfSome, IfOk, ℕ};
 ghost use Rattle.hist_types.specs.Entries.{is_named};
@@ -29,10 +29,12 @@ use hist_types::types::{Fault, OpKind, Process};
 /// How many collections may be opened one within another in the value of a field.
 const VALUE_LEVELS: usize = LEVELS_AHEAD - 1;
 
-/// How many bytes from its start on `front_here` may look at: `:type :invoke, :process `, digits and `, :f :txn, :value [`.
+/// How many bytes from its start on `front_here` may look at: `:type :invoke, :process `, digits
+/// and `, :f :txn, :value [`.
 const FRONT_LOOK: usize = 43 + FEW_DIGITS;
 
-/// How many bytes from its start on `behind_numbers` may look at: `:index `, a number, `, :time ` and a number.
+/// How many bytes from its start on `behind_numbers` may look at: `:index `, a number, `, :time `
+/// and a number.
 const NUMBERS_LOOK: usize = 16 + 2 * NUMBER_LOOK;
 
 /// Whose operation a map is.
@@ -139,7 +141,8 @@ fn kind_at(text: &[u8], start: usize) -> Option<(OpKind, Token)>
     }
 }
 
-/// The kind, and where its name ends, if `:type` and `:invoke` or `:ok` are printed here with a comma after them.
+/// The kind, and where its name ends, if `:type` and `:invoke` or `:ok` are printed here with a
+/// comma after them.
 #[inline(always)]
 fn printed_kind(text: &[u8], start: usize) -> Option<(OpKind, usize)>
     requires { start + 14 ≤ length text.now }
@@ -155,8 +158,8 @@ fn printed_kind(text: &[u8], start: usize) -> Option<(OpKind, usize)>
     None
 }
 
-/// The process, and where its number ends, if `:process` and an integer of few digits are printed after the comma here, with a comma
-/// after them.
+/// The process, and where its number ends, if `:process` and an integer of few digits are printed
+/// after the comma here, with a comma after them.
 #[inline(always)]
 fn printed_owner(text: &[u8], comma: usize) -> Option<(Process, usize)>
     requires { comma + 11 + FEW_DIGITS < length text.now }
@@ -172,7 +175,8 @@ fn printed_owner(text: &[u8], comma: usize) -> Option<(Process, usize)>
     Some((process, number.end))
 }
 
-/// Where `:f :txn` ends, if it is printed after the comma here with a comma after it, or else this offset.
+/// Where `:f :txn` ends, if it is printed after the comma here with a comma after it, or else this
+/// offset.
 #[inline(always)]
 fn behind_txn(text: &[u8], comma: usize) -> usize
     requires { comma + 10 ≤ length text.now }
@@ -186,7 +190,8 @@ fn behind_txn(text: &[u8], comma: usize) -> usize
     }
 }
 
-/// Where the members of a transaction begin, if `:value` and the transaction's opener are printed after the comma here.
+/// Where the members of a transaction begin, if `:value` and the transaction's opener are printed
+/// after the comma here.
 #[inline(always)]
 fn printed_opener(text: &[u8], comma: usize) -> Option<usize>
     requires { comma + 10 ≤ length text.now }
@@ -200,9 +205,9 @@ fn printed_opener(text: &[u8], comma: usize) -> Option<usize>
     }
 }
 
-/// What a map says that begins with `:type`, `:process` and `:value`, and where the members of its transaction begin, if these fields
-/// are printed here, with `:invoke` or `:ok` and an integer of few digits, perhaps with `:f :txn` before `:value`, and bytes enough
-/// come after it.
+/// What a map says that begins with `:type`, `:process` and `:value`, and where the members of its
+/// transaction begin, if these fields are printed here, with `:invoke` or `:ok` and an integer of
+/// few digits, perhaps with `:f :txn` before `:value`, and bytes enough come after it.
 #[inline(always)]
 fn front_here(text: &[u8], start: usize) -> Option<Front>
     requires { start ≤ length text.now }
@@ -221,7 +226,8 @@ fn front_here(text: &[u8], start: usize) -> Option<Front>
     })
 }
 
-/// Where a map's fields after `:index` and `:time` begin, as far as these are printed here, or else the offset.
+/// Where a map's fields after `:index` and `:time` begin, as far as these are printed here, or else
+/// the offset.
 #[inline(always)]
 fn behind_index(text: &[u8], offset: usize) -> usize
     requires { offset ≤ length text.now }
@@ -233,7 +239,8 @@ fn behind_index(text: &[u8], offset: usize) -> usize
     }
 }
 
-/// What a map says whose fields begin at the offset, if it begins as `front_here` has it, perhaps with `:index` and `:time` first.
+/// What a map says whose fields begin at the offset, if it begins as `front_here` has it, perhaps
+/// with `:index` and `:time` first.
 #[inline(always)]
 fn map_front(text: &[u8], offset: usize) -> Option<Front>
     requires { offset ≤ length text.now }
@@ -243,7 +250,8 @@ fn map_front(text: &[u8], offset: usize) -> Option<Front>
     Some(front)
 }
 
-/// Passes over a value, up to the end that is given, if it can be read so; often it is `:txn` or a number.
+/// Passes over a value, up to the end that is given, if it can be read so; often it is `:txn` or a
+/// number.
 #[inline(always)]
 fn passed_value(text: &[u8], offset: usize) -> Option<usize>
     requires { offset ≤ length text.now }
@@ -354,7 +362,8 @@ fn printed_key(text: &[u8], start: usize, name: &[u8]) -> Option<Token>
     word_before(text, start, name, TokenKind::Keyword, b' ')
 }
 
-/// Where the field with this key and an integer of few digits ends, if it is printed here with a comma after it.
+/// Where the field with this key and an integer of few digits ends, if it is printed here with a
+/// comma after it.
 #[inline(always)]
 fn number_field(text: &[u8], start: usize, name: &[u8]) -> Option<usize>
     requires room { start + length name.now + NUMBER_LOOK < length text.now }
@@ -396,7 +405,8 @@ fn is_other(text: &[u8], key: Token) -> bool
         && !name.is_named(text, b":value")
 }
 
-/// The key that begins here, if it is a form by itself, and names a field that says nothing. Jepsen prints three such fields.
+/// The key that begins here, if it is a form by itself, and names a field that says nothing. Jepsen
+/// prints three such fields.
 #[inline(always)]
 fn other_key(text: &[u8], start: usize) -> Option<Token>
     requires { start ≤ length text.now }
@@ -416,7 +426,8 @@ fn other_key(text: &[u8], start: usize) -> Option<Token>
     any_other_key(text, start)
 }
 
-/// The key that begins here, if it is a form by itself, and names a field that says nothing, whichever it is.
+/// The key that begins here, if it is a form by itself, and names a field that says nothing,
+/// whichever it is.
 #[inline(never)]
 fn any_other_key(text: &[u8], start: usize) -> Option<Token>
     requires { start ≤ length text.now }
@@ -438,8 +449,8 @@ fn other_field(text: &[u8], start: usize) -> Option<usize>
     passed_value(text, key.end)
 }
 
-/// Reads the field that begins here, if it can be read so, a transaction only up to its opener. The letter after its key's colon
-/// tells which name the key may be.
+/// Reads the field that begins here, if it can be read so, a transaction only up to its opener. The
+/// letter after its key's colon tells which name the key may be.
 #[inline(always)]
 fn flat_field(text: &[u8], start: usize, fields: &mut FlatFields) -> Option<Reached>
     requires { start ≤ length text.now }
@@ -474,8 +485,8 @@ fn flat_field(text: &[u8], start: usize, fields: &mut FlatFields) -> Option<Reac
     Some(Reached::End(other_field(text, start)?))
 }
 
-/// The end of the fields that were reached. Where this is a transaction's opener, the transaction is read first into a list that is
-/// empty; none where it can't be read so.
+/// The end of the fields that were reached. Where this is a transaction's opener, the transaction
+/// is read first into a list that is empty; none where it can't be read so.
 #[inline(always)]
 fn end_of(text: &[u8], reached: Reached, mops: &mut Mops) -> Result<Option<usize>, Fault>
     requires { place_reached reached ≤ length text.now }
@@ -491,7 +502,8 @@ fn end_of(text: &[u8], reached: Reached, mops: &mut Mops) -> Result<Option<usize
     }
 }
 
-/// Reads the rest of a map's fields from here on, up to the end that is given, if all can be read so.
+/// Reads the rest of a map's fields from here on, up to the end that is given, if all can be read
+/// so.
 fn flat_map(
     text: &[u8],
     start: usize,
@@ -547,7 +559,8 @@ fn operation_of(start: usize, end: usize, kind: OpKind, process: Process) -> Opt
     }))
 }
 
-/// What a map gives that begins at `start`, and whose fields were read up to `at`, if the rest can be read so.
+/// What a map gives that begins at `start`, and whose fields were read up to `at`, if the rest can
+/// be read so.
 #[inline(never)]
 fn other_entry(
     text: &[u8],
@@ -579,7 +592,8 @@ fn other_entry(
     }
 }
 
-/// What a map gives after this opener, if it can be read so. Its micro-operations are read into the empty list.
+/// What a map gives after this opener, if it can be read so. Its micro-operations are read into the
+/// empty list.
 #[inline(always)]
 pub(crate) fn flat_entry(
     text: &[u8],

@@ -1,4 +1,5 @@
-//! Micro-operations as printers write them, read in one pass over their bytes: keys and values are forms by themselves.
+//! Micro-operations as printers write them, read in one pass over their bytes: keys and values are
+//! forms by themselves.
 
 ghost use Rattle.std.specs.Prelude.{◌≡◌, ◌≤◌, ◌<◌, ◌+◌, ◌*◌, [], List, length, take, drop, get_or, true, false, Some, IfSome, IfOk, ℕ};
 ghost use Rattle.std.specs.Char.{is_ascii_digit};
@@ -26,7 +27,8 @@ use hist_types::types::Fault;
 
 pub(crate) type Mops = Vec<MopShape>;
 
-/// How many bytes from its start on `plain_mop` may look at: `[:r `, a key, a space and a value, and one after it.
+/// How many bytes from its start on `plain_mop` may look at: `[:r `, a key, a space and a value,
+/// and one after it.
 const PLAIN_MOP_LOOK: usize = 5 + 2 * NUMBER_LOOK;
 
 /// The token that begins here, if it is `:w` or `:r` with a space after it, and whether it is `:w`.
@@ -110,8 +112,9 @@ fn value_at(text: &[u8], start: usize, is_write: bool) -> Option<Token>
     any_atom_at(text, start)
 }
 
-/// Whether the micro-operation that the next five tokens are is a write, where its key and value are and where it ends, if they
-/// are a vector of `:w` or `:r` and two forms by themselves without a fault.
+/// Whether the micro-operation that the next five tokens are is a write, where its key and value
+/// are and where it ends, if they are a vector of `:w` or `:r` and two forms by themselves without
+/// a fault.
 #[inline(always)]
 fn next_mop(text: &[u8], offset: usize) -> Option<(bool, Span, Span, usize)>
     requires { offset ≤ length text.now }
@@ -137,8 +140,8 @@ fn mop_front(is_write: bool) -> u32
     }
 }
 
-/// Whether a write is here, if a micro-operation is printed here up to its key. Which of both it is takes no branch, as nobody can
-/// foresee it: only a write's front is greater than a read's.
+/// Whether a write is here, if a micro-operation is printed here up to its key. Which of both it is
+/// takes no branch, as nobody can foresee it: only a write's front is greater than a read's.
 #[inline(always)]
 fn printed_front(text: &[u8], start: usize) -> Option<bool>
     requires { start + 4 ≤ length text.now }
@@ -167,7 +170,8 @@ fn plain_number(text: &[u8], start: usize, after: u8) -> Option<Token>
     Some(number)
 }
 
-/// The token that begins here, if it is an integer of few digits, or a keyword of few plain bytes, with a space after it.
+/// The token that begins here, if it is an integer of few digits, or a keyword of few plain bytes,
+/// with a space after it.
 #[inline(always)]
 fn plain_key(text: &[u8], start: usize) -> Option<Token>
     requires { start + NUMBER_LOOK ≤ length text.now }
@@ -183,7 +187,8 @@ fn plain_key(text: &[u8], start: usize) -> Option<Token>
     Some(keyword)
 }
 
-/// The token that begins here, if it is an integer of few digits, or `nil` that was read, with a vector's closer after it.
+/// The token that begins here, if it is an integer of few digits, or `nil` that was read, with a
+/// vector's closer after it.
 #[inline(always)]
 fn plain_value(text: &[u8], start: usize, is_write: bool) -> Option<Token>
     requires { start + NUMBER_LOOK ≤ length text.now }
@@ -201,7 +206,8 @@ fn plain_value(text: &[u8], start: usize, is_write: bool) -> Option<Token>
     word_before(text, start, b"nil", TokenKind::Nil, b']')
 }
 
-/// A key that begins here and a value, each looked for by itself, with a space between them and a vector's closer after them.
+/// A key that begins here and a value, each looked for by itself, with a space between them and a
+/// vector's closer after them.
 #[inline(never)]
 fn pair_apart(text: &[u8], start: usize, is_write: bool) -> Option<(Token, Token)>
     requires { start + 2 * NUMBER_LOOK ≤ length text.now }
@@ -212,8 +218,8 @@ fn pair_apart(text: &[u8], start: usize, is_write: bool) -> Option<(Token, Token
     Some((key, value))
 }
 
-/// The token of so few bytes that begins here with this one, all of them decimal digits, if it is an integer with the byte `after`
-/// after it.
+/// The token of so few bytes that begins here with this one, all of them decimal digits, if it is
+/// an integer with the byte `after` after it.
 #[inline(always)]
 fn few_digits(text: &[u8], start: usize, first: u8, len: usize, after: u8) -> Option<Token>
     requires room { start + NUMBER_LOOK ≤ length text.now }
@@ -230,8 +236,8 @@ fn few_digits(text: &[u8], start: usize, first: u8, len: usize, after: u8) -> Op
     Some(number)
 }
 
-/// The token of so few bytes that begins here, all of them decimal digits, if it is an integer, or `nil` that was read where there
-/// are none, with a vector's closer after it.
+/// The token of so few bytes that begins here, all of them decimal digits, if it is an integer, or
+/// `nil` that was read where there are none, with a vector's closer after it.
 #[inline(always)]
 fn value_of_digits(text: &[u8], start: usize, len: usize, is_write: bool) -> Option<Token>
     requires room { start + NUMBER_LOOK ≤ length text.now }
@@ -252,9 +258,9 @@ fn value_of_digits(text: &[u8], start: usize, len: usize, is_write: bool) -> Opt
     word_before(text, start, b"nil", TokenKind::Nil, b']')
 }
 
-/// A key that begins here and a value, with a space between them and a vector's closer after them, if the key is an integer of few
-/// digits or a keyword of few plain bytes, and the value an integer of few digits, or `nil` that was read. Two integers are found
-/// by one look.
+/// A key that begins here and a value, with a space between them and a vector's closer after them,
+/// if the key is an integer of few digits or a keyword of few plain bytes, and the value an integer
+/// of few digits, or `nil` that was read. Two integers are found by one look.
 #[inline(always)]
 fn plain_pair(text: &[u8], start: usize, is_write: bool) -> Option<(Token, Token)>
     requires { start + 2 * NUMBER_LOOK ≤ length text.now }
@@ -272,8 +278,8 @@ fn plain_pair(text: &[u8], start: usize, is_write: bool) -> Option<(Token, Token
     Some((key, value))
 }
 
-/// What `next_mop` gives, if the micro-operation begins here and is spelled as it is printed, with a space between two tokens, and
-/// bytes enough come after it.
+/// What `next_mop` gives, if the micro-operation begins here and is spelled as it is printed, with
+/// a space between two tokens, and bytes enough come after it.
 #[inline(always)]
 fn plain_mop(text: &[u8], start: usize) -> Option<(bool, Span, Span, usize)>
     requires { start ≤ length text.now }
@@ -315,7 +321,8 @@ fn push_mop(mop: Option<(bool, Span, Span, usize)>, mops: &mut Mops) -> Result<O
     Ok(Some(end))
 }
 
-/// Reads one more micro-operation, up to the end that is given, if it is a vector of three forms by themselves without a fault.
+/// Reads one more micro-operation, up to the end that is given, if it is a vector of three forms by
+/// themselves without a fault.
 #[inline(always)]
 fn flat_mop(text: &[u8], offset: usize, mops: &mut Mops) -> Result<Option<usize>, Fault>
     requires { offset ≤ length text.now }
@@ -324,7 +331,8 @@ fn flat_mop(text: &[u8], offset: usize, mops: &mut Mops) -> Result<Option<usize>
     push_mop(next_mop(text, offset), mops)
 }
 
-/// Reads one more micro-operation that begins here, up to the end that is given, if it is spelled as it is printed.
+/// Reads one more micro-operation that begins here, up to the end that is given, if it is spelled
+/// as it is printed.
 #[inline(always)]
 fn printed_mop(text: &[u8], start: usize, mops: &mut Mops) -> Result<Option<usize>, Fault>
     requires { start ≤ length text.now }
@@ -335,7 +343,8 @@ fn printed_mop(text: &[u8], start: usize, mops: &mut Mops) -> Result<Option<usiz
     push_mop(plain_mop(text, start), mops)
 }
 
-/// Reads micro-operations, up to the end that is given, as long as they are spelled as they are printed, with a space between two.
+/// Reads micro-operations, up to the end that is given, as long as they are spelled as they are
+/// printed, with a space between two.
 #[inline(always)]
 fn printed_mops(text: &[u8], offset: usize, mops: &mut Mops) -> Result<usize, Fault>
     requires { offset ≤ length text.now }
@@ -355,7 +364,8 @@ fn printed_mops(text: &[u8], offset: usize, mops: &mut Mops) -> Result<usize, Fa
     Ok(end)
 }
 
-/// Reads the rest of a transaction from the offset on, up to the end that is given, if all its members can be read so.
+/// Reads the rest of a transaction from the offset on, up to the end that is given, if all its
+/// members can be read so.
 #[inline(never)]
 fn other_members(text: &[u8], offset: usize, mops: &mut Mops) -> Result<Option<usize>, Fault>
     requires { offset ≤ length text.now }
@@ -375,7 +385,8 @@ fn other_members(text: &[u8], offset: usize, mops: &mut Mops) -> Result<Option<u
     }
 }
 
-/// Reads a transaction after its opener into a list that is empty, up to the end that is given, if all its members can be read so.
+/// Reads a transaction after its opener into a list that is empty, up to the end that is given, if
+/// all its members can be read so.
 #[inline(always)]
 pub(crate) fn flat_members(
     text: &[u8],

@@ -1,4 +1,5 @@
-//! The members of a collection, one after the other: tags and forms that `#_` leaves out are passed over.
+//! The members of a collection, one after the other: tags and forms that `#_` leaves out are passed
+//! over.
 
 ghost use Rattle.std.specs.Prelude.{◌≡◌, ◌<◌, true};
 ghost use Rattle.edn_lex.specs.Kinds.{kind_of, item_of};
@@ -18,8 +19,9 @@ pub(crate) struct Member {
     pub(crate) tag: Option<usize>,
 }
 
-/// The next member of the innermost open collection, or of the top level, where no tag and no `#_` waits; or the closer, or
-/// none at the text's end. `DanglingTag` is the fault of a closer or an end before which one waits, at the last that does.
+/// The next member of the innermost open collection, or of the top level, where no tag and no `#_`
+/// waits; or the closer, or none at the text's end. `DanglingTag` is the fault of a closer or an
+/// end before which one waits, at the last that does.
 #[cycle(forms)]
 pub(crate) fn next_member(lexer: &mut Lexer) -> Result<Option<Member>, Fault>
     ensures { NextMember lexer.old result lexer.new }
@@ -75,8 +77,8 @@ fn member_behind(lexer: &mut Lexer, mark: Token) -> Result<Option<Member>, Fault
     Ok(None)
 }
 
-/// Passes over a collection up to after its closer, whose opener has just been given. Only its tokens, its nesting and its tags
-/// are looked at. Calls are at most as deep as collections may be.
+/// Passes over a collection up to after its closer, whose opener has just been given. Only its
+/// tokens, its nesting and its tags are looked at. Calls are at most as deep as collections may be.
 #[cycle(forms)]
 pub(crate) fn skip_collection(lexer: &mut Lexer, opener: Token) -> Result<(), Fault>
     ensures { SkipsCollection lexer.old (item_of lexer.old.text opener) result lexer.new }

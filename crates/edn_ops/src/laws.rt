@@ -38,7 +38,8 @@ pub fn lines_read_back()
         → All OperationCanBeRead os → AreLines text os → ReadsOnlyAs text os }
 {}
 
-/// Each operation that a text gives can be read back, where its canonical text has at most 65,536 bytes.
+/// Each operation that a text gives can be read back, where its canonical text has at most 65,536
+/// bytes.
 pub fn what_is_read_can_be_read_back()
     ensures { (text : List ℕ) (entries : List Entry) (fault : Option Fault)
         → Reads text entries fault → All CanBeReadIfShort (operations_of entries) }

@@ -22,7 +22,8 @@ use edn_lex::types::{Token, TokenKind};
 use hist_types::types::{Fault, Refusal};
 use std::alloc::Global;
 
-/// Gathers a member of a map, whose first token has just been given. Only the first `:value` is read as a transaction.
+/// Gathers a member of a map, whose first token has just been given. Only the first `:value` is
+/// read as a transaction.
 fn add_member(
     alloc: Global,
     lexer: &mut Lexer,
@@ -58,8 +59,8 @@ fn add_member(
     }
 }
 
-/// Reads the map of an operation, whose opener has just been given, up to after its closer: the operation, or none where it
-/// is skipped.
+/// Reads the map of an operation, whose opener has just been given, up to after its closer: the
+/// operation, or none where it is skipped.
 pub(crate) fn read_map(
     alloc: Global,
     lexer: &mut Lexer,

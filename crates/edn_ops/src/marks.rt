@@ -90,8 +90,8 @@ pub(crate) fn closes(token: Token) -> bool
     matches!(token.kind, TokenKind::Close)
 }
 
-/// The fault of the last mark that waits when this level ends, if `drops` discards are pending then. The lexer is after the first
-/// mark of the level.
+/// The fault of the last mark that waits when this level ends, if `drops` discards are pending
+/// then. The lexer is after the first mark of the level.
 pub(crate) fn dangling(lexer: Lexer, first: Token, drops: usize) -> Fault
     requires mark { is_mark_kind (kind_of first.kind) ≡ true }
     requires behind { first.start < lexer.offset }

@@ -30,7 +30,8 @@ pub(crate) fn pass_member(lexer: &mut Lexer, member: Member) -> Result<Outline, 
     Ok(Outline::of(member))
 }
 
-/// Passes over a collection, whose opener has just been given, and gives the outlines of its first four forms.
+/// Passes over a collection, whose opener has just been given, and gives the outlines of its first
+/// four forms.
 pub(crate) fn first_forms(lexer: &mut Lexer, opener: Token) -> Result<ArrayVec<Outline, 4>, Fault>
     ensures { ReadsFirstForms lexer.old (item_of lexer.old.text opener) result lexer.new }
 {

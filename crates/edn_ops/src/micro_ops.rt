@@ -90,8 +90,8 @@ fn micro_op_by(text: &[u8], start: usize, forms: &[Outline]) -> Result<MopShape,
     }
 }
 
-/// Reads a member of a transaction, whose first token has just been given: where it begins, and the micro-operation that it
-/// is, or the fault that makes it none.
+/// Reads a member of a transaction, whose first token has just been given: where it begins, and the
+/// micro-operation that it is, or the fault that makes it none.
 fn read_micro_op(
     lexer: &mut Lexer,
     text: &[u8],
@@ -146,7 +146,8 @@ fn add_micro_op(
     }
 }
 
-/// Reads a transaction, whose opener has just been given: its micro-operations, or the first fault among its members.
+/// Reads a transaction, whose opener has just been given: its micro-operations, or the first fault
+/// among its members.
 #[inline(always)]
 pub(crate) fn transaction(
     alloc: Global,

@@ -80,8 +80,9 @@ impl<'a> Place<'a> {
         }
     }
 
-    /// The next operation, whose micro-operations are read into the empty list, if it and those that are skipped before it are
-    /// maps that can be read in one pass, perhaps after tags. Else the place stays the same, and out of memory too.
+    /// The next operation, whose micro-operations are read into the empty list, if it and those
+    /// that are skipped before it are maps that can be read in one pass, perhaps after tags. Else
+    /// the place stays the same, and out of memory too.
     #[inline(always)]
     fn flat_op(&mut self, mops: &mut Mops) -> Result<Option<FlatOperation>, Fault>
         requires skipped { self.old.skipped ≤ self.old.lexer.offset }
@@ -144,10 +145,11 @@ impl<'a> Place<'a> {
     }
 }
 
-/// Reads the operations of a text in EDN as Jepsen prints it: maps at the top level, or directly in a vector or list there.
+/// Reads the operations of a text in EDN as Jepsen prints it: maps at the top level, or directly in
+/// a vector or list there.
 ///
-/// It keeps nothing of the text but the micro-operations of the operation that it is at. Operations whose process is no integer
-/// are skipped.
+/// It keeps nothing of the text but the micro-operations of the operation that it is at. Operations
+/// whose process is no integer are skipped.
 #[derive(Drop)]
 pub struct OpReader<'a> {
     alloc: Global,
@@ -185,7 +187,8 @@ impl<'a> OpReader<'a> {
         OpReader::at(alloc, text, 0)
     }
 
-    /// A reader that begins at this offset, as if nothing stood before it. Offsets count from the front of the text all the same.
+    /// A reader that begins at this offset, as if nothing stood before it. Offsets count from the
+    /// front of the text all the same.
     pub fn at(alloc: Global, text: &'a [u8], offset: usize) -> OpReader<'a>
         requires { offset ≤ length text.now }
         ensures start { result ≡ reader_at text.now offset }
@@ -204,8 +207,9 @@ impl<'a> OpReader<'a> {
         }
     }
 
-    /// The next operation, or none at the text's end. A fault ends the reading, and each later call gives it again; but
-    /// out of memory (`Memory`) the reader is unchanged, and the call can be made again.
+    /// The next operation, or none at the text's end. A fault ends the reading, and each later call
+    /// gives it again; but out of memory (`Memory`) the reader is unchanged, and the call can be
+    /// made again.
     pub fn next_op(&mut self) -> Result<Option<OpShape>, Fault>
         ensures again { FailsAgain self.old result self.new }
         ensures next { self.old.failed ≡ None → NextOf self.old result self.new }
@@ -220,8 +224,9 @@ impl<'a> OpReader<'a> {
         }
     }
 
-    /// Reads the next operation into a shape that may have been used before, or returns false at the text's end. After false or a
-    /// fault the shape is of no use. Faults are those of `next_op`.
+    /// Reads the next operation into a shape that may have been used before, or returns false at
+    /// the text's end. After false or a fault the shape is of no use. Faults are those of
+    /// `next_op`.
     #[inline(always)]
     pub fn next_into(&mut self, shape: &mut OpShape) -> Result<bool, Fault>
         ensures again { FailsAgain self.old (found_in shape.new result) self.new }
@@ -240,8 +245,8 @@ impl<'a> OpReader<'a> {
         Ok(true)
     }
 
-    /// The next operation, whose micro-operations are read into the empty list, if it can be read in one pass. Else the reader is
-    /// unchanged.
+    /// The next operation, whose micro-operations are read into the empty list, if it can be read
+    /// in one pass. Else the reader is unchanged.
     #[inline(always)]
     fn flat_op(&mut self, mops: &mut Mops) -> Result<Option<FlatOperation>, Fault>
         requires { mops.old.items ≡ [] }
@@ -253,7 +258,8 @@ impl<'a> OpReader<'a> {
         self.place.flat_op(mops)
     }
 
-    /// Reads the next operation into the shape, whatever form it has, or returns false at the text's end.
+    /// Reads the next operation into the shape, whatever form it has, or returns false at the
+    /// text's end.
     #[inline(never)]
     fn any_into(&mut self, shape: &mut OpShape) -> Result<bool, Fault>
         ensures again { FailsAgain self.old (found_in shape.new result) self.new }

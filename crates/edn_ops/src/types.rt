@@ -20,8 +20,8 @@ pub struct MopShape {
     pub value: Span,
 }
 
-/// What an operation of a text says, and where its parts are. It borrows nothing. A fail and an info have no
-/// micro-operations.
+/// What an operation of a text says, and where its parts are. It borrows nothing. A fail and an
+/// info have no micro-operations.
 #[derive(Debug, Drop)]
 pub struct OpShape {
     /// From the map's `{` to after its `}`.

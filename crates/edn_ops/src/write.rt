@@ -16,7 +16,8 @@ use hist_types::types::{OpKind, Process};
 use itoa::Buffer;
 use std::alloc::AllocError;
 
-/// The texts of a micro-operation's key and value, as a source spells them. The value of a read of nil is `nil`.
+/// The texts of a micro-operation's key and value, as a source spells them. The value of a read of
+/// nil is `nil`.
 #[derive(Clone, Copy, Debug)]
 pub struct MopText<'a> {
     pub is_write: bool,
@@ -165,9 +166,11 @@ fn append_op(
     out.extend_from_slice(b"}")
 }
 
-/// Appends the canonical text of the atom that a text spells. Out of memory leaves the Vec as it was.
+/// Appends the canonical text of the atom that a text spells. Out of memory leaves the Vec as it
+/// was.
 ///
-/// An integer loses its `+` and its `N`, and a string has the control bytes that have an escape escaped.
+/// An integer loses its `+` and its `N`, and a string has the control bytes that have an escape
+/// escaped.
 pub fn write_atom(out: &mut Vec<u8>, text: &[u8]) -> Result<(), AllocError>
     requires { (atom : Atom) × IsAtomText text.now atom }
     ensures ok { Writes (IsAtomText text.now) atom_text result out.old out.new }

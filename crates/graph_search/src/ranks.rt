@@ -56,8 +56,8 @@ impl Ranks {
     /// greatest of these ranks is that it leads to.
     ///
     /// These ranks put any two components in an order, also where neither leads to the other. Where
-    /// this ranking has them the other way round, no search is needed. As with `of`, it is only part
-    /// of the contract that ranks don't fall along any arc.
+    /// this ranking has them the other way round, no search is needed. As with `of`, it is only
+    /// part of the contract that ranks don't fall along any arc.
     pub fn far_leaving<G: Arcs>(
         &self,
         alloc: Global,
@@ -73,8 +73,8 @@ impl Ranks {
         Ok(Ranks::checked_leaving(graph, numbers, vertices))
     }
 
-    /// These numbers, or 0 for each vertex if they fall along an arc. All arcs leave vertices on the
-    /// list.
+    /// These numbers, or 0 for each vertex if they fall along an arc. All arcs leave vertices on
+    /// the list.
     fn checked_leaving<G: Arcs>(graph: &G, numbers: Vec<u32>, vertices: &[u32]) -> Ranks
         requires numbers { length numbers.items ≡ (G.graph graph.now).count }
         requires within { All (λ v. v < (G.graph graph.now).count) vertices.now }

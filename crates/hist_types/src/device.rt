@@ -1,4 +1,5 @@
-//! Where bytes come from and go to: sources and sinks, with one of each over memory and one of each over any stream.
+//! Where bytes come from and go to: sources and sinks, with one of each over memory and one of each
+//! over any stream.
 
 ghost use Rattle.std.specs.Prelude.{◌≡◌, ℕ, ◌<◌, List, [], length, Option, Some, IfOk, OnOk, OnErr};
 ghost use Rattle.std.specs.Io.{ReadsAtMost, WritesAtMost};
@@ -23,7 +24,8 @@ pub trait Source {
     /// How often it has failed.
     ghost failures: { Self → ℕ };
 
-    /// Reads bytes into the front of the room, and returns how many. 0 for room that isn't empty is the source's end.
+    /// Reads bytes into the front of the room, and returns how many. 0 for room that isn't empty is
+    /// the source's end.
     fn read(&mut self, room: &mut [u8]) -> Result<usize, Failed>
         ensures within { ReadsAtMost result room.new }
         ensures bytes { ReadConsumes (remaining self.old) (remaining self.new) result room.new }
@@ -39,7 +41,8 @@ pub trait Sink {
     /// How often it has failed.
     ghost failures: { Self → ℕ };
 
-    /// Takes bytes from the front of the piece, and returns how many: at least one of a piece that isn't empty.
+    /// Takes bytes from the front of the piece, and returns how many: at least one of a piece that
+    /// isn't empty.
     fn write(&mut self, piece: &[u8]) -> Result<usize, Failed>
         ensures within { WritesAtMost result piece.now }
         ensures progress { IfOk result (λ count. 0 < length piece.now → 0 < count) }
@@ -56,7 +59,8 @@ fn count_failure(failures: &mut u64) -> Failed
     Failed
 }
 
-/// A source over memory: it gives the bytes in as large pieces as there is room for, and never fails.
+/// A source over memory: it gives the bytes in as large pieces as there is room for, and never
+/// fails.
 #[derive(Drop)]
 pub struct MemorySource<'a> {
     rest: &'a [u8],
@@ -135,8 +139,8 @@ impl Sink for MemorySink {
     }
 }
 
-/// A source over a stream. As much is known of its bytes as of the stream's, and it fails where the stream returns an error
-/// of any kind.
+/// A source over a stream. As much is known of its bytes as of the stream's, and it fails where the
+/// stream returns an error of any kind.
 #[derive(Drop)]
 pub struct StreamSource<R> {
     stream: R,
@@ -174,8 +178,9 @@ impl<R: Read> Source for StreamSource<R> {
     }
 }
 
-/// A sink over a stream. As much is known of its bytes as of the stream's, and it fails where the stream returns an error of
-/// any kind, or takes nothing of a piece that isn't empty. It flushes nothing, so the stream should keep no buffer of its own.
+/// A sink over a stream. As much is known of its bytes as of the stream's, and it fails where the
+/// stream returns an error of any kind, or takes nothing of a piece that isn't empty. It flushes
+/// nothing, so the stream should keep no buffer of its own.
 #[derive(Drop)]
 pub struct StreamSink<W> {
     stream: W,

@@ -1,4 +1,5 @@
-//! Laws of limits, refusals, levels and equality: the contracts of functions that do nothing, and of one that compares levels.
+//! Laws of limits, refusals, levels and equality: the contracts of functions that do nothing, and
+//! of one that compares levels.
 
 ghost use Rattle.std.specs.Prelude.{◌≡◌, ◌↔◌, IsTrue};
 ghost use Rattle.std.specs.Ordering.{nat_cmp};
@@ -41,7 +42,8 @@ pub fn levels_in_order(a: Level, b: Level) -> Ordering
     a.cmp(&b)
 }
 
-/// The tests of equality pass equal things, and nothing else: for atoms, for what reads return, for writes and for versions.
+/// The tests of equality pass equal things, and nothing else: for atoms, for what reads return, for
+/// writes and for versions.
 pub fn equality_decided()
     ensures atoms { (a b : Atom) → IsTrue (atom_eq a b) ↔ (a ≡ b) }
     ensures values { (v w : Value) → IsTrue (value_eq v w) ↔ (v ≡ w) }

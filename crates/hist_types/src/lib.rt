@@ -1,5 +1,5 @@
-//! The words that the whole checker speaks: kinds of operations, refusals and their places, limits, and the devices that bytes
-//! come from and go to.
+//! The words that the whole checker speaks: kinds of operations, refusals and their places, limits,
+//! and the devices that bytes come from and go to.
 #![tactic(auto)]
 
 pub mod device;

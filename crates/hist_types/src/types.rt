@@ -29,7 +29,8 @@ pub enum Outcome {
     Info,
 }
 
-/// Which order edges a cycle may use: none, those within a process, or those of real time. They are ordered so.
+/// Which order edges a cycle may use: none, those within a process, or those of real time. They are
+/// ordered so.
 #[derive(Clone, Copy, Debug, PartialEq, Eq, PartialOrd, Ord)]
 pub enum Level {
     Plain,
@@ -51,7 +52,8 @@ pub enum Phenomenon {
 pub enum KeyOrder {
     /// Nothing but what each transaction shows by itself.
     Basic,
-    /// Each register is sequentially consistent for each client, so what a process saw of a key comes before what it sees next.
+    /// Each register is sequentially consistent for each client, so what a process saw of a key
+    /// comes before what it sees next.
     Sequential,
 }
 

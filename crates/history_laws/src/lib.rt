@@ -1,5 +1,6 @@
-//! Laws of histories: what follows from the definitions of the journal, transactions, versions, edges and phenomena. Each is the
-//! contract of a function that does nothing; the layers from transactions to the verdict cite them.
+//! Laws of histories: what follows from the definitions of the journal, transactions, versions,
+//! edges and phenomena. Each is the contract of a function that does nothing; the layers from
+//! transactions to the verdict cite them.
 #![tactic(auto)]
 
 ghost use Rattle.std.specs.Prelude.{◌≡◌, ◌≤◌, ℕ, List, [], IsTrue, IsFalse, None, is_some, All, Contains};
@@ -31,27 +32,30 @@ ghost use Rattle.hist_types.specs.declared.types.Level.{Level};
 ghost use Rattle.hist_types.specs.declared.types.Level.TheVariants.{Process, Realtime};
 ghost use Rattle.hist_types.specs.declared.types.Phenomenon.{Phenomenon};
 
-/// A journal grows block by block, and its events keep its rules. Operations keep them if each part of them does after what comes
-/// before it.
+/// A journal grows block by block, and its events keep its rules. Operations keep them if each part
+/// of them does after what comes before it.
 pub fn blocks_one_after_another()
     ensures push { (blocks : List (List Operation)) → GrowBlockByBlock blocks }
     ensures kept { (blocks : List (List Operation)) → KeepsRules (events_of blocks) }
     ensures parts { (events front rest : List Operation) → KeepRulesByParts events front rest }
 {}
 
-/// A completion is the next event of its process, where that is no invocation. A process has no event after its last one.
+/// A completion is the next event of its process, where that is no invocation. A process has no
+/// event after its last one.
 pub fn events_of_a_process()
     ensures completion { (process index : ℕ) → CompletesByNextEvent process index }
     ensures last { (process : ℕ) → EndsWithLastEvent process }
 {}
 
-/// An external read has no write of its key before it in its transaction, and an external write none after it.
+/// An external read has no write of its key before it in its transaction, and an external write
+/// none after it.
 pub fn external_reads_and_writes()
     ensures reads { (t : Transaction) → HasExactly (external_reads t) (ReadsFirst t.mops) }
     ensures writes { (t : Transaction) → HasExactly (external_writes t) (WritesLast t.mops) }
 {}
 
-/// Order edges are those of all pairs of which the second end is a node; their first end is one by itself.
+/// Order edges are those of all pairs of which the second end is a node; their first end is one by
+/// itself.
 pub fn order_edges_between_nodes()
     ensures all { (level : Level) → AreSubEdges (order_edges level) (all_order_edges level) }
     ensures first { (level : Level) → LeaveNodes (order_edges level) }
@@ -70,8 +74,8 @@ pub fn thinned_among_order_edges()
     ensures all { (level : Level) → AreSubEdges (all_thinned_edges level) (all_order_edges level) }
 {}
 
-/// Transactions are listed in the order of their invocations. Each completes, if at all, after its invocation, by an event that
-/// invokes none, and before its process invokes the next one.
+/// Transactions are listed in the order of their invocations. Each completes, if at all, after its
+/// invocation, by an event that invokes none, and before its process invokes the next one.
 pub fn transactions_in_time()
     ensures order { (events : List Operation) → AreInvokedInOrder (transactions_of events) }
     ensures later { (events : List Operation) → All CompletesLater (transactions_of events) }
@@ -79,16 +83,18 @@ pub fn transactions_in_time()
     ensures process { (events : List Operation) → CompleteBeforeNext (transactions_of events) }
 {}
 
-/// In any set of nodes with all ok transactions in it, an order edge joins two nodes exactly where a path of thinned edges leads
-/// from one to the other. The nodes of a history are such a set, and so are all its transactions.
+/// In any set of nodes with all ok transactions in it, an order edge joins two nodes exactly where
+/// a path of thinned edges leads from one to the other. The nodes of a history are such a set, and
+/// so are all its transactions.
 pub fn order_edges_are_thinned_paths()
     ensures paths { (level : Level) (events : List Operation) → OrderEdgesArePaths level events }
     ensures nodes { (ts : List Transaction) → IncludesAllOk ts (nodes ts) }
     ensures all { (ts : List Transaction) → IncludesAllOk ts ts }
 {}
 
-/// A walk over order edges and any other edges can be replaced by one with thinned edges instead, and back, with the same counts
-/// of ww, wr and rw edges. So dependency edges with thinned edges show exactly the phenomena that they show with all order edges.
+/// A walk over order edges and any other edges can be replaced by one with thinned edges instead,
+/// and back, with the same counts of ww, wr and rw edges. So dependency edges with thinned edges
+/// show exactly the phenomena that they show with all order edges.
 pub fn thinning_keeps_phenomena()
     ensures thinned { (level : Level) (events : List Operation) → WalksCarryToThinned level events }
     ensures order { (level : Level) (ts : List Transaction) → WalksCarryToOrder level ts }
@@ -100,8 +106,8 @@ pub fn thinning_keeps_phenomena()
         → ThinningKeepsTheFewest keys phenomenon level }
 {}
 
-/// No transaction has more thinned predecessors in real time than transactions were ever open at once, or more than one within
-/// its process.
+/// No transaction has more thinned predecessors in real time than transactions were ever open at
+/// once, or more than one within its process.
 pub fn thinning_leaves_few()
     ensures most { (ts : List Transaction) → (index : ℕ) → open_at index ts ≤ most_open ts }
     ensures realtime { LimitsPredecessors most_open (thinned_edges Realtime) }
@@ -118,8 +124,9 @@ pub fn levels_rise()
         → height lower ≤ height higher → PhenomenaRise keys lower higher }
 {}
 
-/// A phenomenon is there exactly where some edge of its kind has a way back from its second end to its first, along the kinds of
-/// edges that the phenomenon allows. The closed walk has one dependency edge more than the way back.
+/// A phenomenon is there exactly where some edge of its kind has a way back from its second end to
+/// its first, along the kinds of edges that the phenomenon allows. The closed walk has one
+/// dependency edge more than the way back.
 pub fn cycles_by_one_edge()
     ensures edges { (phenomenon : Phenomenon) → AnyEdgesShowItByAWayBack phenomenon }
     ensures few { (phenomenon : Phenomenon) → FewEdgesShowItByAWayBack phenomenon }
@@ -127,8 +134,8 @@ pub fn cycles_by_one_edge()
         → ThinnedEdgesHaveAWayBack keys phenomenon level }
 {}
 
-/// A phenomenon that is there at a level has a witness there, and a phenomenon with a witness is there. Each walk that shows it has
-/// a witness with no more dependency edges.
+/// A phenomenon that is there at a level has a witness there, and a phenomenon with a witness is
+/// there. Each walk that shows it has a witness with no more dependency edges.
 pub fn phenomena_have_witnesses()
     ensures there { (keys : KeyOrder) (phenomenon : Phenomenon) (level : Level)
         → IsThereWithAWitness keys phenomenon level }
@@ -136,7 +143,8 @@ pub fn phenomena_have_witnesses()
         → WalksHaveWitnesses keys phenomenon level }
 {}
 
-/// Edges in order are those that were given, one for each place, and they rise. All dependency edges of a history are there.
+/// Edges in order are those that were given, one for each place, and they rise. All dependency
+/// edges of a history are there.
 pub fn edges_in_order()
     ensures among { (es : List Edge) → (e : Edge) → Contains (in_order es) e → Contains es e }
     ensures places { (es : List Edge) → All (HasOneAtItsPlace (in_order es)) es }
@@ -145,16 +153,18 @@ pub fn edges_in_order()
         → HasAllDependenciesInOrder keys events }
 {}
 
-/// A pair of versions is known exactly where the earlier version is nil and a node installs the later one, where one transaction
-/// reads the one and installs the other, or where keys are sequential and a process went from the one to the other.
+/// A pair of versions is known exactly where the earlier version is nil and a node installs the
+/// later one, where one transaction reads the one and installs the other, or where keys are
+/// sequential and a process went from the one to the other.
 pub fn versions_by_membership()
     ensures { (keys : KeyOrder) (ts : List Transaction)
         → HasExactly (version_pairs keys ts) (IsVersionPair keys ts) }
 {}
 
-/// Where keys are sequential, a process goes from one version of a key to a later one exactly where an ok transaction meets the
-/// later one, and of all that the process saw of the key before, the earlier one came last. Then an ok transaction of the process
-/// read or wrote it by its last micro-operation on the key, and the process saw nothing of the key between the two transactions.
+/// Where keys are sequential, a process goes from one version of a key to a later one exactly where
+/// an ok transaction meets the later one, and of all that the process saw of the key before, the
+/// earlier one came last. Then an ok transaction of the process read or wrote it by its last
+/// micro-operation on the key, and the process saw nothing of the key between the two transactions.
 /// Where keys are basic, no process orders any versions.
 pub fn pairs_of_a_process()
     ensures steps { (ts : List Transaction)
@@ -164,18 +174,18 @@ pub fn pairs_of_a_process()
     ensures basic { (ts : List Transaction) → process_pairs Basic ts ≡ [] }
 {}
 
-/// A dependency edge joins two different nodes exactly where they install and read the versions of its label: for a ww or an rw,
-/// a pair that is known.
+/// A dependency edge joins two different nodes exactly where they install and read the versions of
+/// its label: for a ww or an rw, a pair that is known.
 pub fn edges_by_versions()
     ensures labels { (keys : KeyOrder) (ts : List Transaction) → LabelsAreDependencies keys ts }
     ensures edges { (keys : KeyOrder) (ts : List Transaction)
         → HasExactly (dependency_edges keys ts) (IsDependency keys ts) }
 {}
 
-/// Where the rules are kept, the transactions write what their invocations say, in the order of these, and no version of a key is
-/// written twice, by two transactions or by one. A transaction installs each
-/// version that it writes, or else writes the key again later, and the version is an intermediate one; of each key it installs
-/// one version, and never nil.
+/// Where the rules are kept, the transactions write what their invocations say, in the order of
+/// these, and no version of a key is written twice, by two transactions or by one. A transaction
+/// installs each version that it writes, or else writes the key again later, and the version is an
+/// intermediate one; of each key it installs one version, and never nil.
 pub fn versions_written_once()
     ensures invoked { (events : List Operation) → KeepsRules events → WriteWhatWasInvoked events }
     ensures once { (events : List Operation) → KeepsRules events → WriteNoneTwice events }
@@ -195,8 +205,8 @@ pub fn bad_reads_by_writer()
     ensures stray { (ts : List Transaction) → HasExactly (stray_reads ts) (IsStrayRead ts) }
 {}
 
-/// Where the rules are kept, the one transaction that wrote a version decides what a read of it is; where nobody wrote it, the
-/// read is stray, unless it returned nil.
+/// Where the rules are kept, the one transaction that wrote a version decides what a read of it is;
+/// where nobody wrote it, the read is stray, unless it returned nil.
 pub fn writer_decides()
     ensures aborted { (events : List Operation) → KeepsRules events → WriterDecidesG1a events }
     ensures intermediate { (events : List Operation) → KeepsRules events → WriterDecidesG1b events }

@@ -18,7 +18,8 @@ use verdict_serve::session::{Ended, SessionFault};
 /// A pair of paths, opened: lines are read from the first, and replies are written to the second.
 type FileClient = Client<StreamSource<File>, StreamSink<File>>;
 
-/// Opens each pair in order, the first path of a pair before the second. A file that is written to is created or emptied.
+/// Opens each pair in order, the first path of a pair before the second. A file that is written to
+/// is created or emptied.
 pub fn open_pairs(
     rt: &HostRuntime,
     alloc: Global,
@@ -33,7 +34,8 @@ pub fn open_pairs(
     Ok(clients)
 }
 
-/// How sessions ended: as the first one did that neither said `quit` nor came to the end of its lines.
+/// How sessions ended: as the first one did that neither said `quit` nor came to the end of its
+/// lines.
 fn status_of(ends: &[Result<Ended, SessionFault>]) -> Status {
     for end in ends {
         match end {
@@ -83,8 +85,8 @@ fn serve_opened<R: Threads + Wait + Sync, T: Sink>(
     }
 }
 
-/// Serves the pairs of paths that were opened. To the sink it prints what kept it from that, to the one for errors that a device
-/// failed.
+/// Serves the pairs of paths that were opened. To the sink it prints what kept it from that, to the
+/// one for errors that a device failed.
 pub fn serve<R: Threads + Wait + Sync, T: Sink, E: Sink>(
     rt: &R,
     alloc: Global,

@@ -51,7 +51,8 @@ impl Accessed {
         self.seen.clear();
     }
 
-    /// Adds the access of a micro-operation. A read of a key that the transaction wrote before isn't external.
+    /// Adds the access of a micro-operation. A read of a key that the transaction wrote before
+    /// isn't external.
     #[inline(always)]
     pub fn add(
         &mut self,

@@ -9,7 +9,8 @@ use crate::rows::number_of;
 use std::alloc::{AllocError, Global};
 use std::marker::Model;
 
-/// Where the numbers of a transaction are: those of its reads, and after them those of its installs.
+/// Where the numbers of a transaction are: those of its reads, and after them those of its
+/// installs.
 #[derive(Clone, Copy, Debug, Default, PartialEq, Eq)]
 pub(crate) struct Span {
     reads: u32,

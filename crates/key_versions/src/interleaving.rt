@@ -11,7 +11,8 @@ use crate::types::Follower;
 use flat_groups::groups::Groups;
 use std::alloc::{AllocError, Global};
 
-/// Marks the versions that these follow. The mark of a version is that of the last transaction that was seen to follow it.
+/// Marks the versions that these follow. The mark of a version is that of the last transaction that
+/// was seen to follow it.
 fn mark_all(marks: &mut [u32], mark: u32, followers: &[(u32, Follower)])
     requires numbers { All (IsNumbered (length marks.old)) followers.now }
     requires lower { AreBelow mark marks.old }
@@ -92,8 +93,8 @@ fn count_of(followers: &[(u32, Follower)], place: u32) -> usize
     followers.len()
 }
 
-/// The followers of n versions, in the order of their places, with those that the earlier versions of each version add. Room is
-/// made at once for one more for each step.
+/// The followers of n versions, in the order of their places, with those that the earlier versions
+/// of each version add. Room is made at once for one more for each step.
 pub(crate) fn with_steps(
     alloc: Global,
     versions: usize,

@@ -30,10 +30,12 @@ use std::hash::BuildHasher;
 use std::marker::Model;
 use txn_pairs::types::{Status, Txn, Txns};
 
-/// What the transactions of a run read and write, by the numbers of versions. A transaction is added when it is invoked, and
-/// updated when it completes. At any time a table of versions can be made: in linear time, and without looking at a key or a value.
+/// What the transactions of a run read and write, by the numbers of versions. A transaction is
+/// added when it is invoked, and updated when it completes. At any time a table of versions can be
+/// made: in linear time, and without looking at a key or a value.
 ///
-/// It borrows the journal's blocks. No answer depends on the hasher. It can't be used after a call that ran out of memory.
+/// It borrows the journal's blocks. No answer depends on the hasher. It can't be used after a call
+/// that ran out of memory.
 pub struct KeptVersions<'a, S: BuildHasher> {
     keys: KeyOrder,
     numbering: Numbering<'a, S>,
@@ -101,7 +103,8 @@ impl<'a, S: BuildHasher + Copy> KeptVersions<'a, S> {
         })
     }
 
-    /// Takes the next transaction of a history, where some versions had numbers before, and returns how many writes it has.
+    /// Takes the next transaction of a history, where some versions had numbers before, and returns
+    /// how many writes it has.
     fn take(&mut self, txn: &Txn<'a>, numbers: WriteNumbers<'_>) -> Result<usize, AllocError>
         requires kept { (given : List Version) × (ts : List Transaction)
             × AreKeptBeside given ts self.old }
@@ -134,7 +137,8 @@ impl<'a, S: BuildHasher + Copy> KeptVersions<'a, S> {
         Ok(())
     }
 
-    /// What the transactions of a history read and write. They name the versions that have numbers already.
+    /// What the transactions of a history read and write. They name the versions that have numbers
+    /// already.
     pub(crate) fn of(
         alloc: Global,
         numbering: Numbering<'a, S>,
@@ -169,7 +173,8 @@ impl<'a, S: BuildHasher + Copy> KeptVersions<'a, S> {
         Ok(())
     }
 
-    /// Updates the transaction at this place, which is now completed. A fail or an info says nothing of what was read.
+    /// Updates the transaction at this place, which is now completed. A fail or an info says
+    /// nothing of what was read.
     pub fn complete(&mut self, place: usize, txn: &Txn<'a>) -> Result<(), AllocError>
         requires { (ts : List Transaction) × AreKept ts self.old × (place < length ts) }
         ensures kept { (ts : List Transaction) (t : Transaction)
@@ -218,7 +223,8 @@ impl<'a, S: BuildHasher + Copy> KeptVersions<'a, S> {
         self.accesses.writes(place)
     }
 
-    /// What the micro-operations of the transaction at this place read and write, if it is ok and keys are sequential.
+    /// What the micro-operations of the transaction at this place read and write, if it is ok and
+    /// keys are sequential.
     pub fn seen(&self, place: usize) -> &[Access]
         requires { place < length self.now.accesses }
         ensures { slice_get (map (λ a. a.seen) self.now.accesses) place ≡ Some result.now }

@@ -11,7 +11,8 @@ use crate::rows::number_of;
 use std::alloc::{AllocError, Global};
 use std::marker::Model;
 
-/// Where the accesses of a transaction are, and how many: its reads, after them its writes, and then what it sees.
+/// Where the accesses of a transaction are, and how many: its reads, after them its writes, and
+/// then what it sees.
 #[derive(Clone, Copy, Debug, Default, PartialEq, Eq)]
 pub(crate) struct KeptSpan {
     start: u32,

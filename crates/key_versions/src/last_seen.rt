@@ -46,8 +46,8 @@ impl Model for LastSeen {
     ghost invariant = { λ l. AreLinked l.seen.items l.newest.items };
 }
 
-/// A hash below n of a process and a key. Near numbers have near hashes, since such processes and keys mostly come at the same
-/// time, when what belongs to them had better be near, too.
+/// A hash below n of a process and a key. Near numbers have near hashes, since such processes and
+/// keys mostly come at the same time, when what belongs to them had better be near, too.
 fn hash_below(n: usize, process: u64, nil: u32) -> usize
     requires { 0 < n }
     ensures value { result ≡ hash_of process nil n }
@@ -66,7 +66,8 @@ impl LastSeen {
         LastSeen::with_hashes(alloc, hashes, transactions / 2)
     }
 
-    /// No process has seen a version. The table has this many hashes, and there is room for this many versions.
+    /// No process has seen a version. The table has this many hashes, and there is room for this
+    /// many versions.
     fn with_hashes(alloc: Global, hashes: usize, versions: usize) -> Result<Self, AllocError>
         requires { 0 < hashes }
         ensures { IfOk result (λ last. (process nil : ℕ) → last_seen last process nil ≡ None) }
@@ -135,7 +136,8 @@ impl LastSeen {
         Ok(grown)
     }
 
-    /// Doubles the table if there are twice as many versions as hashes, so that few versions have the same hash.
+    /// Doubles the table if there are twice as many versions as hashes, so that few versions have
+    /// the same hash.
     fn make_room(&mut self) -> Result<(), AllocError>
         ensures { OnOk result ((process nil : ℕ) → last_seen self.new process nil
             ≡ last_seen self.old process nil) }

@@ -36,19 +36,21 @@ use std::alloc::Global;
 use std::hash::{BuildHasher, BuildHasherDefault, FoldHasher};
 use txn_pairs::types::Txns;
 
-/// The versions that the transactions name: the nil version of each key, what is written, and what ok transactions read. What
-/// the reads of other transactions hold is not known, so it is left out. They borrow the journal's blocks. No answer depends on
-/// the hasher.
+/// The versions that the transactions name: the nil version of each key, what is written, and what
+/// ok transactions read. What the reads of other transactions hold is not known, so it is left out.
+/// They borrow the journal's blocks. No answer depends on the hasher.
 ///
-/// A version's followers are the transactions known to install a later version of its key. Where keys are basic, those are the
-/// transactions that read the version and install another one, and after nil all that install a version of the key. Where keys
-/// are sequential, a process is taken to see the versions of a key in their order: what it reads or writes in one ok transaction
-/// comes before the different version that the next one reads first, or writes without reading the key. Whoever installs the
-/// later version then follows the earlier one, even if the transaction is of another process and read nothing. So a version may
-/// then have followers that didn't read it, and several of them.
+/// A version's followers are the transactions known to install a later version of its key. Where
+/// keys are basic, those are the transactions that read the version and install another one, and
+/// after nil all that install a version of the key. Where keys are sequential, a process is taken
+/// to see the versions of a key in their order: what it reads or writes in one ok transaction comes
+/// before the different version that the next one reads first, or writes without reading the key.
+/// Whoever installs the later version then follows the earlier one, even if the transaction is of
+/// another process and read nothing. So a version may then have followers that didn't read it, and
+/// several of them.
 ///
-/// The time is linear in their micro-operations, except for the square of the length of one transaction. The only error is out
-/// of memory.
+/// The time is linear in their micro-operations, except for the square of the length of one
+/// transaction. The only error is out of memory.
 pub fn versions<'a, S: BuildHasher + Copy>(
     alloc: Global,
     txns: &Txns<'a>,
@@ -66,9 +68,9 @@ pub fn versions<'a, S: BuildHasher + Copy>(
     Ok(table)
 }
 
-/// What the transactions read and write, by the numbers that the journal gave to what it saw written. Transactions come in the
-/// order of their invocations, and so did their writes, so each write has the next of these numbers: its key and its value are
-/// not looked at.
+/// What the transactions read and write, by the numbers that the journal gave to what it saw
+/// written. Transactions come in the order of their invocations, and so did their writes, so each
+/// write has the next of these numbers: its key and its value are not looked at.
 ///
 /// The only error is out of memory.
 pub fn kept_of_written<'a>(

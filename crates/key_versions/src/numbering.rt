@@ -30,8 +30,9 @@ use std::hash::{BuildHasher, BuildHasherDefault, FoldHasher};
 use std::marker::Model;
 use txn_pairs::types::{Status, Txn};
 
-/// Numbers versions: first those that were written, if the journal numbered them, with the nil versions of their keys, and then
-/// in the order in which they are first named, each after the nil version of its key.
+/// Numbers versions: first those that were written, if the journal numbered them, with the nil
+/// versions of their keys, and then in the order in which they are first named, each after the nil
+/// version of its key.
 pub(crate) struct Numbering<'a, S: BuildHasher> {
     keys: AtomIndex<'a, S>,
     values: AtomIndex<'a, S>,
@@ -77,7 +78,8 @@ pub(crate) struct Numbered<'a> {
     pub pairs: Vec<(u32, Option<u32>)>,
 }
 
-/// The versions that the journal numbered when they were written, in that order, and after them the nil versions of their keys.
+/// The versions that the journal numbered when they were written, in that order, and after them the
+/// nil versions of their keys.
 pub(crate) fn numbering_of<'a>(
     alloc: Global,
     written: Written<'a>,
@@ -218,7 +220,8 @@ impl<'a, S: BuildHasher> Numbering<'a, S> {
         Ok(Access { nil, version })
     }
 
-    /// Whether the micro-operation is of the key and of the value with these numbers, however they are spelled.
+    /// Whether the micro-operation is of the key and of the value with these numbers, however they
+    /// are spelled.
     fn is_of_atoms(&self, key: u32, value: u32, mop: &Mop<'a>) -> bool
         requires key { key < length self.now.keys }
         requires value { value < length self.now.values }
@@ -234,7 +237,8 @@ impl<'a, S: BuildHasher> Numbering<'a, S> {
         }
     }
 
-    /// Whether the write is of the key and of the value with these numbers. Equal texts are equal atoms, and only others are parsed.
+    /// Whether the write is of the key and of the value with these numbers. Equal texts are equal
+    /// atoms, and only others are parsed.
     fn is_of(&self, key: u32, value: u32, write: &Mop<'a>) -> bool
         requires is_write { is_write write.now ≡ true }
         requires key { key < length self.now.keys }
@@ -265,7 +269,8 @@ impl<'a, S: BuildHasher> Numbering<'a, S> {
         }
     }
 
-    /// The version that is written, if it is the one that was written when the transaction was invoked.
+    /// The version that is written, if it is the one that was written when the transaction was
+    /// invoked.
     fn invoked_version(
         &mut self,
         write: &Mop<'a>,
@@ -306,7 +311,8 @@ impl<'a, S: BuildHasher> Numbering<'a, S> {
         })
     }
 
-    /// The version that a micro-operation names, where None is nil, if it and the nil version of its key have numbers.
+    /// The version that a micro-operation names, where None is nil, if it and the nil version of
+    /// its key have numbers.
     fn known(&self, mop: &Mop<'a>) -> Option<Access>
         ensures { IfSome result (IsAccess (versions_of self.now) (version_named mop.now)) }
     {
@@ -327,7 +333,8 @@ impl<'a, S: BuildHasher> Numbering<'a, S> {
         self.insert(mop.key(), mop.value())
     }
 
-    /// The version that is written after n other writes of its transaction. It is looked up only where its number isn't known.
+    /// The version that is written after n other writes of its transaction. It is looked up only
+    /// where its number isn't known.
     fn written(
         &mut self,
         write: &Mop<'a>,
@@ -350,8 +357,8 @@ impl<'a, S: BuildHasher> Numbering<'a, S> {
         }
     }
 
-    /// The version that a micro-operation names, after n writes of its transaction. What is read mostly has a number, so that is
-    /// looked up first.
+    /// The version that a micro-operation names, after n writes of its transaction. What is read
+    /// mostly has a number, so that is looked up first.
     fn access(
         &mut self,
         mop: &Mop<'a>,
@@ -373,8 +380,9 @@ impl<'a, S: BuildHasher> Numbering<'a, S> {
         }
     }
 
-    /// Numbers the versions that a transaction names, and notes which it reads and writes in place of what was noted. Of a read of
-    /// one that is not ok, the nil version of the key is numbered alone.
+    /// Numbers the versions that a transaction names, and notes which it reads and writes in place
+    /// of what was noted. Of a read of one that is not ok, the nil version of the key is numbered
+    /// alone.
     pub fn take(
         &mut self,
         txn: &Txn<'a>,

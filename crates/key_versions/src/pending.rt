@@ -22,7 +22,8 @@ pub struct Access {
 }
 
 impl Access {
-    /// Whether a version that the transaction installs follows this one, which it reads. What follows nil is known without reads.
+    /// Whether a version that the transaction installs follows this one, which it reads. What
+    /// follows nil is known without reads.
     fn is_followed_by(self, install: Access) -> bool
         ensures { result ≡ is_behind self install }
     {
@@ -104,8 +105,8 @@ pub(crate) struct Grouped {
 }
 
 impl Pending {
-    /// No version yet, with room for this many, and for what n transactions mostly do: each writes a version, reads two and
-    /// installs two.
+    /// No version yet, with room for this many, and for what n transactions mostly do: each writes
+    /// a version, reads two and installs two.
     pub fn with_capacity(
         alloc: Global,
         transactions: usize,
@@ -161,7 +162,8 @@ impl Pending {
         Ok(())
     }
 
-    /// The transaction at the place reads the version. What it installs follows; after nil that is known already.
+    /// The transaction at the place reads the version. What it installs follows; after nil that is
+    /// known already.
     pub fn read(&mut self, place: u32, read: Access, installs: &[Access]) -> Result<(), AllocError>
         requires version { read.version < length self.old }
         requires order { All (FollowersAreUpTo place) self.old }
@@ -183,8 +185,8 @@ impl Pending {
         Ok(())
     }
 
-    /// Adds what each transaction installs, after the earlier versions that each version has by steps of processes. Room is
-    /// made for this many steps.
+    /// Adds what each transaction installs, after the earlier versions that each version has by
+    /// steps of processes. Room is made for this many steps.
     pub fn follow_steps(
         &mut self,
         alloc: Global,

@@ -104,7 +104,8 @@ pub(crate) struct Rows {
 }
 
 impl Rows {
-    /// A row for each of n versions, of which nothing is known, with room for this many transactions.
+    /// A row for each of n versions, of which nothing is known, with room for this many
+    /// transactions.
     pub fn with_capacity(
         alloc: Global,
         transactions: usize,
@@ -152,8 +153,8 @@ impl Rows {
         self.accesses.push(reads, installs)
     }
 
-    /// Takes the next transaction, by what it reads, if it is ok, and what it writes. There are n versions now, those that it
-    /// names among them.
+    /// Takes the next transaction, by what it reads, if it is ok, and what it writes. There are n
+    /// versions now, those that it names among them.
     pub fn take(
         &mut self,
         versions: usize,

@@ -13,8 +13,8 @@ use crate::rows::Rows;
 use crate::steps::Steps;
 use std::alloc::{AllocError, Global};
 
-/// Adds the followers by steps to the rows of n versions, once all transactions are taken: a step may lead to a version that was
-/// installed long before or is installed later.
+/// Adds the followers by steps to the rows of n versions, once all transactions are taken: a step
+/// may lead to a version that was installed long before or is installed later.
 pub(crate) fn follow_steps(
     alloc: Global,
     rows: &mut Rows,

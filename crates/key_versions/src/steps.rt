@@ -36,12 +36,14 @@ fn last_of(seen: &[Access], nil: u32) -> Option<u32>
 pub(crate) struct Steps {
     /// The version that a process last read or wrote.
     pub last: LastSeen,
-    /// The later and the earlier version of each step. Where processes take the same step, it is repeated.
+    /// The later and the earlier version of each step. Where processes take the same step, it is
+    /// repeated.
     pub taken: Vec<(u32, u32)>,
 }
 
 impl Steps {
-    /// No process has seen a version, and there is room for what n transactions mostly do: two steps each.
+    /// No process has seen a version, and there is room for what n transactions mostly do: two
+    /// steps each.
     pub fn with_capacity(alloc: Global, transactions: usize) -> Result<Self, AllocError>
         ensures last { IfOk result
             (λ steps. (process nil : ℕ) → last_seen steps.last process nil ≡ None) }
@@ -53,8 +55,8 @@ impl Steps {
         })
     }
 
-    /// Adds the step of a process from what it last saw of a key to this version, if it is one, and remembers what it sees last
-    /// now, which is among these.
+    /// Adds the step of a process from what it last saw of a key to this version, if it is one, and
+    /// remembers what it sees last now, which is among these.
     fn step(&mut self, process: u64, to: Access, seen: &[Access]) -> Result<(), AllocError>
         ensures taken { OnOk result
             (self.new.taken.items
@@ -93,7 +95,8 @@ impl Steps {
         Ok(())
     }
 
-    /// Adds the steps of a process to what its transaction installs of the keys that it doesn't read.
+    /// Adds the steps of a process to what its transaction installs of the keys that it doesn't
+    /// read.
     fn step_to_installs(
         &mut self,
         process: u64,
@@ -116,8 +119,8 @@ impl Steps {
         Ok(())
     }
 
-    /// Takes the next ok transaction of a process: its steps lead to what the transaction first reads of each key, or installs
-    /// where it doesn't read the key.
+    /// Takes the next ok transaction of a process: its steps lead to what the transaction first
+    /// reads of each key, or installs where it doesn't read the key.
     pub fn take_ok(
         &mut self,
         process: u64,
@@ -139,7 +142,8 @@ impl Steps {
         Ok(())
     }
 
-    /// Takes the next transaction, by what it reads and writes. Only an ok one shows what its process saw.
+    /// Takes the next transaction, by what it reads and writes. Only an ok one shows what its
+    /// process saw.
     pub fn take(
         &mut self,
         txn: &Txn<'_>,

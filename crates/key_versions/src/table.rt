@@ -24,8 +24,8 @@ pub struct KeyNumbers {
     pub of_versions: Vec<usize>,
 }
 
-/// The versions that a history names, with what its transactions do with each. Versions go by number, transactions by their
-/// place in the history. No call takes memory.
+/// The versions that a history names, with what its transactions do with each. Versions go by
+/// number, transactions by their place in the history. No call takes memory.
 pub struct Versions<'a> {
     order: KeyOrder,
     keys: Vec<Atom<'a>>,
@@ -180,7 +180,8 @@ impl<'a> Versions<'a> {
         self.followers.get(number)
     }
 
-    /// The numbers of what the transaction at this place reads externally, in order; none where it is not ok.
+    /// The numbers of what the transaction at this place reads externally, in order; none where it
+    /// is not ok.
     pub fn reads(&self, place: usize) -> &[u32]
         requires { place < length self.now.reads }
         ensures { slice_get self.now.reads place ≡ Some result.now }

@@ -13,7 +13,8 @@ pub struct Writer {
     pub over: bool,
 }
 
-/// A transaction that installs a version after another one of the same key, by its place in the history.
+/// A transaction that installs a version after another one of the same key, by its place in the
+/// history.
 #[derive(Clone, Copy, Debug, Default, PartialEq, Eq)]
 pub struct Follower {
     pub txn: u32,

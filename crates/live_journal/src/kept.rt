@@ -45,8 +45,8 @@ impl<'j, S: BuildHasher + Copy> Kept<'j, S> {
         }
     }
 
-    /// The analysis of all blocks of a journal: the one that was kept, extended, or else a new one. The only error is out of
-    /// memory.
+    /// The analysis of all blocks of a journal: the one that was kept, extended, or else a new one.
+    /// The only error is out of memory.
     pub(crate) fn of_all(
         alloc: Global,
         journal: &Core<'j>,
@@ -78,7 +78,8 @@ impl<'j, S: BuildHasher + Copy> Kept<'j, S> {
         })
     }
 
-    /// The verdict of its events. The only error is out of memory. What it finds, the next one looks for first.
+    /// The verdict of its events. The only error is out of memory. What it finds, the next one
+    /// looks for first.
     pub(crate) fn verdict(&mut self) -> Result<Verdict<'j>, Fault>
         ensures same { self.new ≡ self.old }
         ensures ok { IfOk result (IsVerdictOf self.old.keys self.old.events) }

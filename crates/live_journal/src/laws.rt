@@ -10,10 +10,10 @@ ghost use Rattle.hist_types.specs.Operations.{Operation};
 ghost use Rattle.hist_types.specs.declared.types.Fault.{Fault};
 ghost use Rattle.hist_types.specs.declared.types.KeyOrder.{KeyOrder};
 
-/// Whatever steps seats take, each has seen a beginning of the row, each position of the row is an own one of exactly one seat,
-/// and no two blocks of a seat have the same stamp. Where what fills a cell counted after what its seat had seen, all blocks
-/// count, and the answers, by how many blocks their seats had seen, are those of one sequential journal, each seat's in its own
-/// order.
+/// Whatever steps seats take, each has seen a beginning of the row, each position of the row is an
+/// own one of exactly one seat, and no two blocks of a seat have the same stamp. Where what fills a
+/// cell counted after what its seat had seen, all blocks count, and the answers, by how many blocks
+/// their seats had seen, are those of one sequential journal, each seat's in its own order.
 pub fn interleavings()
     ensures agreed { (keys : KeyOrder) (cells : ℕ) (steps : List Step) (w : World)
         → IsOutcomeOf keys cells at_first steps w → AreAgreed w }
@@ -26,8 +26,8 @@ pub fn interleavings()
         → IsOneHistory keys cells w }
 {}
 
-/// After what a seat has seen no block is its own. So where a call finds its own block in the next cell, this call has put it
-/// there.
+/// After what a seat has seen no block is its own. So where a call finds its own block in the next
+/// cell, this call has put it there.
 pub fn found_blocks_are_anothers()
     ensures others { (keys : KeyOrder) (cells : ℕ) (steps : List Step) (w : World)
         → IsOutcomeOf keys cells at_first steps w → AreOthersAfterSeen w }
@@ -35,8 +35,9 @@ pub fn found_blocks_are_anothers()
         → IsOutcomeOf keys cells at_first steps w → FindsNoOwnBlock w }
 {}
 
-/// What callers know of their calls and seats makes one history: all calls, in one order, are those of one sequential journal, which
-/// has after each just the blocks that the call's seat has then seen. Steps of seats at one row give their answers.
+/// What callers know of their calls and seats makes one history: all calls, in one order, are those
+/// of one sequential journal, which has after each just the blocks that the call's seat has then
+/// seen. Steps of seats at one row give their answers.
 pub fn callers_have_one_history()
     ensures history { (journal : Journal) (callers : List Caller)
         → AreCallersOf journal callers → HaveOneHistory journal callers }
@@ -44,7 +45,8 @@ pub fn callers_have_one_history()
         → AreCallersOf journal callers → AreMadeBySteps journal callers }
 {}
 
-/// The blocks of a row that count have all of its events, and each of them counts after those before it.
+/// The blocks of a row that count have all of its events, and each of them counts after those
+/// before it.
 pub fn counting_blocks_have_all_events()
     ensures events { (blocks : List StampedBlock)
         → row_events (counting_blocks blocks) ≡ row_events blocks }

@@ -1,4 +1,5 @@
-//! The live journal: a row of cells that many seats write to and read from, where no call waits for another.
+//! The live journal: a row of cells that many seats write to and read from, where no call waits for
+//! another.
 #![tactic(auto)]
 
 pub mod cells;

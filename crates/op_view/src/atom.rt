@@ -18,10 +18,12 @@ use std::cmp::Ordering;
 use std::hash::{Hash, Hasher};
 use std::marker::Model;
 
-/// A key or a value: an integer of 64 bits, a keyword, a string or a symbol, as a slice of its text.
+/// A key or a value: an integer of 64 bits, a keyword, a string or a symbol, as a slice of its
+/// text.
 ///
-/// Atoms are compared by what they mean: integers by number, strings by their decoded content, keywords and symbols byte
-/// for byte. In order come the integers, the keywords, the strings and the symbols. No call takes memory.
+/// Atoms are compared by what they mean: integers by number, strings by their decoded content,
+/// keywords and symbols byte for byte. In order come the integers, the keywords, the strings and
+/// the symbols. No call takes memory.
 #[derive(Debug, Drop)]
 pub struct Atom<'a> {
     text: &'a [u8],

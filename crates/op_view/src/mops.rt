@@ -24,7 +24,8 @@ use std::simd::prelude::*;
 /// The text of the value of a read of nil.
 const NIL: &[u8] = b"nil";
 
-/// A read of a key with what it returned, nil or an atom, or a write of an atom to a key, by the texts of both.
+/// A read of a key with what it returned, nil or an atom, or a write of an atom to a key, by the
+/// texts of both.
 ///
 /// A text is parsed each time it is asked for as an atom.
 #[derive(Drop)]
@@ -177,7 +178,8 @@ fn is_nil(text: &[u8]) -> bool
 /// How many bytes of two texts are compared at once.
 const WORD: usize = 16;
 
-/// A bit for each of the first 16 bytes that is another one in the other text, the lowest for the first.
+/// A bit for each of the first 16 bytes that is another one in the other text, the lowest for the
+/// first.
 #[inline(always)]
 fn other_of_16(a: &[u8], b: &[u8]) -> u64
     requires first { WORD ≤ length a.now }
@@ -204,7 +206,8 @@ fn same_of_16(a: &[u8], b: &[u8]) -> usize
     }
 }
 
-/// Whether both texts begin with the same bytes, as many as these. Texts of few bytes are in the last operations of a block alone.
+/// Whether both texts begin with the same bytes, as many as these. Texts of few bytes are in the
+/// last operations of a block alone.
 #[inline(always)]
 fn begin_alike(a: &[u8], b: &[u8], len: usize) -> bool
     requires first { len ≤ length a.now }
@@ -239,7 +242,8 @@ fn is_same_atom(a: &[u8], b: &[u8]) -> bool
     a == b || atom_of(a) == atom_of(b)
 }
 
-/// Whether the micro-operations at the fronts of their texts are the same, whatever a read returned.
+/// Whether the micro-operations at the fronts of their texts are the same, whatever a read
+/// returned.
 fn is_same_mop(text: &[u8], mop: ShortMop, other_text: &[u8], other: ShortMop) -> bool
     requires first { IsMopAt text.now mop }
     requires second { IsMopAt other_text.now other }
@@ -255,8 +259,8 @@ fn is_same_mop(text: &[u8], mop: ShortMop, other_text: &[u8], other: ShortMop) -
     }
 }
 
-/// Whether the keys at the fronts of their texts, and of two writes the values, have the same bytes. Then the micro-operations are the
-/// same.
+/// Whether the keys at the fronts of their texts, and of two writes the values, have the same
+/// bytes. Then the micro-operations are the same.
 #[inline(always)]
 fn has_same_texts(text: &[u8], mop: ShortMop, other_text: &[u8], other: ShortMop) -> bool
     requires first { IsMopAt text.now mop }
@@ -296,7 +300,8 @@ fn are_same_mops(text: &[u8], mops: &[ShortMop], other_text: &[u8], other_mops: 
     true
 }
 
-/// Gives the micro-operations of an operation one after the other, as slices of its text. It takes no memory.
+/// Gives the micro-operations of an operation one after the other, as slices of its text. It takes
+/// no memory.
 #[derive(Drop)]
 pub struct Mops<'a> {
     text: &'a [u8],

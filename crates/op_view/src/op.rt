@@ -52,7 +52,8 @@ impl<'a> OpView<'a> {
         }
     }
 
-    /// Its block and its index in that, from which `of` makes the same operation. A block has at most 1,024 operations.
+    /// Its block and its index in that, from which `of` makes the same operation. A block has at
+    /// most 1,024 operations.
     pub fn place(&self) -> (&'a Block, u16)
         ensures { IsPlaceOf result.0.now.operations result.1 self.now }
     {

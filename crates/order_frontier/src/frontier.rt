@@ -13,9 +13,10 @@ use std::alloc::Global;
 use std::collections::HashMap;
 use std::marker::Model;
 
-/// What the order of later transactions needs of the events so far: how many these were, what each process has open,
-/// each process's last ok transaction, and the ok transactions after whose completion no ok transaction was both invoked
-/// and completed. It takes memory for these alone, however many events there were.
+/// What the order of later transactions needs of the events so far: how many these were, what each
+/// process has open, each process's last ok transaction, and the ok transactions after whose
+/// completion no ok transaction was both invoked and completed. It takes memory for these alone,
+/// however many events there were.
 #[derive(Drop)]
 pub struct Frontier {
     events: u64,
@@ -56,16 +57,18 @@ impl Frontier {
         self.events
     }
 
-    /// The ok transactions after whose completion no ok transaction was both invoked and completed, each once, in the
-    /// order of their completions. There are no more of them than transactions were ever open at once.
+    /// The ok transactions after whose completion no ok transaction was both invoked and completed,
+    /// each once, in the order of their completions. There are no more of them than transactions
+    /// were ever open at once.
     pub fn as_slice(&self) -> &[Predecessor]
         ensures { AreFrontierOf self.now result.now }
     {
         self.moving.frontier()
     }
 
-    /// Takes the next event, an invocation of the process, and returns what comes before its transaction in thinned
-    /// order. Out of memory is reported as that, and the frontier is still one of the same events.
+    /// Takes the next event, an invocation of the process, and returns what comes before its
+    /// transaction in thinned order. Out of memory is reported as that, and the frontier is still
+    /// one of the same events.
     pub fn invoked(&mut self, alloc: Global, process: Process) -> Result<Predecessors, Fault>
         requires { self.old.events < MAX_EVENTS }
         ensures next { OnOk result (IsNext kinds.Invoke process self.old self.new) }
@@ -82,8 +85,8 @@ impl Frontier {
         Ok(before)
     }
 
-    /// Takes the next event, an ok of the process. Out of memory is reported as that, and the frontier is still one of
-    /// the same events.
+    /// Takes the next event, an ok of the process. Out of memory is reported as that, and the
+    /// frontier is still one of the same events.
     pub fn completed_ok(&mut self, process: Process) -> Result<(), Fault>
         requires { self.old.events < MAX_EVENTS }
         ensures next { OnOk result (IsNext kinds.Ok process self.old self.new) }

@@ -19,7 +19,8 @@ pub fn frontiers_are_small()
         → length ps ≤ most_open (transactions_of events) }
 {}
 
-/// The thinned edges to a transaction are settled when it is invoked: a later event adds none and takes none away.
+/// The thinned edges to a transaction are settled when it is invoked: a later event adds none and
+/// takes none away.
 pub fn thinned_edges_stay()
     ensures { (events : List Operation) → (event : Operation) → (level : Level) → (e : Edge)
         → e.to < length events
@@ -27,8 +28,8 @@ pub fn thinned_edges_stay()
         ↔ Contains (all_thinned_edges level (transactions_of (events ++ event ∷ []))) e }
 {}
 
-/// A fail, an info, and an event after which the transactions are as they were, change nothing of the thinned order and of what
-/// is kept for it.
+/// A fail, an info, and an event after which the transactions are as they were, change nothing of
+/// the thinned order and of what is kept for it.
 pub fn other_completions_change_nothing()
     ensures failed { (events : List Operation) → (event : Operation) → (s : Thinned)
         → IsThinningOf events s

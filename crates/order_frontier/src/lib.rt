@@ -18,10 +18,11 @@ use hist_types::types::Fault;
 use std::alloc::Global;
 use txn_pairs::types::Txns;
 
-/// All predecessors of each transaction in its process and in real time, as if every transaction were a node.
+/// All predecessors of each transaction in its process and in real time, as if every transaction
+/// were a node.
 ///
-/// This is the definition of the order, and it grows with the square of the history: it is for comparison.
-/// Only memory can run out.
+/// This is the definition of the order, and it grows with the square of the history: it is for
+/// comparison. Only memory can run out.
 pub fn all_pairs(alloc: Global, txns: &Txns<'_>) -> Result<Order, Fault>
     ensures edges { IfOk result (HasOrderEdges txns.now) }
     ensures once { AreOfEvents txns.now → IfOk result (λ order. All NoPredecessorTwice order) }
@@ -31,8 +32,9 @@ pub fn all_pairs(alloc: Global, txns: &Txns<'_>) -> Result<Order, Fault>
     Ok(pairs::all(alloc, txns.as_slice())?)
 }
 
-/// The thinned predecessors of each transaction: its process's last ok transaction before it, and the moving frontier
-/// at its invocation. It is one pass over the transactions and over the completions of the ok ones.
+/// The thinned predecessors of each transaction: its process's last ok transaction before it, and
+/// the moving frontier at its invocation. It is one pass over the transactions and over the
+/// completions of the ok ones.
 ///
 /// Only memory can run out.
 pub fn thin(alloc: Global, txns: &Txns<'_>) -> Result<Order, Fault>

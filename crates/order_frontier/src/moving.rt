@@ -10,7 +10,8 @@ use process_map::map::ProcessMap;
 use smallvec::SmallVec;
 use std::alloc::{AllocError, Global};
 
-/// The ok transactions so far after whose completion no ok one was invoked, and the last one of each process.
+/// The ok transactions so far after whose completion no ok one was invoked, and the last one of
+/// each process.
 pub struct Moving {
     recent: SmallVec<Predecessor, 8>,
     last: ProcessMap<Predecessor>,
@@ -36,7 +37,8 @@ fn passed(frontier: &[Predecessor], invocation: u32) -> usize
     frontier.len()
 }
 
-/// Removes those that completed before the invocation, the first ones, and returns how many they were.
+/// Removes those that completed before the invocation, the first ones, and returns how many they
+/// were.
 fn pass(frontier: &mut SmallVec<Predecessor, 8>, invocation: u32) -> usize
     ensures count { result ≡ count_passed invocation frontier.old.items }
     ensures rest { frontier.new.items ≡ drop result frontier.old.items }
@@ -60,7 +62,8 @@ impl Moving {
         }
     }
 
-    /// Those after whose completion no ok transaction was invoked, in the order of their completions.
+    /// Those after whose completion no ok transaction was invoked, in the order of their
+    /// completions.
     pub fn frontier(&self) -> &[Predecessor]
         ensures { result.now ≡ self.now.recent.items }
     {
@@ -92,7 +95,8 @@ impl Moving {
         Ok(Predecessors::new(process, invocation, in_process, in_realtime))
     }
 
-    /// Takes an ok transaction, and returns how many it passes: those that completed before its invocation.
+    /// Takes an ok transaction, and returns how many it passes: those that completed before its
+    /// invocation.
     pub fn complete(&mut self, done: Completed) -> Result<usize, AllocError>
         ensures passed { IfOk result
             (λ count. count ≡ count_passed done.invocation self.old.recent.items) }

@@ -15,14 +15,14 @@ use std::alloc::{AllocError, Global};
 use std::marker::Model;
 use txn_pairs::types::Txn;
 
-/// The thinned order of the transactions so far, kept while more events come. What comes before a transaction is settled when
-/// it is invoked, so the order only grows.
+/// The thinned order of the transactions so far, kept while more events come. What comes before a
+/// transaction is settled when it is invoked, so the order only grows.
 #[derive(Drop)]
 pub struct Thinning {
     moving: Moving,
     order: Order,
-    /// How many of the frontier, from the first on, are predecessors of the last transaction too. The others completed after
-    /// its invocation.
+    /// How many of the frontier, from the first on, are predecessors of the last transaction too.
+    /// The others completed after its invocation.
     shared: usize,
 }
 
@@ -57,7 +57,8 @@ impl Thinning {
         }
     }
 
-    /// The order before the first event, with room for `transactions` transactions, `ok` of which are ok.
+    /// The order before the first event, with room for `transactions` transactions, `ok` of which
+    /// are ok.
     fn with_capacity(alloc: Global, transactions: usize, ok: usize) -> Result<Self, AllocError>
         ensures { IfOk result (IsThinningOf []) }
     {
@@ -80,8 +81,9 @@ impl Thinning {
         Ok(())
     }
 
-    /// The next event completed this transaction as an ok. Out of memory leaves the order as it was. A fail or an info changes
-    /// nothing, nor does an ok that completes no transaction (`other_completions_change_nothing` of `laws`).
+    /// The next event completed this transaction as an ok. Out of memory leaves the order as it
+    /// was. A fail or an info changes nothing, nor does an ok that completes no transaction
+    /// (`other_completions_change_nothing` of `laws`).
     pub fn complete(&mut self, txn: &Txn<'_>) -> Result<(), AllocError>
         ensures next { OnOk result (Follows IsCompletedBy txn.now self.old self.new) }
         ensures err { OnErr result (IsOfSame self.old self.new) }
@@ -107,7 +109,8 @@ impl Thinning {
         Ok(())
     }
 
-    /// Takes the first of the ok transactions, those that completed before the index, and returns how many these are.
+    /// Takes the first of the ok transactions, those that completed before the index, and returns
+    /// how many these are.
     fn advance(&mut self, done: &[Completed], index: u64) -> Result<usize, AllocError>
         ensures kept { IfOk result
             (λ count. (earlier : List _) → AreTimely (earlier ++ done.now)

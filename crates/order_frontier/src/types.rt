@@ -12,7 +12,8 @@ use smallvec::SmallVec;
 use std::alloc::{AllocError, Global};
 use std::marker::Model;
 
-/// An ok transaction that comes before another one, by the indexes of its invocation and its completion.
+/// An ok transaction that comes before another one, by the indexes of its invocation and its
+/// completion.
 #[derive(Clone, Copy, Debug, Default, PartialEq, Eq)]
 pub struct Predecessor {
     pub invocation: u32,
@@ -165,7 +166,8 @@ impl Span {
     }
 }
 
-/// A transaction, and the ranges of its order's lists that come before it in its process and in real time.
+/// A transaction, and the ranges of its order's lists that come before it in its process and in
+/// real time.
 #[derive(Clone, Copy, Drop)]
 pub(crate) struct Row {
     pub process: u32,
@@ -186,8 +188,8 @@ fn push_last(last: Option<Predecessor>, list: &mut Vec<Predecessor>) -> Result<S
     Span::new(start, list.len())
 }
 
-/// Adds the predecessors to the list, except the first `shared` of them, which it ends with already, and returns the range of
-/// all of them.
+/// Adds the predecessors to the list, except the first `shared` of them, which it ends with
+/// already, and returns the range of all of them.
 fn push_range(
     next: &[Predecessor],
     shared: usize,
@@ -206,8 +208,8 @@ fn push_range(
     Ok(span)
 }
 
-/// The row of a transaction that is invoked now. Its predecessors go into the lists, except the first `shared` of the frontier,
-/// which the list for real time ends with already.
+/// The row of a transaction that is invoked now. Its predecessors go into the lists, except the
+/// first `shared` of the frontier, which the list for real time ends with already.
 fn row_of(
     process: u64,
     invocation: u64,
@@ -233,8 +235,9 @@ fn row_of(
     })
 }
 
-/// The predecessors of each transaction, in the order of the transactions. Transactions share one list of predecessors in
-/// real time, since those of a thinned order are next to each other by their completions.
+/// The predecessors of each transaction, in the order of the transactions. Transactions share one
+/// list of predecessors in real time, since those of a thinned order are next to each other by
+/// their completions.
 pub struct Order {
     rows: Vec<Row>,
     in_process: Vec<Predecessor>,
@@ -305,8 +308,9 @@ impl Order {
         ))
     }
 
-    /// Adds a transaction that is invoked now, with what comes before it. The first `shared` of the frontier are the last
-    /// predecessors of the transaction before it too. Out of memory leaves the order as it was.
+    /// Adds a transaction that is invoked now, with what comes before it. The first `shared` of the
+    /// frontier are the last predecessors of the transaction before it too. Out of memory leaves
+    /// the order as it was.
     pub(crate) fn push(
         &mut self,
         process: u64,

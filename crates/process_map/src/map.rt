@@ -13,8 +13,8 @@ const SMALL: u64 = 16_384;
 
 /// A value for each of some processes.
 ///
-/// Small numbers, which most processes have, are looked up in a table that grows to the largest of them; the others are
-/// looked up by their hash.
+/// Small numbers, which most processes have, are looked up in a table that grows to the largest of
+/// them; the others are looked up by their hash.
 pub struct ProcessMap<V> {
     small: Vec<Option<V>>,
     large: HashMap<u64, V>,
@@ -77,7 +77,8 @@ impl<V: Copy> ProcessMap<V> {
         }
     }
 
-    /// Gives a process a value, in place of the one that it had. Out of memory leaves the values as they are.
+    /// Gives a process a value, in place of the one that it had. Out of memory leaves the values as
+    /// they are.
     #[inline(always)]
     pub fn insert(&mut self, process: u64, value: V) -> Result<(), AllocError>
         ensures ok { OnOk result (ChangesOnly self.old self.new process (Some value)) }

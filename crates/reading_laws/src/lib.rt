@@ -1,5 +1,6 @@
-//! Laws of reading: what follows from the definitions of tokens, forms and operations. Each is the contract of a function that
-//! does nothing; the layers that read texts, and those that keep what was read, cite them.
+//! Laws of reading: what follows from the definitions of tokens, forms and operations. Each is the
+//! contract of a function that does nothing; the layers that read texts, and those that keep what
+//! was read, cite them.
 #![tactic(auto)]
 
 ghost use Rattle.std.specs.Prelude.{◌↔◌, ◌≡◌, ◌+◌, ℕ, List, [], ◌++◌, Option, None, length, drop, IsTrue, All};
@@ -23,29 +24,30 @@ pub fn runs_longest()
     ensures len { (text : List ℕ) → run_len text ≡ length (run_of text) }
 {}
 
-/// Each text has one reading, as it has one row of tokens, and one cut into items from any offset and inside any collections.
+/// Each text has one reading, as it has one row of tokens, and one cut into items from any offset
+/// and inside any collections.
 pub fn texts_have_one_reading()
     ensures cut { (text closers : List ℕ) (offset : ℕ) → HasOneReading (IsCut text offset closers) }
     ensures tokens { (text : List ℕ) → HasOneReading (HasTokens text) }
     ensures reading { (text : List ℕ) → HasOneReading (Reads text) }
 {}
 
-/// The bytes of an operation's map, read alone, give the same operation, with its places counted from the map's start, wherever
-/// in the text the reading began that gave it.
+/// The bytes of an operation's map, read alone, give the same operation, with its places counted
+/// from the map's start, wherever in the text the reading began that gave it.
 pub fn operations_read_alone()
     ensures { (text : List ℕ) (o : PlacedOperation) → IsReadInPart text o → IsIn text o }
 {}
 
-/// An operation's keys and values are spelled by tokens of its text, by itself or anywhere else, and the operation
-/// keeps the limits.
+/// An operation's keys and values are spelled by tokens of its text, by itself or anywhere else,
+/// and the operation keeps the limits.
 pub fn operations_spell_their_parts()
     ensures mops { (text : List ℕ) (o : PlacedOperation) → IsTextOf text o → HasPartsOf text o }
     ensures anywhere { (text : List ℕ) (o : PlacedOperation) → IsReadIn text o → HasPartsOf text o }
     ensures limits { (text : List ℕ) (o : PlacedOperation) → IsTextOf text o → KeepsLimits text o }
 {}
 
-/// A token that spells an atom or nil is one token by itself, and so are the keys and values of an operation. Bytes that are a
-/// token without a fault at the front of themselves are that one token.
+/// A token that spells an atom or nil is one token by itself, and so are the keys and values of an
+/// operation. Bytes that are a token without a fault at the front of themselves are that one token.
 pub fn atoms_are_single_tokens()
     ensures tokens { (text : List ℕ) (t : Item) → HasAtom text t → IsTokenAlone t.kind t.bytes }
     ensures mops { (text : List ℕ) (o : PlacedOperation) → IsReadIn text o → IsOfTokens o }
@@ -53,9 +55,10 @@ pub fn atoms_are_single_tokens()
         → IsFaultlessToken kind bytes → IsTokenAlone kind bytes }
 {}
 
-/// A form is a part of the list of tokens, and a collection's members are the forms between its opener and its closer. Read one
-/// by one, tokens that are forms do what the forms do, whatever is open around them. When a closer may come, the innermost
-/// collection holds what the tokens after its opener are, and around it is open what was open before its opener.
+/// A form is a part of the list of tokens, and a collection's members are the forms between its
+/// opener and its closer. Read one by one, tokens that are forms do what the forms do, whatever is
+/// open around them. When a closer may come, the innermost collection holds what the tokens after
+/// its opener are, and around it is open what was open before its opener.
 pub fn collections_hold_what_is_between()
     ensures one { (ts : List Item) (fs : List Form) → AreForms ts fs → AreNoOtherForms ts fs }
     ensures forms { (ts : List Item) (fs : List Form) → AreForms ts fs → ActAs ts fs }
@@ -64,8 +67,9 @@ pub fn collections_hold_what_is_between()
     ensures between { (ts : List Item) → HoldWhatIsBetween ts }
 {}
 
-/// A text reads as entries without a fault exactly where its tokens are forms that give these entries. Each operation that is
-/// read from a text, with a fault or without, is a map among its tokens.
+/// A text reads as entries without a fault exactly where its tokens are forms that give these
+/// entries. Each operation that is read from a text, with a fault or without, is a map among its
+/// tokens.
 pub fn texts_read_by_forms()
     ensures faultless { (text : List ℕ) (entries : List Entry)
         → Reads text entries None ↔ IsOfForms text entries }
@@ -73,8 +77,9 @@ pub fn texts_read_by_forms()
         → IsReadIn text o → IsMapOfForms text o }
 {}
 
-/// A part of a text that reads by itself without a fault is read so in the text, where nothing is open before it, if it ends with a map
-/// at the end of a line or with the text: first come its operations, and then what is read behind it.
+/// A part of a text that reads by itself without a fault is read so in the text, where nothing is
+/// open before it, if it ends with a map at the end of a line or with the text: first come its
+/// operations, and then what is read behind it.
 pub fn parts_read_alone()
     ensures part { (text part behind : List ℕ) (offset : ℕ) (operations later : List Operation)
         (fault : Option Fault) → HasPartAt text offset part behind → EndsWithMap part

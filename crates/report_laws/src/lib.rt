@@ -1,5 +1,5 @@
-//! What a report of a phenomenon means: laws over the definitions of histories, transactions and phenomena. Each is the
-//! contract of a function that does nothing.
+//! What a report of a phenomenon means: laws over the definitions of histories, transactions and
+//! phenomena. Each is the contract of a function that does nothing.
 #![tactic(auto)]
 
 ghost use Rattle.std.specs.Prelude.{List};
@@ -9,9 +9,9 @@ ghost use Rattle.hist_types.specs.Reports.{Report, IsVerdictOf};
 ghost use Rattle.hist_types.specs.declared.types.KeyOrder.{KeyOrder};
 ghost use Rattle.report_laws.specs.Explained.{PhenomenaRefute, RefutesExplanations};
 
-/// A history that keeps the rules and has a phenomenon, whether its keys are basic or sequential, has no strict serial explanation:
-/// it isn't strictly serializable. So it is for each history, and for each prefix of a live run, of which a verdict says that it is
-/// refuted.
+/// A history that keeps the rules and has a phenomenon, whether its keys are basic or sequential,
+/// has no strict serial explanation: it isn't strictly serializable. So it is for each history, and
+/// for each prefix of a live run, of which a verdict says that it is refuted.
 pub fn phenomena_refute()
     ensures phenomena { (keys : KeyOrder) (events : List Operation)
         → KeepsRules events → PhenomenaRefute keys events }

@@ -156,8 +156,8 @@ impl ReadsReport<'_> {
     }
 }
 
-/// What `edges` reports: the dependency edges of a history, in the order in which they are printed. They are found one
-/// transaction after the other, as they are needed.
+/// What `edges` reports: the dependency edges of a history, in the order in which they are printed.
+/// They are found one transaction after the other, as they are needed.
 #[derive(Drop)]
 pub struct EdgesReport<'d, 'v, 'a> {
     pub(crate) prefix: u64,

@@ -56,7 +56,8 @@ fn is_unread<'a, S: BuildHasher + Copy>(
     true
 }
 
-/// Whether each version that the transaction at the place reads was installed, or is nil, or nobody else wrote it.
+/// Whether each version that the transaction at the place reads was installed, or is nil, or nobody
+/// else wrote it.
 fn reads_clean<'a, S: BuildHasher + Copy>(
     users: &Users,
     txns: &[Txn<'a>],
@@ -169,7 +170,8 @@ fn inform<'a, S: BuildHasher + Copy>(
     Ok(true)
 }
 
-/// Lowers points, as the transaction at the place is now ok, if what it reads is clean. Whether they pass.
+/// Lowers points, as the transaction at the place is now ok, if what it reads is clean. Whether
+/// they pass.
 fn complete<'a, S: BuildHasher + Copy>(
     points: &mut Vec<u64>,
     users: &mut Users,
@@ -192,7 +194,8 @@ fn complete<'a, S: BuildHasher + Copy>(
     Ok(reads_clean(users, txns, versions, place))
 }
 
-/// Whether there are points after the event that began or completed the transaction at the place, where these fall if it is ok.
+/// Whether there are points after the event that began or completed the transaction at the place,
+/// where these fall if it is ok.
 pub(crate) fn advance<'a, S: BuildHasher + Copy>(
     points: &mut Vec<u64>,
     users: &mut Users,

@@ -177,7 +177,8 @@ pub(crate) fn tighten_at(
     Ok(())
 }
 
-/// Does so for the earlier version of each step, whose later one is first, and the points of those that write the later one.
+/// Does so for the earlier version of each step, whose later one is first, and the points of those
+/// that write the later one.
 pub(crate) fn tighten_steps(
     bounds: &mut Bounds,
     points: &[u64],

@@ -71,7 +71,8 @@ fn has_write(writes: &[Access], version: u32) -> bool
     writes.iter().any(|write| write.version == version)
 }
 
-/// Whether the version that is read is nil, or so installed, or nobody wrote it but the transaction that reads it, which writes this.
+/// Whether the version that is read is nil, or so installed, or nobody wrote it but the transaction
+/// that reads it, which writes this.
 fn is_clean<'a, S: BuildHasher + Copy>(
     txns: &[Txn<'a>],
     versions: &KeptVersions<'a, S>,

@@ -22,9 +22,10 @@ use std::hash::BuildHasher;
 use std::marker::Model;
 use txn_pairs::types::Txn;
 
-/// A serialization point for each transaction of a run, by place. Where a run has points, its verdict is known: nothing was found.
-/// They are kept from one event to the next, in time for what the event's transaction reads and writes, and for the points that
-/// fall; where they can't be, they are given up. Stray reads are counted.
+/// A serialization point for each transaction of a run, by place. Where a run has points, its
+/// verdict is known: nothing was found. They are kept from one event to the next, in time for what
+/// the event's transaction reads and writes, and for the points that fall; where they can't be,
+/// they are given up. Stray reads are counted.
 #[derive(Drop)]
 pub struct Points {
     alloc: Global,
@@ -61,8 +62,8 @@ impl Points {
         })
     }
 
-    /// Points of one event more, which began or completed the transaction at the place. None if they are given up: then there may be
-    /// points or not. The only error is out of memory.
+    /// Points of one event more, which began or completed the transaction at the place. None if
+    /// they are given up: then there may be points or not. The only error is out of memory.
     pub fn after<'a, S: BuildHasher + Copy>(
         self,
         txns: &[Txn<'a>],
@@ -130,7 +131,8 @@ impl Points {
         self.strays
     }
 
-    /// Where a history has points, no phenomenon was found, no read is bad, and it is known how many are stray.
+    /// Where a history has points, no phenomenon was found, no read is bad, and it is known how
+    /// many are stray.
     pub fn find_nothing(&self)
         ensures findings { (events : List Operation) (kept : Kept)
             → HasPoints events kept self.now

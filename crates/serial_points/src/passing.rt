@@ -91,7 +91,8 @@ fn is_above_nil_readers(points: &[u64], users: &Users, place: usize, writes: &[A
     true
 }
 
-/// Whether the transaction at the place, which reads and writes this, has a higher point than each that it depends on.
+/// Whether the transaction at the place, which reads and writes this, has a higher point than each
+/// that it depends on.
 pub(crate) fn passes_into(
     points: &[u64],
     users: &Users,
@@ -142,7 +143,8 @@ fn is_below_key_writers(points: &[u64], users: &Users, place: usize, reads: &[Ac
     true
 }
 
-/// Whether the transaction at the place, which reads and writes this, has a lower point than each that depends on it.
+/// Whether the transaction at the place, which reads and writes this, has a lower point than each
+/// that depends on it.
 pub(crate) fn passes_out_of(
     points: &[u64],
     users: &Users,

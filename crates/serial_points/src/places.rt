@@ -7,7 +7,8 @@ use smallvec::SmallVec;
 use std::alloc::{AllocError, Global};
 use std::marker::Model;
 
-/// A list of places for each number. A number that has no list yet has an empty one. Up to four places take no memory of their own.
+/// A list of places for each number. A number that has no list yet has an empty one. Up to four
+/// places take no memory of their own.
 #[derive(Drop)]
 pub(crate) struct Places {
     alloc: Global,

@@ -125,7 +125,8 @@ fn mark_if_last(written: &mut Marks, writes: &[Access], i: usize) -> bool
     written.set(writes[i].version)
 }
 
-/// Marks nil of each key that is written as followed, and the last version that is written of each key as written.
+/// Marks nil of each key that is written as followed, and the last version that is written of each
+/// key as written.
 #[inline(always)]
 fn mark_writes(written: &mut Marks, followed: &mut Marks, writes: &[Access]) -> bool
     ensures keys { result ≡ true → AreKeysMarked followed.new writes.now }
@@ -140,7 +141,8 @@ fn mark_writes(written: &mut Marks, followed: &mut Marks, writes: &[Access]) -> 
     true
 }
 
-/// Whether the point is not before the transaction's invocation and, if it is ok, not after its completion.
+/// Whether the point is not before the transaction's invocation and, if it is ok, not after its
+/// completion.
 fn is_in_time(point: u64, txn: &Txn<'_>) -> bool
     ensures begun { result ≡ true → IsNotBefore point txn.now }
     ensures ended { result ≡ true → IsNotAfter point txn.now }
@@ -148,15 +150,16 @@ fn is_in_time(point: u64, txn: &Txn<'_>) -> bool
     is_not_before(point, txn) && (txn.status() != Status::Ok || is_not_after(point, txn))
 }
 
-/// A replay of a history: the transactions that were put so far, each with a point above those of all that were put before. The
-/// points themselves aren't kept.
+/// A replay of a history: the transactions that were put so far, each with a point above those of
+/// all that were put before. The points themselves aren't kept.
 #[derive(Drop)]
 pub(crate) struct Replay {
     /// Who is put, by place.
     put: Vec<bool>,
     /// The versions that those that are put install.
     written: Marks,
-    /// The versions that those that are put follow: nil of each key that they write, and what they read and update.
+    /// The versions that those that are put follow: nil of each key that they write, and what they
+    /// read and update.
     followed: Marks,
     /// Above all points.
     next: u64,
@@ -186,7 +189,8 @@ impl Replay {
         }
     }
 
-    /// Whether each read is of nil or of a version that one that is put installs, and that none of them follows.
+    /// Whether each read is of nil or of a version that one that is put installs, and that none of
+    /// them follows.
     #[inline(always)]
     pub fn can_read(&self, reads: &[Access]) -> bool
         ensures { result ≡ true
@@ -223,8 +227,8 @@ impl Replay {
             && mark_updated(&mut self.followed, reads, writes)
     }
 
-    /// Puts the transaction at the place, which reads this, after all that are put. False if it can't be put now, or is put already:
-    /// then this is no replay any more.
+    /// Puts the transaction at the place, which reads this, after all that are put. False if it
+    /// can't be put now, or is put already: then this is no replay any more.
     pub fn put<'a, S: BuildHasher + Copy>(
         &mut self,
         txns: &[Txn<'a>],

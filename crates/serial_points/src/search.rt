@@ -180,8 +180,8 @@ fn least_after_installs<'a, S: BuildHasher + Copy>(
     above
 }
 
-/// The highest point that the transaction at the place, which is now ok and reads and writes this, may have where processes took no
-/// steps.
+/// The highest point that the transaction at the place, which is now ok and reads and writes this,
+/// may have where processes took no steps.
 fn highest_without_steps(
     proposal: &Proposal,
     users: &Users,

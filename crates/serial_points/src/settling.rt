@@ -18,7 +18,8 @@ use std::alloc::AllocError;
 use std::hash::BuildHasher;
 use txn_pairs::types::Txn;
 
-/// Lowers the bounds of the versions that a transaction with this point follows, by nil or by a step, where they aren't below it.
+/// Lowers the bounds of the versions that a transaction with this point follows, by nil or by a
+/// step, where they aren't below it.
 fn tighten_before(
     bounds: &mut Bounds,
     points: &[u64],
@@ -37,7 +38,8 @@ fn tighten_before(
     Ok(())
 }
 
-/// Lowers the bounds of what those at the places of the falls follow, where they aren't below the points.
+/// Lowers the bounds of what those at the places of the falls follow, where they aren't below the
+/// points.
 fn tighten_falls<'a, S: BuildHasher + Copy>(
     bounds: &mut Bounds,
     points: &[u64],

@@ -14,8 +14,9 @@ use key_versions::kept::{Access, KeptVersions};
 use std::hash::BuildHasher;
 use txn_pairs::types::{Status, Txn};
 
-/// Points are given up where processes went on from a version to more others than these, and it is read again: a look at who writes
-/// each of them, for each such read, would take time for all pairs.
+/// Points are given up where processes went on from a version to more others than these, and it is
+/// read again: a look at who writes each of them, for each such read, would take time for all
+/// pairs.
 const MOST_LATER: usize = 4096;
 
 /// Whether one of the writes is of the version, and no later one is of its key.
@@ -47,7 +48,8 @@ fn is_ok(txn: &Txn<'_>) -> bool
     txn.status() == Status::Ok
 }
 
-/// Whether the transaction at the place is known to be no node: it isn't ok, and nobody reads what it writes.
+/// Whether the transaction at the place is known to be no node: it isn't ok, and nobody reads what
+/// it writes.
 fn is_no_node<'a, S: BuildHasher + Copy>(
     users: &Users,
     txns: &[Txn<'a>],
@@ -66,7 +68,8 @@ fn is_no_node<'a, S: BuildHasher + Copy>(
     !was_read(&users.readers, versions.writes(place))
 }
 
-/// Whether no edge leads from the transaction at the place by a step from the version, if it doesn't read the version.
+/// Whether no edge leads from the transaction at the place by a step from the version, if it
+/// doesn't read the version.
 pub(crate) fn is_left_out<'a, S: BuildHasher + Copy>(
     users: &Users,
     txns: &[Txn<'a>],
@@ -132,7 +135,8 @@ fn are_lower_or_left_out<'a, S: BuildHasher + Copy>(
     true
 }
 
-/// Whether the point at the place is above those of all other nodes that read or install the version.
+/// Whether the point at the place is above those of all other nodes that read or install the
+/// version.
 fn is_above_users<'a, S: BuildHasher + Copy>(
     points: &[u64],
     users: &Users,
@@ -177,7 +181,8 @@ fn is_above_all_users<'a, S: BuildHasher + Copy>(
     true
 }
 
-/// Whether it is so at each version from which a process went to the one that the write is of, or it isn't the last one of its key.
+/// Whether it is so at each version from which a process went to the one that the write is of, or
+/// it isn't the last one of its key.
 fn is_above_steps_to<'a, S: BuildHasher + Copy>(
     points: &[u64],
     users: &Users,
@@ -205,7 +210,8 @@ fn is_above_steps_to<'a, S: BuildHasher + Copy>(
     updates(writes, write)
 }
 
-/// Whether it is so at each version from which a process went to one that the transaction, which writes this, installs.
+/// Whether it is so at each version from which a process went to one that the transaction, which
+/// writes this, installs.
 fn is_above_steps<'a, S: BuildHasher + Copy>(
     points: &[u64],
     users: &Users,
@@ -227,7 +233,8 @@ fn is_above_steps<'a, S: BuildHasher + Copy>(
     true
 }
 
-/// Whether the first one has a lower point than the second one, if they are two, or the second one doesn't install the version.
+/// Whether the first one has a lower point than the second one, if they are two, or the second one
+/// doesn't install the version.
 fn is_lower_or_no_install<'a, S: BuildHasher + Copy>(
     points: &[u64],
     txns: &[Txn<'a>],
@@ -327,7 +334,8 @@ fn is_below_read_steps<'a, S: BuildHasher + Copy>(
     true
 }
 
-/// Whether it is so at each version to which a process went from the one that the write is of, or it isn't the last one of its key.
+/// Whether it is so at each version to which a process went from the one that the write is of, or
+/// it isn't the last one of its key.
 fn is_below_steps_from<'a, S: BuildHasher + Copy>(
     points: &[u64],
     users: &Users,
@@ -355,7 +363,8 @@ fn is_below_steps_from<'a, S: BuildHasher + Copy>(
     updates(writes, write)
 }
 
-/// Whether it is so at each version to which a process went from one that the transaction, which writes this, installs.
+/// Whether it is so at each version to which a process went from one that the transaction, which
+/// writes this, installs.
 fn is_below_own_steps<'a, S: BuildHasher + Copy>(
     points: &[u64],
     users: &Users,
@@ -405,7 +414,8 @@ fn is_below_if_node<'a, S: BuildHasher + Copy>(
     )
 }
 
-/// Whether it is so of the transaction at the place, or it is ok, and so was a node before it was read.
+/// Whether it is so of the transaction at the place, or it is ok, and so was a node before it was
+/// read.
 fn is_below_unless_ok<'a, S: BuildHasher + Copy>(
     points: &[u64],
     users: &Users,
@@ -462,7 +472,8 @@ pub(crate) fn has_another(places: &[u32], place: usize) -> bool
     places.iter().any(|other| *other as usize != place)
 }
 
-/// Whether what the transaction at the place reads was read before, or each that writes it is ok or below its own steps.
+/// Whether what the transaction at the place reads was read before, or each that writes it is ok or
+/// below its own steps.
 fn read_makes_no_node<'a, S: BuildHasher + Copy>(
     points: &[u64],
     users: &Users,
@@ -489,7 +500,8 @@ fn read_makes_no_node<'a, S: BuildHasher + Copy>(
     )
 }
 
-/// Whether each transaction that the one at the place makes a node, as it reads this, is below its own steps.
+/// Whether each transaction that the one at the place makes a node, as it reads this, is below its
+/// own steps.
 fn new_nodes_are_below_steps<'a, S: BuildHasher + Copy>(
     points: &[u64],
     users: &Users,
@@ -557,8 +569,8 @@ fn falls_are_above_steps<'a, S: BuildHasher + Copy>(
     true
 }
 
-/// Whether the point at the place is above those of all other nodes that read or install the earlier version of the step, or the
-/// transaction doesn't install the later one.
+/// Whether the point at the place is above those of all other nodes that read or install the
+/// earlier version of the step, or the transaction doesn't install the later one.
 fn is_above_step<'a, S: BuildHasher + Copy>(
     points: &[u64],
     users: &Users,
@@ -598,8 +610,8 @@ fn are_above_step<'a, S: BuildHasher + Copy>(
     true
 }
 
-/// Whether each that installs the later version of the step has a higher point than all other nodes that read or install the
-/// earlier one.
+/// Whether each that installs the later version of the step has a higher point than all other nodes
+/// that read or install the earlier one.
 fn step_rises<'a, S: BuildHasher + Copy>(
     points: &[u64],
     users: &Users,

@@ -20,7 +20,8 @@ pub(crate) struct Users {
     pub key_writers: Places,
     /// Those that read the version and install another one of its key.
     pub updaters: Places,
-    /// A bound of the points of those that read the version and don't install another one of its key.
+    /// A bound of the points of those that read the version and don't install another one of its
+    /// key.
     pub bounds: Bounds,
     /// By nil version, a bound below the points of those that write its key.
     pub floors: Bounds,
@@ -139,7 +140,8 @@ impl Users {
         }
     }
 
-    /// Who writes the key with this nil version; nobody, where the floor of their points is above this one.
+    /// Who writes the key with this nil version; nobody, where the floor of their points is above
+    /// this one.
     pub fn nil_followers(&self, nil: u32, point: u64) -> &[u32]
         ensures { HasNilFollowers self.now nil point result.now }
     {

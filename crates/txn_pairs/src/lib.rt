@@ -14,8 +14,8 @@ use hist_types::types::Fault;
 use journal_core::events::Events;
 use std::alloc::Global;
 
-/// The transactions of the events, by one pass over them, whatever rules the events keep. They borrow the blocks, and not
-/// the events.
+/// The transactions of the events, by one pass over them, whatever rules the events keep. They
+/// borrow the blocks, and not the events.
 ///
 /// The only error is out of memory.
 pub fn pair<'a>(alloc: Global, events: &Events<'a>) -> Result<Txns<'a>, Fault>
@@ -23,7 +23,8 @@ pub fn pair<'a>(alloc: Global, events: &Events<'a>) -> Result<Txns<'a>, Fault>
     ensures err { IfErr result (λ fault. fault ≡ memory_fault) }
 {
     let mut pairing = Pairing::new(alloc);
-    // Where the rules are kept, each completion has an invocation of its own, so half of the events or more are invocations.
+    // Where the rules are kept, each completion has an invocation of its own, so half of the events
+    // or more are invocations.
     pairing.reserve(events.len() as usize / 2)?;
     let mut index = 0;
     for event in events.iter() {

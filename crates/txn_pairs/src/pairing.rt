@@ -13,7 +13,8 @@ use process_map::map::ProcessMap;
 use std::alloc::{AllocError, Global};
 use std::marker::Model;
 
-/// The transactions of the events so far. It takes one event after the other, each by one look-up of its process.
+/// The transactions of the events so far. It takes one event after the other, each by one look-up
+/// of its process.
 #[derive(Drop)]
 pub struct Pairing<'a> {
     txns: Txns<'a>,
@@ -69,9 +70,9 @@ impl<'a> Pairing<'a> {
         self.txns.reserve(transactions)
     }
 
-    /// Takes the event with this index, which comes after all that were taken, and returns the place of the transaction that it
-    /// begins or completes. A completion of a process with no open transaction changes nothing. Out of memory leaves the state as
-    /// it was.
+    /// Takes the event with this index, which comes after all that were taken, and returns the
+    /// place of the transaction that it begins or completes. A completion of a process with no open
+    /// transaction changes nothing. Out of memory leaves the state as it was.
     #[inline(always)]
     pub fn take(&mut self, index: u64, op: OpView<'a>) -> Result<Option<usize>, AllocError>
         requires { index < MAX_EVENTS }
@@ -104,7 +105,8 @@ impl<'a> Pairing<'a> {
         Ok(place)
     }
 
-    /// Takes a completion, and returns the place of the transaction that it completes, if its process has one open.
+    /// Takes a completion, and returns the place of the transaction that it completes, if its
+    /// process has one open.
     #[inline(always)]
     fn complete(&mut self, index: u64, outcome: Outcome, op: OpView<'a>) -> Option<usize>
         requires index { index < MAX_EVENTS }

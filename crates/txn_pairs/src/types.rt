@@ -24,10 +24,12 @@ pub enum Status {
     Open,
 }
 
-/// A transaction, named by the index of its invocation. It borrows the block that its micro-operations are in.
+/// A transaction, named by the index of its invocation. It borrows the block that its
+/// micro-operations are in.
 #[derive(Drop)]
 pub struct Txn<'a> {
-    /// The block of the operation that has its micro-operations: an ok if that completed it, else its invocation.
+    /// The block of the operation that has its micro-operations: an ok if that completed it, else
+    /// its invocation.
     block: &'a Block,
     process: u32,
     invocation: u32,

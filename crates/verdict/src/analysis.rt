@@ -89,7 +89,8 @@ impl<'a, S: BuildHasher + Copy> TablesSoFar<'a, S> {
         }
     }
 
-    /// Takes the transaction at this place, as the last event made it. Out of memory may leave it taken in part.
+    /// Takes the transaction at this place, as the last event made it. Out of memory may leave it
+    /// taken in part.
     fn update(&mut self, place: usize) -> Result<(), AllocError>
         requires { (events : List Operation) × (event : Operation)
             × AreBehind events event place self.old }
@@ -107,7 +108,8 @@ impl<'a, S: BuildHasher + Copy> TablesSoFar<'a, S> {
         Ok(())
     }
 
-    /// The verdict where these are points of the events: nothing is put together, and nothing is searched for.
+    /// The verdict where these are points of the events: nothing is put together, and nothing is
+    /// searched for.
     fn verdict_by_points(&self, alloc: Global, points: &Points) -> Result<Verdict<'a>, AllocError>
         ensures { (events : List Operation)
             → AreTablesSoFar events self.now → HasPoints events self.now.versions points.now
@@ -153,8 +155,9 @@ impl<'a, S: BuildHasher + Copy> TablesSoFar<'a, S> {
     }
 }
 
-/// What is known of the events of some blocks, kept and extended by one block after the other, so that a verdict of a run that
-/// goes on doesn't begin with the run's first event. It borrows the blocks.
+/// What is known of the events of some blocks, kept and extended by one block after the other, so
+/// that a verdict of a run that goes on doesn't begin with the run's first event. It borrows the
+/// blocks.
 #[derive(Drop)]
 pub struct Analysis<'a, S: BuildHasher> {
     alloc: Global,
@@ -188,8 +191,8 @@ impl<'a, S: BuildHasher + Copy> Analysis<'a, S> {
         }
     }
 
-    /// Adds a block that counts after those before it, in time for its micro-operations and for the points that they change. The
-    /// only error is out of memory, and then the analysis is gone.
+    /// Adds a block that counts after those before it, in time for its micro-operations and for the
+    /// points that they change. The only error is out of memory, and then the analysis is gone.
     pub fn extend(mut self, block: &'a Block) -> Result<Self, Fault>
         requires { KeepsRulesAfter self.events (operations_of block.now) }
         ensures events { IfOk result
@@ -204,7 +207,8 @@ impl<'a, S: BuildHasher + Copy> Analysis<'a, S> {
         Ok(self)
     }
 
-    /// Whether serialization points show that nothing is to be found, so that a verdict takes no search.
+    /// Whether serialization points show that nothing is to be found, so that a verdict takes no
+    /// search.
     pub fn has_points(&self) -> bool
         ensures { OnTrue result
             (AreFindings self.now.keys (transactions_of self.now.events) no_findings) }
@@ -219,8 +223,9 @@ impl<'a, S: BuildHasher + Copy> Analysis<'a, S> {
         }
     }
 
-    /// Has a later verdict look first where this one, which is of these events or of fewer, has cycles. A cycle of two transactions
-    /// at the level plain is then looked up, and no other one searched for, as long as neither of them fails.
+    /// Has a later verdict look first where this one, which is of these events or of fewer, has
+    /// cycles. A cycle of two transactions at the level plain is then looked up, and no other one
+    /// searched for, as long as neither of them fails.
     pub fn look_first(&mut self, verdict: &Verdict<'_>)
         ensures { self.new ≡ self.old }
     {
@@ -228,14 +233,15 @@ impl<'a, S: BuildHasher + Copy> Analysis<'a, S> {
         self.tables.pairs = Pairs::of(txns, verdict);
     }
 
-    /// The verdict of the events, as `verdict` computes it from scratch. The analysis stays as it is, and no event is taken again.
-    /// While it has points, there is nothing to do but write the text. Else what the events show is searched for anew, in time for
-    /// all events.
+    /// The verdict of the events, as `verdict` computes it from scratch. The analysis stays as it
+    /// is, and no event is taken again. While it has points, there is nothing to do but write the
+    /// text. Else what the events show is searched for anew, in time for all events.
     ///
     /// Only memory can run out.
     pub fn verdict(&self) -> Result<Verdict<'a>, Fault>
         ensures ok { IfOk result (IsVerdictOf self.now.keys self.now.events) }
-        // Where the verdict says refuted, no order explains the events; where it says open, that says nothing.
+        // Where the verdict says refuted, no order explains the events; where it says open, that
+        // says nothing.
         ensures strict { IfOk result (RefutesExplanations self.now.events) }
         ensures err { IfErr result (λ fault. fault ≡ memory_fault) }
     {

@@ -1,4 +1,5 @@
-//! What an event changes in what is kept of the events before it, if it begins or completes a transaction.
+//! What an event changes in what is kept of the events before it, if it begins or completes a
+//! transaction.
 
 ghost use Rattle.std.specs.Prelude.{◌≡◌, ℕ, List, [], ◌∷◌, ◌++◌, IfSome, IfOk, OnOk};
 ghost use Rattle.hist_types.specs.Operations.{Operation};
@@ -64,7 +65,8 @@ pub fn first_points(alloc: Global, keys: KeyOrder) -> Option<Points>
     }
 }
 
-/// The points, after an event changed the transaction at the place. Once there are none, there are none from then on.
+/// The points, after an event changed the transaction at the place. Once there are none, there are
+/// none from then on.
 pub fn points_after<'a, S: BuildHasher + Copy>(
     points: Option<Points>,
     txns: &[Txn<'a>],

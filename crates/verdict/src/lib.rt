@@ -95,8 +95,8 @@ fn verdict_from<'a>(alloc: Global, tables: &Tables<'_, 'a>) -> Result<Verdict<'a
     )
 }
 
-/// The verdict of this many events, if a replay of their transactions shows that there is nothing to find. None says nothing. It
-/// borrows the journal's blocks.
+/// The verdict of this many events, if a replay of their transactions shows that there is nothing
+/// to find. None says nothing. It borrows the journal's blocks.
 ///
 /// Only memory can run out.
 pub fn verdict_by_replay<'a, S: BuildHasher + Copy>(
@@ -118,7 +118,8 @@ pub fn verdict_by_replay<'a, S: BuildHasher + Copy>(
     Ok(Some(reported(alloc, events, txns, Findings::none(), reads)?))
 }
 
-/// The verdict of the events. It borrows the journal's blocks, and not the prefix. It doesn't depend on the hasher.
+/// The verdict of the events. It borrows the journal's blocks, and not the prefix. It doesn't
+/// depend on the hasher.
 ///
 /// Only memory can run out.
 pub fn verdict<'a, S: BuildHasher + Copy>(
@@ -128,7 +129,8 @@ pub fn verdict<'a, S: BuildHasher + Copy>(
     keys: KeyOrder,
 ) -> Result<Verdict<'a>, Fault>
     ensures ok { IfOk result (IsVerdictOf keys prefix.now) }
-    // Where the verdict says refuted, no order explains the events; where it says open, that says nothing.
+    // Where the verdict says refuted, no order explains the events; where it says open, that says
+    // nothing.
     ensures strict { IfOk result (RefutesExplanations prefix.now) }
     ensures err { IfErr result (λ fault. fault ≡ memory_fault) }
 {
@@ -140,7 +142,8 @@ pub fn verdict<'a, S: BuildHasher + Copy>(
     Ok(verdict_from(alloc, &Tables::new(events, &txns, &versions))?)
 }
 
-/// Hands the verdict's text to a sink, or a beginning of it where the sink fails. It takes no memory.
+/// Hands the verdict's text to a sink, or a beginning of it where the sink fails. It takes no
+/// memory.
 pub fn write_verdict<T: Sink>(verdict: &Verdict<'_>, sink: &mut T) -> Result<(), Failed>
     ensures ok { OnOk result (HasTaken T.Sink sink.old sink.new (verdict_text verdict.now)) }
     ensures err { OnErr result

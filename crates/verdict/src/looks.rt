@@ -47,7 +47,8 @@ fn look_at_all<'a>(
     order::look(deps, attempt, board)?;
     // G2-item at plain: write skew. Linear, at most 32 steps for each transaction and version.
     write_skew::look(deps, board)?;
-    // The others, nowhere: snapshot isolation, which has write skew alone. Linear, two numbers each.
+    // The others, nowhere: snapshot isolation, which has write skew alone. Linear, two numbers
+    // each.
     snapshots::look(deps, attempt, board)?;
     // G-single and G2-item at plain: read committed and less. As write skew.
     read_skew::look(deps, board)?;

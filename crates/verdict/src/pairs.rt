@@ -11,7 +11,8 @@ pub struct Pair {
     pub other: usize,
 }
 
-/// For each phenomenon that cycles show, where to look for one first. Whether there is one isn't known.
+/// For each phenomenon that cycles show, where to look for one first. Whether there is one isn't
+/// known.
 #[derive(Clone, Copy)]
 pub struct Pairs {
     g0: Option<Pair>,
@@ -25,7 +26,8 @@ fn place_of(txns: &[Txn<'_>], invocation: u64) -> usize {
     txns.partition_point(|txn| txn.invocation() < invocation)
 }
 
-/// The transactions of the verdict's cycle of the phenomenon, if these are two and the level is plain.
+/// The transactions of the verdict's cycle of the phenomenon, if these are two and the level is
+/// plain.
 fn pair_of(txns: &[Txn<'_>], verdict: &Verdict<'_>, phenomenon: Phenomenon) -> Option<Pair> {
     if verdict.level(phenomenon)? != Level::Plain {
         return None;
@@ -50,8 +52,9 @@ impl Pairs {
         }
     }
 
-    /// Where the verdict has cycles of two transactions at the level plain, and of these transactions. No other cycle shows its
-    /// phenomenon with fewer edges, and this one stays unless one of the two fails.
+    /// Where the verdict has cycles of two transactions at the level plain, and of these
+    /// transactions. No other cycle shows its phenomenon with fewer edges, and this one stays
+    /// unless one of the two fails.
     pub fn of(txns: &[Txn<'_>], verdict: &Verdict<'_>) -> Self {
         Pairs {
             g0: pair_of(txns, verdict, Phenomenon::G0),

@@ -21,7 +21,8 @@ pub struct Tables<'t, 'a> {
     pub txns: &'t Txns<'a>,
     /// The versions that the transactions name.
     pub versions: &'t Versions<'a>,
-    /// The thinned order, if it was kept or made already. Else it is thinned where a search needs it.
+    /// The thinned order, if it was kept or made already. Else it is thinned where a search needs
+    /// it.
     pub thinned: Option<&'t Order>,
     /// Where cycles are looked for first.
     pub pairs: Pairs,

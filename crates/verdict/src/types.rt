@@ -39,7 +39,8 @@ impl BadReads<'_> {
     }
 }
 
-/// Everything that is reported of a history, with its text. Keys and values are borrowed from the journal's blocks.
+/// Everything that is reported of a history, with its text. Keys and values are borrowed from the
+/// journal's blocks.
 pub struct Verdict<'a> {
     report: VerdictReport<'a>,
     text: Vec<u8>,

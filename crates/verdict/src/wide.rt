@@ -54,7 +54,8 @@ trait Pieces: Sync {
         ensures { IfOk result (finds self.now worker) };
 }
 
-/// Of n keys, the worker i has those from `i * n / workers` up to but not including `(i + 1) * n / workers`.
+/// Of n keys, the worker i has those from `i * n / workers` up to but not including `(i + 1) * n /
+/// workers`.
 #[derive(Drop)]
 struct KeyPieces<'p, 't, 'a> {
     tables: &'p Tables<'t, 'a>,
@@ -99,7 +100,8 @@ impl<'p, P: Pieces> Promise<Result<PieceDeps, AllocError>> for PieceOf<'p, P> {
     ghost kept_by = { λ p found. IfOk found (P.finds p.pieces.now p.worker) };
 }
 
-/// What each worker finds at its piece, in a thread of its own. Where one can't be started, those that were started end first.
+/// What each worker finds at its piece, in a thread of its own. Where one can't be started, those
+/// that were started end first.
 fn look_at_all<R: Threads + Wait + Sync, P: Pieces, G: Gate + Sync>(
     rt: &R,
     alloc: Global,
@@ -214,13 +216,14 @@ pub fn verdict_from_wide<'a, R: Threads + Wait + Sync, G: Gate + Sync>(
     Ok(reported(alloc, tables.events, tables.txns, findings, reads)?)
 }
 
-/// What `verdict` gives, by this many workers. The transactions are paired and their versions numbered first, in the caller's
-/// thread. Then, of n keys in the order of their numbers, the worker i looks at those from `i * n / workers` up to but not
-/// including `(i + 1) * n / workers`, in a thread of its own, and enters the gate before it does, also where its piece is empty.
-/// A single worker is the caller's thread. No more threads are at work than there are workers.
+/// What `verdict` gives, by this many workers. The transactions are paired and their versions
+/// numbered first, in the caller's thread. Then, of n keys in the order of their numbers, the
+/// worker i looks at those from `i * n / workers` up to but not including `(i + 1) * n / workers`,
+/// in a thread of its own, and enters the gate before it does, also where its piece is empty. A
+/// single worker is the caller's thread. No more threads are at work than there are workers.
 ///
-/// Memory can run out, or a thread can't be started (`NoThread`), which is reported once the threads that were started have ended.
-/// Where both happen it is `NoThread`.
+/// Memory can run out, or a thread can't be started (`NoThread`), which is reported once the
+/// threads that were started have ended. Where both happen it is `NoThread`.
 pub fn verdict_wide<'a, R: Threads + Wait + Sync, S: BuildHasher + Copy, G: Gate + Sync>(
     rt: &R,
     alloc: Global,
@@ -232,7 +235,8 @@ pub fn verdict_wide<'a, R: Threads + Wait + Sync, S: BuildHasher + Copy, G: Gate
 ) -> Result<Verdict<'a>, Fault>
     requires { IsNumberOfWorkers workers }
     ensures ok { IfOk result (IsVerdictOf keys prefix.now) }
-    // Where the verdict says refuted, no order explains the events; where it says open, that says nothing.
+    // Where the verdict says refuted, no order explains the events; where it says open, that says
+    // nothing.
     ensures strict { IfOk result (RefutesExplanations prefix.now) }
     ensures err { IfErr result IsMemoryOrThread }
 {

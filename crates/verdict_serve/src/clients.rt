@@ -85,7 +85,8 @@ fn seated<'j, S: Drop, T: Drop>(
     Ok(places)
 }
 
-/// How the sessions of the threads ended, in room that was taken before the first of them was started.
+/// How the sessions of the threads ended, in room that was taken before the first of them was
+/// started.
 fn joined<'j, R: Threads, S: Source, T: Sink>(
     rt: &R,
     started: Vec<Serving<'j, S, T>>,
@@ -103,10 +104,12 @@ fn joined<'j, R: Threads, S: Source, T: Sink>(
     Ok(ends)
 }
 
-/// A session for each client in a thread of its own, all at one journal. The ends are in the order of the clients.
+/// A session for each client in a thread of its own, all at one journal. The ends are in the order
+/// of the clients.
 ///
-/// All seats are made before a thread is started. Where a thread can't be started (`NoThread`), the threads that were started end
-/// first. No seat of the journal may have borne one of these numbers before: they are those from 0 on, in the clients' order.
+/// All seats are made before a thread is started. Where a thread can't be started (`NoThread`), the
+/// threads that were started end first. No seat of the journal may have borne one of these numbers
+/// before: they are those from 0 on, in the clients' order.
 pub fn sessions<
     'j,
     R: Threads + Wait + Sync,

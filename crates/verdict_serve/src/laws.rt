@@ -7,8 +7,8 @@ ghost use Rattle.hist_types.specs.declared.types.KeyOrder.{KeyOrder};
 ghost use Rattle.live_journal.specs.Seats.{new_view};
 ghost use Rattle.verdict_serve.specs.Alone.{HasSeenItsOwn};
 
-/// Where a new seat has at last seen no blocks but its own, its session's replies are those that the lines alone give, with
-/// nothing of others between them.
+/// Where a new seat has at last seen no blocks but its own, its session's replies are those that
+/// the lines alone give, with nothing of others between them.
 pub fn sessions_alone()
     ensures { (keys : KeyOrder) (cells seat : ℕ) (bytes : List ℕ) (replies : List (List ℕ)) (new : View)
         → HasSeenItsOwn new

@@ -29,7 +29,8 @@ pub enum Next {
 /// Room for a line of the greatest length with its byte 10.
 const ROOM: usize = MAX_LINE_BYTES + 1;
 
-/// The lines of a source, one after the other. It has room for the longest line that there may be, and takes no more memory.
+/// The lines of a source, one after the other. It has room for the longest line that there may be,
+/// and takes no more memory.
 #[derive(Drop)]
 pub struct Lines {
     window: Window,

@@ -39,7 +39,8 @@ pub enum Ended {
 /// Why a session ended in no such way.
 #[derive(Clone, Copy, Debug, PartialEq, Eq)]
 pub enum SessionFault {
-    /// The source or the sink failed, after so many lines had been answered. From the greatest u64 on they are not counted.
+    /// The source or the sink failed, after so many lines had been answered. From the greatest u64
+    /// on they are not counted.
     Device { answered: u64 },
     /// Out of memory, before anything was read.
     Memory,
@@ -178,7 +179,8 @@ fn serve_line<R: Wait, H: BuildHasher + Copy, S: Source, T: Sink>(
 
 /// Answers each line of the source, up to and with the first that says `quit`.
 ///
-/// Memory for one line is taken at first. Where later memory runs out, that is the reply to the line that asked for it.
+/// Memory for one line is taken at first. Where later memory runs out, that is the reply to the
+/// line that asked for it.
 pub fn session<R: Wait, H: BuildHasher + Copy, S: Source, T: Sink>(
     rt: &R,
     alloc: Global,
@@ -186,11 +188,12 @@ pub fn session<R: Wait, H: BuildHasher + Copy, S: Source, T: Sink>(
     source: &mut S,
     sink: &mut T,
 ) -> Result<Ended, SessionFault>
-    // Each line of the source has one reply, by a legal answer to the seat, and the sink took them whole.
+    // Each line of the source has one reply, by a legal answer to the seat, and the sink took them
+    // whole.
     ensures ended { IfOk result (λ ended. HasServed S.Source T.Sink ended
         seat.old seat.new source.old source.new sink.old sink.new) }
-    // A device failed. If the source did, each line that it gave has its reply; if the sink did, the lines answered so far have
-    // theirs, and of the next one a beginning was taken.
+    // A device failed. If the source did, each line that it gave has its reply; if the sink did,
+    // the lines answered so far have theirs, and of the next one a beginning was taken.
     ensures device { (answered : ℕ) → result ≡ Err (SessionFault.Device answered)
         → HasLostDevice S.Source T.Sink answered
         seat.old seat.new source.old source.new sink.old sink.new }

@@ -10,8 +10,8 @@ use dep_edges::deps::Deps;
 use hist_types::types::{Level, Phenomenon};
 use std::alloc::AllocError;
 
-/// Shows the phenomenon at plain, if it may be there, and if each of the two depends on the other as
-/// it needs.
+/// Shows the phenomenon at plain, if it may be there, and if each of the two depends on the other
+/// as it needs.
 fn look_between<'a>(
     deps: &Deps<'_, 'a>,
     phenomenon: Phenomenon,
