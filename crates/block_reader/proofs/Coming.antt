@@ -1,54 +1,22 @@
 -- Reading on through a source's text.
-use Rattle.std.proofs.Common.{◌≡◌, ◌⊎◌, inl, inr, ℕ, ◌+◌, ◌-◌, ◌≤◌, List, [], ◌++◌, length, take, drop, Option, Some, None, Result, Ok, Err, IsErrAnd, IfErr, true, refl, sym, ◌∙◌, ap, subst, arith, append_assoc, length-append, drop-drop}
-use Rattle.std.proofs.KnownBytes.{Consumes-nil, Consumes-trans}
+use Rattle.std.proofs.Common.{◌≡◌, ◌⊎◌, inl, inr, ℕ, ◌+◌, ◌-◌, ◌≤◌, List, ◌++◌, length, take, drop, Option, Some, None, Result, Ok, Err, IsErrAnd, IfErr, true, refl, sym, ◌∙◌, ap, subst, arith, append_assoc, length-append, drop-drop}
 use Rattle.std.proofs.Math.Seq.{drop-append_seam}
-use Rattle.std.proofs.lemmas.Bool.{false≢true}
 use Rattle.std.proofs.lemmas.List.{length-take, take-append-drop}
-use Rattle.std.specs.Io.KnownBytes.{Consumes, IsAtEnd}
+use Rattle.std.specs.Io.KnownBytes.{Consumes}
 use Rattle.hist_types.specs.Operations.{Operation}
 use Rattle.hist_types.specs.Devices.{CountsFailure}
-use Rattle.hist_types.specs.Pieces.{HasReadMore}
 use Rattle.hist_types.specs.Refusals.{memory_fault}
 use Rattle.hist_types.specs.declared.device.Source.{Ghosts as Source}
 use Rattle.hist_types.specs.declared.types.Fault.{Fault}
 use Rattle.reading_laws.specs.Parts.{EndsWithMap}
 use Rattle.hist_types.specs.Reading.{GivesFrom, FailsFrom}
 use Rattle.block_reader.specs.Parts.{ReadsThrough}
-use Rattle.block_reader.specs.Rounds.{HasGivenAll, HasReadAll, IsNew, HasPassed, HasCome, IsFaultOf, IsCounted}
+use Rattle.block_reader.specs.Rounds.{HasGivenAll, HasReadAll, HasPassed, HasCome, IsFaultOf, IsCounted}
 use Rattle.block_reader.specs.declared.rounds.Reading.{Reading}
 use Rattle.block_reader.specs.declared.rounds.InputFault.{InputFault}
 use Rattle.block_reader.specs.declared.rounds.InputFault.TheVariants.{Device, Text}
 use Rattle.block_reader.specs.Starts.{IsBehindMap}
 use Rattle.block_reader.proofs.StartsMore.{ends_behind_map}
-use Rattle.block_reader.proofs.Through.{nothing_through}
-
-pub come_new : {S : Type 0} (device : Source S) (source : S) (reading : Reading) → IsNew reading → HasCome device source source reading []
-come_new device source reading new = record {
-  front = [];
-  given = subst (Consumes (device.remaining source) (device.remaining source)) (sym new.window) (Consumes-nil _);
-  no_failure = refl;
-  long = sym new.offset;
-  through = nothing_through;
-  at_end = λ ended. absurd (false≢true (sym new.going ∙ ended));
-}
-
-pub come_filled :
-    {S : Type 0} (device : Source S) (source now later : S) (reading reading' : Reading) (os : List Operation)
-    → HasCome device source now reading os → HasReadMore device now later reading.window.bytes reading'.window.bytes
-    → device.failures later ≡ device.failures now → reading'.offset ≡ reading.offset
-    → (reading'.ended ≡ true → IsAtEnd (device.remaining later))
-    → HasCome device source later reading' os
-come_filled device source now later reading reading' os come read same stays end =
-    record {
-      front = come.front;
-      given =
-          subst (Consumes (device.remaining source) (device.remaining later)) (append_assoc come.front reading.window.bytes read.more ∙ ap (λ xs. come.front ++ xs) (sym read.behind))
-          (Consumes-trans _ _ _ _ _ come.given read.given);
-      no_failure = same ∙ come.no_failure;
-      long = come.long ∙ sym stays;
-      through = come.through;
-      at_end = end;
-    }
 
 through_both : (a b : List ℕ) (os ps : List Operation) → ReadsThrough a os → ReadsThrough b ps → ReadsThrough (a ++ b) (os ++ ps)
 through_both a b os ps first second text behind offset later fault has rest =
@@ -144,14 +112,3 @@ pub fault_same :
     → IsErrAnd result (λ given. given ≡ fault) → IsFaultOf device source now fault → IfErr result (IsFaultOf device source now)
 fault_same device source now fault (Ok found) h is = absurd h
 fault_same device source now fault (Err given) h is = subst (IsFaultOf device source now) (sym h) is
-
-pub fault_counted :
-    {S T : Type 0} (device : Source S) (source now later : S) (reading : Reading) (os : List Operation)
-    (fault : InputFault) (result : Result T InputFault)
-    → HasCome device source now reading os
-    → IsErrAnd result (λ given. given ≡ fault)
-    → IsCounted fault (device.failures now) (device.failures later)
-    → IfErr result (IsFaultOf device source later)
-fault_counted device source now later reading os fault result come h counted =
-    fault_same device source later fault result h
-    (come_counted device source now later reading os come fault counted)

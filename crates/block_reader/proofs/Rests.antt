@@ -24,10 +24,6 @@ same_left text other offset os fault same gives =
 left_same : (a b rest : List ℕ) (offset : ℕ) → length a ≡ offset → length b ≡ offset → drop offset (a ++ rest) ≡ drop offset (b ++ rest)
 left_same a b rest offset first second = drop_at a rest offset first ∙ sym (drop_at b rest offset second)
 
-pub rest_behind : (blanks front rest : List ℕ) (offset : ℕ) (os : List Operation) → length blanks ≡ offset → length front ≡ offset → GivesFrom (blanks ++ rest) offset os None → GivesFrom (front ++ rest) offset os None
-rest_behind blanks front rest offset os first second gives =
-    same_left (blanks ++ rest) (front ++ rest) offset os None (left_same blanks front rest offset first second) gives
-
 pub fails_behind : (blanks front rest : List ℕ) (offset : ℕ) (fault : Fault) → length blanks ≡ offset → length front ≡ offset
     → (fault ≡ memory_fault) ⊎ FailsFrom (blanks ++ rest) offset fault → (fault ≡ memory_fault) ⊎ FailsFrom (front ++ rest) offset fault
 fails_behind blanks front rest offset fault first second (inl memory) = inl memory

@@ -16,6 +16,13 @@ abbrev pub IsCounted : InputFault → (old new : ℕ) → Type 0
 IsCounted faults.Device old new = CountsFailure old new
 IsCounted (faults.Text fault) old new = (fault ≡ memory_fault) × (new ≡ old)
 
+-- more bytes were read of the source, behind these
+pub record HasReadMore {S : Type 0} (device : Source S) (source source' : S)
+    (bytes bytes' : List ℕ) : Type 0 where
+  pub more : List ℕ
+  pub behind : bytes' ≡ bytes ++ more
+  pub given : Consumes (device.remaining source) (device.remaining source') more
+
 -- the source gave this text and then ended, and never failed
 pub record HasGivenAll {S : Type 0} (device : Source S) (source source' : S)
     (text : List ℕ) : Type 0 where

@@ -3,8 +3,7 @@
 ghost use Rattle.std.specs.Prelude.{◌≡◌, ◌<◌, ◌≤◌, ◌-◌, ◌++◌, [], ℕ, List, length, drop, true, false, slice_range, OnOk, OnErr, IfOk, IfErr, vec_len};
 ghost use Rattle.std.specs.Io.KnownBytes.{IsAtEnd, Consumes};
 ghost use Rattle.hist_types.specs.Devices.{CountsFailure};
-ghost use Rattle.hist_types.specs.Pieces.{HasReadMore};
-ghost use Rattle.block_reader.specs.Rounds.{IsCounted};
+ghost use Rattle.block_reader.specs.Rounds.{HasReadMore, IsCounted};
 
 use crate::rounds::InputFault;
 use hist_types::device::{Failed, Source};

@@ -1,9 +1,8 @@
--- Whole inputs and outputs: what a sink took of some bytes, and what was read of a source.
-use Rattle.std.specs.Prelude.{◌≡◌, ◌⊎◌, ℕ, List, ◌++◌, take}
-use Rattle.std.specs.Io.KnownBytes.{Appends, Consumes}
+-- Whole outputs: what a sink took of some bytes.
+use Rattle.std.specs.Prelude.{◌≡◌, ◌⊎◌, ℕ, List, take}
+use Rattle.std.specs.Io.KnownBytes.{Appends}
 use Rattle.hist_types.specs.Devices.{CountsFailure}
 use Rattle.hist_types.specs.declared.device.Sink.{Ghosts}
-use Rattle.hist_types.specs.declared.device.Source.{Ghosts as Source}
 
 -- the sink took all these bytes
 pub record HasTaken {T : Type 0} (device : Ghosts T) (sink sink' : T)
@@ -22,10 +21,3 @@ pub record HasTakenInPart {T : Type 0} (device : Ghosts T) (sink sink' : T)
 abbrev pub HasTakenUnlessFailed : {T : Type 0} → Ghosts T → (sink sink' : T) → List ℕ → Type 0
 HasTakenUnlessFailed device sink sink' bytes =
     HasTaken device sink sink' bytes ⊎ HasTakenInPart device sink sink' bytes
-
--- more bytes were read of the source, behind these
-pub record HasReadMore {S : Type 0} (device : Source S) (source source' : S)
-    (bytes bytes' : List ℕ) : Type 0 where
-  pub more : List ℕ
-  pub behind : bytes' ≡ bytes ++ more
-  pub given : Consumes (device.remaining source) (device.remaining source') more

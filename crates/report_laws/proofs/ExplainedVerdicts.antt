@@ -20,7 +20,7 @@ abbrev is_refuted : Strict → Bool
 is_refuted Refuted = true
 is_refuted Open = false
 
-named : (r : Report) → strict_of r ≡ Refuted → names_phenomenon r ≡ true
+pub named : (r : Report) → strict_of r ≡ Refuted → names_phenomenon r ≡ true
 named r says = elim (cases_Bool (names_phenomenon r)) [
   | inl e ↦ e
   | inr e ↦ elim (false≢true (sym (ap (λ b. is_refuted (if b then Refuted else Open)) e) ∙ ap is_refuted says)) [ ]
@@ -43,7 +43,7 @@ cycle_there keys ts found are e =
       ]
     ]
 
-phenomenon_there : (keys : KeyOrder) (events : List Operation) (r : Report) → IsVerdictOf keys events r → names_phenomenon r ≡ true → HasPhenomenon keys (transactions_of events)
+pub phenomenon_there : (keys : KeyOrder) (events : List Operation) (r : Report) → IsVerdictOf keys events r → names_phenomenon r ≡ true → HasPhenomenon keys (transactions_of events)
 phenomenon_there keys events r is e =
     let ts : List Transaction = transactions_of events in
     elim (or_cases (names_cycle r.findings) (is_some r.g1a || is_some r.g1b) e) [

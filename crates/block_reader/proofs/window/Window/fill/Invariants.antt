@@ -1,5 +1,5 @@
 use Rattle.std.proofs.Common.{◌≡◌}
-use Rattle.hist_types.specs.Pieces.{HasReadMore}
+use Rattle.block_reader.specs.Rounds.{HasReadMore}
 use Rattle.block_reader.proofs.window.Window.fill.Given as goal
 
 abbrev pub invariant-loop : goal.invariant-loop
