@@ -6,8 +6,8 @@
 -- one of these, with the words alone on it and single blanks between them:
 --     quit             end the session
 --     verdict          the verdict of the events
---     read A B         the events with the indexes from A up to but not with B; A and B have one to
---                      seven digits each
+--     read A B         the events with the indexes from A up to but not with B; A and B have at
+--                      least one digit, and no more than 1,048,576 has
 --     anything else    a text to be imported
 -- Each line has one reply, up to and with the first line that says quit. An overlong line and one
 -- that says quit have always the same; any other line asks the journal, and the reply is the text
@@ -31,7 +31,7 @@ use Rattle.hist_types.specs.LegalAnswers as journal
 use Rattle.hist_types.specs.LegalAnswers.{View, Request, Answer, IsLegal, IsLegalAt}
 use Rattle.hist_types.specs.Operations.{Operation}
 use Rattle.hist_types.specs.Texts.{line, number_line, refusal_line, verdict_text}
-use Rattle.hist_types.specs.declared.limits.TheConstants.{MAX_LINE_BYTES}
+use Rattle.hist_types.specs.declared.limits.TheConstants.{INDEX_DIGITS, MAX_LINE_BYTES}
 use Rattle.hist_types.specs.declared.types.Fault.{Fault}
 use Rattle.hist_types.specs.declared.types.Refusal.{Refusal}
 use Rattle.hist_types.specs.declared.types.Refusal.TheVariants.{BlockFull, EmptyImport}
@@ -75,10 +75,10 @@ space = 32
 abbrev pub words_of : List ℕ → List (List ℕ)
 words_of text = slice_split (λ b. b == space) text
 
--- the number that one to seven digits write
+-- the number that digits write, one at least and no more than an index may have
 abbrev pub index_of : List ℕ → Option ℕ
 index_of word =
-    if list_all is_ascii_digit word && nat_lt 0 (length word) && nat_le (length word) 7
+    if list_all is_ascii_digit word && nat_lt 0 (length word) && nat_le (length word) INDEX_DIGITS
     then Some (digits_value 10 word)
     else None
 

@@ -1,14 +1,14 @@
 //! Laws of limits, refusals, levels and equality: the contracts of functions that do nothing, and
 //! of one that compares levels.
 
-ghost use Rattle.std.specs.Prelude.{◌≡◌, ◌↔◌, IsTrue};
+ghost use Rattle.std.specs.Prelude.{◌≡◌, ◌↔◌, ◌≤◌, ◌<◌, ◌-◌, ◌^◌, IsTrue};
 ghost use Rattle.std.specs.Ordering.{nat_cmp};
 ghost use Rattle.hist_types.specs.Atoms.{Atom, Value, atom_eq, value_eq};
 ghost use Rattle.hist_types.specs.Journal.{Write, write_eq};
 ghost use Rattle.hist_types.specs.Phenomena.{height};
 ghost use Rattle.hist_types.specs.Refusals.{number_of, name_of};
 ghost use Rattle.hist_types.specs.Transactions.{Version, version_eq};
-ghost use Rattle.hist_types.specs.declared.limits.TheConstants.{MAX_PROCESS, MAX_MICRO_OPS, MAX_OPERATION_BYTES, MAX_OPEN_COLLECTIONS, MAX_BLOCK_OPERATIONS, MAX_BLOCK_BYTES, MAX_CELLS, MAX_EVENTS, MAX_LINE_BYTES, MAX_WORKERS};
+ghost use Rattle.hist_types.specs.declared.limits.TheConstants.{MAX_PROCESS, MAX_MICRO_OPS, MAX_OPERATION_BYTES, MAX_OPEN_COLLECTIONS, MAX_BLOCK_OPERATIONS, MAX_BLOCK_BYTES, MAX_CELLS, MAX_EVENTS, INDEX_DIGITS, MAX_LINE_BYTES, MAX_WORKERS};
 ghost use Rattle.hist_types.specs.declared.types.Level.{Level};
 ghost use Rattle.hist_types.specs.declared.types.Refusal.{Refusal};
 
@@ -25,6 +25,8 @@ pub fn limits_in_numbers()
     ensures block_bytes { MAX_BLOCK_BYTES ≡ 1048576 }
     ensures cells { MAX_CELLS ≡ 1048576 }
     ensures events { MAX_EVENTS ≡ 1048576 }
+    ensures index_digits { (10 ^ (INDEX_DIGITS - 1) ≤ MAX_EVENTS)
+        × (MAX_EVENTS < 10 ^ INDEX_DIGITS) }
     ensures line_bytes { MAX_LINE_BYTES ≡ 1048576 }
     ensures workers { MAX_WORKERS ≡ 64 }
 {}

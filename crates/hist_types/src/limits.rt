@@ -24,6 +24,9 @@ pub const MAX_CELLS: usize = 1_048_576;
 /// The most events in a journal.
 pub const MAX_EVENTS: u64 = 1_048_576;
 
+/// The most digits in which a session may name an event: as many as `MAX_EVENTS` has.
+pub const INDEX_DIGITS: usize = 7;
+
 /// The most bytes of a session's line, without the byte 10 that ends it.
 pub const MAX_LINE_BYTES: usize = 1_048_576;
 

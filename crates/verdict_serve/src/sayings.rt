@@ -5,9 +5,10 @@ ghost use Rattle.std.specs.List.{list_all};
 ghost use Rattle.std.specs.Prelude.{◌≡◌, ◌∷◌, ◌≤◌, ◌<◌, ◌^◌, [], length, true, MatchOption};
 ghost use Rattle.std.specs.Str.Parse.{digits_value};
 ghost use Rattle.hist_types.specs.Sessions.{without_return, words_of, index_of, range_of, saying_of};
-ghost use Rattle.hist_types.specs.declared.limits.TheConstants.{MAX_LINE_BYTES};
+ghost use Rattle.hist_types.specs.declared.limits.TheConstants.{INDEX_DIGITS, MAX_LINE_BYTES};
 ghost use Rattle.verdict_serve.specs.Sayings.{said, IsOneWord, IsWordEnd, SplitsWord, range_by};
 
+use hist_types::limits::INDEX_DIGITS;
 use memchr::memchr;
 
 /// What a line says.
@@ -54,7 +55,7 @@ fn all_digits(word: &[u8]) -> bool
 /// The number that a few digits write.
 fn number_of(digits: &[u8]) -> u64
     requires digits { list_all is_ascii_digit digits.now ≡ true }
-    requires few { length digits.now ≤ 7 }
+    requires few { length digits.now ≤ INDEX_DIGITS }
     ensures { result ≡ digits_value 10 digits.now }
 {
     let mut number = 0;
@@ -64,11 +65,11 @@ fn number_of(digits: &[u8]) -> u64
     number
 }
 
-/// The index that one to seven digits write.
+/// The index that a word writes in digits.
 fn index_in(word: &[u8]) -> Option<u64>
     ensures { result ≡ index_of word.now }
 {
-    if all_digits(word) && !word.is_empty() && word.len() <= 7 {
+    if all_digits(word) && !word.is_empty() && word.len() <= INDEX_DIGITS {
         Some(number_of(word))
     } else {
         None

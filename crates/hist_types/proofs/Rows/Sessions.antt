@@ -53,7 +53,7 @@ words_alone :
     × (saying_of [] ≡ import [])
 words_alone = (refl, refl, refl, refl, refl, refl, refl, refl)
 
--- Indexes are one to seven digits, which may begin with 0, and single blanks are between the words.
+-- Indexes have one to seven digits, which may begin with 0, and single blanks are between the words.
 ranges :
     (saying_of (codes "read 0 2") ≡ read 0 2)
     × (saying_of (codes "read 0002 2") ≡ read 2 2)
