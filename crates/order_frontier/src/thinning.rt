@@ -21,8 +21,8 @@ use txn_pairs::types::Txn;
 pub struct Thinning {
     moving: Moving,
     order: Order,
-    /// How many of the frontier, from the first on, are predecessors of the last transaction too.
-    /// The others completed after its invocation.
+    /// How many members of the frontier, from the first on, are predecessors of the last
+    /// transaction too. The others completed after its invocation.
     shared: usize,
 }
 
@@ -94,7 +94,7 @@ impl Thinning {
         }
     }
 
-    /// Takes an ok transaction.
+    /// Takes an ok transaction into the frontier.
     fn pass(&mut self, done: Completed) -> Result<(), AllocError>
         ensures recent { OnOk result (self.new.recent ≡ frontier_after self.old.recent done) }
         ensures last { OnOk result
