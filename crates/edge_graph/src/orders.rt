@@ -71,7 +71,7 @@ fn places(alloc: Global, txns: &[Txn<'_>]) -> Result<Vec<u32>, AllocError>
     let mut places = Vec::with_capacity(alloc, txns.len().saturating_mul(2))?;
     for (place, txn) in txns.iter().enumerate() {
         let place = number(place)?;
-        // Completions before this invocation get its transaction, too.
+        // Completions before this invocation get its index, too.
         places.resize(txn.invocation() as usize, place)?;
         places.push(place)?;
     }
