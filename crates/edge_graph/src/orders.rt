@@ -1,4 +1,4 @@
-//! What each transaction comes before.
+//! The successors of each transaction in an order.
 
 ghost use Rattle.std.specs.Prelude.{◌≡◌, ◌<◌, [], length, replicate, All, OnOk, IfOk};
 ghost use Rattle.history_laws.specs.Times.{AreInvokedInOrder};

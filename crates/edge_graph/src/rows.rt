@@ -1,4 +1,4 @@
-//! What each vertex leads to, in flat lists.
+//! The successors of each vertex, in flat lists (compressed sparse rows).
 
 ghost use Rattle.std.specs.Prelude.{◌≡◌, ◌<◌, ◌≤◌, length, slice_range, IfOk};
 ghost use Rattle.edge_graph.specs.FlatRows.{row_at, led_to, rows_in, AreRowBounds};

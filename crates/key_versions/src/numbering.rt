@@ -1,4 +1,4 @@
-//! Numbers for versions.
+//! Numbers for versions: an interner of pairs of a key and a value.
 
 ghost use Rattle.std.specs.Prelude.{◌≡◌, ◌<◌, ◌+◌, ◌∷◌, slice_get, [], true, Some, length, IfOk, IfSome, OnOk, None};
 ghost use Rattle.atom_index.specs.Numbers.{AreNumbered, number_in, with_item};

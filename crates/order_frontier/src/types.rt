@@ -1,4 +1,4 @@
-//! What comes before each transaction.
+//! The predecessors of each transaction.
 
 ghost use mathlib.Core.List.{IsPrefix, IsSuffix};
 ghost use Rattle.std.specs.Prelude.{◌≡◌, ◌==◌, ◌<◌, ◌≤◌, [], ◌∷◌, ◌++◌, length, take, map, All, OnOk, OnErr, IfOk};
@@ -111,14 +111,14 @@ impl Predecessors {
         self.invocation
     }
 
-    /// What comes before the transaction in its own process.
+    /// The predecessors of the transaction in its own process.
     pub fn in_process(&self) -> &[Predecessor]
         ensures { result.now ≡ self.now.in_process }
     {
         self.in_process.as_slice()
     }
 
-    /// What comes before the transaction in real time.
+    /// The predecessors of the transaction in real time.
     pub fn in_realtime(&self) -> &[Predecessor]
         ensures { result.now ≡ self.now.in_realtime }
     {
@@ -354,7 +354,7 @@ impl Order {
         self.len() == 0
     }
 
-    /// What comes before the transaction at an index in its own process.
+    /// The predecessors in its own process of the transaction at an index.
     pub fn in_process(&self, place: usize) -> &[Predecessor]
         requires { place < length self.now }
         ensures { result.now ≡ (before_at self.now place).in_process }
@@ -362,7 +362,7 @@ impl Order {
         self.rows[place].in_process.of(&self.in_process)
     }
 
-    /// What comes before the transaction at an index in real time.
+    /// The predecessors in real time of the transaction at an index.
     pub fn in_realtime(&self, place: usize) -> &[Predecessor]
         requires { place < length self.now }
         ensures { result.now ≡ (before_at self.now place).in_realtime }
