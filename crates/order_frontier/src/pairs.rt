@@ -55,7 +55,7 @@ fn push_before(
     Ok(())
 }
 
-/// The row of a transaction. What comes before the transaction goes into the lists.
+/// The row of a transaction, whose predecessors go into the lists.
 fn row_of(
     done: &[Completed],
     txn: &Txn<'_>,

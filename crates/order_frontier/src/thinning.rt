@@ -15,8 +15,8 @@ use std::alloc::{AllocError, Global};
 use std::marker::Model;
 use txn_pairs::types::Txn;
 
-/// The thinned order of the transactions so far, kept while more events come. What comes before a
-/// transaction is settled when it is invoked, so the order only grows.
+/// The thinned order of the transactions so far, kept while more events come. The predecessors of a
+/// transaction are settled when it is invoked, so the order only grows.
 #[derive(Drop)]
 pub struct Thinning {
     moving: Moving,
@@ -134,7 +134,7 @@ impl Thinning {
         Ok(done.len())
     }
 
-    /// Each transaction so far, with what comes before it.
+    /// Each transaction so far, with its predecessors.
     pub fn order(&self) -> &Order
         ensures { (events : List Operation) → IsThinningOf events self.now
             → IsThinnedOrder (transactions_of events) result.now }

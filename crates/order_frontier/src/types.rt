@@ -309,7 +309,7 @@ impl Order {
         ))
     }
 
-    /// Adds a transaction that is invoked now, with what comes before it. The first `shared` of the
+    /// Adds a transaction that is invoked now, with its predecessors. The first `shared` of the
     /// frontier are the last predecessors of the transaction before it too. Out of memory leaves
     /// the order as it was.
     pub(crate) fn push(
