@@ -66,8 +66,8 @@ impl Frontier {
         self.moving.frontier()
     }
 
-    /// Takes the next event, an invocation of the process, and returns the
-    /// predecessors of its transaction in thinned order. After a call that is out of memory the frontier is still one
+    /// Takes the next event, an invocation of the process, and returns the predecessors of its
+    /// transaction in thinned order. After a call that is out of memory the frontier is still one
     /// of the same events.
     pub fn invoked(&mut self, alloc: Global, process: Process) -> Result<Predecessors, Fault>
         requires { self.old.events < MAX_EVENTS }
