@@ -94,7 +94,7 @@ impl Source for MemorySource<'_> {
     }
 }
 
-/// A sink over memory: it keeps the bytes, and fails only where it is out of memory.
+/// A sink over memory: it keeps the bytes, and its only failure is out of memory.
 #[derive(Drop)]
 pub struct MemorySink {
     taken: Vec<u8>,
