@@ -44,8 +44,8 @@ pub fn no_keys_are_asked_for()
         → AskForNothing (name ∷ codes "reads" ∷ codes "--keys" ∷ name_of_order keys ∷ []) }
 {}
 
-/// With `--workers`, `check` asks for so many threads, in the next word or after `=`, before
-/// another option or after it.
+/// With `--workers N` or `--workers=N`, before another option or after it, `check` asks for N
+/// threads.
 pub fn workers_are_asked_for()
     ensures apart { (name : List ℕ) → AskFor (Run (Check 2 Basic))
         (name ∷ codes "check" ∷ codes "--workers" ∷ codes "2" ∷ []) }
@@ -72,7 +72,7 @@ pub fn no_workers_are_asked_for()
 {}
 
 /// The program's name, whatever it is, `serve` and paths two by two ask for a session for each
-/// pair, at a journal of 65,536 cells or of so many as `--cells` says, with basic keys or those of
+/// pair, at a journal of 65,536 cells or of as many as `--cells` says, with basic keys or those of
 /// the order that `--keys` names, before the paths or after them.
 pub fn sessions_are_asked_for()
     ensures alone { (name : List ℕ) → AskToServe 65536 Basic (codes "in" ∷ codes "out" ∷ [])

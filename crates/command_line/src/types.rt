@@ -10,8 +10,8 @@ pub enum Command {
     Reads,
     /// Print the dependency edges between transactions, of keys of this order.
     Edges(KeyOrder),
-    /// Print which phenomena the history has, with what shows each, of keys of this order. So many
-    /// threads may work on it.
+    /// Print which phenomena the history has, with what shows each, of keys of this order.
+    /// `workers` threads may work on it.
     Check { workers: usize, keys: KeyOrder },
 }
 

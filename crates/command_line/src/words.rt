@@ -63,11 +63,13 @@ Example:
 Verdicts and refusals are explained in docs/GUIDE.md.
 ";
 
-/// How a history is given, and where help is. A faulty command line gets this as its last line,
+/// How a history is given, and where help is: the last line of a faulty command line's text, unless
+/// the line names `serve`.
 const SEE_HELP: &str = "The history is read from standard input: jepcheck check < FILE. \
                         For more, try 'jepcheck --help'.\n";
 
-/// or this, if it names `serve`.
+/// How sessions are given, and where help is: the last line of the text of a faulty command line
+/// that names `serve`.
 const SEE_SERVE: &str = "Each session has two paths: \
                          jepcheck serve [--cells N] [--keys ORDER] IN OUT [IN OUT ...]. \
                          For more, try 'jepcheck --help'.\n";
@@ -75,7 +77,8 @@ const SEE_SERVE: &str = "Each session has two paths: \
 /// There are fewer pairs of paths than this: each has a number of 32 bits.
 const MAX_PAIRS: usize = 4_294_967_296;
 
-/// How many cells the journal of `serve` has, from 1 to the most that a row may have.
+/// The option `--cells`: how many cells the journal of `serve` has, from 1 to the most that a row
+/// may have.
 fn cells_option<'a>(alloc: Global) -> clap::Arg<'a>
     ensures rule { rule_of result ≡ cells_rule }
     ensures local { result.global ≡ false }
@@ -87,7 +90,7 @@ fn cells_option<'a>(alloc: Global) -> clap::Arg<'a>
         .default_value("65536")
 }
 
-/// How many threads `check` may use.
+/// The option `--workers`: how many threads `check` may use.
 fn workers_option<'a>(alloc: Global) -> clap::Arg<'a>
     ensures rule { rule_of result ≡ workers_rule }
     ensures local { result.global ≡ false }
@@ -99,7 +102,7 @@ fn workers_option<'a>(alloc: Global) -> clap::Arg<'a>
         .default_value("1")
 }
 
-/// Which order the versions of a key have, by its name, which `keys_in` checks.
+/// The option `--keys`: how the versions of a key are ordered, by a name, which `keys_in` checks.
 fn keys_option<'a>(alloc: Global) -> clap::Arg<'a>
     ensures rule { rule_of result ≡ keys_rule }
     ensures local { result.global ≡ false }
@@ -147,7 +150,7 @@ fn serve_command<'a>(alloc: Global) -> Result<clap::Command<'a>, AllocError>
         .arg(paths_argument(alloc))
 }
 
-/// The lines that there are.
+/// The command lines that there are.
 fn program<'a>(alloc: Global) -> Result<clap::Command<'a>, AllocError>
     ensures { IfOk result (λ program. app_of program ≡ program_app) }
 {
@@ -169,7 +172,7 @@ fn first_line(text: &str) -> &str
     }
 }
 
-/// The last line of what is said of these words.
+/// The last line of the text that faulty words get.
 fn closing_line(words: &[String]) -> &'static str
     ensures { result.now ≡ closing_line (map string_bytes words.now) }
 {
@@ -189,7 +192,7 @@ fn complaint(alloc: Global, message: &str, closing: &str) -> Result<String, Allo
     Ok(text)
 }
 
-/// The fault of a line that asks for help.
+/// The fault of a command line that asks for help.
 fn help(alloc: Global) -> LineFault
     ensures { Helps result }
 {
@@ -199,8 +202,8 @@ fn help(alloc: Global) -> LineFault
     }
 }
 
-/// The fault of a line with this message, of which the first line is printed, and this closing
-/// line.
+/// The fault of a command line with this message, of which the first line is printed, and this
+/// closing line.
 fn wrong(alloc: Global, message: &str, closing: &str) -> LineFault
     ensures { SaysWhatIsWrong closing.now result }
 {
@@ -210,7 +213,7 @@ fn wrong(alloc: Global, message: &str, closing: &str) -> LineFault
     }
 }
 
-/// The fault of a line that the parse refuses, a request for help among them.
+/// The fault of a command line that the parse refuses, a request for help among them.
 fn line_fault(alloc: Global, error: &clap::Error, closing: &str) -> LineFault
     ensures memory { kind_of error.now ≡ ErrorKind.OutOfMemory → result ≡ LineFault.Memory }
     ensures help { kind_of error.now ≡ ErrorKind.DisplayHelp → Helps result }
@@ -233,7 +236,7 @@ fn line_fault(alloc: Global, error: &clap::Error, closing: &str) -> LineFault
     }
 }
 
-/// The fault of a line whose words can't be had: out of memory, or one of them isn't UTF-8.
+/// The fault of a command line whose words can't be had: out of memory, or one of them isn't UTF-8.
 pub fn unread_line(alloc: Global, error: &io::Error) -> LineFault
     ensures memory { error_kind error.now ≡ OutOfMemory → result ≡ LineFault.Memory }
     ensures wrong { SaysWhatIsWrong SEE_HELP.now result }
@@ -254,7 +257,7 @@ fn all_digits(text: &[u8]) -> bool
     text.iter().all(|b| b.is_ascii_digit())
 }
 
-/// The number that digits write, if it is from 1 to this one.
+/// The number that digits spell, if it is from 1 to `most`.
 fn number_to(most: usize, text: &str) -> Option<usize>
     ensures { result ≡ number_to most text.now }
 {
@@ -322,7 +325,7 @@ fn keys_found(command: &clap::ArgMatches<'_>) -> Option<KeyOrder>
     keys_in(command.get_str("keys")?)
 }
 
-/// The fault of a line that names an order of keys that there isn't.
+/// The fault of a command line that names an order of keys that there isn't.
 fn no_order(alloc: Global, name: &str, closing: &str) -> LineFault
     ensures { SaysWhatIsWrong closing.now result }
 {
@@ -431,8 +434,8 @@ fn asked_by(
 
 /// What the words ask for, of which the first is the program's name.
 pub fn asked_for(alloc: Global, words: &[String]) -> Result<Asked, LineFault>
-    // The answer is what the words ask for, and where they ask for something only memory can be
-    // missing.
+    // The answer is what the words ask for. If they ask for something, the only error is out of
+    // memory.
     ensures only { IfOk result (λ asked. AskFor asked (map string_bytes words.entry.now)) }
     ensures asked { (asked : Asked) → AskFor asked (map string_bytes words.entry.now)
         → IfErr result (λ fault. fault ≡ LineFault.Memory) }

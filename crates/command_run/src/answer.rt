@@ -34,11 +34,11 @@ impl Status {
     }
 }
 
-/// What a run has no answer without.
+/// What the program lacked, so that there is no answer.
 #[derive(Clone, Copy, Debug, PartialEq, Eq)]
 pub enum Lack {
     Memory,
-    /// A thread couldn't be started.
+    /// A thread, which couldn't be started.
     Thread,
 }
 
@@ -54,7 +54,7 @@ impl From<AllocError> for Lack {
 }
 
 impl Lack {
-    /// The refusal that is printed of it.
+    /// The refusal that is printed of what the program lacked.
     pub fn fault(self) -> Fault
         ensures { refusal_line result ≡ lack_line self }
     {

@@ -47,8 +47,8 @@ fn answer(verdict: Verdict<'_>) -> Answer
 }
 
 /// What `check` prints of events that keep the rules, by n threads. No table of versions is made
-/// where a replay shows that there is nothing to find. It fails only for want of memory or of a
-/// thread.
+/// where a replay shows that there is nothing to find. The only errors are out of memory and a
+/// thread that couldn't be started.
 pub fn report<'a, R: Threads + Wait + Sync, S: BuildHasher + Copy>(
     rt: &R,
     alloc: Global,

@@ -18,7 +18,7 @@ use std::alloc::Global;
 use std::hash::BuildHasher;
 use txn_pairs::types::Txns;
 
-/// What `edges` prints of events that keep the rules. It fails only where it is out of memory.
+/// What `edges` prints of events that keep the rules. The only error is out of memory.
 pub fn report<'a, S: BuildHasher + Copy>(
     alloc: Global,
     events: &Events<'a>,

@@ -40,7 +40,7 @@ fn pair_block<'a>(pairing: &mut Pairing<'a>, start: u64, block: &'a Block) -> Re
 }
 
 impl<'a> Judged<'a> {
-    /// Of no operation.
+    /// What is made of no operations.
     pub fn new(alloc: Global) -> Self
         ensures { result.core.events ≡ [] }
     {
@@ -50,8 +50,8 @@ impl<'a> Judged<'a> {
         }
     }
 
-    /// With the operations of these blocks after its own or, where one breaks a rule, the first
-    /// such rule.
+    /// Adds the operations of these blocks or, where one breaks a rule, returns the first such
+    /// rule.
     pub fn extended(self, blocks: &'a [Block]) -> Result<Self, Fault>
         ensures ok { IfOk result
             (λ judged. judged.core.events ≡ self.entry.core.events ++ operations_in blocks.now) }

@@ -17,14 +17,14 @@ use std::alloc::Global;
 use std::sync::OnceLock;
 use std::thread::Threads;
 
-/// Judges the blocks of a text, those of one round after those of the other. Blocks after a broken
-/// rule are passed over.
+/// Judges the blocks of a text, one round after the other. Blocks after a broken rule are passed
+/// over.
 #[derive(Drop)]
 struct Judging<'a> {
     judged: Result<Judged<'a>, Fault>,
 }
 
-/// What was judged, and these blocks after it.
+/// Judges these blocks after the others, unless one of those broke a rule.
 fn also<'a>(judged: Result<Judged<'a>, Fault>, blocks: &'a [Block]) -> Result<Judged<'a>, Fault>
     ensures { (before : List Operation) → HasJudged judged.entry before
         → HasJudged result (before ++ operations_in blocks.now) }

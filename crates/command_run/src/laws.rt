@@ -34,6 +34,7 @@ pub fn one_answer_to_a_text()
         → IsReport (Check more keys) text other others
         → DifferInWitnessesAlone printed others }
 {
+    // A law, called for its clause: a text has one reading.
     texts_have_one_reading();
 }
 
@@ -41,6 +42,7 @@ pub fn one_answer_to_a_text()
 pub fn an_answer_to_each_text()
     ensures { (command : Command) (text : List ℕ) → HasAnswer command text }
 {
+    // A law, called for its clause: a text has one reading.
     texts_have_one_reading();
 }
 
@@ -53,5 +55,6 @@ pub fn refuted_histories_have_no_explanation()
         → IsReport (Check workers keys) text status printed → EndsWith printed (codes "strict refuted\n")
         → HasNoExplanation text }
 {
+    // A law, called for its clause: a text has one reading.
     texts_have_one_reading();
 }

@@ -89,7 +89,7 @@ fn judge<R: Threads + Wait + Sync, S: Source>(
     Ok(report_on(rt, alloc, command, judged)?)
 }
 
-/// What the program lacks by this fault. None where the fault is the text's.
+/// What the program lacked by this fault. None where the fault is the text's.
 fn lack_by(fault: Fault) -> Option<Lack>
     ensures { result ≡ None → IsMemoryOrThread fault → ⊥ }
 {
@@ -112,7 +112,7 @@ fn print<T: Sink>(sink: &mut T, status: Status, printed: &[u8]) -> Status
     }
 }
 
-/// Prints what the program lacks, which takes no memory.
+/// Prints what the program lacked, which takes no memory.
 pub fn print_lack<T: Sink>(sink: &mut T, lack: Lack) -> Status
     ensures { HasPrintedLack T.Sink lack result sink.old sink.new }
 {

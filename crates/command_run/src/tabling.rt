@@ -17,7 +17,7 @@ use std::hash::BuildHasher;
 use std::thread::{Threads, join};
 use txn_pairs::types::Txns;
 
-/// Work that another thread's may go beside.
+/// Work that can be done beside that of another thread.
 trait Work {
     type Made;
 

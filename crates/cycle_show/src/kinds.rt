@@ -7,7 +7,7 @@ ghost use Rattle.cycle_show.specs.Paths.{needed_place};
 
 use dep_edges::edge::Edge;
 
-/// The place of the first rw edge.
+/// The index of the first rw edge.
 fn place_of_rw(edges: &[Edge<'_>]) -> Option<usize>
     ensures place { result ≡ position_from is_rw 0 edges.now }
     ensures within { IfSome result (λ place. place < length edges.now) }
@@ -15,7 +15,7 @@ fn place_of_rw(edges: &[Edge<'_>]) -> Option<usize>
     edges.iter().position(|edge| edge.is_rw())
 }
 
-/// The place of the first wr edge.
+/// The index of the first wr edge.
 fn place_of_wr(edges: &[Edge<'_>]) -> Option<usize>
     ensures place { result ≡ position_from is_wr 0 edges.now }
     ensures within { IfSome result (λ place. place < length edges.now) }
@@ -23,7 +23,7 @@ fn place_of_wr(edges: &[Edge<'_>]) -> Option<usize>
     edges.iter().position(|edge| edge.is_wr())
 }
 
-/// The place of the first ww edge.
+/// The index of the first ww edge.
 fn place_of_ww(edges: &[Edge<'_>]) -> Option<usize>
     ensures place { result ≡ position_from is_ww 0 edges.now }
     ensures within { IfSome result (λ place. place < length edges.now) }
@@ -31,7 +31,7 @@ fn place_of_ww(edges: &[Edge<'_>]) -> Option<usize>
     edges.iter().position(|edge| edge.is_ww())
 }
 
-/// The place of an edge that the walk cannot do without, whichever phenomenon it shows: an rw if it
+/// The index of an edge that the walk cannot do without, whichever phenomenon it shows: an rw if it
 /// has one, else a wr, else a ww.
 pub fn needed(edges: &[Edge<'_>]) -> Option<usize>
     ensures place { result ≡ needed_place edges.now }

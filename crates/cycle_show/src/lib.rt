@@ -21,7 +21,7 @@ use std::alloc::Global;
 ///
 /// Whatever phenomenon the walk shows, at whatever level, the witness shows it at that level, with
 /// no more dependency edges than the walk has. The walk's order edges may be thinned ones. It takes
-/// time and memory linear in the walk's length; only memory can run out.
+/// time and memory linear in the walk's length. The only error is out of memory.
 pub fn tighten<'a>(alloc: Global, walk: &Walk<'a>) -> Result<Witness<'a>, Fault>
     ensures witness { IfOk result (IsWitnessOf walk.now) }
     ensures dependencies { IfOk result (λ told. dependencies_in told ≤ dependencies_in walk.now) }

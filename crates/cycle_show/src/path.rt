@@ -14,8 +14,8 @@ use std::collections::HashMap;
 #[derive(Drop)]
 struct Path<'a> {
     edges: Vec<Edge<'a>>,
-    /// The place of each transaction of the path. Those that have left the path may still be in
-    /// here.
+    /// The index of the edge that leaves each transaction of the path, by its invocation.
+    /// Transactions that have left the path may still be in here.
     places: HashMap<u64, usize>,
 }
 
@@ -30,7 +30,7 @@ fn ends_in_order(edges: &[Edge<'_>]) -> bool
 }
 
 impl<'a> Path<'a> {
-    /// An empty one, with room for n edges.
+    /// An empty path, with room for n edges.
     fn with_capacity(alloc: Global, edges: usize) -> Result<Self, AllocError>
         ensures { IfOk result (λ path. path.edges.items ≡ []) }
     {
@@ -106,7 +106,7 @@ pub fn short_round<'a>(alloc: Global, walk: &[Edge<'a>]) -> Result<Vec<Edge<'a>>
     Ok(edges)
 }
 
-/// The place of an edge that begins no later than any.
+/// The index of an edge that leaves the least transaction.
 pub fn least_place(edges: &[Edge<'_>]) -> usize
     ensures within { result ≤ length edges.now - 1 }
     ensures least { IsLeastAt (stations edges.now) result }

@@ -27,7 +27,7 @@ impl<'a> Model for Witness<'a> {
 }
 
 impl<'a> Witness<'a> {
-    /// What `tighten` gives. The only error is out of memory.
+    /// Reduces a closed walk as `tighten` does. The only error is out of memory.
     pub fn of(alloc: Global, walk: &Walk<'a>) -> Result<Self, AllocError>
         ensures witness { IfOk result (IsWitnessOf walk.now) }
         ensures dependencies { IfOk result
@@ -40,15 +40,15 @@ impl<'a> Witness<'a> {
         })
     }
 
-    /// Its edges, from the least transaction on.
+    /// The witness's edges, from its least transaction on.
     pub fn edges(&self) -> &[Edge<'a>]
         ensures { result.now ≡ self.now }
     {
         self.walk.edges()
     }
 
-    /// How many of its edges are no order edges. The one that is reported of a phenomenon has the
-    /// fewest that are possible.
+    /// How many of the edges are dependency edges. The witness that is reported of a phenomenon has
+    /// the fewest that are possible.
     pub fn dependency_edges(&self) -> usize
         ensures { result ≡ dependencies_in self.now }
     {

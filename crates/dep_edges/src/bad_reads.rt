@@ -12,7 +12,7 @@ use crate::possible::Possible;
 use crate::types::BadRead;
 use std::alloc::{AllocError, Global};
 
-/// The first read of the transaction at the place that returned what a failed one wrote.
+/// The first read of the transaction at this index that returned what a failed one wrote.
 fn aborted_read<'a>(history: &History<'_, 'a>, place: usize) -> Option<BadRead<'a>>
     requires { IsPlace history.now.txns place }
     ensures { result ≡ first_of (aborted_in history.now.txns (txn_at history.now.txns place)) }
@@ -30,7 +30,7 @@ fn aborted_read<'a>(history: &History<'_, 'a>, place: usize) -> Option<BadRead<'
     None
 }
 
-/// The first read of the transaction at the place that returned what another one wrote over.
+/// The first read of the transaction at this index that returned what another one wrote over.
 fn intermediate_read<'a>(history: &History<'_, 'a>, place: usize) -> Option<BadRead<'a>>
     requires { IsPlace history.now.txns place }
     ensures { result ≡ first_of (intermediate_in history.now.txns (txn_at history.now.txns place)) }

@@ -24,15 +24,16 @@ use std::alloc::{AllocError, Global};
 use std::marker::Model;
 use txn_pairs::types::Txns;
 
-/// The transactions of a history with the dependency edges between them. A transaction goes by its
-/// place. It borrows the transactions and the table of their versions, which contracts see.
+/// The transactions of a history with the dependency edges between them. A transaction goes by
+/// `place`, its index in the history. It borrows the transactions and the table of their versions,
+/// which contracts see.
 #[derive(Drop)]
 pub struct Deps<'v, 'a> {
     history: History<'v, 'a>,
-    /// By place, whether the transaction is a node.
+    /// Whether each transaction is a node, by its index.
     nodes: Vec<bool>,
     possible: Possible,
-    /// The versions of the stray reads.
+    /// The versions of the stray reads, by number.
     strays: Vec<u32>,
 }
 
@@ -59,7 +60,7 @@ fn is_among(numbers: &[u32], number: u32) -> bool
 }
 
 impl<'v, 'a> Deps<'v, 'a> {
-    /// By what all pieces of the history's keys give.
+    /// The dependencies of a history, from what all pieces of its keys give.
     pub(crate) fn of_pieces(
         alloc: Global,
         history: History<'v, 'a>,
@@ -114,7 +115,8 @@ impl<'v, 'a> Deps<'v, 'a> {
         self.nodes[place]
     }
 
-    /// Gains an edge from the transaction `from` to the one at the place, if that is another node.
+    /// Appends an edge from the transaction `from` to the one at index `place`, if that is another
+    /// node.
     fn add_edge(
         &self,
         from: u64,
@@ -133,7 +135,7 @@ impl<'v, 'a> Deps<'v, 'a> {
         Ok(())
     }
 
-    /// Gains the wr edges out of a version that the transaction `from` installs.
+    /// Appends the wr edges out of a version that the transaction `from` installs.
     fn add_wr(&self, from: u64, number: usize, out: &mut Vec<Edge<'a>>) -> Result<(), AllocError>
         requires number { IsNumber self.now.table number }
         requires written { IsWritten self.now.table number }
@@ -151,7 +153,7 @@ impl<'v, 'a> Deps<'v, 'a> {
         Ok(())
     }
 
-    /// Gains the ww edges out of a version that the transaction `from` installs.
+    /// Appends the ww edges out of a version that the transaction `from` installs.
     fn add_ww(&self, from: u64, number: usize, out: &mut Vec<Edge<'a>>) -> Result<(), AllocError>
         requires number { IsNumber self.now.table number }
         requires written { IsWritten self.now.table number }
@@ -171,7 +173,7 @@ impl<'v, 'a> Deps<'v, 'a> {
         Ok(())
     }
 
-    /// Gains the rw edges out of a version that the transaction `from` reads.
+    /// Appends the rw edges out of a version that the transaction `from` reads.
     fn add_rw(&self, from: u64, number: usize, out: &mut Vec<Edge<'a>>) -> Result<(), AllocError>
         requires { IsNumber self.now.table number }
         ensures ok { OnOk result (Gains out.old out.new (rw_edges self.now from number)) }
@@ -190,7 +192,7 @@ impl<'v, 'a> Deps<'v, 'a> {
         Ok(())
     }
 
-    /// Gains the wr and the ww edges that leave the transaction at the place.
+    /// Appends the wr and the ww edges that leave the transaction at index `place`.
     fn add_out_of_installs(
         &self,
         from: u64,
@@ -208,8 +210,8 @@ impl<'v, 'a> Deps<'v, 'a> {
         Ok(())
     }
 
-    /// Gains the rw edges that leave the transaction at the place. A version that it reads more
-    /// than once counts once.
+    /// Appends the rw edges that leave the transaction at index `place`. A version that it reads
+    /// more than once counts once.
     fn add_out_of_reads(
         &self,
         from: u64,
@@ -230,7 +232,8 @@ impl<'v, 'a> Deps<'v, 'a> {
         Ok(())
     }
 
-    /// Gains the edges that leave the transaction `from` at the place; none where it is no node.
+    /// Appends the edges that leave the transaction `from`, at index `place`; none where it is no
+    /// node.
     fn add_edges(&self, from: u64, place: usize, out: &mut Vec<Edge<'a>>) -> Result<(), AllocError>
         requires place { IsPlace self.now.txns place }
         requires from { from ≡ (txn_at self.now.txns place).invocation }
@@ -269,8 +272,8 @@ impl<'v, 'a> Deps<'v, 'a> {
         first_aborted(&self.history, self.possible)
     }
 
-    /// The first intermediate read: what an ok transaction reads and another one wrote over in
-    /// itself.
+    /// The first intermediate read: what an ok transaction reads and another one wrote before it
+    /// wrote the key again.
     pub fn g1b(&self) -> Option<BadRead<'a>>
         ensures { result ≡ g1b self.now.txns }
     {

@@ -46,7 +46,7 @@ pub enum Label<'a> {
 }
 
 impl<'a> Label<'a> {
-    /// The same label.
+    /// A copy of the label.
     fn copy(&self) -> Label<'a>
         ensures { label_of result ≡ label_of self.now }
     {
@@ -84,7 +84,7 @@ impl<'a> Label<'a> {
         }
     }
 
-    /// Its kind's place in the order.
+    /// Where the label's kind comes in the order of labels.
     fn rank(&self) -> u8
         ensures { result ≡ label_rank (label_of self.now) }
     {
@@ -193,22 +193,22 @@ impl<'a> Edge<'a> {
         matches!(self.label, Label::Rw { .. })
     }
 
-    /// Whether it is known from when transactions began and ended, and not from what they read and
-    /// wrote.
+    /// Whether the edge is an order edge: known from when transactions began and ended, and not
+    /// from what they read and wrote.
     pub fn is_order(&self) -> bool
         ensures { result ≡ is_order self.now }
     {
         matches!(self.label, Label::Process { .. } | Label::Realtime { .. })
     }
 
-    /// The same edge.
+    /// A copy of the edge.
     pub fn copy(&self) -> Edge<'a>
         ensures { result ≡ self.now }
     {
         Edge::new(self.from, self.to, self.label.copy())
     }
 
-    /// The one order edge for this one and another that follows it.
+    /// The one order edge that takes the place of this one and another that follows it.
     pub fn joined(&self, next: &Edge<'a>) -> Edge<'a>
         ensures { result ≡ joined self.now next.now }
     {
@@ -235,7 +235,7 @@ impl<'a> Edge<'a> {
     }
 }
 
-/// How many of the edges are no order edges.
+/// How many of the edges are dependency edges, and not order edges.
 pub fn dependencies_in(edges: &[Edge<'_>]) -> usize
     ensures { result ≡ dependencies_in edges.now }
 {

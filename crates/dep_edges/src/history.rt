@@ -16,7 +16,8 @@ use op_view::atom::Atom;
 use std::marker::Model;
 use txn_pairs::types::{Txn, Txns};
 
-/// Transactions go by their place, versions by their number.
+/// A history's transactions with the table of their versions. Transactions go by `place`, their
+/// index in the history, versions by number.
 #[derive(Drop)]
 pub struct History<'v, 'a> {
     txns: &'v Txns<'a>,
@@ -85,7 +86,7 @@ impl<'v, 'a> History<'v, 'a> {
         self.versions.version(number)
     }
 
-    /// A version that isn't nil.
+    /// The version with this number, which isn't nil.
     pub fn written(&self, number: usize) -> Written<'a>
         requires number { IsNumber self.now.table number }
         requires written { IsWritten self.now.table number }
@@ -111,7 +112,7 @@ impl<'v, 'a> History<'v, 'a> {
         self.versions.writer(number)
     }
 
-    /// The places of the transactions that read the version.
+    /// The indexes of the transactions that read the version.
     pub fn readers(&self, number: usize) -> &'v [u32]
         requires { IsNumber self.now.table number }
         ensures value { result.now ≡ readers_of self.now.txns (version_at self.now.table number) }

@@ -27,11 +27,11 @@ use key_versions::table::{KeyNumbers, Versions};
 use std::alloc::{AllocError, Global};
 use txn_pairs::types::Txns;
 
-/// What the transactions depend on each other for. No edge is stored: the edges that leave a
+/// The dependencies of the transactions on each other. No edge is stored: the edges that leave a
 /// transaction are found from what it reads and installs, over the table of the versions, which has
 /// the order of the keys. The time is linear in the history.
 ///
-/// Only memory can run out.
+/// The only error is out of memory.
 pub fn edges<'v, 'a>(
     alloc: Global,
     txns: &'v Txns<'a>,
@@ -45,11 +45,11 @@ pub fn edges<'v, 'a>(
     Ok(Deps::of(alloc, txns, versions)?)
 }
 
-/// What one look at each version of some keys gives: of those from the number `from` up to but not
-/// including `to`. Pieces can be made side by side, and `join` puts them together. The time is
-/// linear in the history's versions, whichever keys are asked for.
+/// A piece of a history's dependencies: what one look gives at each version of the keys with
+/// numbers from `from` up to but not including `to`. Pieces can be made side by side, and `join`
+/// puts them together. The time is linear in the history's versions, whichever keys are asked for.
 ///
-/// Only memory can run out.
+/// The only error is out of memory.
 pub fn edges_piece(
     alloc: Global,
     txns: &Txns<'_>,
@@ -73,9 +73,9 @@ pub fn edges_piece(
     )
 }
 
-/// What `edges` gives, from pieces that together have all keys, in any order.
+/// The dependencies that `edges` gives, from pieces that together have all keys, in any order.
 ///
-/// Only memory can run out.
+/// The only error is out of memory.
 pub fn join<'v, 'a>(
     alloc: Global,
     txns: &'v Txns<'a>,

@@ -29,7 +29,7 @@ fn ok_marks(alloc: Global, txns: &[Txn<'_>]) -> Result<Vec<bool>, AllocError>
     txns.iter().map(is_ok).collect(alloc)
 }
 
-/// Marks the transactions at these places.
+/// Marks the transactions at these indexes.
 fn mark_all(nodes: &mut [bool], places: &[u32])
     requires { All (λ place. place < length nodes.old) places.now }
     ensures { nodes.new ≡ with_marks nodes.old places.now }

@@ -15,7 +15,7 @@ use std::marker::Model;
 #[derive(Drop)]
 pub struct PieceDeps {
     possible: Possible,
-    /// The places of the transactions that wrote a version that was read, and didn't fail.
+    /// The indexes of the transactions that wrote a version that was read, and didn't fail.
     writers: Vec<u32>,
 }
 
@@ -27,7 +27,7 @@ impl Model for PieceDeps {
     ghost view = { λ p. record { possible = p.possible; writers = p.writers.items } };
 }
 
-/// The place of the transaction that wrote the version, if the version was read and the transaction
+/// The index of the transaction that wrote the version, if the version was read and the transaction
 /// didn't fail.
 fn read_writer(history: &History<'_, '_>, number: usize) -> Option<u32>
     requires { IsNumber history.now.table number }
@@ -41,7 +41,7 @@ fn read_writer(history: &History<'_, '_>, number: usize) -> Option<u32>
 }
 
 impl PieceDeps {
-    /// No version was looked at.
+    /// The piece of no versions.
     fn new(alloc: Global) -> Self
         ensures { result.writers ≡ [] }
     {
@@ -79,7 +79,7 @@ impl PieceDeps {
     }
 }
 
-/// What the versions of all keys give.
+/// The piece of all keys.
 pub(crate) fn whole(alloc: Global, history: &History<'_, '_>) -> Result<PieceDeps, AllocError>
     ensures { IfOk result (λ piece. ArePiecesOf history.now (piece ∷ [])) }
 {
@@ -90,7 +90,7 @@ pub(crate) fn whole(alloc: Global, history: &History<'_, '_>) -> Result<PieceDep
     Ok(piece)
 }
 
-/// What the versions of the keys from one number up to but not including another one give.
+/// The piece of the keys from one number up to but not including another one.
 pub(crate) fn piece(
     alloc: Global,
     history: &History<'_, '_>,

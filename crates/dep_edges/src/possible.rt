@@ -25,7 +25,7 @@ impl Possible {
         stray: false,
     };
 
-    /// What reads of the version may be.
+    /// Which kinds of bad reads the reads of the version may be.
     pub fn by_reads_of(history: &History<'_, '_>, number: usize) -> Possible
         requires { IsNumber history.now.table number }
         ensures { RulesOut history.now.txns (version_at history.now.table number) result }
@@ -54,7 +54,7 @@ impl Possible {
     }
 }
 
-/// What the reads of any of the pieces may be.
+/// Which kinds of bad reads there may be in any of the pieces.
 pub fn possible_in(pieces: &[PieceDeps]) -> Possible
     ensures { result ≡ possible_in pieces.now }
 {

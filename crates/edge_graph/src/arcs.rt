@@ -9,7 +9,7 @@ use crate::types::Dependencies;
 use graph_search::arcs::{Arcs, Successors};
 use std::marker::Model;
 
-/// The arcs of some kinds of a graph. Its vertices are the transactions, by place, and after them
+/// The arcs of some kinds of a graph. Its vertices are the transactions, by index, and after them
 /// the versions, by number.
 #[derive(Drop)]
 pub struct GraphArcs<'g> {
@@ -60,7 +60,7 @@ impl Arcs for GraphArcs<'_> {
     }
 }
 
-/// Of some kinds the arcs that leave transactions, and of others those that leave versions.
+/// The arcs of some kinds that leave transactions, and the arcs of others that leave versions.
 #[derive(Drop)]
 pub struct SplitArcs<'g> {
     txns: usize,
@@ -81,7 +81,8 @@ impl<'g> Model for SplitArcs<'g> {
 }
 
 impl<'g> SplitArcs<'g> {
-    /// With the first vertices as transactions.
+    /// The arcs of `of_txns` that leave the first vertices, and the arcs of `of_versions` that
+    /// leave the others. The first vertices are the transactions.
     pub(crate) fn new(txns: usize, of_txns: GraphArcs<'g>, of_versions: GraphArcs<'g>) -> Self
         requires txns { txns ≤ length of_txns }
         requires versions { length of_versions ≡ length of_txns }

@@ -28,8 +28,8 @@ use std::marker::Model;
 use txn_pairs::types::Txn;
 
 /// A history's transactions with their dependency edges and, of an order, the edges to nodes. A
-/// transaction goes by its place. No edge is stored with its label; what is stored are the arcs of
-/// a search for cycles, which are linear in the history.
+/// transaction goes by `place`, its index in the history. No edge is stored with its label; what is
+/// stored are the arcs of a search for cycles, which are linear in the history.
 pub struct Graph<'g, 'v, 'a> {
     alloc: Global,
     deps: &'g Deps<'v, 'a>,
@@ -39,7 +39,7 @@ pub struct Graph<'g, 'v, 'a> {
     orders: Orders,
 }
 
-// Written out, as what is derived is repeated wherever one is dropped.
+// By hand: a derived drop is inlined at every exit, which slows the prover (CONTRIBUTING.md).
 impl Drop for Graph<'_, '_, '_> {
     fn drop(self) {
         let Graph {
@@ -64,7 +64,7 @@ impl<'g, 'v, 'a> Model for Graph<'g, 'v, 'a> {
     ghost invariant = { λ g. IsMade g.deps.now g.history.now g.order.now g.rows g.orders };
 }
 
-/// Adds the dependency edges of the kinds that leave the transaction.
+/// Appends the dependency edges of the kinds that leave the transaction.
 fn add_dependencies<'a>(
     alloc: Global,
     deps: &Deps<'_, 'a>,
@@ -86,7 +86,7 @@ fn add_dependencies<'a>(
     Ok(())
 }
 
-/// Adds the order edges of the level from one transaction to another.
+/// Appends the order edges of the level from one transaction to another.
 fn add_order_edge<'a>(
     level: Level,
     from: &Txn<'_>,
@@ -114,7 +114,7 @@ fn add_order_edge<'a>(
     Ok(())
 }
 
-/// Adds the order edges of the level from a transaction to those at the places.
+/// Appends the order edges of the level from a transaction to those at the indexes.
 fn add_order_edges<'a>(
     txns: &[Txn<'_>],
     level: Level,
@@ -168,7 +168,7 @@ impl<'g, 'v, 'a> Graph<'g, 'v, 'a> {
         self.len() == 0
     }
 
-    /// The transaction at a place.
+    /// The transaction at an index.
     pub fn txn(&self, place: usize) -> &'v Txn<'a>
         requires { IsPlace self.now.txns place }
         ensures { result.now ≡ txn_at self.now.txns place }
@@ -176,7 +176,8 @@ impl<'g, 'v, 'a> Graph<'g, 'v, 'a> {
         self.history.txn(place)
     }
 
-    /// The places of the transactions that lead to the vertex of a version: they read it.
+    /// The indexes of the transactions that lead to the vertex of a version, which are those that
+    /// read it.
     pub fn readers(&self, vertex: usize) -> &'v [u32]
         requires version { ¬ IsPlace self.now.txns vertex }
         requires vertex { vertex < length self.now.txns + length self.now.versions }
@@ -234,8 +235,8 @@ impl<'g, 'v, 'a> Graph<'g, 'v, 'a> {
         GraphArcs::new(&self.rows, self.orders.at(level), dependencies)
     }
 
-    /// Of the arcs of these dependencies and of the order of the level those that cost nothing: the
-    /// order's, and those that leave versions.
+    /// The free arcs of these dependencies and of the order of the level: the arcs of the order,
+    /// and those that leave versions.
     pub fn free_arcs(&self, dependencies: Dependencies, level: Level) -> SplitArcs<'_>
         ensures { AreArcsThat self.now (IsFreeArc self.now dependencies level) result }
     {
@@ -246,7 +247,7 @@ impl<'g, 'v, 'a> Graph<'g, 'v, 'a> {
         )
     }
 
-    /// The arcs of these dependencies that cost one: those that leave transactions.
+    /// The paid arcs of these dependencies: those that leave transactions.
     pub fn paid_arcs(&self, dependencies: Dependencies) -> SplitArcs<'_>
         ensures { AreArcsThat self.now (IsPaidArc self.now dependencies) result }
     {
@@ -258,7 +259,7 @@ impl<'g, 'v, 'a> Graph<'g, 'v, 'a> {
     }
 
     /// An edge of the kinds from one transaction to another, if there is one; an order edge, if one
-    /// leads there. It looks through all that leave the first.
+    /// leads there. All edges that leave the first transaction are looked at.
     pub fn edge_between(
         &self,
         from: usize,
@@ -284,8 +285,8 @@ impl<'g, 'v, 'a> Graph<'g, 'v, 'a> {
     }
 
     /// The edges of a walk over the arcs of these dependencies and of the order of the level, from
-    /// a transaction to a transaction. Where an order edge leads to the next transaction, it is
-    /// that one.
+    /// a transaction to a transaction. Where an order edge leads to the next transaction, it is the
+    /// one that is taken.
     pub fn edges_along(
         &self,
         walk: &[usize],
@@ -302,7 +303,7 @@ impl<'g, 'v, 'a> Graph<'g, 'v, 'a> {
         let mut edges = Vec::with_capacity(self.alloc, walk.len())?;
         let mut from = walk[0];
         for vertex in walk {
-            // Behind the transactions are the versions, which lead on to the end of an rw edge.
+            // After the transactions come the versions, which lead on to the end of an rw edge.
             if *vertex < self.history.txns().len() && *vertex != from {
                 let edge = self.edge_between(from, *vertex, kinds)?;
                 edges.push(edge.unwrap())?;

@@ -31,8 +31,8 @@ pub fn orders_of_a_history()
         → All NoPredecessorTwice order → names order ≡ map name_of ts → IsOrderOf ts order }
 {}
 
-/// The list of a graph's edges has exactly its edges. Those of every level are the dependency
-/// edges, and plain has no others.
+/// The list of a graph's edges has exactly its edges. Dependency edges are edges of every level,
+/// and plain has no others.
 pub fn edges_listed()
     ensures listed { (g : Parts) → (level : Level) → (e : Edge)
         → Contains (edges_in g level) e ↔ HasEdge g level e }
@@ -42,8 +42,8 @@ pub fn edges_listed()
         → Contains (edges_in g Plain) e ↔ (Contains (edges_in g level) e × IsFalse (is_order e)) }
 {}
 
-/// The graph of a history has the edges that phenomena are defined by, or over a thinned order
-/// those that show the same ones.
+/// Over all pairs, the graph of a history has the edges that phenomena are defined by; over the
+/// thinned order, it has edges that show the same phenomena.
 pub fn edges_of_a_history()
     ensures all_pairs { (keys : KeyOrder) (ts : List Transaction) → (order : List Before) → (g : Parts)
         → AreOfHistory ts → IsMadeOf keys ts order g → HasOrderEdges ts order
@@ -56,7 +56,7 @@ pub fn edges_of_a_history()
         ↔ Contains (dependency_edges keys ts ++ thinned_edges level ts) e }
 {}
 
-/// At plain the edges of one kind of dependencies are those that have its label.
+/// At plain the edges of one kind of dependencies are the edges with its label.
 pub fn edges_of_one_kind()
     ensures ww { (g : Parts) → (e : Edge) → IsEdgeOf g (kinds_of Ww Plain) e → IsTrue (is_ww e) }
     ensures wr { (g : Parts) → (e : Edge) → IsEdgeOf g (kinds_of Wr Plain) e → IsTrue (is_wr e) }

@@ -25,7 +25,7 @@ struct Ends {
     pub ww: u32,
 }
 
-/// Adds the places except one.
+/// Appends the indexes except one.
 fn push_others(places: &[u32], place: usize, out: &mut Vec<u32>) -> Result<(), AllocError>
     ensures { OnOk result (out.new.items ≡ out.old.items ++ others places.now place) }
 {

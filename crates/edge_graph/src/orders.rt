@@ -1,4 +1,4 @@
-//! What each transaction comes before.
+//! The successors of each transaction in an order.
 
 ghost use Rattle.std.specs.Prelude.{◌≡◌, ◌<◌, [], length, replicate, All, OnOk, IfOk};
 ghost use Rattle.history_laws.specs.Times.{AreInvokedInOrder};
@@ -18,8 +18,9 @@ use std::alloc::{AllocError, Global};
 use std::marker::Model;
 use txn_pairs::types::Txn;
 
-/// For each transaction the places of the nodes that it comes before. In thinned order these are
-/// next to each other among all nodes, so that transactions share one list.
+/// The successors of each transaction in an order: the indexes of the nodes that it comes before.
+/// In thinned order these are next to each other among all nodes, so that transactions share one
+/// list.
 #[derive(Drop)]
 pub(crate) struct LaterNodes {
     nodes: Vec<u32>,
@@ -48,7 +49,7 @@ impl LaterNodes {
         }
     }
 
-    /// The successors of the transaction at the place; past the last transaction, none.
+    /// The successors of the transaction at an index; past the last transaction, none.
     pub fn get(&self, place: usize) -> &[u32]
         ensures { result.now ≡ list_at self.now place }
     {
@@ -61,7 +62,7 @@ impl LaterNodes {
     }
 }
 
-/// The place of each transaction, by the index of its invocation.
+/// The index of each transaction in the history, by that of its invocation among the events.
 fn places(alloc: Global, txns: &[Txn<'_>]) -> Result<Vec<u32>, AllocError>
     requires { AreInvokedInOrder txns.now }
     ensures { IfOk result (λ places. ArePlaces txns.now places.items) }
@@ -70,14 +71,14 @@ fn places(alloc: Global, txns: &[Txn<'_>]) -> Result<Vec<u32>, AllocError>
     let mut places = Vec::with_capacity(alloc, txns.len().saturating_mul(2))?;
     for (place, txn) in txns.iter().enumerate() {
         let place = number(place)?;
-        // Completions before this invocation have its place too.
+        // Completions before this invocation get its index, too.
         places.resize(txn.invocation() as usize, place)?;
         places.push(place)?;
     }
     Ok(places)
 }
 
-/// The place of each transaction of a history, by the index of its invocation.
+/// The index of each transaction of a history, by that of its invocation among the events.
 fn places_of(alloc: Global, deps: &Deps<'_, '_>) -> Result<Vec<u32>, AllocError>
     ensures kept { AreOfHistory deps.now.txns }
     ensures places { IfOk result (λ places. ArePlaces deps.now.txns places.items) }
@@ -96,7 +97,7 @@ fn predecessors(order: &Order, place: usize, level: Level) -> &[Predecessor]
     }
 }
 
-/// Adds the node at the place to the lists of its predecessors.
+/// Adds the node at an index to the lists of its predecessors.
 fn push_node(
     predecessors: &[Predecessor],
     places: &[u32],
@@ -127,7 +128,7 @@ fn empty_lists(alloc: Global, count: usize) -> Result<Vec<Run>, AllocError>
     vec![in alloc; Run::default(); count]
 }
 
-/// The level's order as successors, in place of predecessors. The runs are those of empty lists.
+/// The successors in the level's order, from the predecessors. The runs are those of empty lists.
 fn turned(
     alloc: Global,
     deps: &Deps<'_, '_>,
@@ -177,7 +178,7 @@ impl Model for Orders {
 }
 
 impl Orders {
-    /// The order as successors at the two levels.
+    /// The successors of each transaction at the two levels.
     pub fn new(alloc: Global, deps: &Deps<'_, '_>, order: &Order) -> Result<Self, AllocError>
         requires { IsOrderOf deps.now.txns order.now }
         ensures { IfOk result (AreTurned deps.now.txns order.now) }
@@ -196,7 +197,7 @@ impl Orders {
         })
     }
 
-    /// The level's order as successors, in place of predecessors.
+    /// The successors of each transaction at the level.
     pub fn at(&self, level: Level) -> &LaterNodes
         ensures { result.now ≡ lists_at level self.now }
     {

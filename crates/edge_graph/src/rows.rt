@@ -1,4 +1,4 @@
-//! What each vertex leads to, in flat lists.
+//! The successors of each vertex, in flat lists (compressed sparse rows).
 
 ghost use Rattle.std.specs.Prelude.{◌≡◌, ◌<◌, ◌≤◌, length, slice_range, IfOk};
 ghost use Rattle.edge_graph.specs.FlatRows.{row_at, led_to, rows_in, AreRowBounds};
@@ -11,11 +11,11 @@ use std::marker::Model;
 #[derive(Drop)]
 pub(crate) struct Followed {
     dependencies: Dependencies,
-    /// The first of them in a transaction's row.
+    /// The first part of a transaction's row that is followed.
     first: usize,
-    /// The first one after them.
+    /// The first part after the ones that are followed.
     last: usize,
-    /// Whether a version's part is one of them.
+    /// Whether a version's part is followed.
     from_versions: bool,
 }
 
@@ -34,7 +34,7 @@ impl Model for Followed {
 }
 
 impl Followed {
-    /// Those of a search that follows these dependencies.
+    /// What a search follows by these dependencies.
     pub fn new(dependencies: Dependencies) -> Self
         ensures { result ≡ dependencies }
     {
@@ -78,7 +78,7 @@ impl Model for Rows {
     ghost invariant = { λ r. AreRowBounds r.txns r.versions r.bounds.items r.items.items };
 }
 
-/// No memory holds more numbers than there are.
+/// An index as a number of 32 bits. No memory holds more numbers than there are of these.
 pub(crate) fn number(place: usize) -> Result<u32, AllocError>
     ensures { IfOk result (λ n. n ≡ place) }
 {
@@ -115,7 +115,7 @@ impl Rows {
         self.txns + self.versions
     }
 
-    /// What a vertex leads to by these dependencies.
+    /// The successors of a vertex by these dependencies.
     pub fn row(&self, vertex: usize, followed: &Followed) -> &[u32]
         requires { vertex < length self.now }
         ensures { result.now ≡ led_to followed.now (row_at self.now vertex) }

@@ -7,7 +7,7 @@ ghost use Rattle.edge_graph.specs.Kinds.{includes, kinds_of};
 use dep_edges::edge::Label;
 use hist_types::types::Level;
 
-/// Which edges: some kinds of dependencies, and the order edges of a level.
+/// Kinds of edges: some kinds of dependencies, and the order edges of a level.
 #[derive(Clone, Copy, Debug, PartialEq, Eq)]
 pub struct Kinds {
     pub ww: bool,
@@ -17,7 +17,7 @@ pub struct Kinds {
 }
 
 impl Kinds {
-    /// These dependencies and the order edges of the level.
+    /// The kinds of these dependencies and of the order edges of the level.
     pub fn of(dependencies: Dependencies, level: Level) -> Self
         ensures { result ≡ kinds_of dependencies level }
     {

@@ -21,7 +21,7 @@ use crate::types::{Token, TokenKind};
 /// How many collections may be opened one within another in what is looked at ahead.
 pub const LEVELS_AHEAD: usize = 16;
 
-/// How many bytes from its start on `number_before` and `keyword_before` may look at.
+/// How many bytes `number_before` and `keyword_before` may look at, from `start` on.
 pub const NUMBER_LOOK: usize = DIGIT_LANES;
 
 /// A vector of three tokens that are forms, with its brackets.
@@ -256,8 +256,8 @@ pub fn word_before(
     }
 }
 
-/// The token of so many bytes that begins here with this one, all of them decimal digits, if it is
-/// an integer with the byte `after` after it.
+/// The token of `len` decimal digits that begins here with the byte `first`, if it is an integer
+/// with the byte `after` after it.
 #[inline(always)]
 pub fn digits_from(text: &[u8], start: usize, first: u8, len: usize, after: u8) -> Option<Token>
     requires room { start + len < length text.now }
@@ -283,8 +283,8 @@ pub fn digits_from(text: &[u8], start: usize, first: u8, len: usize, after: u8) 
     })
 }
 
-/// The token of so many bytes that begins here, all of them decimal digits, if it is an integer
-/// with this byte after it.
+/// The token of `len` decimal digits that begins here, if it is an integer with the byte `after`
+/// after it.
 #[inline(always)]
 pub fn digits_before(text: &[u8], start: usize, len: usize, after: u8) -> Option<Token>
     requires room { start + len < length text.now }
@@ -359,7 +359,7 @@ pub fn keyword_before(text: &[u8], start: usize, after: u8) -> Option<Token>
     })
 }
 
-/// The token that begins here, if it is UTF-8. Whether it may be here is not looked at.
+/// The token that begins here, if it is UTF-8. Whether a token may come here is not looked at.
 pub fn token_at(text: &[u8], start: usize) -> Option<Token>
     requires { start ≤ length text.now }
     ensures gives { IfSome result (IsTokenAt text.now start) }

@@ -60,7 +60,7 @@ impl<'a> Model for Lexer<'a> {
 }
 
 impl Collection {
-    /// What an opener opens.
+    /// The kind of collection that an opener opens.
     fn opened_by(opener: &[u8]) -> Collection
         ensures { closer_byte result ≡ closer_of opener.now }
     {
@@ -71,7 +71,7 @@ impl Collection {
         }
     }
 
-    /// The byte that closes it.
+    /// The byte that closes the collection.
     fn closer(self) -> u8
         ensures { result ≡ closer_byte self }
     {
@@ -85,8 +85,8 @@ impl Collection {
 
 type OpenCollections = ArrayVec<Collection, MAX_OPEN_COLLECTIONS>;
 
-/// Opens or closes a collection where the item is an opener or a closer, unless it is not allowed
-/// here.
+/// Opens or closes a collection where the item is an opener or a closer, or returns why it may not
+/// come here.
 fn nest(within: &mut OpenCollections, kind: PieceKind, bytes: &[u8]) -> Option<Refusal>
     requires { 0 < length bytes.now }
     ensures refusal { result ≡ refusal_within kind bytes.now within.old.items }
@@ -133,7 +133,7 @@ impl<'a> Lexer<'a> {
         Lexer::at(text, 0)
     }
 
-    /// A lexer that begins at this offset, as if nothing stood before it. Offsets count from the
+    /// A lexer that begins at this offset, as if nothing came before it. Offsets count from the
     /// front of the text all the same.
     pub fn at(text: &'a [u8], offset: usize) -> Self
         requires { offset ≤ length text.now }
@@ -156,7 +156,7 @@ impl<'a> Lexer<'a> {
         self.text
     }
 
-    /// A lexer at the same place of the same text.
+    /// A lexer at the same offset of the same text.
     pub fn copy(&self) -> Lexer<'a>
         ensures { result ≡ self.now }
     {
@@ -194,8 +194,7 @@ impl<'a> Lexer<'a> {
         self.offset = offset;
     }
 
-    /// Passes over the item at the front of what is left, which is no blank, and gives it where it
-    /// is a token.
+    /// Passes over the next item, which is no blank, and returns it if it is a token.
     fn pass(&mut self) -> Result<Option<Token>, Fault>
         requires left { self.old.offset < length self.old.text }
         requires unblank { is_blank_byte (get_or self.old.text self.old.offset 0) ≡ false }

@@ -11,7 +11,7 @@ use crate::runs::run_kind;
 use crate::scan::{character_len, comment_len, content_len, first_run};
 use crate::types::{Token, TokenKind};
 
-/// What an item is, if it is no blank: a comment, which is not given, or a token.
+/// What an item other than a blank is: a comment, which the lexer passes over, or a token.
 #[derive(Clone, Copy)]
 pub(crate) enum PieceKind {
     Comment,
@@ -22,14 +22,14 @@ pub(crate) enum PieceKind {
 #[derive(Clone, Copy)]
 pub(crate) struct Piece {
     pub(crate) kind: PieceKind,
-    /// In bytes.
+    /// How many bytes the item has.
     pub(crate) len: usize,
-    /// Its bytes are known to be below 128.
+    /// Whether the bytes of the item are known to be below 128.
     pub(crate) ascii: bool,
 }
 
 impl PieceKind {
-    /// The token with this span, if it is one.
+    /// The token with this span, if the item is one.
     pub(crate) fn token(self, start: usize, end: usize) -> Option<Token>
         ensures { IsTokenBetween self start end result }
     {

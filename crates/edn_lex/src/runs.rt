@@ -1,4 +1,4 @@
-//! What a run is.
+//! The kinds of runs.
 
 ghost use Rattle.std.specs.Prelude.{◌≡◌, ◌<◌, ◌==◌, ◌||◌, length, not, false};
 ghost use Rattle.std.specs.List.{list_all};
@@ -18,7 +18,7 @@ fn without_sign(run: &[u8]) -> &[u8]
     }
 }
 
-/// An integer may end with an `N`.
+/// A run without the `N` at its end, with which an integer may end.
 pub fn without_n(run: &[u8]) -> &[u8]
     ensures { result.now ≡ before_n run.now }
 {
@@ -31,7 +31,7 @@ fn all_digits(bytes: &[u8]) -> bool
     bytes.iter().all(|b| b.is_ascii_digit())
 }
 
-/// No digit follows a leading 0.
+/// Whether no digit follows a leading 0.
 pub(crate) fn has_no_leading_zero(digits: &[u8]) -> bool
     requires { 0 < length digits.now }
     ensures { result ≡ (not (first_byte digits.now == zero_digit) || (length digits.now == 1)) }
@@ -39,7 +39,7 @@ pub(crate) fn has_no_leading_zero(digits: &[u8]) -> bool
     digits[0] != b'0' || digits.len() == 1
 }
 
-/// `0`, or digits that don't begin with 0.
+/// Whether a run is `0`, or digits that don't begin with 0.
 fn is_whole(digits: &[u8]) -> bool
     ensures { result ≡ is_whole_number digits.now }
 {

@@ -48,9 +48,9 @@ pub(crate) const DIGIT_LANES: usize = 16;
 #[derive(Clone, Copy)]
 pub(crate) struct Run {
     pub(crate) len: usize,
-    /// All of them are below 128.
+    /// Whether all of the bytes are below 128.
     pub(crate) ascii: bool,
-    /// All of them are decimal digits.
+    /// Whether all of the bytes are decimal digits.
     pub(crate) digits: bool,
 }
 
@@ -111,8 +111,8 @@ pub(crate) fn digits_alone(text: &[u8]) -> Option<usize>
     Some(len)
 }
 
-/// How many of 16 bytes come before the first one that has a bit, by a bit for each of them, the
-/// lowest for the first.
+/// How many of 16 bytes come before the first one whose bit is set. The lowest bit is that of the
+/// first byte.
 #[inline(always)]
 fn bytes_before(bits: u64) -> usize
     ensures { (has_bit : ℕ → Bool) (bytes : List ℕ) → length bytes ≡ DIGIT_LANES
@@ -159,7 +159,7 @@ pub(crate) fn digit_ends_of_16(text: &[u8], at: usize) -> Option<(usize, usize)>
     ensures few { IfSome result (λ ends. ends.1 < DIGIT_LANES) }
 {
     let bits = other_than_digits(u8x16::from_slice(&text[at..]));
-    // Without its lowest bit.
+    // The bits without the lowest one that is set.
     let rest = bits & bits.wrapping_sub(1);
     if rest == 0 {
         return None;
@@ -269,7 +269,7 @@ pub(crate) fn utf8_end(bytes: &[u8], ascii: bool) -> Option<usize>
     if ascii { None } else { wide_utf8_end(bytes) }
 }
 
-/// The same where nothing is known of the bytes.
+/// Where bytes of which nothing is known stop being UTF-8, if they do.
 #[inline(never)]
 fn wide_utf8_end(bytes: &[u8]) -> Option<usize>
     ensures { StopsBeingUtf8 bytes.now result }

@@ -17,13 +17,13 @@ use edn_lex::types::TokenKind;
 use hist_types::types::Process;
 use std::str;
 
-/// An integer of fewer bytes has 64 bits.
+/// An integer with fewer bytes than this fits into 64 bits.
 pub(crate) const LONG_INTEGER: usize = 19;
 
 /// How many digits `process_ahead` takes at most.
 pub(crate) const FEW_DIGITS: usize = 9;
 
-/// The number of digits alone, if they are so few that it has 64 bits.
+/// The number that digits alone spell, if they are so few that it fits into 64 bits.
 pub fn number_of_digits(text: &[u8]) -> Option<i64>
     ensures { IfSome result (IsNumberOf text.now) }
 {
@@ -40,7 +40,7 @@ pub fn number_of_digits(text: &[u8]) -> Option<i64>
     Some(number as i64)
 }
 
-/// The number that an integer's spelling means, if it has 64 bits.
+/// The number that an integer's spelling means, if it fits into 64 bits.
 pub fn integer_of(spelling: &[u8]) -> Option<i64>
     requires { is_int spelling.now ≡ true }
     ensures { result ≡ then_some (is_64_bit (int_value spelling.now)) (int_value spelling.now) }
@@ -55,7 +55,7 @@ pub fn integer_of(spelling: &[u8]) -> Option<i64>
     text.parse::<i64>().ok()
 }
 
-/// The process whose number is spelled so.
+/// The process whose number has this spelling.
 pub(crate) fn process_of(spelling: &[u8]) -> Option<Process>
     requires { is_int spelling.now ≡ true }
     ensures { result ≡ process_of_number (int_value spelling.now) }
@@ -65,7 +65,7 @@ pub(crate) fn process_of(spelling: &[u8]) -> Option<Process>
 }
 
 /// How many decimal digits are at the front of the text, at most nine, and the number that they
-/// write.
+/// spell.
 #[inline(always)]
 fn few_digits(text: &[u8]) -> (usize, u64)
     requires { FEW_DIGITS ≤ length text.now }
@@ -81,8 +81,8 @@ fn few_digits(text: &[u8]) -> (usize, u64)
     (len, number)
 }
 
-/// The process whose number the decimal digits at the front of the text write, of which at most
-/// nine are taken, and how many they are.
+/// How many decimal digits are at the front of the text, of which at most nine are taken, and the
+/// process whose number they spell.
 #[inline(always)]
 pub(crate) fn process_ahead(text: &[u8]) -> Option<(usize, Process)>
     requires { FEW_DIGITS ≤ length text.now }
@@ -123,7 +123,7 @@ pub fn escape_value(escape: u8) -> Option<u8>
     }
 }
 
-/// Whether each backslash in a string takes a byte that means one.
+/// Whether each backslash in the content of a string begins an escape that is known.
 pub fn has_known_escapes(content: &[u8]) -> bool
     ensures { result ≡ is_some (decoded false content.now) }
 {
@@ -151,7 +151,7 @@ pub(crate) fn is_atom(kind: TokenKind, bytes: &[u8]) -> bool
     }
 }
 
-/// A digit, or a sign and a digit.
+/// Whether a text begins with a digit, or with a sign and a digit.
 fn begins_as_int(text: &[u8]) -> bool
     ensures { result ≡ begins_with_number text.now }
 {

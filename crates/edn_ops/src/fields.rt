@@ -35,7 +35,7 @@ impl Field {
         }
     }
 
-    /// One more field of the name, by the place of its key and by its value.
+    /// Adds one more field of the name, by the offset of its key and by its value.
     #[inline(always)]
     fn add(&mut self, place: usize, value: Outline)
         ensures field { AddsField self.old place value self.new }
@@ -88,7 +88,8 @@ pub(crate) struct Fields {
     kind: Field,
     process: Field,
     value: Field,
-    /// What the first value of `:value` is as a transaction.
+    /// The micro-operations of the first value of `:value`, or the fault that makes it no
+    /// transaction.
     transaction: Result<Vec<MopShape>, Fault>,
 }
 
@@ -119,7 +120,7 @@ impl Fields {
         }
     }
 
-    /// Gathers the value of the first `:value`, with what it is as a transaction.
+    /// Gathers the value of the first `:value`, with its micro-operations or their fault.
     #[inline(always)]
     pub(crate) fn add_transaction(
         &mut self,

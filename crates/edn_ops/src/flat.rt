@@ -29,19 +29,19 @@ use hist_types::types::{Fault, OpKind, Process};
 /// How many collections may be opened one within another in the value of a field.
 const VALUE_LEVELS: usize = LEVELS_AHEAD - 1;
 
-/// How many bytes from its start on `front_here` may look at: `:type :invoke, :process `, digits
-/// and `, :f :txn, :value [`.
+/// How many bytes `front_here` may look at, from `start` on: `:type :invoke, :process `, digits and
+/// `, :f :txn, :value [`.
 const FRONT_LOOK: usize = 43 + FEW_DIGITS;
 
-/// How many bytes from its start on `behind_numbers` may look at: `:index `, a number, `, :time `
-/// and a number.
+/// How many bytes `behind_numbers` may look at, from `offset` on: `:index `, a number, `:time ` and
+/// a number.
 const NUMBERS_LOOK: usize = 16 + 2 * NUMBER_LOOK;
 
 /// Whose operation a map is.
 #[derive(Clone, Copy)]
 pub(crate) enum Owner {
     Client(Process),
-    /// Its process is no integer.
+    /// No client's: its process is no integer.
     NoClient,
 }
 
@@ -72,7 +72,7 @@ struct Front {
 }
 
 impl Front {
-    /// What its fields say.
+    /// What the fields before the transaction say.
     fn fields(self) -> FlatFields
         ensures { result ≡ fields_of self }
     {
@@ -250,8 +250,8 @@ fn map_front(text: &[u8], offset: usize) -> Option<Front>
     Some(front)
 }
 
-/// Passes over a value, up to the end that is given, if it can be read so; often it is `:txn` or a
-/// number.
+/// Passes over a value, and returns where it ends, if it can be read in this way. Often it is
+/// `:txn` or a number.
 #[inline(always)]
 fn passed_value(text: &[u8], offset: usize) -> Option<usize>
     requires { offset ≤ length text.now }
@@ -278,7 +278,7 @@ impl FlatFields {
         }
     }
 
-    /// Reads the first value of `:type`, up to the end that is given, if it can be read so.
+    /// Reads the first value of `:type`, and returns where it ends, if it can be read in this way.
     #[inline(always)]
     fn read_kind(&mut self, text: &[u8], offset: usize) -> Option<usize>
         requires { offset ≤ length text.now }
@@ -292,7 +292,8 @@ impl FlatFields {
         Some(token.end)
     }
 
-    /// Reads the first value of `:process`, up to the end that is given, if it can be read so.
+    /// Reads the first value of `:process`, and returns where it ends, if it can be read in this
+    /// way.
     #[inline(always)]
     fn read_owner(&mut self, text: &[u8], offset: usize) -> Option<usize>
         requires { offset ≤ length text.now }
@@ -439,7 +440,7 @@ fn any_other_key(text: &[u8], start: usize) -> Option<Token>
     if is_other(text, key) { Some(key) } else { None }
 }
 
-/// Passes over a field that says nothing, up to the end that is given, if it can be read so.
+/// Passes over a field that says nothing, and returns where it ends, if it can be read in this way.
 #[inline(always)]
 fn other_field(text: &[u8], start: usize) -> Option<usize>
     requires { start ≤ length text.now }
@@ -449,8 +450,8 @@ fn other_field(text: &[u8], start: usize) -> Option<usize>
     passed_value(text, key.end)
 }
 
-/// Reads the field that begins here, if it can be read so, a transaction only up to its opener. The
-/// letter after its key's colon tells which name the key may be.
+/// Reads the field that begins here, if it can be read in this way, a transaction only up to its
+/// opener. The letter after its key's colon tells which name the key may be.
 #[inline(always)]
 fn flat_field(text: &[u8], start: usize, fields: &mut FlatFields) -> Option<Reached>
     requires { start ≤ length text.now }
@@ -485,8 +486,8 @@ fn flat_field(text: &[u8], start: usize, fields: &mut FlatFields) -> Option<Reac
     Some(Reached::End(other_field(text, start)?))
 }
 
-/// The end of the fields that were reached. Where this is a transaction's opener, the transaction
-/// is read first into a list that is empty; none where it can't be read so.
+/// Where the fields that were reached end. If they reach a transaction's opener, the transaction is
+/// first read into the empty list; none if it can't be read in this way.
 #[inline(always)]
 fn end_of(text: &[u8], reached: Reached, mops: &mut Mops) -> Result<Option<usize>, Fault>
     requires { place_reached reached ≤ length text.now }
@@ -502,8 +503,8 @@ fn end_of(text: &[u8], reached: Reached, mops: &mut Mops) -> Result<Option<usize
     }
 }
 
-/// Reads the rest of a map's fields from here on, up to the end that is given, if all can be read
-/// so.
+/// Reads the rest of a map's fields from here on, and returns where they end, if all can be read in
+/// this way.
 fn flat_map(
     text: &[u8],
     start: usize,
@@ -560,7 +561,7 @@ fn operation_of(start: usize, end: usize, kind: OpKind, process: Process) -> Opt
 }
 
 /// What a map gives that begins at `start`, and whose fields were read up to `at`, if the rest can
-/// be read so.
+/// be read in this way.
 #[inline(never)]
 fn other_entry(
     text: &[u8],
@@ -592,8 +593,8 @@ fn other_entry(
     }
 }
 
-/// What a map gives after this opener, if it can be read so. Its micro-operations are read into the
-/// empty list.
+/// What a map gives after this opener, if it can be read in this way. Its micro-operations are read
+/// into the empty list.
 #[inline(always)]
 pub(crate) fn flat_entry(
     text: &[u8],
@@ -605,7 +606,7 @@ pub(crate) fn flat_entry(
     ensures { GivesFlatEntry text.now opener result mops.new }
 {
     let Some(front) = map_front(text, opener.end) else {
-        // Wrapped anew, so that what is mostly given needn't go through memory.
+        // Unwrapped and wrapped again, so that the frequent result needn't go through memory.
         let entry = other_entry(text, opener.start, opener.end, FlatFields::new(), mops)?;
         return Ok(entry);
     };

@@ -27,8 +27,8 @@ use hist_types::types::Fault;
 
 pub(crate) type Mops = Vec<MopShape>;
 
-/// How many bytes from its start on `plain_mop` may look at: `[:r `, a key, a space and a value,
-/// and one after it.
+/// How many bytes `plain_mop` may look at, from `start` on: `[:r `, a key, a space and a value, and
+/// one after it.
 const PLAIN_MOP_LOOK: usize = 5 + 2 * NUMBER_LOOK;
 
 /// The token that begins here, if it is `:w` or `:r` with a space after it, and whether it is `:w`.
@@ -112,9 +112,8 @@ fn value_at(text: &[u8], start: usize, is_write: bool) -> Option<Token>
     any_atom_at(text, start)
 }
 
-/// Whether the micro-operation that the next five tokens are is a write, where its key and value
-/// are and where it ends, if they are a vector of `:w` or `:r` and two forms by themselves without
-/// a fault.
+/// The micro-operation at the offset, if it is a vector of `:w` or `:r` and two forms by themselves
+/// without a fault: whether it is a write, where its key and its value are, and where it ends.
 #[inline(always)]
 fn next_mop(text: &[u8], offset: usize) -> Option<(bool, Span, Span, usize)>
     requires { offset ≤ length text.now }
@@ -128,7 +127,7 @@ fn next_mop(text: &[u8], offset: usize) -> Option<(bool, Span, Span, usize)>
     Some((is_write, span(key), span(value), closer.end))
 }
 
-/// The four bytes that a write, or a read, begins with as it is printed, as `four_at` has them.
+/// The first four bytes of a write, or of a read, as it is printed, in the form of `four_at`.
 #[inline(always)]
 fn mop_front(is_write: bool) -> u32
     ensures { to_le_bytes w32 result ≡ front_bytes is_write }
@@ -140,8 +139,9 @@ fn mop_front(is_write: bool) -> u32
     }
 }
 
-/// Whether a write is here, if a micro-operation is printed here up to its key. Which of both it is
-/// takes no branch, as nobody can foresee it: only a write's front is greater than a read's.
+/// Whether a write begins here, if the front of a micro-operation is printed here, up to its key.
+/// No branch tells writes from reads, since nobody can predict it: a write's front is greater than
+/// a read's.
 #[inline(always)]
 fn printed_front(text: &[u8], start: usize) -> Option<bool>
     requires { start + 4 ≤ length text.now }
@@ -218,8 +218,8 @@ fn pair_apart(text: &[u8], start: usize, is_write: bool) -> Option<(Token, Token
     Some((key, value))
 }
 
-/// The token of so few bytes that begins here with this one, all of them decimal digits, if it is
-/// an integer with the byte `after` after it.
+/// The token of `len` decimal digits that begins here with the byte `first`, if it is an integer
+/// with the byte `after` after it. So short an integer always fits into 64 bits.
 #[inline(always)]
 fn few_digits(text: &[u8], start: usize, first: u8, len: usize, after: u8) -> Option<Token>
     requires room { start + NUMBER_LOOK ≤ length text.now }
@@ -236,8 +236,8 @@ fn few_digits(text: &[u8], start: usize, first: u8, len: usize, after: u8) -> Op
     Some(number)
 }
 
-/// The token of so few bytes that begins here, all of them decimal digits, if it is an integer, or
-/// `nil` that was read where there are none, with a vector's closer after it.
+/// The token of `len` decimal digits that begins here, if it is an integer, or the `nil` of a read
+/// where there are no digits, with a vector's closer after it.
 #[inline(always)]
 fn value_of_digits(text: &[u8], start: usize, len: usize, is_write: bool) -> Option<Token>
     requires room { start + NUMBER_LOOK ≤ length text.now }
@@ -295,7 +295,7 @@ fn plain_mop(text: &[u8], start: usize) -> Option<(bool, Span, Span, usize)>
     Some((is_write, span(key), span(value), value.end + 1))
 }
 
-/// Adds a micro-operation, up to whose end the text was read, if there is room for one more.
+/// Adds a micro-operation, if there is room for one more, and returns where it ends.
 #[inline(always)]
 fn push_mop(mop: Option<(bool, Span, Span, usize)>, mops: &mut Mops) -> Result<Option<usize>, Fault>
     ensures reads { (text : List ℕ) (offset : ℕ) →
@@ -321,7 +321,7 @@ fn push_mop(mop: Option<(bool, Span, Span, usize)>, mops: &mut Mops) -> Result<O
     Ok(Some(end))
 }
 
-/// Reads one more micro-operation, up to the end that is given, if it is a vector of three forms by
+/// Reads one more micro-operation, and returns where it ends, if it is a vector of three forms by
 /// themselves without a fault.
 #[inline(always)]
 fn flat_mop(text: &[u8], offset: usize, mops: &mut Mops) -> Result<Option<usize>, Fault>
@@ -331,8 +331,8 @@ fn flat_mop(text: &[u8], offset: usize, mops: &mut Mops) -> Result<Option<usize>
     push_mop(next_mop(text, offset), mops)
 }
 
-/// Reads one more micro-operation that begins here, up to the end that is given, if it is spelled
-/// as it is printed.
+/// Reads one more micro-operation that begins here, and returns where it ends, if it is spelled as
+/// it is printed.
 #[inline(always)]
 fn printed_mop(text: &[u8], start: usize, mops: &mut Mops) -> Result<Option<usize>, Fault>
     requires { start ≤ length text.now }
@@ -343,8 +343,8 @@ fn printed_mop(text: &[u8], start: usize, mops: &mut Mops) -> Result<Option<usiz
     push_mop(plain_mop(text, start), mops)
 }
 
-/// Reads micro-operations, up to the end that is given, as long as they are spelled as they are
-/// printed, with a space between two.
+/// Reads micro-operations as long as they are spelled as they are printed, with a space between
+/// two, and returns where the last of them ends.
 #[inline(always)]
 fn printed_mops(text: &[u8], offset: usize, mops: &mut Mops) -> Result<usize, Fault>
     requires { offset ≤ length text.now }
@@ -364,8 +364,8 @@ fn printed_mops(text: &[u8], offset: usize, mops: &mut Mops) -> Result<usize, Fa
     Ok(end)
 }
 
-/// Reads the rest of a transaction from the offset on, up to the end that is given, if all its
-/// members can be read so.
+/// Reads the rest of a transaction from the offset on, and returns where it ends, if all its
+/// members can be read in this way.
 #[inline(never)]
 fn other_members(text: &[u8], offset: usize, mops: &mut Mops) -> Result<Option<usize>, Fault>
     requires { offset ≤ length text.now }
@@ -385,8 +385,8 @@ fn other_members(text: &[u8], offset: usize, mops: &mut Mops) -> Result<Option<u
     }
 }
 
-/// Reads a transaction after its opener into a list that is empty, up to the end that is given, if
-/// all its members can be read so.
+/// Reads a transaction after its opener into the empty list, and returns where it ends, if all its
+/// members can be read in this way.
 #[inline(always)]
 pub(crate) fn flat_members(
     text: &[u8],

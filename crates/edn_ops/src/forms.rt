@@ -15,13 +15,13 @@ use hist_types::types::{At, Fault, Refusal};
 #[derive(Clone, Copy)]
 pub(crate) struct Member {
     pub(crate) token: Token,
-    /// Where the first tag in front of it is.
+    /// The offset of the first tag before the token.
     pub(crate) tag: Option<usize>,
 }
 
-/// The next member of the innermost open collection, or of the top level, where no tag and no `#_`
-/// waits; or the closer, or none at the text's end. `DanglingTag` is the fault of a closer or an
-/// end before which one waits, at the last that does.
+/// The next member of the innermost open collection, or of the top level; or the closer, or none at
+/// the text's end. No tag and no `#_` waits before the call. If one waits at the closer or at the
+/// end, the fault is `DanglingTag`, at the last one that waits.
 #[cycle(forms)]
 pub(crate) fn next_member(lexer: &mut Lexer) -> Result<Option<Member>, Fault>
     ensures { NextMember lexer.old result lexer.new }
@@ -39,7 +39,7 @@ pub(crate) fn next_member(lexer: &mut Lexer) -> Result<Option<Member>, Fault>
     }
 }
 
-/// The next member, once the first tag or `#_` has been given.
+/// The next member after a first tag or `#_`.
 #[cycle(forms)]
 fn member_behind(lexer: &mut Lexer, mark: Token) -> Result<Option<Member>, Fault>
     requires mark { is_mark_kind (kind_of mark.kind) ≡ true }
@@ -77,8 +77,8 @@ fn member_behind(lexer: &mut Lexer, mark: Token) -> Result<Option<Member>, Fault
     Ok(None)
 }
 
-/// Passes over a collection up to after its closer, whose opener has just been given. Only its
-/// tokens, its nesting and its tags are looked at. Calls are at most as deep as collections may be.
+/// Passes over a collection up to after its closer. Its opener was the last token. Only its tokens,
+/// its nesting and its tags are looked at. Calls are at most as deep as collections may be.
 #[cycle(forms)]
 pub(crate) fn skip_collection(lexer: &mut Lexer, opener: Token) -> Result<(), Fault>
     ensures { SkipsCollection lexer.old (item_of lexer.old.text opener) result lexer.new }

@@ -13,17 +13,17 @@ use edn_lex::lexer::Lexer;
 use edn_lex::types::{Token, TokenKind};
 use hist_types::types::{At, Fault, Refusal};
 
-/// What is kept of the marks that wait: a form takes the tags after the last `#_`, and that.
+/// What is kept of the marks that wait. A form takes the tags after the last `#_`, and that `#_`.
 #[derive(Clone, Copy)]
 pub(crate) struct Waiting {
     /// How many `#_` wait.
     pub(crate) drops: usize,
-    /// Where the first of the tags is that wait in front of the first `#_`.
+    /// The offset of the first of the tags that wait before the first `#_`.
     pub(crate) tag: Option<usize>,
 }
 
 impl Waiting {
-    /// Nothing waits but this mark.
+    /// Only this mark waits.
     pub(crate) fn by(mark: Token) -> Waiting
         requires { is_mark_kind (kind_of mark.kind) ≡ true }
         ensures waits { (text : List ℕ) → Waits result.drops result.tag (item_of text mark ∷ []) }
@@ -41,7 +41,7 @@ impl Waiting {
         }
     }
 
-    /// One more mark waits.
+    /// One more mark waits after the others.
     pub(crate) fn and(self, mark: Token) -> Waiting
         requires room { self.drops < mark.end }
         requires mark { is_mark_kind (kind_of mark.kind) ≡ true }
@@ -164,7 +164,7 @@ impl LastMark {
         }
     }
 
-    /// A form has settled against the marks.
+    /// The marks once a form has used up the last `#_`, if one waits.
     fn settled(self) -> LastMark
         ensures drops { result.drops ≡ self.drops }
         ensures waits { IsSettled self result }

@@ -50,7 +50,7 @@ pub(crate) fn span(token: Token) -> Span
     }
 }
 
-/// The form of a reserved place.
+/// What fills lists of outlines at first.
 impl Default for Outline {
     fn default() -> Outline {
         Outline::Tagged(0)
@@ -75,7 +75,7 @@ impl Outline {
         }
     }
 
-    /// The opener, if it is a vector or a list.
+    /// The form's opener, if it is a vector or a list.
     #[inline(always)]
     pub(crate) fn sequence(self, text: &[u8]) -> Option<Token>
         requires { IsOutlineIn text.now self }
@@ -89,7 +89,7 @@ impl Outline {
         }
     }
 
-    /// Where it begins.
+    /// The offset at which the form begins.
     #[inline(always)]
     pub(crate) fn place(self) -> usize
         ensures { (text : List ℕ) → result ≡ place_of (outline_of text self) }
@@ -100,7 +100,7 @@ impl Outline {
         }
     }
 
-    /// Whether it is the keyword with this spelling.
+    /// Whether the form is the keyword with this spelling.
     #[inline(always)]
     pub(crate) fn is_named(self, text: &[u8], name: &[u8]) -> bool
         requires { IsOutlineIn text.now self }
@@ -124,7 +124,7 @@ impl Outline {
         }
     }
 
-    /// Where the atom is, if it is one.
+    /// Where the form is, if it is an atom.
     #[inline(always)]
     pub(crate) fn atom(self, text: &[u8]) -> Option<Span>
         requires { IsOutlineIn text.now self }
@@ -138,7 +138,7 @@ impl Outline {
         }
     }
 
-    /// Where the atom or nil is, if it is one.
+    /// Where the form is, if it is an atom or nil.
     #[inline(always)]
     pub(crate) fn value(self, text: &[u8]) -> Option<Span>
         requires { IsOutlineIn text.now self }
@@ -150,7 +150,7 @@ impl Outline {
         }
     }
 
-    /// The token, if it is an integer.
+    /// The form's token, if it is an integer.
     #[inline(always)]
     pub(crate) fn integer(self) -> Option<Token>
         ensures number { IsItsInteger self result }

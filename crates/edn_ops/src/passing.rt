@@ -26,8 +26,8 @@ fn is_closed_by(text: &[u8], opener: Token, closer: Token) -> bool
     }
 }
 
-/// The end of the form that begins with this token, if all of it can be read so: without tags, `#_`
-/// and comments, and with no more than `levels` collections within one another.
+/// The end of the form that begins with this token, if all of it can be read in one pass: without
+/// tags, `#_` and comments, and with no more than `levels` collections within one another.
 #[cycle(passing)]
 pub(crate) fn form_end(text: &[u8], token: Token, levels: usize) -> Option<usize>
     ensures { (offset : ℕ) → GivesAhead text.now offset token
@@ -45,7 +45,7 @@ pub(crate) fn form_end(text: &[u8], token: Token, levels: usize) -> Option<usize
     }
 }
 
-/// The end of the collection with this opener, if all of it can be read so.
+/// The end of the collection with this opener, if all of it can be read in one pass.
 #[cycle(passing)]
 fn collection_end(text: &[u8], opener: Token, levels: usize) -> Option<usize>
     requires { opener.kind ≡ Open }

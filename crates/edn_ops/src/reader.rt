@@ -60,7 +60,8 @@ fn opens_list(text: &[u8], token: Token) -> bool
     bytes == b"[".as_slice() || bytes == b"(".as_slice()
 }
 
-/// One more skipped operation. They are fewer than the bytes up to the end of its opener.
+/// Counts one more skipped operation. There are fewer of them than bytes up to the end of its
+/// opener.
 fn with_one_more(skipped: u64, opener: Token) -> u64
     requires { skipped < opener.end }
     ensures { result ≡ skipped + 1 }
@@ -69,7 +70,7 @@ fn with_one_more(skipped: u64, opener: Token) -> u64
 }
 
 impl<'a> Place<'a> {
-    /// The same place.
+    /// A copy of the place.
     fn copy(&self) -> Place<'a>
         ensures { result ≡ self.now }
     {
@@ -80,9 +81,9 @@ impl<'a> Place<'a> {
         }
     }
 
-    /// The next operation, whose micro-operations are read into the empty list, if it and those
-    /// that are skipped before it are maps that can be read in one pass, perhaps after tags. Else
-    /// the place stays the same, and out of memory too.
+    /// The next operation, if it and the operations that are skipped before it are maps that can be
+    /// read in one pass, perhaps after tags. Its micro-operations are read into the empty list.
+    /// Otherwise, and out of memory, the place stays the same.
     #[inline(always)]
     fn flat_op(&mut self, mops: &mut Mops) -> Result<Option<FlatOperation>, Fault>
         requires skipped { self.old.skipped ≤ self.old.lexer.offset }
@@ -187,7 +188,7 @@ impl<'a> OpReader<'a> {
         OpReader::at(alloc, text, 0)
     }
 
-    /// A reader that begins at this offset, as if nothing stood before it. Offsets count from the
+    /// A reader that begins at this offset, as if nothing came before it. Offsets count from the
     /// front of the text all the same.
     pub fn at(alloc: Global, text: &'a [u8], offset: usize) -> OpReader<'a>
         requires { offset ≤ length text.now }

@@ -54,7 +54,7 @@ fn append_string(out: &mut Vec<u8>, text: &[u8]) -> Result<(), AllocError>
     Ok(())
 }
 
-/// An integer in decimal, by its spelling without the `N`.
+/// The decimal text of an integer, by its spelling without the `N`.
 fn without_plus(number: &[u8]) -> &[u8]
     ensures { result.now ≡ decimal_spelling number.now }
 {
@@ -65,7 +65,7 @@ fn without_plus(number: &[u8]) -> &[u8]
     }
 }
 
-/// An integer in decimal, by its spelling.
+/// The decimal text of an integer, by its spelling.
 #[tactic(auto, using(crate::proofs::Decimals::decimal_spelled))]
 fn decimal_of(text: &[u8]) -> &[u8]
     requires int { is_int text.now ≡ true }
@@ -88,7 +88,7 @@ fn append_value(out: &mut Vec<u8>, text: &[u8]) -> Result<(), AllocError>
     }
 }
 
-/// What a micro-operation's text has before its key.
+/// The text of a micro-operation before its key.
 fn mop_front(is_write: bool) -> &'static [u8]
     ensures { result.now ≡ front_of_mop is_write }
 {
@@ -133,7 +133,7 @@ fn kind_text(kind: OpKind) -> &'static [u8]
     }
 }
 
-/// Appends what an invoke and an ok have more than a fail and an info.
+/// Appends the field `:value`, which an invoke and an ok have, and a fail and an info don't.
 fn append_value_field(out: &mut Vec<u8>, kind: OpKind, mops: &[MopText]) -> Result<(), AllocError>
     requires { (ms : List Mop) × AreMopTexts mops.now ms }
     ensures ok { Writes (AreMopTexts mops.now) (value_field_text kind) result out.old out.new }
@@ -166,10 +166,10 @@ fn append_op(
     out.extend_from_slice(b"}")
 }
 
-/// Appends the canonical text of the atom that a text spells. Out of memory leaves the Vec as it
+/// Appends the canonical text of the atom that a text spells. Out of memory leaves the `Vec` as it
 /// was.
 ///
-/// An integer loses its `+` and its `N`, and a string has the control bytes that have an escape
+/// An integer loses its `+` and its `N`, and the control bytes of a string that have an escape are
 /// escaped.
 pub fn write_atom(out: &mut Vec<u8>, text: &[u8]) -> Result<(), AllocError>
     requires { (atom : Atom) × IsAtomText text.now atom }
@@ -184,7 +184,7 @@ pub fn write_atom(out: &mut Vec<u8>, text: &[u8]) -> Result<(), AllocError>
     written
 }
 
-/// Appends the canonical text of an operation. Out of memory leaves the Vec as it was.
+/// Appends the canonical text of an operation. Out of memory leaves the `Vec` as it was.
 ///
 /// A fail and an info are written without micro-operations.
 pub fn write_op(

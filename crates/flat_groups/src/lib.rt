@@ -1,4 +1,4 @@
-//! Items grouped by number, side by side in one vector.
+//! Items grouped by number, side by side in one vector (compressed sparse rows).
 #![tactic(auto)]
 
 pub mod groups;

@@ -5,7 +5,7 @@ ghost use Rattle.graph_search.specs.Graphs.{Graph, Leaving, VertexSet};
 
 use std::marker::Model;
 
-/// What one vertex leads to: two lists of vertices, one after the other.
+/// The successors of a vertex: two lists of vertices, one after the other.
 #[derive(Drop)]
 pub struct Successors<'a> {
     /// How many vertices the graph has.
@@ -27,7 +27,7 @@ impl<'a> Model for Successors<'a> {
 }
 
 impl<'a> Successors<'a> {
-    /// In a graph with n vertices.
+    /// The successors of a vertex of a graph with n vertices.
     pub fn new(vertices: usize, first: &'a [u32], second: &'a [u32]) -> Self
         requires first { All (λ v. v < vertices) first.now }
         requires second { All (λ v. v < vertices) second.now }
@@ -40,21 +40,21 @@ impl<'a> Successors<'a> {
         }
     }
 
-    /// How many there are.
+    /// How many successors there are.
     pub fn len(&self) -> usize
         ensures { result ≡ length self.now.to }
     {
         self.first.len() + self.second.len()
     }
 
-    /// Whether there is none.
+    /// Whether there is no successor.
     pub fn is_empty(&self) -> bool
         ensures { result ≡ (length self.now.to == 0) }
     {
         self.len() == 0
     }
 
-    /// One of them.
+    /// The successor with this index.
     pub fn at(&self, index: usize) -> usize
         requires { index < length self.now.to }
         ensures within { result < self.now.count }
@@ -70,14 +70,14 @@ impl<'a> Successors<'a> {
 
 /// A directed graph whose vertices are the numbers from 0 on.
 pub trait Arcs {
-    /// The graph.
+    /// The graph that has these arcs.
     ghost graph: { Self → Graph };
 
-    /// How many vertices there are.
+    /// How many vertices the graph has.
     fn vertices(&self) -> usize
         ensures { result ≡ (graph self.now).count };
 
-    /// What a vertex leads to.
+    /// The successors of a vertex.
     fn successors(&self, vertex: usize) -> Successors<'_>
         requires { vertex < (graph self.now).count }
         ensures { result
@@ -86,7 +86,7 @@ pub trait Arcs {
 
 /// A set of vertices.
 pub trait Vertices {
-    /// The set.
+    /// The vertices of the set.
     ghost members: { Self → VertexSet };
 
     /// Whether a vertex is in the set.

@@ -14,7 +14,7 @@ use std::marker::Model;
 #[derive(Clone, Copy)]
 pub(crate) struct Visit {
     pub vertex: usize,
-    /// The place in the queue of the vertex that it was reached from.
+    /// The index in the queue of the vertex that this one was reached from.
     pub parent: usize,
 }
 
@@ -22,7 +22,7 @@ pub(crate) struct Visit {
 #[derive(Drop)]
 pub(crate) struct Reached {
     marks: Marks,
-    /// In the order in which they were reached.
+    /// The visits, in the order in which vertices were reached.
     queue: Vec<Visit>,
 }
 
@@ -48,8 +48,8 @@ impl Reached {
         Ok(())
     }
 
-    /// Reaches all that the vertex at a place in the queue leads to, up to the first target that is
-    /// new, and returns whether there was one. It is then the last in the queue.
+    /// Reaches the successors of the vertex at an index in the queue, up to the first target that
+    /// is new, and returns whether there was one. That target is then the last in the queue.
     fn open<G: Arcs, S: Vertices, T: Vertices>(
         &mut self,
         graph: &G,
@@ -89,8 +89,8 @@ impl Reached {
         Ok(false)
     }
 
-    /// Opens the vertices from a place in the queue on, and what is reached from them, until
-    /// nothing is new or a target is reached.
+    /// Opens the vertices from an index in the queue on, and the vertices that are reached from
+    /// them, until nothing is new or a target is reached.
     fn open_all<G: Arcs, S: Vertices, T: Vertices>(
         &mut self,
         graph: &G,
@@ -122,7 +122,7 @@ impl Reached {
         Ok(false)
     }
 
-    /// Opens the vertices that are now in the queue, from a place on, until a target is reached.
+    /// Opens the vertices that are now in the queue, from an index on, until a target is reached.
     fn open_layer<G: Arcs, S: Vertices, T: Vertices>(
         &mut self,
         graph: &G,
@@ -153,7 +153,7 @@ impl Reached {
     }
 
     /// Searches from a vertex layer by layer, each of which costs one more paid arc, until a target
-    /// is reached. It is then the last in the queue.
+    /// is reached. The target is then the last in the queue.
     fn search<F: Arcs, P: Arcs, S: Vertices, T: Vertices>(
         &mut self,
         free: &F,
@@ -201,7 +201,7 @@ impl Reached {
         self.open_all(free, allowed, targets, layer)
     }
 
-    /// The way to the vertex at a place in the queue.
+    /// The way to the vertex at an index in the queue.
     fn walk_to(&self, alloc: Global, place: usize) -> Result<Vec<usize>, AllocError>
         requires place { place < length self.now.queue.items }
         requires earlier { (k : ℕ) → 0 < k → k < length self.now.queue.items
@@ -221,14 +221,14 @@ impl Reached {
     }
 }
 
-/// Searches one after another, which share their memory: each takes time for the vertices that it
-/// reaches and for their arcs, and none for the rest of the graph.
+/// Breadth-first searches one after another, which share their memory. Each takes time for the
+/// vertices that it reaches and for their arcs, and none for the rest of the graph.
 #[derive(Drop)]
 pub struct Search {
     reached: Reached,
 }
 
-/// What a search is seen as: how many vertices its graphs have.
+/// The view of a search: how many vertices its graphs have.
 impl Model for Search {
     ghost Value = { ℕ };
 
@@ -236,7 +236,7 @@ impl Model for Search {
 }
 
 impl Search {
-    /// For graphs with n vertices.
+    /// Makes room for searches in graphs with n vertices.
     pub fn new(alloc: Global, vertices: usize) -> Result<Search, AllocError>
         ensures { IfOk result (λ search. search ≡ vertices) }
     {
@@ -275,8 +275,8 @@ impl Search {
         self.walk_within(alloc, graph, graph, allowed, &target, from, 0)
     }
 
-    /// A walk from a vertex to another one that is a target, if there is one that costs at most so
-    /// much: along arcs into allowed vertices, free ones and at most so many paid ones.
+    /// A walk from a vertex to another one that is a target, if there is one along arcs into
+    /// allowed vertices, with at most `most` paid arcs beside free ones.
     pub fn walk_within<F: Arcs, P: Arcs, S: Vertices, T: Vertices>(
         &mut self,
         alloc: Global,
@@ -310,7 +310,7 @@ impl Search {
     }
 }
 
-/// A vertex alone.
+/// The set of one vertex.
 #[derive(Clone, Copy)]
 struct Single {
     vertices: usize,

@@ -1,6 +1,7 @@
 //! Strongly connected components, by Tarjan's algorithm in Pearce's form, with no recursion.
 //!
-//! It is proved safe, and that it ends; what it finds is checked by who calls it.
+//! The search is proved to be safe and to end. What it finds is only a proposal: its callers check
+//! it.
 
 ghost use Rattle.std.specs.Prelude.{◌≡◌, ◌<◌, length, All, IfOk, OnOk};
 
@@ -14,30 +15,32 @@ const UNSEEN: u32 = u32::MAX;
 #[derive(Clone, Copy)]
 struct Frame {
     vertex: u32,
-    /// Its place among the pending vertices.
+    /// The index of the vertex among the pending vertices.
     place: u32,
-    /// How many of its arcs were followed.
+    /// How many of the vertex's arcs were followed.
     followed: usize,
 }
 
 /// The state of the search.
 #[derive(Drop)]
 struct Components {
-    /// Of a pending vertex, the lowest place of a vertex that it is known to lead to. Of one whose
-    /// component is complete, that component's rank. It is above the places of all pending
-    /// vertices, so it lowers no number.
+    /// By vertex. Of a pending vertex, the lowest index among the pending vertices of one that it
+    /// is known to lead to. Of a vertex whose component is complete, the rank of the component,
+    /// which is above the indexes of all pending vertices, so that it lowers no number.
     numbers: Vec<u32>,
     /// The vertices that were reached and whose component isn't complete yet, in the order in which
     /// they were reached.
     pending: Vec<u32>,
     path: Vec<Frame>,
-    /// A component is complete after all that it leads to, so ranks count down.
+    /// The rank of the next component. A component is complete after all that it leads to, so ranks
+    /// count down.
     rank: u32,
     ghost in_pending: { All (λ vertex. vertex < length numbers.items) pending.items },
     ghost in_path: { All (λ frame. frame.vertex < length numbers.items) path.items },
 }
 
-/// A vertex or a place as a number. What has more of them than there are numbers is out of memory.
+/// A vertex or an index as a number of 32 bits. A graph that needs greater numbers is out of
+/// memory.
 pub(crate) fn number_of(place: usize) -> Result<u32, AllocError>
     ensures { IfOk result (λ number. number ≡ place) }
 {
@@ -57,7 +60,7 @@ impl Components {
         })
     }
 
-    /// Goes on to a vertex that hasn't been reached.
+    /// Enters a vertex that hasn't been reached.
     fn enter(&mut self, vertex: usize) -> Result<(), AllocError>
         requires { vertex < length self.old.numbers.items }
         ensures { length self.new.numbers.items ≡ length self.old.numbers.items }
@@ -74,7 +77,7 @@ impl Components {
         Ok(())
     }
 
-    /// A vertex leads to one with this number.
+    /// Lowers the number of a vertex that leads to one with this number.
     fn lower(&mut self, vertex: usize, number: u32)
         requires { vertex < length self.old.numbers.items }
         ensures { length self.new.numbers.items ≡ length self.old.numbers.items }
@@ -92,7 +95,7 @@ impl Components {
         self.numbers[vertex] = self.rank;
     }
 
-    /// Makes one component of the pending vertices from a place on.
+    /// Makes one component of the pending vertices from an index on.
     fn complete(&mut self, place: usize)
         ensures { length self.new.numbers.items ≡ length self.old.numbers.items }
     {
@@ -120,8 +123,8 @@ impl Components {
         }
     }
 
-    /// Follows the arcs of the last vertex on the path to the first vertex from which the search
-    /// goes on, or goes back from it. It returns whether there was one.
+    /// Follows the arcs of the last vertex on the path up to a vertex that hasn't been reached, and
+    /// enters it, or goes back if there is none. Returns false if the path was empty.
     fn step<G: Arcs>(&mut self, graph: &G) -> Result<bool, AllocError>
         requires { (G.graph graph.now).count ≡ length self.old.numbers.items }
         ensures { length self.new.numbers.items ≡ length self.old.numbers.items }
@@ -188,7 +191,8 @@ impl Components {
     }
 }
 
-/// For each vertex a number of its strongly connected component, which don't fall along any arc.
+/// For each vertex the number of its strongly connected component. Numbers don't fall along any
+/// arc.
 pub(crate) fn component_ranks<G: Arcs>(alloc: Global, graph: &G) -> Result<Vec<u32>, AllocError>
     ensures { IfOk result (λ numbers. length numbers.items ≡ (G.graph graph.now).count) }
 {
@@ -199,7 +203,8 @@ pub(crate) fn component_ranks<G: Arcs>(alloc: Global, graph: &G) -> Result<Vec<u
     Ok(components.numbers)
 }
 
-/// The same for these vertices and all that they lead to. The others have the highest number.
+/// For these vertices and all that they lead to, the numbers of their strongly connected
+/// components, which don't fall along any arc. The other vertices have the highest number.
 pub(crate) fn component_ranks_from<G: Arcs>(
     alloc: Global,
     graph: &G,

@@ -10,16 +10,16 @@ use crate::ranks::{never_fall, never_fall_between, zeros_unless};
 use std::alloc::{AllocError, Global};
 use std::marker::Model;
 
-/// For each vertex, the least of the first n vertices that it leads to along free arcs and at most
-/// so many paid ones.
+/// For each vertex a number: the least of the first n vertices to which a walk leads along free
+/// arcs and at most `most` paid ones.
 ///
-/// It is part of the contract that no such walk ends in one of them that is below the number of
-/// where it began. This is checked in each round, by one look at each arc; if a check failed, all
-/// numbers would be 0. They are the least ones if each free arc that leaves one of the first n
-/// vertices leads to a later one of them, and each other free arc to one of them.
+/// The contract promises a bound alone: no such walk ends in one of the first n vertices below the
+/// number of the vertex where it began. Each round checks this by one look at each arc; if a check
+/// failed, all numbers would be 0. The numbers are the least ones if each free arc that leaves one
+/// of the first n vertices leads to a later one of them, and each other free arc to one of them.
 #[derive(Drop)]
 pub struct Labels {
-    /// `u32::MAX` for a vertex that leads to none of them.
+    /// By vertex; `u32::MAX` for a vertex that leads to none of the first ones.
     numbers: Vec<u32>,
     /// How many of the vertices come first.
     places: usize,
@@ -40,7 +40,7 @@ impl Model for Labels {
 }
 
 impl Labels {
-    /// For walks along free arcs alone.
+    /// The numbers for walks along free arcs alone.
     pub fn start<F: Arcs>(alloc: Global, free: &F, places: usize) -> Result<Labels, AllocError>
         ensures numbers { IfOk result
             (λ labels. length labels.numbers ≡ (F.graph free.now).count) }
@@ -60,7 +60,7 @@ impl Labels {
         })
     }
 
-    /// Goes on to walks with one more paid arc. Out of memory, it changes nothing.
+    /// Goes on to walks with one more paid arc. Out of memory changes nothing.
     pub fn next<F: Arcs, P: Arcs>(
         &mut self,
         alloc: Global,
@@ -117,7 +117,7 @@ fn own_places(alloc: Global, vertices: usize, places: usize) -> Result<Vec<u32>,
     Ok(numbers)
 }
 
-/// The least of the numbers of what a vertex leads to.
+/// The least number of a vertex's successors.
 fn least_after<G: Arcs>(graph: &G, numbers: &[u32], vertex: usize) -> u32
     requires numbers { length numbers.now ≡ (G.graph graph.now).count }
     requires vertex { vertex < (G.graph graph.now).count }
@@ -143,7 +143,7 @@ fn after_paid<P: Arcs>(alloc: Global, paid: &P, numbers: &[u32]) -> Result<Vec<u
     Ok(lower)
 }
 
-/// Lowers a number to those that its vertex's free arcs lead to.
+/// Lowers the number of a vertex to the least one of those that its free arcs lead to.
 fn lower_one<F: Arcs>(free: &F, numbers: &mut [u32], vertex: usize)
     requires numbers { length numbers.old ≡ (F.graph free.now).count }
     requires vertex { vertex < (F.graph free.now).count }
@@ -152,8 +152,8 @@ fn lower_one<F: Arcs>(free: &F, numbers: &mut [u32], vertex: usize)
     numbers[vertex] = numbers[vertex].min(least_after(free, numbers, vertex));
 }
 
-/// Lowers the numbers to those that free arcs lead to: those of the first vertices, from the last
-/// one back, and then the others.
+/// Lowers each number to the least one that free arcs lead to: first the numbers of the first
+/// vertices, from the last one back, and then the others.
 fn lower_freely<F: Arcs>(free: &F, numbers: &mut [u32], places: usize)
     requires { length numbers.old ≡ (F.graph free.now).count }
     ensures { NoneAbove numbers.new numbers.old }

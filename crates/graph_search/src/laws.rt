@@ -16,7 +16,8 @@ pub fn walks_keep_or_raise_the_rank()
         → All (λ v. slice_index ranks v ≤ slice_index ranks to) walk }
 {}
 
-/// A closed walk is in one rank. So an arc that is on one leads to a vertex of its own rank.
+/// All vertices of a closed walk have one rank. So an arc of a closed walk leads to a vertex of its
+/// own rank.
 pub fn closed_walks_keep_their_rank()
     ensures walk { (g : Graph) (ranks walk : List ℕ) (v : ℕ) → AreRanks g ranks
         → IsWalk (HasArc g) v v walk → All (λ w. slice_index ranks w ≡ slice_index ranks v) walk }
@@ -24,7 +25,8 @@ pub fn closed_walks_keep_their_rank()
         → IsWalk (HasArc g) w v walk → slice_index ranks w ≡ slice_index ranks v }
 {}
 
-/// Whoever looks for a walk between vertices of one rank needs to enter no other.
+/// A walk between vertices of one rank enters no other rank, so a search for it needs to enter no
+/// other.
 pub fn one_rank_is_enough()
     ensures inside { (g : Graph) (ranks walk : List ℕ) (from to : ℕ) → AreRanks g ranks
         → slice_index ranks from ≡ slice_index ranks to → IsWalk (HasArc g) from to walk
@@ -33,7 +35,7 @@ pub fn one_rank_is_enough()
         → IsWalk (HasArcInto g allowed) from to walk → IsWalk (HasArc g) from to walk }
 {}
 
-/// What costs at most so much costs at most more, and may take more arcs.
+/// A walk that costs at most n costs at most any greater number, and is also a walk over more arcs.
 pub fn walks_that_may_cost_more()
     ensures most { (free paid : Graph) (most more from to : ℕ) (rest : List ℕ) → most ≤ more
         → LeadsWithin (HasArc free) (HasArc paid) most from rest to
@@ -46,7 +48,7 @@ pub fn walks_that_may_cost_more()
 {}
 
 /// Where numbers bound walks, a cheap walk begins and stays at vertices whose number isn't above
-/// its end. So whoever looks for such a walk needs to enter no other.
+/// its end. So a search for such a walk needs to enter no other vertices.
 pub fn cheap_walks_stay_below()
     ensures begins { (free paid : Graph) (places most top from to : ℕ) (numbers rest : List ℕ)
         → BoundsWalks (HasArc free) (HasArc paid) places most numbers → to < places → to ≤ top

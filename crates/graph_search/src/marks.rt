@@ -5,12 +5,12 @@ ghost use Rattle.std.specs.Prelude.{◌≡◌, ◌<◌, length, replicate, slice
 use std::alloc::{AllocError, Global};
 use std::marker::Model;
 
-/// Marks on vertices, which are taken off all at once in no time.
+/// Marks on vertices. It takes constant time to take off all of them.
 #[derive(Drop)]
 pub(crate) struct Marks {
     /// The round in which a vertex was last marked.
     rounds: Vec<u32>,
-    /// A vertex is marked if it was in this round.
+    /// The round that counts: a vertex is marked if it was marked in this round.
     round: u32,
 }
 
@@ -25,7 +25,7 @@ impl Model for Marks {
 }
 
 impl Marks {
-    /// No vertex is marked.
+    /// Marks on this many vertices, none of which is marked.
     pub fn new(alloc: Global, vertices: usize) -> Result<Marks, AllocError>
         ensures { IfOk result (λ marks. marks ≡ replicate vertices false) }
     {

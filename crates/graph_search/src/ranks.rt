@@ -27,8 +27,8 @@ impl Ranks {
     /// component.
     ///
     /// The first of these two promises is checked here, on all arcs, and is part of the contract.
-    /// The second one is that of a search for the components which isn't proved: were its ranks
-    /// ever to fall, all ranks would be 0.
+    /// The second one rests on a search for the components that isn't proved: if its ranks ever
+    /// fell, all ranks would be 0.
     pub fn of<G: Arcs>(alloc: Global, graph: &G) -> Result<Ranks, AllocError>
         ensures { IfOk result (AreRanks (G.graph graph.now)) }
     {
@@ -37,8 +37,8 @@ impl Ranks {
         Ok(Ranks::if_checked(numbers, never_fall))
     }
 
-    /// Such ranks of a graph whose arcs all leave vertices on the list. Beside a number for each
-    /// vertex, it takes no more than these vertices and their arcs do.
+    /// Ranks, as `of` gives them, of a graph whose arcs all leave vertices on the list. Beside a
+    /// number for each vertex, this takes no more than these vertices and their arcs do.
     pub fn of_leaving<G: Arcs>(
         alloc: Global,
         graph: &G,
@@ -53,11 +53,11 @@ impl Ranks {
     }
 
     /// Another ranking of the same graph, in linear time: a vertex ranks higher, the lower the
-    /// greatest of these ranks is that it leads to.
+    /// greatest rank is to which it leads.
     ///
-    /// These ranks put any two components in an order, also where neither leads to the other. Where
-    /// this ranking has them the other way round, no search is needed. As with `of`, it is only
-    /// part of the contract that ranks don't fall along any arc.
+    /// The ranks of `of` put any two components in an order, also where neither leads to the other.
+    /// Where this ranking has them the other way round, no search is needed. As with `of`, the
+    /// contract says only that ranks don't fall along any arc.
     pub fn far_leaving<G: Arcs>(
         &self,
         alloc: Global,
@@ -73,8 +73,8 @@ impl Ranks {
         Ok(Ranks::checked_leaving(graph, numbers, vertices))
     }
 
-    /// These numbers, or 0 for each vertex if they fall along an arc. All arcs leave vertices on
-    /// the list.
+    /// Ranks by these numbers, or 0 for each vertex if they fall along an arc. All arcs leave
+    /// vertices on the list.
     fn checked_leaving<G: Arcs>(graph: &G, numbers: Vec<u32>, vertices: &[u32]) -> Ranks
         requires numbers { length numbers.items ≡ (G.graph graph.now).count }
         requires within { All (λ v. v < (G.graph graph.now).count) vertices.now }
@@ -85,7 +85,7 @@ impl Ranks {
         Ranks::if_checked(numbers, never_fall)
     }
 
-    /// These numbers if a check found that they never fall, else 0 for each vertex.
+    /// Ranks by these numbers if a check found that they never fall, else 0 for each vertex.
     fn if_checked(numbers: Vec<u32>, never_fall: bool) -> Ranks
         ensures { (graph : Graph) → length numbers.items ≡ graph.count
             → OnTrue never_fall (AreRanks graph numbers.items) → AreRanks graph result }
@@ -103,7 +103,7 @@ impl Ranks {
         Ok(Ranks { ranks })
     }
 
-    /// Whether they don't fall along any arc of this graph either.
+    /// Whether the ranks don't fall along any arc of another graph.
     pub fn hold_in<G: Arcs>(&self, graph: &G) -> bool
         requires { length self.now ≡ (G.graph graph.now).count }
         ensures { IsTrue result ↔ AreRanks (G.graph graph.now) self.now }
@@ -139,7 +139,7 @@ pub(crate) fn zeros_unless(checked: bool, mut numbers: Vec<u32>) -> Vec<u32>
     numbers
 }
 
-/// Whether a vertex leads to none whose number is below another one.
+/// Whether no successor of a vertex has a number below this one.
 fn none_below<G: Arcs>(graph: &G, numbers: &[u32], vertex: usize, least: u32) -> bool
     requires numbers { length numbers.now ≡ (G.graph graph.now).count }
     requires vertex { vertex < (G.graph graph.now).count }
@@ -154,7 +154,7 @@ fn none_below<G: Arcs>(graph: &G, numbers: &[u32], vertex: usize, least: u32) ->
     true
 }
 
-/// Whether along no arc it falls from one list of numbers to another one.
+/// Whether each arc leads from a number of the first list to one of the second that isn't below it.
 pub(crate) fn never_fall_between<G: Arcs>(graph: &G, before: &[u32], after: &[u32]) -> bool
     requires before { length before.now ≡ (G.graph graph.now).count }
     requires after { length after.now ≡ (G.graph graph.now).count }
@@ -176,7 +176,7 @@ pub(crate) fn never_fall<G: Arcs>(graph: &G, ranks: &[u32]) -> bool
     never_fall_between(graph, ranks, ranks)
 }
 
-/// The same where all arcs leave vertices on the list.
+/// Whether ranks fall along no arc of a graph whose arcs all leave vertices on the list.
 fn never_fall_leaving<G: Arcs>(graph: &G, ranks: &[u32], vertices: &[u32]) -> bool
     requires ranks { length ranks.now ≡ (G.graph graph.now).count }
     requires within { All (λ v. v < (G.graph graph.now).count) vertices.now }

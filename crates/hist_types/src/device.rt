@@ -11,17 +11,17 @@ use std::io::{Read, Write};
 use std::marker::Model;
 use thiserror::Error;
 
-/// That a device failed.
+/// The error of a device that failed, for whatever reason.
 #[derive(Clone, Copy, Debug, PartialEq, Eq, Error)]
 #[error("device fault")]
 pub struct Failed;
 
-/// What bytes are read from.
+/// A device that bytes are read from.
 pub trait Source {
-    /// The bytes that it has left to give, where they are known.
+    /// The bytes that the source has left to give, where they are known.
     ghost remaining: { Self → Option (List ℕ) };
 
-    /// How often it has failed.
+    /// How often the source has failed.
     ghost failures: { Self → ℕ };
 
     /// Reads bytes into the front of the room, and returns how many. 0 for room that isn't empty is
@@ -33,12 +33,12 @@ pub trait Source {
         ensures failed { OnErr result (CountsFailure (failures self.old) (failures self.new)) };
 }
 
-/// What bytes are written to.
+/// A device that bytes are written to.
 pub trait Sink {
-    /// The bytes that it took, where they are known.
+    /// The bytes that the sink took, where they are known.
     ghost contents: { Self → Option (List ℕ) };
 
-    /// How often it has failed.
+    /// How often the sink has failed.
     ghost failures: { Self → ℕ };
 
     /// Takes bytes from the front of the piece, and returns how many: at least one of a piece that
@@ -51,7 +51,7 @@ pub trait Sink {
         ensures failed { OnErr result (CountsFailure (failures self.old) (failures self.new)) };
 }
 
-/// One failure more, as far as failures are counted.
+/// Counts one more failure, up to the greatest number that there is, and returns the error.
 fn count_failure(failures: &mut u64) -> Failed
     ensures { CountsFailure failures.old failures.new }
 {
@@ -94,14 +94,14 @@ impl Source for MemorySource<'_> {
     }
 }
 
-/// A sink over memory: it keeps the bytes, and fails only where it is out of memory.
+/// A sink over memory: it keeps the bytes, and its only failure is out of memory.
 #[derive(Drop)]
 pub struct MemorySink {
     taken: Vec<u8>,
     failures: u64,
 }
 
-/// What a sink over memory is seen as: the bytes that it took, and how often it was out of memory.
+/// The view of a sink over memory: the bytes that it took, and how often it was out of memory.
 impl Model for MemorySink {
     ghost Value = { List ℕ × ℕ };
 
@@ -118,7 +118,7 @@ impl MemorySink {
         }
     }
 
-    /// The bytes that it took.
+    /// The bytes that the sink took.
     pub fn bytes(&self) -> &[u8]
         ensures { result.now ≡ self.now.0 }
     {
@@ -147,7 +147,7 @@ pub struct StreamSource<R> {
     failures: u64,
 }
 
-/// What a source over a stream is seen as: the stream, and how often it failed.
+/// The view of a source over a stream: the stream, and how often it failed.
 impl<R> Model for StreamSource<R> {
     ghost Value = { R × ℕ };
 
@@ -187,7 +187,7 @@ pub struct StreamSink<W> {
     failures: u64,
 }
 
-/// What a sink over a stream is seen as: the stream, and how often it failed.
+/// The view of a sink over a stream: the stream, and how often it failed.
 impl<W> Model for StreamSink<W> {
     ghost Value = { W × ℕ };
 

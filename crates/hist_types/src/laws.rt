@@ -15,7 +15,7 @@ ghost use Rattle.hist_types.specs.declared.types.Refusal.{Refusal};
 use crate::types::Level;
 use std::cmp::Ordering;
 
-/// The limits in numbers.
+/// Each limit is this number.
 pub fn limits_in_numbers()
     ensures process { MAX_PROCESS ≡ 2147483647 }
     ensures micro_ops { MAX_MICRO_OPS ≡ 256 }

@@ -9,7 +9,7 @@ use std::fmt;
 use std::marker::Model;
 use thiserror::Error;
 
-/// What an operation of a history says of its process.
+/// The kind of an operation: a process invokes a transaction, or learns how one ended.
 #[derive(Clone, Copy, Debug, PartialEq, Eq)]
 pub enum OpKind {
     Invoke,
@@ -21,16 +21,16 @@ pub enum OpKind {
 /// How an operation ended, as its client saw it.
 #[derive(Clone, Copy, Debug, PartialEq, Eq)]
 pub enum Outcome {
-    /// It happened.
+    /// The transaction happened.
     Ok,
-    /// It did not happen.
+    /// The transaction did not happen.
     Fail,
-    /// Nobody knows.
+    /// Nobody knows whether the transaction happened.
     Info,
 }
 
-/// Which order edges a cycle may use: none, those within a process, or those of real time. They are
-/// ordered so.
+/// Which order edges a cycle may use: none, those within a process, or those of real time. Levels
+/// are in this order.
 #[derive(Clone, Copy, Debug, PartialEq, Eq, PartialOrd, Ord)]
 pub enum Level {
     Plain,
@@ -130,7 +130,7 @@ pub enum Refusal {
 }
 
 impl Refusal {
-    /// The number that is printed.
+    /// The refusal's number, as it is printed.
     pub const fn number(self) -> u32
         ensures { result ≡ number_of self }
     {
@@ -167,7 +167,7 @@ impl Refusal {
         }
     }
 
-    /// The name that is printed.
+    /// The refusal's name, as it is printed.
     pub const fn name(self) -> &'static str
         ensures { result.now ≡ name_of self }
     {
@@ -226,7 +226,7 @@ impl Fault {
     ghost use Rattle.std.specs.Prelude.{◌≡◌};
     ghost use Rattle.hist_types.specs.Refusals.{memory_fault};
 
-    /// Out of memory, which has no place.
+    /// The fault of a call that is out of memory. It has no place.
     pub const fn memory() -> Fault
         ensures { result ≡ memory_fault }
     {

@@ -5,7 +5,7 @@ ghost use Rattle.hist_types.specs.Pieces.{HasTaken, HasTakenInPart};
 
 use crate::device::{Failed, Sink};
 
-/// Hands all the bytes to a sink, or a beginning of them where it fails. It takes no memory.
+/// Writes all bytes to a sink, or a beginning of them if the sink fails. It takes no memory.
 pub fn write_all<T: Sink>(sink: &mut T, bytes: &[u8]) -> Result<(), Failed>
     ensures ok { OnOk result (HasTaken T.Sink sink.old sink.new bytes.now) }
     ensures err { OnErr result (HasTakenInPart T.Sink sink.old sink.new bytes.now) }

@@ -32,8 +32,8 @@ ghost use Rattle.hist_types.specs.declared.types.Level.{Level};
 ghost use Rattle.hist_types.specs.declared.types.Level.TheVariants.{Process, Realtime};
 ghost use Rattle.hist_types.specs.declared.types.Phenomenon.{Phenomenon};
 
-/// A journal grows block by block, and its events keep its rules. Operations keep them if each part
-/// of them does after what comes before it.
+/// A journal grows block by block, and its events keep its rules. Operations keep the rules if each
+/// part of them does after the operations that come before it.
 pub fn blocks_one_after_another()
     ensures push { (blocks : List (List Operation)) → GrowBlockByBlock blocks }
     ensures kept { (blocks : List (List Operation)) → KeepsRules (events_of blocks) }
@@ -143,8 +143,8 @@ pub fn phenomena_have_witnesses()
         → WalksHaveWitnesses keys phenomenon level }
 {}
 
-/// Edges in order are those that were given, one for each place, and they rise. All dependency
-/// edges of a history are there.
+/// Edges in order rise, and are among those that were given: of edges that the order doesn't tell
+/// apart there is one. All dependency edges of a history are there.
 pub fn edges_in_order()
     ensures among { (es : List Edge) → (e : Edge) → Contains (in_order es) e → Contains es e }
     ensures places { (es : List Edge) → All (HasOneAtItsPlace (in_order es)) es }

@@ -18,15 +18,15 @@ pub(crate) struct Span {
     end: u32,
 }
 
-/// What each transaction reads and installs, by place.
+/// What each transaction reads and installs, by its index in the history.
 pub(crate) struct Accesses {
     /// The numbers of all transactions.
     numbers: Vec<u32>,
-    /// By place.
+    /// Where the numbers of each transaction are, by its index.
     spans: Vec<Span>,
 }
 
-// Written out, as what is derived is repeated wherever one is dropped.
+// By hand: a derived drop is inlined at every exit, which slows the prover (CONTRIBUTING.md).
 impl Drop for Accesses {
     fn drop(self) {
         let Accesses {
@@ -60,7 +60,7 @@ fn append(numbers: &mut Vec<u32>, accesses: &[Access]) -> Result<(), AllocError>
 }
 
 impl Accesses {
-    /// No transaction yet, with room for n.
+    /// The accesses of no transactions, with room for n.
     pub fn with_capacity(alloc: Global, transactions: usize) -> Result<Self, AllocError>
         ensures { IfOk result (λ accesses. accesses ≡ []) }
     {
@@ -77,7 +77,7 @@ impl Accesses {
         self.spans.len()
     }
 
-    /// Adds the next transaction.
+    /// Adds the accesses of the next transaction.
     pub fn push(&mut self, reads: &[Access], installs: &[Access]) -> Result<(), AllocError>
         ensures { OnOk result (self.new ≡ with_accessed self.old reads.now installs.now) }
     {

@@ -48,7 +48,7 @@ fn follow_all(
     Ok(())
 }
 
-/// Adds what the transaction at this place installs, each after its earlier versions.
+/// Adds what the transaction at this index installs, each after its earlier versions.
 fn follow_steps(
     followers: &mut Vec<(u32, Follower)>,
     marks: &mut [u32],
@@ -81,7 +81,7 @@ fn follow_steps(
     Ok(())
 }
 
-/// How many of the followers, from the first on, are of the transaction at this place.
+/// How many of the followers, from the first on, are of the transaction at this index.
 fn count_of(followers: &[(u32, Follower)], place: u32) -> usize
     ensures { result ≡ run_of place followers.now }
 {
@@ -93,8 +93,8 @@ fn count_of(followers: &[(u32, Follower)], place: u32) -> usize
     followers.len()
 }
 
-/// The followers of n versions, in the order of their places, with those that the earlier versions
-/// of each version add. Room is made at once for one more for each step.
+/// The followers of n versions, in the order of their transactions, with those that the earlier
+/// versions of each version add. Room is made at once for one more for each step.
 pub(crate) fn with_steps(
     alloc: Global,
     versions: usize,

@@ -40,11 +40,11 @@ pub struct KeptVersions<'a, S: BuildHasher> {
     keys: KeyOrder,
     numbering: Numbering<'a, S>,
     accesses: KeptAccesses,
-    /// A buffer for those of one transaction.
+    /// A buffer for the accesses of one transaction.
     accessed: Accessed,
 }
 
-// Written out, as what is derived is repeated wherever one is dropped.
+// By hand: a derived drop is inlined at every exit, which slows the prover (CONTRIBUTING.md).
 impl<S: BuildHasher + Drop> Drop for KeptVersions<'_, S> {
     fn drop(self) {
         let KeptVersions {
@@ -70,7 +70,7 @@ impl<'a, S: BuildHasher> Model for KeptVersions<'a, S> {
 }
 
 impl<'a, S: BuildHasher + Copy> KeptVersions<'a, S> {
-    /// No transaction yet.
+    /// The versions of no transactions.
     pub fn new(alloc: Global, hasher: S, keys: KeyOrder) -> Self
         ensures kept { AreKept [] result }
         ensures keys { result.keys ≡ keys }
@@ -83,7 +83,7 @@ impl<'a, S: BuildHasher + Copy> KeptVersions<'a, S> {
         }
     }
 
-    /// No transaction yet, and room for n. Some versions may have numbers already.
+    /// The versions of no transactions, with room for n. Some versions may have numbers already.
     fn with_capacity(
         alloc: Global,
         numbering: Numbering<'a, S>,
@@ -173,8 +173,8 @@ impl<'a, S: BuildHasher + Copy> KeptVersions<'a, S> {
         Ok(())
     }
 
-    /// Updates the transaction at this place, which is now completed. A fail or an info says
-    /// nothing of what was read.
+    /// Updates the transaction at this index in the history, which is now completed. A fail or an
+    /// info says nothing of what was read.
     pub fn complete(&mut self, place: usize, txn: &Txn<'a>) -> Result<(), AllocError>
         requires { (ts : List Transaction) × AreKept ts self.old × (place < length ts) }
         ensures kept { (ts : List Transaction) (t : Transaction)
@@ -207,7 +207,7 @@ impl<'a, S: BuildHasher + Copy> KeptVersions<'a, S> {
         self.numbering.len()
     }
 
-    /// What the transaction at this place reads externally, if it is ok.
+    /// What the transaction at this index reads externally, if it is ok.
     pub fn reads(&self, place: usize) -> &[Access]
         requires { place < length self.now.accesses }
         ensures { slice_get (map (λ a. a.reads) self.now.accesses) place ≡ Some result.now }
@@ -215,7 +215,7 @@ impl<'a, S: BuildHasher + Copy> KeptVersions<'a, S> {
         self.accesses.reads(place)
     }
 
-    /// What the transaction at this place writes.
+    /// What the transaction at this index writes.
     pub fn writes(&self, place: usize) -> &[Access]
         requires { place < length self.now.accesses }
         ensures { slice_get (map (λ a. a.writes) self.now.accesses) place ≡ Some result.now }
@@ -223,7 +223,7 @@ impl<'a, S: BuildHasher + Copy> KeptVersions<'a, S> {
         self.accesses.writes(place)
     }
 
-    /// What the micro-operations of the transaction at this place read and write, if it is ok and
+    /// What the micro-operations of the transaction at this index read and write, if it is ok and
     /// keys are sequential.
     pub fn seen(&self, place: usize) -> &[Access]
         requires { place < length self.now.accesses }

@@ -45,22 +45,22 @@ impl KeptSpan {
     }
 }
 
-/// How many there are. More than 65,535, which no transaction has, are out of memory.
+/// How many accesses there are. More than 65,535, which no transaction has, are out of memory.
 fn count_of(accesses: &[Access]) -> Result<u16, AllocError>
     ensures { IfOk result (λ count. count ≡ length accesses.now) }
 {
     u16::try_from(accesses.len()).map_err(|_| AllocError)
 }
 
-/// The accesses of each transaction, by place.
+/// The accesses of each transaction, by its index in the history.
 pub(crate) struct KeptAccesses {
-    /// Those of all transactions. When a transaction gets others, those that it had stay, unused.
+    /// The accesses of all transactions. When a transaction gets others, its old ones stay, unused.
     accesses: Vec<Access>,
-    /// By place.
+    /// Where the accesses of each transaction are, by its index.
     spans: Vec<KeptSpan>,
 }
 
-// Written out, as what is derived is repeated wherever one is dropped.
+// By hand: a derived drop is inlined at every exit, which slows the prover (CONTRIBUTING.md).
 impl Drop for KeptAccesses {
     fn drop(self) {
         let KeptAccesses {
@@ -103,7 +103,7 @@ fn append(accesses: &mut Vec<Access>, accessed: &Accessed) -> Result<KeptSpan, A
 }
 
 impl KeptAccesses {
-    /// No transaction yet.
+    /// The accesses of no transactions.
     pub fn new(alloc: Global) -> Self
         ensures { result ≡ [] }
     {
@@ -113,7 +113,7 @@ impl KeptAccesses {
         }
     }
 
-    /// No transaction yet, with room for n of four micro-operations each.
+    /// The accesses of no transactions, with room for n of four micro-operations each.
     pub fn with_capacity(alloc: Global, transactions: usize) -> Result<Self, AllocError>
         ensures { IfOk result (λ accesses. accesses ≡ []) }
     {
@@ -130,7 +130,7 @@ impl KeptAccesses {
         self.spans.len()
     }
 
-    /// Adds the next transaction.
+    /// Adds the accesses of the next transaction.
     pub fn push(&mut self, accessed: &Accessed) -> Result<(), AllocError>
         ensures { OnOk result (self.new ≡ self.old ++ accesses_of accessed.now ∷ []) }
     {
@@ -139,7 +139,7 @@ impl KeptAccesses {
         Ok(())
     }
 
-    /// Replaces those of the transaction at this place.
+    /// Replaces the accesses of the transaction at this index.
     pub fn set(&mut self, place: usize, accessed: &Accessed) -> Result<(), AllocError>
         requires { place < length self.old }
         ensures { OnOk result (self.new ≡ set self.old place (accesses_of accessed.now)) }

@@ -7,13 +7,13 @@ use crate::rows::number_of;
 use std::alloc::{AllocError, Global};
 use std::marker::Model;
 
-/// What a process last read or wrote of a key, which goes by its nil version.
+/// What a process last read or wrote of a key, by the nil version of the key.
 #[derive(Clone, Copy, Debug, PartialEq, Eq)]
 pub(crate) struct Seen {
     process: u64,
     nil: u32,
     version: u32,
-    /// The place of the next older one with the same hash, from 1 on; 0 if there is none.
+    /// The index of the next older entry with the same hash, counted from 1; 0 if there is none.
     next: u32,
 }
 
@@ -21,11 +21,11 @@ pub(crate) struct Seen {
 pub(crate) struct LastSeen {
     alloc: Global,
     seen: Vec<Seen>,
-    /// For each hash the place of the newest one, from 1 on; 0 if there is none.
+    /// For each hash the index of the newest entry, counted from 1; 0 if there is none.
     newest: Vec<u32>,
 }
 
-// Written out, as what is derived is repeated wherever one is dropped.
+// By hand: a derived drop is inlined at every exit, which slows the prover (CONTRIBUTING.md).
 impl Drop for LastSeen {
     fn drop(self) {
         let LastSeen {
@@ -46,8 +46,8 @@ impl Model for LastSeen {
     ghost invariant = { λ l. AreLinked l.seen.items l.newest.items };
 }
 
-/// A hash below n of a process and a key. Near numbers have near hashes, since such processes and
-/// keys mostly come at the same time, when what belongs to them had better be near, too.
+/// A hash below n of a process and a key. Near numbers have near hashes: such processes and keys
+/// mostly come at the same time, so their entries had better be near each other, too.
 fn hash_below(n: usize, process: u64, nil: u32) -> usize
     requires { 0 < n }
     ensures value { result ≡ hash_of process nil n }
@@ -58,7 +58,7 @@ fn hash_below(n: usize, process: u64, nil: u32) -> usize
 }
 
 impl LastSeen {
-    /// No process has seen a version. There is room for as much as n transactions mostly see.
+    /// Entries of no processes, with room for as many as n transactions mostly make.
     pub fn with_capacity(alloc: Global, transactions: usize) -> Result<Self, AllocError>
         ensures { IfOk result (λ last. (process nil : ℕ) → last_seen last process nil ≡ None) }
     {
@@ -66,8 +66,8 @@ impl LastSeen {
         LastSeen::with_hashes(alloc, hashes, transactions / 2)
     }
 
-    /// No process has seen a version. The table has this many hashes, and there is room for this
-    /// many versions.
+    /// Entries of no processes, in a table with this many hashes and with room for this many
+    /// versions.
     fn with_hashes(alloc: Global, hashes: usize, versions: usize) -> Result<Self, AllocError>
         requires { 0 < hashes }
         ensures { IfOk result (λ last. (process nil : ℕ) → last_seen last process nil ≡ None) }
@@ -79,7 +79,8 @@ impl LastSeen {
         })
     }
 
-    /// The index of what a process saw of a key, among those that are linked from a place on.
+    /// The index of what a process saw of a key, among the entries that are linked from the first
+    /// one on.
     fn find_from(&self, first: u32, process: u64, nil: u32) -> Option<usize>
         requires { first ≤ length self.now.seen }
         ensures { result ≡ index_from first first process nil self.now.seen }
@@ -148,7 +149,8 @@ impl LastSeen {
         Ok(())
     }
 
-    /// The process now saw this version of the key. Gives the one that it saw last before.
+    /// Notes that the process now saw this version of the key, and returns the one that it saw last
+    /// before.
     pub fn replace(
         &mut self,
         process: u64,

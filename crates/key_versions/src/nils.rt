@@ -31,7 +31,8 @@ pub(crate) fn nil_number<S: BuildHasher>(
     }
 }
 
-/// The same, by a look among the pairs.
+/// The number of the nil version of a key, looked up among the pairs. Where it has none, it gets
+/// one.
 #[inline(never)]
 fn insert_nil<S: BuildHasher>(
     pairs: &mut PairIndex<S>,

@@ -1,4 +1,4 @@
-//! Numbers for versions.
+//! Numbers for versions: an interner of pairs of a key and a value.
 
 ghost use Rattle.std.specs.Prelude.{◌≡◌, ◌<◌, ◌+◌, ◌∷◌, slice_get, [], true, Some, length, IfOk, IfSome, OnOk, None};
 ghost use Rattle.atom_index.specs.Numbers.{AreNumbered, number_in, with_item};
@@ -42,7 +42,7 @@ pub(crate) struct Numbering<'a, S: BuildHasher> {
     nils: Vec<Option<u32>>,
 }
 
-// Written out, as what is derived is repeated wherever one is dropped.
+// By hand: a derived drop is inlined at every exit, which slows the prover (CONTRIBUTING.md).
 impl<'a, S: BuildHasher + Drop> Drop for Numbering<'a, S> {
     fn drop(self) {
         let Numbering {
@@ -105,7 +105,7 @@ pub(crate) fn numbering_of<'a>(
     })
 }
 
-/// A copy of the atoms that have a number.
+/// A copy of the atoms that have numbers.
 fn atoms_of<'a, S: BuildHasher>(
     alloc: Global,
     index: &AtomIndex<'a, S>,
@@ -120,7 +120,7 @@ fn atoms_of<'a, S: BuildHasher>(
 }
 
 impl<'a, S: BuildHasher> Numbering<'a, S> {
-    /// No version yet.
+    /// Numbers of no versions.
     pub fn new(alloc: Global, hasher: S) -> Self
     where
         S: Copy,
@@ -134,7 +134,7 @@ impl<'a, S: BuildHasher> Numbering<'a, S> {
         }
     }
 
-    /// No version yet, and tables as large as is best for n versions.
+    /// Numbers of no versions, in tables as large as is best for n versions.
     pub fn with_capacity(alloc: Global, hasher: S, versions: usize) -> Result<Self, AllocError>
     where
         S: Copy,
@@ -294,7 +294,7 @@ impl<'a, S: BuildHasher> Numbering<'a, S> {
         }))
     }
 
-    /// The version whose number is this many places after the first one.
+    /// The version whose number is `place` above the first one.
     fn with_number(&mut self, first: usize, place: usize) -> Result<Access, AllocError>
         requires distinct { AreNumbered version_eq (versions_of self.old) }
         requires within { first + place < length (versions_of self.old) }
@@ -381,8 +381,8 @@ impl<'a, S: BuildHasher> Numbering<'a, S> {
     }
 
     /// Numbers the versions that a transaction names, and notes which it reads and writes in place
-    /// of what was noted. Of a read of one that is not ok, the nil version of the key is numbered
-    /// alone.
+    /// of what was noted. Of a read of a transaction that is not ok, only the nil version of the
+    /// key is numbered.
     pub fn take(
         &mut self,
         txn: &Txn<'a>,

@@ -35,9 +35,9 @@ impl Access {
 #[derive(Clone, Copy, Debug, PartialEq, Eq)]
 pub(crate) enum Written {
     Never,
-    /// The transaction didn't write the key again.
+    /// The transaction at this index, which didn't write the key again.
     Last(u32),
-    /// It did.
+    /// The transaction at this index, which wrote the key again.
     Over(u32),
 }
 
@@ -52,7 +52,7 @@ impl Written {
         }
     }
 
-    /// Only the first writer is kept.
+    /// The first writer of a version: what is kept, if there is one, or else this one.
     fn or(self, writer: Writer) -> Self
         ensures { writer_in result ≡ option_or (writer_in self) (Some writer) }
     {
@@ -64,16 +64,17 @@ impl Written {
     }
 }
 
-/// What is known of each version so far. Readers and followers come in the order of their places.
+/// What is known of each version so far. Readers and followers come in the order of their
+/// transactions.
 pub(crate) struct Pending {
     writers: Vec<Written>,
-    /// A version, and the place of a transaction that reads it.
+    /// Pairs of a version and the index of a transaction that reads it.
     readers: Vec<(u32, u32)>,
-    /// A version, and what follows it.
+    /// Pairs of a version and a follower of it.
     followers: Vec<(u32, Follower)>,
 }
 
-// Written out, as what is derived is repeated wherever one is dropped.
+// By hand: a derived drop is inlined at every exit, which slows the prover (CONTRIBUTING.md).
 impl Drop for Pending {
     fn drop(self) {
         let Pending {
@@ -105,8 +106,8 @@ pub(crate) struct Grouped {
 }
 
 impl Pending {
-    /// No version yet, with room for this many, and for what n transactions mostly do: each writes
-    /// a version, reads two and installs two.
+    /// What is known of no versions, with room for this many, and for what n transactions mostly
+    /// do: each writes a version, reads two and installs two.
     pub fn with_capacity(
         alloc: Global,
         transactions: usize,
@@ -144,7 +145,7 @@ impl Pending {
         self.writers[version as usize] = self.writers[version as usize].or(writer);
     }
 
-    /// Followers are added in the order of their places.
+    /// Adds a follower of the version. Followers are added in the order of their transactions.
     pub fn follow(&mut self, version: u32, follower: Follower) -> Result<(), AllocError>
         requires version { version < length self.old }
         requires order { All (FollowersAreUpTo follower.txn) self.old }
@@ -162,8 +163,8 @@ impl Pending {
         Ok(())
     }
 
-    /// The transaction at the place reads the version. What it installs follows; after nil that is
-    /// known already.
+    /// Adds a read of the version by the transaction at this index. What the transaction installs
+    /// follows the version; after nil that is known already.
     pub fn read(&mut self, place: u32, read: Access, installs: &[Access]) -> Result<(), AllocError>
         requires version { read.version < length self.old }
         requires order { All (FollowersAreUpTo place) self.old }

@@ -26,8 +26,8 @@ impl Model for ProcessSteps {
 }
 
 impl ProcessSteps {
-    /// No process has seen a version. There is room for as much as n transactions mostly see; what
-    /// comes beyond that makes the table grow.
+    /// The steps of no processes, with room for as much as n transactions mostly see. What comes
+    /// beyond that makes the table grow.
     pub fn with_capacity(alloc: Global, transactions: usize) -> Result<Self, AllocError>
         ensures { IfOk result (λ steps. (process nil : ℕ) → last_seen steps process nil ≡ None) }
     {
@@ -37,9 +37,9 @@ impl ProcessSteps {
         })
     }
 
-    /// Takes the next ok transaction of a process, which reads, writes and sees this. Gives its
-    /// steps, of each the number of the later version and that of the earlier one. The only error
-    /// is out of memory.
+    /// Takes the next ok transaction of a process, by what it reads, writes and sees. It returns
+    /// the steps of the process, each by the number of its later version and that of its earlier
+    /// one. The only error is out of memory.
     pub fn take(
         self,
         process: u64,

@@ -15,14 +15,14 @@ use crate::push::push;
 use crate::types::{Follower, Writer};
 use std::alloc::{AllocError, Global};
 
-/// A place as a number. What has more places than there are numbers is out of memory.
+/// An index as a number of 32 bits. A list with more items is out of memory.
 pub(crate) fn number_of(place: usize) -> Result<u32, AllocError>
     ensures { IfOk result (λ number. number ≡ place) }
 {
     u32::try_from(place).map_err(|_| AllocError)
 }
 
-/// Whether one of them is of the key with this nil version.
+/// Whether one of the accesses is of the key with this nil version.
 pub(crate) fn has_key(accesses: &[Access], nil: u32) -> bool
     ensures { result ≡ has_nil nil accesses.now }
 {
@@ -35,7 +35,7 @@ fn has_version(accesses: &[Access], version: u32) -> bool
     accesses.iter().any(|access| access.version == version)
 }
 
-/// Adds the writes of a transaction, and notes those that it installs in place of what was noted.
+/// Adds the writes of a transaction, and lists those that it installs in place of what was listed.
 fn add_writes(
     rows: &mut Pending,
     installs: &mut Vec<Access>,
@@ -123,7 +123,7 @@ impl Rows {
         Ok(rows)
     }
 
-    /// Adds rows until there are as many.
+    /// Adds rows until there are as many as versions.
     fn grow(&mut self, versions: usize) -> Result<(), AllocError>
         ensures rows { OnOk result (self.new.rows ≡ grown versions self.old.rows) }
         ensures accesses { OnOk result (self.new.accesses ≡ self.old.accesses) }
@@ -134,7 +134,7 @@ impl Rows {
         Ok(())
     }
 
-    /// Adds the next transaction.
+    /// Adds the accesses of the next transaction.
     fn add(&mut self, reads: &[Access], writes: &[Access]) -> Result<(), AllocError>
         requires reads { All (IsWithin (length self.old.rows)) reads.now }
         requires writes { All (IsWithin (length self.old.rows)) writes.now }

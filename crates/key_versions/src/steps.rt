@@ -18,7 +18,7 @@ use flat_groups::groups::Groups;
 use std::alloc::{AllocError, Global};
 use txn_pairs::types::{Status, Txn};
 
-/// The last version of the key with this nil version.
+/// The version that was seen last of the key with this nil version.
 fn last_of(seen: &[Access], nil: u32) -> Option<u32>
     ensures { result ≡ last_number nil seen.now }
 {
@@ -42,8 +42,7 @@ pub(crate) struct Steps {
 }
 
 impl Steps {
-    /// No process has seen a version, and there is room for what n transactions mostly do: two
-    /// steps each.
+    /// The steps of no processes, with room for what n transactions mostly do: two steps each.
     pub fn with_capacity(alloc: Global, transactions: usize) -> Result<Self, AllocError>
         ensures last { IfOk result
             (λ steps. (process nil : ℕ) → last_seen steps.last process nil ≡ None) }
@@ -56,7 +55,7 @@ impl Steps {
     }
 
     /// Adds the step of a process from what it last saw of a key to this version, if it is one, and
-    /// remembers what it sees last now, which is among these.
+    /// remembers what it sees last now, which is one of these accesses.
     fn step(&mut self, process: u64, to: Access, seen: &[Access]) -> Result<(), AllocError>
         ensures taken { OnOk result
             (self.new.taken.items
@@ -167,7 +166,7 @@ impl Steps {
         Ok(())
     }
 
-    /// What processes saw is freed.
+    /// The steps alone. What processes saw is freed.
     fn into_taken(self) -> Vec<(u32, u32)>
         ensures { result.items ≡ self.taken.items }
     {

@@ -20,12 +20,13 @@ use std::marker::Model;
 pub struct KeyNumbers {
     /// How many keys there are.
     pub count: usize,
-    /// By number of version, the number of its key.
+    /// The number of each version's key, by number of version.
     pub of_versions: Vec<usize>,
 }
 
 /// The versions that a history names, with what its transactions do with each. Versions go by
-/// number, transactions by their place in the history. No call takes memory.
+/// number, transactions by `place`, their index in the history. No call but `key_numbers` takes
+/// memory.
 pub struct Versions<'a> {
     order: KeyOrder,
     keys: Vec<Atom<'a>>,
@@ -38,7 +39,7 @@ pub struct Versions<'a> {
     accesses: Accesses,
 }
 
-// Written out, as what is derived is repeated wherever one is dropped.
+// By hand: a derived drop is inlined at every exit, which slows the prover (CONTRIBUTING.md).
 impl Drop for Versions<'_> {
     fn drop(self) {
         let Versions {
@@ -82,7 +83,7 @@ fn keys_in(alloc: Global, pairs: &[(u32, Option<u32>)]) -> Result<Vec<usize>, Al
 }
 
 impl<'a> Versions<'a> {
-    /// The versions with these keys and values, and what is known of each.
+    /// The table of the versions with these keys and values, and of what is known of each.
     pub(crate) fn new(
         order: KeyOrder,
         numbered: Numbered<'a>,
@@ -164,7 +165,7 @@ impl<'a> Versions<'a> {
         self.writers[number].writer()
     }
 
-    /// The places of the ok transactions that read the version externally, in order, each once.
+    /// The indexes of the ok transactions that read the version externally, in order, each once.
     pub fn readers(&self, number: usize) -> &[u32]
         requires { number < length self.now.versions }
         ensures { slice_get self.now.readers number ≡ Some result.now }
@@ -172,7 +173,7 @@ impl<'a> Versions<'a> {
         self.readers.get(number)
     }
 
-    /// The transactions that install a version after this one, in the order of their places.
+    /// The transactions that install a version after this one, in their order.
     pub fn followers(&self, number: usize) -> &[Follower]
         requires { number < length self.now.versions }
         ensures { slice_get self.now.followers number ≡ Some result.now }
@@ -180,7 +181,7 @@ impl<'a> Versions<'a> {
         self.followers.get(number)
     }
 
-    /// The numbers of what the transaction at this place reads externally, in order; none where it
+    /// The numbers of what the transaction at this index reads externally, in order; none where it
     /// is not ok.
     pub fn reads(&self, place: usize) -> &[u32]
         requires { place < length self.now.reads }
@@ -189,7 +190,7 @@ impl<'a> Versions<'a> {
         self.accesses.reads(place)
     }
 
-    /// The numbers of what the transaction at this place installs, in order.
+    /// The numbers of what the transaction at this index installs, in order.
     pub fn installs(&self, place: usize) -> &[u32]
         requires { place < length self.now.installs }
         ensures { slice_get self.now.installs place ≡ Some result.now }

@@ -5,15 +5,15 @@ ghost use Rattle.std.specs.Prelude.{◌≡◌};
 use op_view::atom::Atom;
 use std::marker::Model;
 
-/// The transaction that wrote a version, by its place in the history.
+/// The transaction that wrote a version, by its index in the history.
 #[derive(Clone, Copy, Debug, PartialEq, Eq)]
 pub struct Writer {
     pub txn: u32,
-    /// It wrote the key again, so that it doesn't install the version.
+    /// Whether it wrote the key again, so that it doesn't install the version.
     pub over: bool,
 }
 
-/// A transaction that installs a version after another one of the same key, by its place in the
+/// A transaction that installs a version after another one of the same key, by its index in the
 /// history.
 #[derive(Clone, Copy, Debug, Default, PartialEq, Eq)]
 pub struct Follower {
@@ -50,7 +50,7 @@ impl<'a> VersionRef<'a> {
         self.key.copy()
     }
 
-    /// None is nil, which a key has at first.
+    /// The version's value. None is nil, which a key has at first.
     pub fn value(&self) -> Option<Atom<'a>>
         ensures { result ≡ self.now.value }
     {

@@ -10,9 +10,9 @@ use std::alloc::AllocError;
 #[derive(Clone, Copy)]
 pub(crate) enum WriteNumbers<'n> {
     Unknown,
-    /// They are those from this one on, in the order of the writes.
+    /// The numbers from this one on, in the order of the writes.
     Consecutive(usize),
-    /// Mostly they are those of these writes, with which the transaction was invoked.
+    /// Mostly the numbers of these writes, with which the transaction was invoked.
     Invoked(&'n [Access]),
 }
 

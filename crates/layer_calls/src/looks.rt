@@ -1,4 +1,4 @@
-//! What is told of a history without a graph.
+//! Looks at a history without a graph.
 
 ghost use Rattle.std.specs.Prelude.{◌≡◌};
 ghost use Rattle.hist_types.specs.Transactions.{transactions_of};
@@ -22,7 +22,7 @@ use std::hash::{BuildHasherDefault, FoldHasher};
 use txn_pairs::pair;
 use txn_pairs::types::Txns;
 
-/// What an order of the nodes tells.
+/// What an order of the nodes rules out.
 #[derive(Clone, Copy, Debug)]
 struct Settled {
     settles: bool,
@@ -73,7 +73,7 @@ fn told_of<'a>(
 ) -> Result<(Settled, Found), Fault>
     requires { txns.now ≡ transactions_of prefix.now }
 {
-    // Called for its clause that the events keep the rules, which the proof cites.
+    // Called for its clause: the events keep the rules.
     let _rules = prefix.events();
     let hasher = BuildHasherDefault::<FoldHasher>::new();
     let versions = versions(alloc, txns, hasher, KeyOrder::Basic)?;
@@ -81,7 +81,7 @@ fn told_of<'a>(
     Ok((settled_of(alloc, &deps)?, found_of(alloc, &deps)?))
 }
 
-/// Looks at the history of standard input, and prints what is told.
+/// Looks at the history of standard input, and prints what the looks find.
 pub fn run<R: Print>(rt: &R, alloc: Global, block: &Block) -> Result<(), Stopped> {
     let core = Core::new(alloc).append(block)?;
     let prefix = core.prefix()?;

@@ -1,5 +1,5 @@
-//! What comes before each transaction: all pairs, thinned, and by a frontier that moves from event
-//! to event.
+//! The predecessors of each transaction: as all pairs, thinned, and by a frontier that moves from
+//! event to event.
 
 ghost use Rattle.std.specs.Prelude.{◌≡◌, IfOk};
 ghost use Rattle.order_frontier.specs.Predecessors.{AreOfEvents};
@@ -19,7 +19,7 @@ use std::io;
 use txn_pairs::pair;
 use txn_pairs::types::Txns;
 
-/// Prints the transactions before one, by the indexes of their invocations.
+/// Prints a transaction's predecessors, by the indexes of their invocations.
 fn print_before<R: Print>(rt: &R, word: &str, before: &[Predecessor]) -> io::Result<()> {
     print!(rt; " {word}")?;
     for predecessor in before {
@@ -28,7 +28,7 @@ fn print_before<R: Print>(rt: &R, word: &str, before: &[Predecessor]) -> io::Res
     Ok(())
 }
 
-/// Prints what comes before a transaction, whose invocation isn't said, in a line.
+/// Prints the predecessors of a transaction, whose invocation isn't said, in a line.
 fn print_line<R: Print>(
     rt: &R,
     form: &str,
@@ -41,7 +41,7 @@ fn print_line<R: Print>(
     println!(rt)
 }
 
-/// Prints what comes before each transaction in this order.
+/// Prints the predecessors of each transaction in this order.
 fn print_order<R: Print>(rt: &R, form: &str, order: &Order) -> io::Result<()> {
     for place in 0..order.len() {
         print_line(rt, form, order.in_process(place), order.in_realtime(place))?;
@@ -49,7 +49,7 @@ fn print_order<R: Print>(rt: &R, form: &str, order: &Order) -> io::Result<()> {
     Ok(())
 }
 
-/// Moves the frontier by an event, and prints what comes before a transaction that it invokes.
+/// Moves the frontier by an event, and prints the predecessors of a transaction that it invokes.
 fn step<R: Print>(
     rt: &R,
     alloc: Global,
@@ -70,7 +70,7 @@ fn step<R: Print>(
     Ok(())
 }
 
-/// Prints what comes before each transaction by a frontier that moves from event to event.
+/// Prints the predecessors of each transaction by a frontier that moves from event to event.
 fn print_moves<R: Print>(rt: &R, alloc: Global, prefix: &Prefix<'_>) -> Result<(), Stopped> {
     let mut frontier = Frontier::new(alloc);
     for index in 0..prefix.events() {
@@ -86,7 +86,7 @@ fn txns_of<'a>(alloc: Global, prefix: &Prefix<'a>) -> Result<Txns<'a>, Fault>
     pair(alloc, prefix.as_events())
 }
 
-/// Prints what comes before each transaction of a history.
+/// Prints the predecessors of each transaction of a history.
 pub fn run<R: Print>(rt: &R, alloc: Global, block: &Block) -> Result<(), Stopped> {
     let core = Core::new(alloc).append(block)?;
     let prefix = core.prefix()?;

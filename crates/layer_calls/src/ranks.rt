@@ -74,7 +74,7 @@ fn all_of_eight() -> [u32; 8]
     [0, 1, 2, 3, 4, 5, 6, 7]
 }
 
-/// The same, the last one first.
+/// The numbers of eight vertices, the last one first.
 fn eight_from_last() -> [u32; 8]
     ensures within { All (λ v. v < 8) result }
     ensures all { (v : ℕ) → v < 8 → Contains result v }

@@ -10,7 +10,7 @@ use std::thread::Threads;
 /// How many cells the row has that threads fill.
 const CELLS: usize = 10_000;
 
-/// How many threads fill it.
+/// How many threads fill that row.
 const THREADS: usize = 8;
 
 /// A block: which caller filled it, and that caller's number for it.

@@ -19,7 +19,7 @@ use verdict::types::Verdict;
 #[derive(Drop)]
 pub struct Kept<'j, S: BuildHasher + Copy> {
     analysis: Analysis<'j, S>,
-    /// How many blocks these are.
+    /// How many blocks the analysis is of.
     blocks: usize,
 }
 
@@ -78,8 +78,8 @@ impl<'j, S: BuildHasher + Copy> Kept<'j, S> {
         })
     }
 
-    /// The verdict of its events. The only error is out of memory. What it finds, the next one
-    /// looks for first.
+    /// The verdict of the events that were analysed. The only error is out of memory. What it
+    /// finds, the next verdict looks for first.
     pub(crate) fn verdict(&mut self) -> Result<Verdict<'j>, Fault>
         ensures same { self.new ≡ self.old }
         ensures ok { IfOk result (IsVerdictOf self.old.keys self.old.events) }

@@ -11,9 +11,10 @@ ghost use Rattle.hist_types.specs.declared.types.Fault.{Fault};
 ghost use Rattle.hist_types.specs.declared.types.KeyOrder.{KeyOrder};
 
 /// Whatever steps seats take, each has seen a beginning of the row, each position of the row is an
-/// own one of exactly one seat, and no two blocks of a seat have the same stamp. Where what fills a
-/// cell counted after what its seat had seen, all blocks count, and the answers, by how many blocks
-/// their seats had seen, are those of one sequential journal, each seat's in its own order.
+/// own one of exactly one seat, and no two blocks of a seat have the same stamp. Where each block
+/// that fills a cell counted after what its seat had seen, all blocks count, and the answers, by
+/// how many blocks their seats had seen, are those of one sequential journal, each seat's in its
+/// own order.
 pub fn interleavings()
     ensures agreed { (keys : KeyOrder) (cells : ℕ) (steps : List Step) (w : World)
         → IsOutcomeOf keys cells at_first steps w → AreAgreed w }
@@ -36,8 +37,8 @@ pub fn found_blocks_are_anothers()
 {}
 
 /// What callers know of their calls and seats makes one history: all calls, in one order, are those
-/// of one sequential journal, which has after each just the blocks that the call's seat has then
-/// seen. Steps of seats at one row give their answers.
+/// of one sequential journal, which has after each call just the blocks that the call's seat has
+/// then seen. Steps of seats at one row give their answers.
 pub fn callers_have_one_history()
     ensures history { (journal : Journal) (callers : List Caller)
         → AreCallersOf journal callers → HaveOneHistory journal callers }

@@ -59,7 +59,7 @@ fn only_token(text: &[u8]) -> Option<TokenKind>
 }
 
 impl<'a> Atom<'a> {
-    /// The atom that the text is; none where the text is anything but one token that is an atom.
+    /// The atom that the text spells, if the text is one token and that token is an atom.
     pub fn read(text: &'a [u8]) -> Option<Atom<'a>>
         ensures { MatchOption result (IsNoAtomText text.now) (IsAtomText text.now) }
     {
@@ -80,7 +80,7 @@ impl<'a> Atom<'a> {
         }
     }
 
-    /// The same atom.
+    /// A copy of the atom.
     pub fn copy(&self) -> Atom<'a>
         ensures { result ≡ self.now }
     {
@@ -97,7 +97,7 @@ impl<'a> Atom<'a> {
         self.text
     }
 
-    /// The number of an integer.
+    /// The atom's number, if it is an integer.
     pub fn as_integer(&self) -> Option<i64>
         ensures { result ≡ number_of self.now }
     {

@@ -10,8 +10,8 @@ use edn_ops::atoms::escape_value;
 use std::cmp::Ordering;
 use std::hash::Hasher;
 
-/// The first byte of the content, and what follows its spelling. None at the end, and where the
-/// escape is unknown.
+/// The first decoded byte of the content, and what comes after its spelling. None at the end, and
+/// where the escape is unknown.
 fn split_first(left: &[u8]) -> Option<(u8, &[u8])>
     ensures { MatchOption result (HasNoByte left.now) (λ x. BeginsWithByte left.now x.0 x.1.now) }
 {

@@ -24,8 +24,8 @@ use std::simd::prelude::*;
 /// The text of the value of a read of nil.
 const NIL: &[u8] = b"nil";
 
-/// A read of a key with what it returned, nil or an atom, or a write of an atom to a key, by the
-/// texts of both.
+/// A micro-operation: a read of a key with what it returned, nil or an atom, or a write of an atom
+/// to a key. It has the texts of both.
 ///
 /// A text is parsed each time it is asked for as an atom.
 #[derive(Drop)]
@@ -60,7 +60,7 @@ fn value_text<'a>(value: Option<Atom<'a>>) -> &'a [u8]
 }
 
 impl<'a> Mop<'a> {
-    /// A read. None is nil.
+    /// A read of a key that returned this value. None is nil.
     pub fn r(key: Atom<'a>, value: Option<Atom<'a>>) -> Self
         ensures { result ≡ read key.entry value.entry }
     {
@@ -72,7 +72,7 @@ impl<'a> Mop<'a> {
         Mop { text }
     }
 
-    /// A write.
+    /// A write of a value to a key.
     pub fn w(key: Atom<'a>, value: Atom<'a>) -> Self
         ensures { result ≡ write key.entry value.entry }
     {
@@ -97,7 +97,7 @@ impl<'a> Mop<'a> {
         atom_of(self.text.key)
     }
 
-    /// What was read or is written. None is nil, which only a read has.
+    /// The value that was read or is written. None is nil, which only a read has.
     #[inline(always)]
     pub fn value(&self) -> Option<Atom<'a>>
         ensures { result ≡ value_of self.now }
@@ -126,7 +126,7 @@ fn key_bytes(text: &[u8], lens: ShortMop) -> &[u8]
     &text[..usize::from(lens.key_len)]
 }
 
-/// The bytes of the value behind it.
+/// The bytes of the value after the key at the front of the text.
 #[inline(always)]
 fn value_bytes(text: &[u8], lens: ShortMop) -> &[u8]
     requires { IsMopAt text.now lens }
@@ -136,7 +136,7 @@ fn value_bytes(text: &[u8], lens: ShortMop) -> &[u8]
     &text[start..start + usize::from(lens.value_len)]
 }
 
-/// What is left of the text behind both.
+/// What is left of the text after the key and the value at its front.
 #[inline(always)]
 fn behind(text: &[u8], lens: ShortMop) -> &[u8]
     requires { IsMopAt text.now lens }
@@ -154,7 +154,7 @@ fn atom_of(bytes: &[u8]) -> Atom<'_>
     Atom::of(bytes)
 }
 
-/// The micro-operation at the front of the text.
+/// The micro-operation whose key and value are at the front of the text.
 fn mop_at(text: &[u8], lens: ShortMop) -> Mop<'_>
     requires { IsMopAt text.now lens }
     ensures { result ≡ mop_of_text text.now lens }
@@ -178,8 +178,7 @@ fn is_nil(text: &[u8]) -> bool
 /// How many bytes of two texts are compared at once.
 const WORD: usize = 16;
 
-/// A bit for each of the first 16 bytes that is another one in the other text, the lowest for the
-/// first.
+/// A bit for each of the first 16 bytes in which the two texts differ, the lowest for the first.
 #[inline(always)]
 fn other_of_16(a: &[u8], b: &[u8]) -> u64
     requires first { WORD ≤ length a.now }
@@ -191,7 +190,7 @@ fn other_of_16(a: &[u8], b: &[u8]) -> u64
         .to_bitmask()
 }
 
-/// How many of the first 16 bytes of both texts are the same ones, from the first one on.
+/// How many of the first 16 bytes come before the first in which the two texts differ.
 #[inline(always)]
 fn same_of_16(a: &[u8], b: &[u8]) -> usize
     requires first { WORD ≤ length a.now }
@@ -206,8 +205,8 @@ fn same_of_16(a: &[u8], b: &[u8]) -> usize
     }
 }
 
-/// Whether both texts begin with the same bytes, as many as these. Texts of few bytes are in the
-/// last operations of a block alone.
+/// Whether the first `len` bytes of both texts are the same. Only the last operations of a block
+/// have texts of few bytes.
 #[inline(always)]
 fn begin_alike(a: &[u8], b: &[u8], len: usize) -> bool
     requires first { len ≤ length a.now }
@@ -221,7 +220,7 @@ fn begin_alike(a: &[u8], b: &[u8], len: usize) -> bool
     }
 }
 
-/// How many bytes the value has that is written. What a read returned counts for nothing.
+/// How many bytes the value of a write has, and 0 for a read: what it returned counts for nothing.
 #[inline(always)]
 fn written_len(mop: ShortMop) -> usize
     ensures { result ≡ written_len mop }
@@ -233,7 +232,7 @@ fn written_len(mop: ShortMop) -> usize
     }
 }
 
-/// Whether the bytes are the same atom. Equal bytes are, and only others are parsed.
+/// Whether two texts are the same atom. Equal texts are, and only others are parsed.
 fn is_same_atom(a: &[u8], b: &[u8]) -> bool
     requires first { IsAtom a.now }
     requires second { IsAtom b.now }
@@ -326,7 +325,7 @@ impl<'a> Model for Mops<'a> {
 }
 
 impl<'a> Mops<'a> {
-    /// The micro-operations that the text has, whose keys and values are so long.
+    /// The micro-operations of a text, whose keys and values have these lengths.
     pub(crate) fn new(text: &'a [u8], left: &'a [ShortMop]) -> Self
         requires { AreMopsAt text.now left.now }
         ensures { result ≡ mops_at text.now left.now }
@@ -334,7 +333,8 @@ impl<'a> Mops<'a> {
         Mops { text, left }
     }
 
-    /// Whether both are the same, one for one, whatever reads returned. Mostly their texts show it.
+    /// Whether these micro-operations and the others are the same, one for one, whatever reads
+    /// returned. Mostly their texts show it.
     pub fn matches(&self, other: &Mops) -> bool
         ensures { result ≡ pointwise same_mop self.now other.now }
     {

@@ -42,7 +42,7 @@ impl<'a> OpView<'a> {
         OpView { block, index }
     }
 
-    /// The same operation.
+    /// A copy of the view.
     pub fn copy(&self) -> OpView<'a>
         ensures { result ≡ self.now }
     {
@@ -52,8 +52,8 @@ impl<'a> OpView<'a> {
         }
     }
 
-    /// Its block and its index in that, from which `of` makes the same operation. A block has at
-    /// most 1,024 operations.
+    /// The operation's block and its index there, from which `of` makes the same view. A block has
+    /// at most 1,024 operations.
     pub fn place(&self) -> (&'a Block, u16)
         ensures { IsPlaceOf result.0.now.operations result.1 self.now }
     {

@@ -12,15 +12,15 @@ use edn_lex::types::TokenKind;
 use edn_ops::atoms::{between_quotes, has_known_escapes, integer_of, number_of_digits, token_kind};
 use memchr::memchr;
 
-/// An atom without its text.
+/// How a text spells an atom, without the text.
 #[derive(Clone, Copy, Debug)]
 pub(crate) enum Spelling {
-    /// The number is parsed once, when the atom is made.
+    /// An integer. Its number is parsed once, when the atom is made.
     Integer(i64),
     Keyword,
-    /// What is between the quotes is the content.
+    /// A string whose content is what is between the quotes.
     PlainString,
-    /// Some bytes of the content are escaped.
+    /// A string in whose content some bytes are escaped.
     EscapedString,
     Symbol,
 }
@@ -39,7 +39,7 @@ impl Spelling {
     }
 }
 
-/// A string whose escapes are all known.
+/// How the text of a string spells it, if all its escapes are known.
 fn string_spelling(text: &[u8]) -> Option<Spelling>
     ensures { MatchOption result (HasNoContent text.now) (IsSpelled Str text.now) }
 {
@@ -77,7 +77,7 @@ fn digit_of(byte: u8) -> Option<u32>
     }
 }
 
-/// The number of up to four digits alone, as most integers are.
+/// The number that at most four digits spell, as most integers do.
 #[inline(always)]
 fn short_number(text: &[u8]) -> Option<u32>
     ensures { IfSome result (λ number. IsNumberOf text.now (pos number)) }
@@ -105,7 +105,7 @@ pub(crate) fn known_spelling(text: &[u8]) -> Spelling
     }
 }
 
-/// The same, where it isn't an integer of a few digits.
+/// How a text that is known to be an atom spells it, where that isn't an integer of a few digits.
 #[inline(never)]
 fn longer_spelling(text: &[u8]) -> Spelling
     requires { (atom : AnAtom) × IsAtomText text.now atom }
@@ -117,7 +117,7 @@ fn longer_spelling(text: &[u8]) -> Spelling
     }
 }
 
-/// The same, however it is spelled.
+/// How a text that is known to be an atom spells it, by its first bytes.
 #[inline(never)]
 fn any_known_spelling(text: &[u8]) -> Spelling
     requires { (atom : AnAtom) × IsAtomText text.now atom }

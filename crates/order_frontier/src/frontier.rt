@@ -66,9 +66,9 @@ impl Frontier {
         self.moving.frontier()
     }
 
-    /// Takes the next event, an invocation of the process, and returns what comes before its
-    /// transaction in thinned order. Out of memory is reported as that, and the frontier is still
-    /// one of the same events.
+    /// Takes the next event, an invocation of the process, and returns the predecessors of its
+    /// transaction in thinned order. After a call that is out of memory the frontier is still one
+    /// of the same events.
     pub fn invoked(&mut self, alloc: Global, process: Process) -> Result<Predecessors, Fault>
         requires { self.old.events < MAX_EVENTS }
         ensures next { OnOk result (IsNext kinds.Invoke process self.old self.new) }
@@ -85,8 +85,8 @@ impl Frontier {
         Ok(before)
     }
 
-    /// Takes the next event, an ok of the process. Out of memory is reported as that, and the
-    /// frontier is still one of the same events.
+    /// Takes the next event, an ok of the process. After a call that is out of memory the frontier
+    /// is still one of the same events.
     pub fn completed_ok(&mut self, process: Process) -> Result<(), Fault>
         requires { self.old.events < MAX_EVENTS }
         ensures next { OnOk result (IsNext kinds.Ok process self.old self.new) }

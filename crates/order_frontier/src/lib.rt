@@ -22,7 +22,7 @@ use txn_pairs::types::Txns;
 /// were a node.
 ///
 /// This is the definition of the order, and it grows with the square of the history: it is for
-/// comparison. Only memory can run out.
+/// comparison. The only error is out of memory.
 pub fn all_pairs(alloc: Global, txns: &Txns<'_>) -> Result<Order, Fault>
     ensures edges { IfOk result (HasOrderEdges txns.now) }
     ensures once { AreOfEvents txns.now → IfOk result (λ order. All NoPredecessorTwice order) }
@@ -36,7 +36,7 @@ pub fn all_pairs(alloc: Global, txns: &Txns<'_>) -> Result<Order, Fault>
 /// the moving frontier at its invocation. It is one pass over the transactions and over the
 /// completions of the ok ones.
 ///
-/// Only memory can run out.
+/// The only error is out of memory.
 pub fn thin(alloc: Global, txns: &Txns<'_>) -> Result<Order, Fault>
     requires { AreOfEvents txns.now }
     ensures edges { IfOk result (HasThinnedEdges txns.now) }

@@ -17,14 +17,14 @@ pub struct Moving {
     last: ProcessMap<Predecessor>,
 }
 
-// Written out, as what is derived is repeated wherever one is dropped.
+// By hand: a derived drop is inlined at every exit, which slows the prover (CONTRIBUTING.md).
 impl Drop for Moving {
     fn drop(self) {
         let Moving { recent: _, last: _ } = self;
     }
 }
 
-/// How many of these, from the first on, completed before the invocation.
+/// How many members of the frontier, from the first on, completed before the invocation.
 fn passed(frontier: &[Predecessor], invocation: u32) -> usize
     ensures count { result ≡ count_passed invocation frontier.now }
     ensures fits { result ≤ length frontier.now }
@@ -37,8 +37,8 @@ fn passed(frontier: &[Predecessor], invocation: u32) -> usize
     frontier.len()
 }
 
-/// Removes those that completed before the invocation, the first ones, and returns how many they
-/// were.
+/// Removes the members of the frontier that completed before the invocation, which are the first
+/// ones, and returns how many they were.
 fn pass(frontier: &mut SmallVec<Predecessor, 8>, invocation: u32) -> usize
     ensures count { result ≡ count_passed invocation frontier.old.items }
     ensures rest { frontier.new.items ≡ drop result frontier.old.items }
@@ -62,8 +62,8 @@ impl Moving {
         }
     }
 
-    /// Those after whose completion no ok transaction was invoked, in the order of their
-    /// completions.
+    /// The ok transactions after whose completion no ok transaction was invoked, in the order of
+    /// their completions.
     pub fn frontier(&self) -> &[Predecessor]
         ensures { result.now ≡ self.now.recent.items }
     {
@@ -95,8 +95,8 @@ impl Moving {
         Ok(Predecessors::new(process, invocation, in_process, in_realtime))
     }
 
-    /// Takes an ok transaction, and returns how many it passes: those that completed before its
-    /// invocation.
+    /// Takes an ok transaction, and returns how many members of the frontier it passes: those that
+    /// completed before its invocation.
     pub fn complete(&mut self, done: Completed) -> Result<usize, AllocError>
         ensures passed { IfOk result
             (λ count. count ≡ count_passed done.invocation self.old.recent.items) }

@@ -9,7 +9,7 @@ use crate::types::{Completed, Order, Predecessor, Row, Span, short};
 use std::alloc::{AllocError, Global};
 use txn_pairs::types::Txn;
 
-/// Whether an ok transaction, unless it is the same one, completed before one was invoked.
+/// Whether an ok transaction completed before another one was invoked.
 fn is_earlier(ok: &Completed, txn: &Txn<'_>) -> bool
     ensures { result ≡ is_earlier txn.now ok.now }
 {
@@ -55,7 +55,7 @@ fn push_before(
     Ok(())
 }
 
-/// What comes before a transaction, which goes into the lists.
+/// The row of a transaction, whose predecessors go into the lists.
 fn row_of(
     done: &[Completed],
     txn: &Txn<'_>,
@@ -90,7 +90,7 @@ fn row_of(
     })
 }
 
-/// The predecessors of each transaction: all of them.
+/// The order with all predecessors of each transaction.
 pub fn all(alloc: Global, txns: &[Txn<'_>]) -> Result<Order, AllocError>
     ensures edges { IfOk result (λ order. HasOrderEdges txns.now order) }
     ensures once { AreOfEvents txns.now → IfOk result (λ order. All NoPredecessorTwice order) }

@@ -15,14 +15,14 @@ use std::alloc::{AllocError, Global};
 use std::marker::Model;
 use txn_pairs::types::Txn;
 
-/// The thinned order of the transactions so far, kept while more events come. What comes before a
-/// transaction is settled when it is invoked, so the order only grows.
+/// The thinned order of the transactions so far, kept while more events come. The predecessors of a
+/// transaction are settled when it is invoked, so the order only grows.
 #[derive(Drop)]
 pub struct Thinning {
     moving: Moving,
     order: Order,
-    /// How many of the frontier, from the first on, are predecessors of the last transaction too.
-    /// The others completed after its invocation.
+    /// How many members of the frontier, from the first on, are predecessors of the last
+    /// transaction too. The others completed after its invocation.
     shared: usize,
 }
 
@@ -94,7 +94,7 @@ impl Thinning {
         }
     }
 
-    /// Takes an ok transaction.
+    /// Takes an ok transaction into the frontier.
     fn pass(&mut self, done: Completed) -> Result<(), AllocError>
         ensures recent { OnOk result (self.new.recent ≡ frontier_after self.old.recent done) }
         ensures last { OnOk result
@@ -134,7 +134,7 @@ impl Thinning {
         Ok(done.len())
     }
 
-    /// Each transaction so far, with what comes before it.
+    /// Each transaction so far, with its predecessors.
     pub fn order(&self) -> &Order
         ensures { (events : List Operation) → IsThinningOf events self.now
             → IsThinnedOrder (transactions_of events) result.now }

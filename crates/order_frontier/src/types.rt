@@ -1,4 +1,4 @@
-//! What comes before each transaction.
+//! The predecessors of each transaction.
 
 ghost use mathlib.Core.List.{IsPrefix, IsSuffix};
 ghost use Rattle.std.specs.Prelude.{◌≡◌, ◌==◌, ◌<◌, ◌≤◌, [], ◌∷◌, ◌++◌, length, take, map, All, OnOk, OnErr, IfOk};
@@ -20,7 +20,7 @@ pub struct Predecessor {
     pub completion: u32,
 }
 
-/// An ok transaction.
+/// What is kept of an ok transaction.
 #[derive(Clone, Copy, Default, PartialEq, Eq, PartialOrd, Ord, Drop)]
 pub(crate) struct Completed {
     pub completion: u32,
@@ -49,7 +49,7 @@ pub struct Predecessors {
     in_realtime: SmallVec<Predecessor, 4>,
 }
 
-// Written out, as what is derived is repeated wherever one is dropped.
+// By hand: a derived drop is inlined at every exit, which slows the prover (CONTRIBUTING.md).
 impl Drop for Predecessors {
     fn drop(self) {
         let Predecessors {
@@ -111,14 +111,14 @@ impl Predecessors {
         self.invocation
     }
 
-    /// What comes before the transaction in its own process.
+    /// The predecessors of the transaction in its own process.
     pub fn in_process(&self) -> &[Predecessor]
         ensures { result.now ≡ self.now.in_process }
     {
         self.in_process.as_slice()
     }
 
-    /// What comes before the transaction in real time.
+    /// The predecessors of the transaction in real time.
     pub fn in_realtime(&self) -> &[Predecessor]
         ensures { result.now ≡ self.now.in_realtime }
     {
@@ -133,14 +133,15 @@ pub(crate) struct Span {
     pub end: u32,
 }
 
-/// No memory holds more predecessors than there are such numbers.
+/// An index as a number of 32 bits. No memory holds more predecessors than there are such numbers.
 fn number(place: usize) -> Result<u32, AllocError>
     ensures { IfOk result (λ n. n ≡ place) }
 {
     u32::try_from(place).map_err(|_| AllocError)
 }
 
-/// No journal has more events or processes than there are such numbers.
+/// An index or a process as a number of 32 bits. No journal has more of them than there are such
+/// numbers.
 pub(crate) fn short(number: u64) -> Result<u32, AllocError>
     ensures { IfOk result (λ n. n ≡ number) }
 {
@@ -176,7 +177,7 @@ pub(crate) struct Row {
     pub in_realtime: Span,
 }
 
-/// Adds a predecessor to the list, if there is one, and returns the range that it is in alone.
+/// Adds a predecessor to the list, if there is one, and returns the range of what was added.
 fn push_last(last: Option<Predecessor>, list: &mut Vec<Predecessor>) -> Result<Span, AllocError>
     ensures kept { IsPrefix list.old.items list.new.items }
     ensures range { IfOk result (λ span. IsRangeOf list.new.items span (option_to_list last)) }
@@ -244,7 +245,7 @@ pub struct Order {
     in_realtime: Vec<Predecessor>,
 }
 
-// Written out, as what is derived is repeated wherever one is dropped.
+// By hand: a derived drop is inlined at every exit, which slows the prover (CONTRIBUTING.md).
 impl Drop for Order {
     fn drop(self) {
         let Order {
@@ -270,7 +271,7 @@ impl Model for Order {
 }
 
 impl Order {
-    /// Transactions with ranges of lists.
+    /// The order of these rows, which are ranges of the lists.
     pub(crate) fn of_ranges(
         rows: Vec<Row>,
         in_process: Vec<Predecessor>,
@@ -308,7 +309,7 @@ impl Order {
         ))
     }
 
-    /// Adds a transaction that is invoked now, with what comes before it. The first `shared` of the
+    /// Adds a transaction that is invoked now, with its predecessors. The first `shared` of the
     /// frontier are the last predecessors of the transaction before it too. Out of memory leaves
     /// the order as it was.
     pub(crate) fn push(
@@ -353,7 +354,7 @@ impl Order {
         self.len() == 0
     }
 
-    /// What comes before a transaction in its own process.
+    /// The predecessors in its own process of the transaction at an index.
     pub fn in_process(&self, place: usize) -> &[Predecessor]
         requires { place < length self.now }
         ensures { result.now ≡ (before_at self.now place).in_process }
@@ -361,7 +362,7 @@ impl Order {
         self.rows[place].in_process.of(&self.in_process)
     }
 
-    /// What comes before a transaction in real time.
+    /// The predecessors in real time of the transaction at an index.
     pub fn in_realtime(&self, place: usize) -> &[Predecessor]
         requires { place < length self.now }
         ensures { result.now ≡ (before_at self.now place).in_realtime }

@@ -1,6 +1,6 @@
 //! Laws of reading: what follows from the definitions of tokens, forms and operations. Each is the
-//! contract of a function that does nothing; the layers that read texts, and those that keep what
-//! was read, cite them.
+//! contract of a function that does nothing. The layers that read texts, and the layers that keep
+//! what was read, cite them.
 #![tactic(auto)]
 
 ghost use Rattle.std.specs.Prelude.{◌↔◌, ◌≡◌, ◌+◌, ℕ, List, [], ◌++◌, Option, None, length, drop, IsTrue, All};
@@ -16,7 +16,7 @@ ghost use Rattle.reading_laws.specs.Placed.{KeepsLimits, IsTextOf, IsIn, IsToken
 ghost use Rattle.hist_types.specs.Reading.{GivesOperations, GivesFrom, Reads};
 ghost use Rattle.hist_types.specs.Tokens.{IsCut, HasTokens, run_of, run_len, Item, ItemKind};
 
-/// A run is the longest row of its bytes at the front of a text.
+/// A run is the longest sequence of bytes of a run at the front of a text.
 pub fn runs_longest()
     ensures bytes { (text : List ℕ) → All (λ b. IsTrue (is_run_byte b)) (run_of text) }
     ensures front { (text : List ℕ) → text ≡ run_of text ++ drop (length (run_of text)) text }
@@ -24,15 +24,15 @@ pub fn runs_longest()
     ensures len { (text : List ℕ) → run_len text ≡ length (run_of text) }
 {}
 
-/// Each text has one reading, as it has one row of tokens, and one cut into items from any offset
-/// and inside any collections.
+/// Each text has one reading, one list of tokens, and one cut into items from any offset and inside
+/// any collections.
 pub fn texts_have_one_reading()
     ensures cut { (text closers : List ℕ) (offset : ℕ) → HasOneReading (IsCut text offset closers) }
     ensures tokens { (text : List ℕ) → HasOneReading (HasTokens text) }
     ensures reading { (text : List ℕ) → HasOneReading (Reads text) }
 {}
 
-/// The bytes of an operation's map, read alone, give the same operation, with its places counted
+/// The bytes of an operation's map, read alone, give the same operation, with its offsets counted
 /// from the map's start, wherever in the text the reading began that gave it.
 pub fn operations_read_alone()
     ensures { (text : List ℕ) (o : PlacedOperation) → IsReadInPart text o → IsIn text o }
@@ -79,7 +79,7 @@ pub fn texts_read_by_forms()
 
 /// A part of a text that reads by itself without a fault is read so in the text, where nothing is
 /// open before it, if it ends with a map at the end of a line or with the text: first come its
-/// operations, and then what is read behind it.
+/// operations, and then what is read after it.
 pub fn parts_read_alone()
     ensures part { (text part behind : List ℕ) (offset : ℕ) (operations later : List Operation)
         (fault : Option Fault) → HasPartAt text offset part behind → EndsWithMap part

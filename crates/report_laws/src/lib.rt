@@ -10,8 +10,8 @@ ghost use Rattle.hist_types.specs.declared.types.KeyOrder.{KeyOrder};
 ghost use Rattle.report_laws.specs.Explained.{PhenomenaRefute, RefutesExplanations};
 
 /// A history that keeps the rules and has a phenomenon, whether its keys are basic or sequential,
-/// has no strict serial explanation: it isn't strictly serializable. So it is for each history, and
-/// for each prefix of a live run, of which a verdict says that it is refuted.
+/// has no strict serial explanation: it isn't strictly serializable. Neither has a history, or a
+/// prefix of a live run, whose verdict says refuted.
 pub fn phenomena_refute()
     ensures phenomena { (keys : KeyOrder) (events : List Operation)
         → KeepsRules events → PhenomenaRefute keys events }

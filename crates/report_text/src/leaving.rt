@@ -10,7 +10,7 @@ use dep_edges::deps::Deps;
 use dep_edges::edge::{Edge, sort_edges};
 use std::alloc::{AllocError, Global};
 
-/// Makes the list that of the edges that leave the transaction at the place, in order.
+/// Replaces the list by the edges that leave the transaction at an index, in order.
 fn find_leaving<'a>(
     deps: &Deps<'_, 'a>,
     place: usize,

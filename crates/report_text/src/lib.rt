@@ -1,4 +1,4 @@
-//! Reports of a history, and their texts: each line of theirs is written here, and nowhere else.
+//! Reports of a history, and their texts. Each line of a report is written here, and nowhere else.
 //!
 //! A report is a value, and its text a function of it.
 #![tactic(auto)]

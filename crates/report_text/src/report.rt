@@ -45,7 +45,7 @@ impl<'a> Model for Findings<'a> {
 }
 
 impl<'a> Findings<'a> {
-    /// That nothing is found.
+    /// Findings without any phenomenon.
     pub fn none() -> Self
         ensures { result ≡ no_findings }
     {
@@ -57,7 +57,7 @@ impl<'a> Findings<'a> {
         }
     }
 
-    /// Whether there is a cycle among them.
+    /// Whether a phenomenon is among the findings.
     pub fn has_cycle(&self) -> bool
         ensures { result ≡ names_cycle self.now }
     {
@@ -78,7 +78,7 @@ pub struct VerdictReport<'a> {
     pub stray: u64,
 }
 
-// Written out, as what is derived is repeated wherever one is dropped.
+// By hand: a derived drop is inlined at every exit, which slows the prover (CONTRIBUTING.md).
 impl Drop for VerdictReport<'_> {
     fn drop(self) {
         let VerdictReport {
@@ -108,7 +108,7 @@ impl<'a> Model for VerdictReport<'a> {
 }
 
 impl VerdictReport<'_> {
-    /// Whether it refutes that the history is strictly serializable.
+    /// Whether the report refutes that the history is strictly serializable.
     pub fn strict(&self) -> Strict
         ensures { result ≡ strict_of self.now }
     {
@@ -148,7 +148,7 @@ impl<'a> Model for ReadsReport<'a> {
 }
 
 impl ReadsReport<'_> {
-    /// Whether it names G1a or G1b.
+    /// Whether the report names G1a or G1b.
     pub fn names_phenomenon(&self) -> bool
         ensures { result ≡ names_read self.now }
     {
@@ -184,7 +184,7 @@ impl<'d, 'v, 'a> Model for EdgesReport<'d, 'v, 'a> {
 }
 
 impl<'d, 'v, 'a> EdgesReport<'d, 'v, 'a> {
-    /// Of so many events and transactions.
+    /// A report of this many events and transactions.
     pub fn new(prefix: u64, txns: usize, deps: &'d Deps<'v, 'a>) -> Self
         requires history { AreOfHistory deps.now.txns }
         requires txns { txns ≡ length deps.now.txns }

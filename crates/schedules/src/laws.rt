@@ -8,7 +8,7 @@ ghost use Rattle.schedules.specs.Schedules.{Schedule, Keeps, IsSerial};
 ghost use Rattle.schedules.specs.declared.types.EdgeKinds.{EdgeKinds};
 
 /// Each cycle of edges that a schedule keeps has a pivot that starts before it commits. So a serial
-/// schedule keeps no cycle, and another one none with a single rw edge.
+/// schedule keeps no cycle, and any other schedule keeps no cycle with a single rw edge.
 pub fn schedules_rule_out_cycles()
     ensures cycles { (keys : KeyOrder) (kinds : EdgeKinds) (ts : List Transaction) (s : Schedule)
         → Keeps keys kinds ts s → CyclesPivot keys kinds ts s }

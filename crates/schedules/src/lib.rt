@@ -1,5 +1,5 @@
-//! Schedules, a start and a commit for each transaction, and the cycles that a history with one has
-//! none of.
+//! Schedules, which give each transaction a start and a commit, and which cycles a schedule rules
+//! out.
 #![tactic(auto)]
 
 pub mod laws;

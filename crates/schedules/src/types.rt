@@ -1,6 +1,6 @@
-//! EdgeKinds of edges.
+//! Kinds of edges.
 
-/// Which kinds of edges count.
+/// A choice of kinds of edges.
 #[derive(Clone, Copy)]
 pub struct EdgeKinds {
     pub ww: bool,
@@ -11,28 +11,28 @@ pub struct EdgeKinds {
 }
 
 impl EdgeKinds {
-    /// Each kind, as any phenomenon may use at any level.
+    /// All kinds, which a phenomenon may use at any level.
     pub const ALL: Self = EdgeKinds {
         ww: true,
         wr: true,
         rw: true,
         order: true,
     };
-    /// Dependency edges, as any phenomenon may use at the level plain.
+    /// Dependency edges, all that a phenomenon may use at the level plain.
     pub const PLAIN: Self = EdgeKinds {
         ww: true,
         wr: true,
         rw: true,
         order: false,
     };
-    /// All but rw edges, as G1c may use at any level.
+    /// All kinds except rw edges, which G1c may use at any level.
     pub const WITHOUT_RW: Self = EdgeKinds {
         ww: true,
         wr: true,
         rw: false,
         order: true,
     };
-    /// All but wr and rw edges, as G0 may use at any level.
+    /// All kinds except wr and rw edges, which G0 may use at any level.
     pub const WITHOUT_READS: Self = EdgeKinds {
         ww: true,
         wr: false,

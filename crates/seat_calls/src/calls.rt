@@ -37,7 +37,7 @@ impl Naming for Brand {
 /// A call of a seat.
 #[derive(Drop)]
 pub enum Call {
-    /// The begin or the completion of a transaction that the block's operation tells.
+    /// Begins or completes a transaction, as the block's operation says.
     Write(Block),
     Import(String),
     Read(u64, u64),
@@ -189,7 +189,7 @@ pub struct SeatOf<'j, 'c, N: Naming> {
     ghost row: { seat.row ≡ N.cells },
 }
 
-// Written out, as what is derived is repeated wherever one is dropped.
+// By hand: a derived drop is inlined at every exit, which slows the prover (CONTRIBUTING.md).
 impl<N: Naming> Drop for SeatOf<'_, '_, N> {
     fn drop(self) {
         let SeatOf {
@@ -222,7 +222,7 @@ impl<'j, 'c, N: Naming> SeatOf<'j, 'c, N> {
         seat
     }
 
-    /// Begins or completes the transaction that an operation tells.
+    /// Begins or completes the transaction, as an operation says.
     fn write_op(&mut self, op: &OpView<'_>) -> Result<u64, Fault> {
         let mops = op.mops().collect::<Vec<Mop>>(self.alloc)?;
         match outcome_of(op.kind()) {

@@ -42,7 +42,7 @@ struct Worker<'j, 'c, N: Naming> {
     is_cut: bool,
 }
 
-// Written out, as what is derived is repeated wherever one is dropped.
+// By hand: a derived drop is inlined at every exit, which slows the prover (CONTRIBUTING.md).
 impl<N: Naming> Drop for Worker<'_, '_, N> {
     fn drop(self) {
         let Worker {
@@ -143,7 +143,7 @@ struct Table<'j, 'c, N: Naming> {
     ghost named: { journal.now.row ≡ N.cells },
 }
 
-// Written out, as what is derived is repeated wherever one is dropped.
+// By hand: a derived drop is inlined at every exit, which slows the prover (CONTRIBUTING.md).
 impl<N: Naming> Drop for Table<'_, '_, N> {
     fn drop(self) {
         let Table {
@@ -163,7 +163,7 @@ struct SeatLine<'l> {
 }
 
 impl SeatLine<'_> {
-    /// None if the line doesn't begin with a number below this one.
+    /// What a line says of a seat. None if it doesn't begin with a number below this one.
     fn of(line: &str, seats: usize) -> Option<SeatLine<'_>> {
         let (number, rest) = line.split_once(' ')?;
         let number = number.parse::<usize>().ok().filter(|it| *it < seats)?;
@@ -173,7 +173,7 @@ impl SeatLine<'_> {
 }
 
 impl<'j, 'c, N: Naming + Send> Table<'j, 'c, N> {
-    /// The seats that are numbered from 0 to below this number.
+    /// A new journal, with seats that are numbered from 0 to below this number.
     fn new<R: Print>(
         rt: &R,
         alloc: Global,

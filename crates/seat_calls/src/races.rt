@@ -75,7 +75,7 @@ struct Racer<'j, 'r, 'c> {
     ghost row: { seen.seat.row ≡ cells.now.row.now },
 }
 
-// Written out, as what is derived is repeated wherever one is dropped.
+// By hand: a derived drop is inlined at every exit, which slows the prover (CONTRIBUTING.md).
 impl Drop for Racer<'_, '_, '_> {
     fn drop(self) {
         let Racer {

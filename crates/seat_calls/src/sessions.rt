@@ -25,8 +25,8 @@ fn lines_of<R: Input>(rt: &R, alloc: Global) -> Result<String, Stopped> {
     Ok(text)
 }
 
-/// A session of the lines of standard input over a source and a sink of so many bytes a call, which
-/// may fail at one of their calls. Prints how it ends, and what the sink took.
+/// A session of the lines of standard input over a source and a sink that move this many bytes a
+/// call, and may fail at one of their calls. Prints how it ends, and what the sink took.
 pub fn run<R: Input + Print + Wait>(
     rt: &R,
     alloc: Global,

@@ -18,7 +18,7 @@ use std::marker::Model;
 #[derive(Drop)]
 pub struct Pairing<'a> {
     txns: Txns<'a>,
-    /// The place of each process's open transaction.
+    /// The index in the list of each process's open transaction.
     places: ProcessMap<usize>,
 }
 
@@ -53,7 +53,7 @@ fn outcome_of(kind: OpKind) -> Option<Outcome>
 }
 
 impl<'a> Pairing<'a> {
-    /// No event was taken yet.
+    /// The pairing of no events.
     pub fn new(alloc: Global) -> Self
         ensures { result ≡ [] }
     {
@@ -71,8 +71,8 @@ impl<'a> Pairing<'a> {
     }
 
     /// Takes the event with this index, which comes after all that were taken, and returns the
-    /// place of the transaction that it begins or completes. A completion of a process with no open
-    /// transaction changes nothing. Out of memory leaves the state as it was.
+    /// index in the list of the transaction that it begins or completes. A completion of a process
+    /// with no open transaction changes nothing. Out of memory leaves the state as it was.
     #[inline(always)]
     pub fn take(&mut self, index: u64, op: OpView<'a>) -> Result<Option<usize>, AllocError>
         requires { index < MAX_EVENTS }
@@ -87,7 +87,7 @@ impl<'a> Pairing<'a> {
         }
     }
 
-    /// Takes an invocation, and returns the place of its transaction.
+    /// Takes an invocation, and returns the index in the list of its transaction.
     #[inline(always)]
     fn begin(&mut self, index: u64, op: OpView<'a>) -> Result<usize, AllocError>
         requires index { index < MAX_EVENTS }
@@ -105,8 +105,8 @@ impl<'a> Pairing<'a> {
         Ok(place)
     }
 
-    /// Takes a completion, and returns the place of the transaction that it completes, if its
-    /// process has one open.
+    /// Takes a completion, and returns the index in the list of the transaction that it completes,
+    /// if its process has one open.
     #[inline(always)]
     fn complete(&mut self, index: u64, outcome: Outcome, op: OpView<'a>) -> Option<usize>
         requires index { index < MAX_EVENTS }

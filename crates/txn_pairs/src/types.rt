@@ -20,7 +20,7 @@ pub enum Status {
     Ok,
     Fail,
     Info,
-    /// It has no completion.
+    /// The transaction has no completion.
     Open,
 }
 
@@ -33,7 +33,7 @@ pub struct Txn<'a> {
     block: &'a Block,
     process: u32,
     invocation: u32,
-    /// The index of its completion. An open one has none, and 0 here.
+    /// The index of its completion among the events. An open transaction has none, and 0 here.
     completion: u32,
     /// The operation's index in its block.
     op_index: u16,
@@ -100,21 +100,21 @@ impl<'a> Txn<'a> {
         }
     }
 
-    /// The number of its process.
+    /// The number of the transaction's process.
     pub fn process(&self) -> u64
         ensures { result ≡ self.now.process }
     {
         u64::from(self.process)
     }
 
-    /// The index of its invocation.
+    /// The index of the transaction's invocation among the events.
     pub fn invocation(&self) -> u64
         ensures { result ≡ self.now.invocation }
     {
         u64::from(self.invocation)
     }
 
-    /// The index of its completion, if it has one.
+    /// The index of the transaction's completion among the events, if it has one.
     pub fn completion(&self) -> Option<u64>
         ensures { result ≡ self.now.completion }
     {
@@ -130,7 +130,8 @@ impl<'a> Txn<'a> {
         self.status
     }
 
-    /// The completion's micro-operations if that is an ok, else the invocation's.
+    /// The micro-operations of the transaction: its completion's if that is an ok, else its
+    /// invocation's.
     pub fn mops(&self) -> Mops<'a>
         ensures { result ≡ self.now.mops }
     {
@@ -166,14 +167,14 @@ impl<'a> Txns<'a> {
         }
     }
 
-    /// Makes room for n more. It changes nothing else.
+    /// Makes room for n more transactions. It changes nothing else.
     pub(crate) fn reserve(&mut self, transactions: usize) -> Result<(), AllocError>
         ensures { self.new ≡ self.old }
     {
         self.list.try_reserve(transactions)
     }
 
-    /// Completes the transaction at this place, which is open, by an event with this index.
+    /// Completes the open transaction at this index in the list by an event with its index.
     pub(crate) fn complete(&mut self, place: usize, index: u64, outcome: Outcome, op: OpView<'a>)
         requires place { place < length self.old }
         requires index { index < MAX_EVENTS }

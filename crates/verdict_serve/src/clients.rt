@@ -33,7 +33,7 @@ struct Place<'j, S, T> {
     client: Client<S, T>,
 }
 
-/// That the client of a place is served by its seat to the end that a thread returns.
+/// The promise that the client of a place is served by its seat to the end that a thread returns.
 #[derive(Drop)]
 struct EndOf<'j, S, T> {
     place: Snapshot<Place<'j, S, T>>,
@@ -76,7 +76,7 @@ fn seated<'j, S: Drop, T: Drop>(
     let mut places = Vec::with_capacity(alloc, clients.len())?;
     for client in clients {
         let Ok(number) = u32::try_from(places.len()) else {
-            // No memory holds so many clients.
+            // No memory holds as many clients as there are numbers.
             return Err(Fault::memory());
         };
         let seat = journal.seat(number)?;

@@ -54,7 +54,7 @@ impl Model for Lines {
 /// What a search for a line's end came to.
 #[derive(Clone, Copy)]
 enum Found {
-    /// The first byte 10 is in this place.
+    /// The first byte 10 is at this offset.
     At(usize),
     /// As many bytes are held as there is room for, and none is a byte 10.
     Full,
@@ -69,7 +69,7 @@ fn line_end(bytes: &[u8]) -> Option<usize>
     memchr(b'\n', bytes)
 }
 
-/// Where the first byte 10 is, which is none of the first bytes.
+/// Where the first byte 10 is, if none of the first `searched` bytes is one.
 fn line_end_after(bytes: &[u8], searched: usize) -> Option<usize>
     requires within { searched ≤ length bytes.now }
     requires unbroken { IsUnbroken (take searched bytes.now) }
@@ -129,7 +129,7 @@ fn skip<R: Wait, S: Source>(window: &mut Window, rt: &R, source: &mut S) -> Resu
 }
 
 impl Lines {
-    /// The only error is out of memory.
+    /// The lines of a source before the first one. The only error is out of memory.
     pub fn new(alloc: Global) -> Result<Lines, AllocError>
         ensures { IfOk result (λ lines. lines.unread ≡ []) }
     {

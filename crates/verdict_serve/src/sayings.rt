@@ -52,7 +52,7 @@ fn all_digits(word: &[u8]) -> bool
     word.iter().all(|b| b.is_ascii_digit())
 }
 
-/// The number that a few digits write.
+/// The number that a few digits spell.
 fn number_of(digits: &[u8]) -> u64
     requires digits { list_all is_ascii_digit digits.now ≡ true }
     requires few { length digits.now ≤ INDEX_DIGITS }
@@ -65,7 +65,7 @@ fn number_of(digits: &[u8]) -> u64
     number
 }
 
-/// The index that a word writes in digits.
+/// The index that a word spells in digits.
 fn index_in(word: &[u8]) -> Option<u64>
     ensures { result ≡ index_of word.now }
 {

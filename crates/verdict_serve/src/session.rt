@@ -36,11 +36,11 @@ pub enum Ended {
     Eof,
 }
 
-/// Why a session ended in no such way.
+/// Why a session ended before its lines did.
 #[derive(Clone, Copy, Debug, PartialEq, Eq)]
 pub enum SessionFault {
-    /// The source or the sink failed, after so many lines had been answered. From the greatest u64
-    /// on they are not counted.
+    /// The source or the sink failed, after `answered` lines had been answered. They are counted up
+    /// to the greatest `u64`.
     Device { answered: u64 },
     /// Out of memory, before anything was read.
     Memory,
@@ -50,9 +50,9 @@ pub enum SessionFault {
 #[derive(Clone, Copy)]
 enum Step {
     Answered,
-    /// It said `quit`, and was answered.
+    /// The line said `quit`, and was answered.
     Quit,
-    /// There was none.
+    /// There was no line.
     End,
 }
 
@@ -131,7 +131,7 @@ fn answer<H: BuildHasher + Copy, T: Sink>(
     }
 }
 
-/// What a line says that came so. None where there is no line.
+/// What the line says that the source gave next, if it gave one.
 fn saying_after(lines: &Lines, next: Next) -> Option<Saying<'_>>
     requires { next ≡ Next.Line → length lines.now.line ≤ MAX_LINE_BYTES }
     ensures { MatchOption result (next ≡ Next.End)
@@ -144,7 +144,7 @@ fn saying_after(lines: &Lines, next: Next) -> Option<Saying<'_>>
     }
 }
 
-/// What becomes of an answered line that says this.
+/// What becomes of a line that says this, once it is answered.
 fn step_for(saying: Saying<'_>) -> Step
     ensures { result ≡ step_for (said saying.entry) }
 {
