@@ -46,83 +46,87 @@ told_to ts f y (reader, v, among, read, given) =
     in_each (λ (t : Transaction). flat_map (f t) (external_reads t)) y reader (filter is_ok ts) (in_filtered is_ok reader ts among parts.0)
     (in_each (f reader) y v (external_reads reader) (in_from_has v (external_reads reader) parts.1) given)
 
--- ---- aborted reads
+-- a writer that passes two tests is told with each read
+abbrev IsFound : List Transaction → (p q : Transaction → Version → Transaction → Bool) → BadRead → Type 0
+IsFound ts p q r =
+    (reader writer : Transaction)
+    × (v : Version)
+    × In reader ts
+    × In writer ts
+    × (is_known_to_read reader v ≡ true)
+    × (p reader v writer ≡ true)
+    × (q reader v writer ≡ true)
+    × (bad_read reader v writer ≡ r)
 
-aborted_from : (ts : List Transaction) (r : BadRead) → In r (aborted_reads ts) → IsAbortedRead ts r
-aborted_from ts r i =
-    let (reader, v, among, read, given) = told_from ts (λ reader v. map (bad_read reader v) (aborted_writers ts v)) r i in
-    let found = in_map (bad_read reader v) r (aborted_writers ts v) given in
-    let test : Transaction → Bool = λ writer. is_failed writer && writes writer v in
-    let both = and_parts (is_failed found.0) (writes found.0 v) (passes_filter test found.0 ts found.1) in
-    subst (IsAbortedRead ts) found.2 (
-      reader,
-      found.0,
-      Contains_from_in reader ts among,
-      Contains_from_in found.0 ts (in_filter test found.0 ts found.1),
-      refl,
-      read,
-      both.0,
-      both.1,
-    )
+abbrev reads_found : List Transaction → (p q : Transaction → Version → Transaction → Bool) → List BadRead
+reads_found ts p q = for_each_read ts (λ reader v. map (bad_read reader v) (filter (λ writer. p reader v writer && q reader v writer) ts))
 
-aborted_to : (ts : List Transaction) (r : BadRead) → IsAbortedRead ts r → In r (aborted_reads ts)
-aborted_to ts r (reader, writer, among, there, is, read, failed, wrote) =
-    let v : Version = r.version in
-    let test : Transaction → Bool = λ t. is_failed t && writes t v in
-    told_to ts (λ reader v. map (bad_read reader v) (aborted_writers ts v)) r (
+found_from : (ts : List Transaction) (p q : Transaction → Version → Transaction → Bool) (r : BadRead) → In r (reads_found ts p q) → IsFound ts p q r
+found_from ts p q r i =
+    let (reader, v, among, read, given) = told_from ts (λ reader v. map (bad_read reader v) (filter (λ writer. p reader v writer && q reader v writer) ts)) r i in
+    let test : Transaction → Bool = λ writer. p reader v writer && q reader v writer in
+    let (writer, there, is) = in_map (bad_read reader v) r (filter test ts) given in
+    let both = and_parts (p reader v writer) (q reader v writer) (passes_filter test writer ts there) in
+    (reader, writer, v, among, in_filter test writer ts there, read, both.0, both.1, is)
+
+found_to : (ts : List Transaction) (p q : Transaction → Version → Transaction → Bool) (r : BadRead) → IsFound ts p q r → In r (reads_found ts p q)
+found_to ts p q r (reader, writer, v, among, there, read, is_p, is_q, is) =
+    let test : Transaction → Bool = λ writer. p reader v writer && q reader v writer in
+    subst (λ b. In b (reads_found ts p q)) is
+    (told_to ts (λ reader v. map (bad_read reader v) (filter (λ writer. p reader v writer && q reader v writer) ts)) (bad_read reader v writer) (
       reader,
       v,
-      in_from_Contains reader ts among,
+      among,
       read,
-      subst (λ b. In b (map (bad_read reader v) (aborted_writers ts v))) (sym is)
-          (in_mapped (bad_read reader v) writer (aborted_writers ts v)
-          (in_filtered test writer ts (in_from_Contains writer ts there) (and_from (is_failed writer) (writes writer v) failed wrote))),
-    )
+      in_mapped (bad_read reader v) writer (filter test ts) (in_filtered test writer ts there (and_from (p reader v writer) (q reader v writer) is_p is_q)),
+    ))
+
+-- ---- aborted reads
+
+abbrev failed_test : Transaction → Version → Transaction → Bool
+failed_test reader v writer = is_failed writer
+
+abbrev wrote_test : Transaction → Version → Transaction → Bool
+wrote_test reader v writer = writes writer v
 
 pub aborted_by_writer : (ts : List Transaction) (r : BadRead) → Contains (aborted_reads ts) r ↔ IsAbortedRead ts r
 aborted_by_writer ts r = (
-  λ c. aborted_from ts r (in_from_Contains r (aborted_reads ts) c),
-  λ a. Contains_from_in r (aborted_reads ts) (aborted_to ts r a),
+  λ c.
+      let (reader, writer, v, among, there, read, failed, wrote, is) = found_from ts failed_test wrote_test r (in_from_Contains r (aborted_reads ts) c) in
+      subst (IsAbortedRead ts) is (reader, writer, Contains_from_in reader ts among, Contains_from_in writer ts there, refl, read, failed, wrote),
+  λ a.
+      let (reader, writer, among, there, is, read, failed, wrote) = a in
+      Contains_from_in r (aborted_reads ts)
+      (found_to ts failed_test wrote_test r (reader, writer, r.version, in_from_Contains reader ts among, in_from_Contains writer ts there, read, failed, wrote, sym is)),
 )
 
 -- ---- intermediate reads
 
-intermediate_from : (ts : List Transaction) (r : BadRead) → In r (intermediate_reads ts) → IsIntermediateRead ts r
-intermediate_from ts r i =
-    let (reader, v, among, read, given) = told_from ts (λ reader v. map (bad_read reader v) (intermediate_writers ts reader v)) r i in
-    let found = in_map (bad_read reader v) r (intermediate_writers ts reader v) given in
-    let test : Transaction → Bool = λ writer. not (writer.invocation == reader.invocation) && wrote_intermediate writer v in
-    let both = and_parts (not (found.0.invocation == reader.invocation)) (wrote_intermediate found.0 v) (passes_filter test found.0 ts found.1) in
-    subst (IsIntermediateRead ts) found.2 (
-      reader,
-      found.0,
-      Contains_from_in reader ts among,
-      Contains_from_in found.0 ts (in_filter test found.0 ts found.1),
-      refl,
-      read,
-      eqb-false found.0.invocation reader.invocation (not-true (found.0.invocation == reader.invocation) both.0),
-      both.1,
-    )
+abbrev apart_test : Transaction → Version → Transaction → Bool
+apart_test reader v writer = not (writer.invocation == reader.invocation)
 
-intermediate_to : (ts : List Transaction) (r : BadRead) → IsIntermediateRead ts r → In r (intermediate_reads ts)
-intermediate_to ts r (reader, writer, among, there, is, read, apart, over) =
-    let v : Version = r.version in
-    let test : Transaction → Bool = λ t. not (t.invocation == reader.invocation) && wrote_intermediate t v in
-    let differ : not (writer.invocation == reader.invocation) ≡ true = ap not (told_apart writer.invocation reader.invocation apart) in
-    told_to ts (λ reader v. map (bad_read reader v) (intermediate_writers ts reader v)) r (
-      reader,
-      v,
-      in_from_Contains reader ts among,
-      read,
-      subst (λ b. In b (map (bad_read reader v) (intermediate_writers ts reader v))) (sym is)
-          (in_mapped (bad_read reader v) writer (intermediate_writers ts reader v)
-          (in_filtered test writer ts (in_from_Contains writer ts there) (and_from (not (writer.invocation == reader.invocation)) (wrote_intermediate writer v) differ over))),
-    )
+abbrev over_test : Transaction → Version → Transaction → Bool
+over_test reader v writer = wrote_intermediate writer v
 
 pub intermediate_by_writer : (ts : List Transaction) (r : BadRead) → Contains (intermediate_reads ts) r ↔ IsIntermediateRead ts r
 intermediate_by_writer ts r = (
-  λ c. intermediate_from ts r (in_from_Contains r (intermediate_reads ts) c),
-  λ a. Contains_from_in r (intermediate_reads ts) (intermediate_to ts r a),
+  λ c.
+      let (reader, writer, v, among, there, read, apart, over, is) = found_from ts apart_test over_test r (in_from_Contains r (intermediate_reads ts) c) in
+      subst (IsIntermediateRead ts) is (
+        reader,
+        writer,
+        Contains_from_in reader ts among,
+        Contains_from_in writer ts there,
+        refl,
+        read,
+        eqb-false writer.invocation reader.invocation (not-true (writer.invocation == reader.invocation) apart),
+        over,
+      ),
+  λ a.
+      let (reader, writer, among, there, is, read, apart, over) = a in
+      let differ : not (writer.invocation == reader.invocation) ≡ true = ap not (told_apart writer.invocation reader.invocation apart) in
+      Contains_from_in r (intermediate_reads ts)
+      (found_to ts apart_test over_test r (reader, writer, r.version, in_from_Contains reader ts among, in_from_Contains writer ts there, read, differ, over, sym is)),
 )
 
 -- ---- stray reads

@@ -1,5 +1,5 @@
 -- Dependency edges by the versions that their ends read and install.
-use Rattle.std.proofs.Common.{◌↔◌, inl, inr, List, ◌++◌, Bool, ◌&&◌, filter, map, Contains, IsTrue, sym, ◌∙◌, ap, subst}
+use Rattle.std.proofs.Common.{◌≡◌, true, ◌↔◌, inl, inr, List, ◌++◌, Bool, ◌&&◌, filter, map, Contains, IsTrue, sym, ◌∙◌, ap, subst}
 use Rattle.std.proofs.lemmas.Bool.{and_parts, and_from, eqb-false}
 use Rattle.hist_types.specs.Edges.{Label, ww, wr, rw, process, realtime, Edge, edge, ww_labels, wr_labels, rw_labels, dependency_labels, dependency_edges}
 use Rattle.history_laws.specs.Dependencies.{Depends, IsDependency}
@@ -19,12 +19,32 @@ the_ww p = ww p.earlier p.later
 abbrev the_rw : VersionPair → Label
 the_rw p = rw p.earlier p.later
 
+-- a label of a pair whose versions pass two tests
+pair_from :
+    (make : VersionPair → Label) (first second : Version → Bool) (pairs : List VersionPair) (l : Label)
+    → In l (map make (filter (λ p. first p.earlier && second p.later) pairs))
+    → (p : VersionPair) × Contains pairs p × (first p.earlier ≡ true) × (second p.later ≡ true) × (make p ≡ l)
+pair_from make first second pairs l i =
+    let test : VersionPair → Bool = λ p. first p.earlier && second p.later in
+    let (p, among, is) = in_map make l (filter test pairs) i in
+    let both = and_parts (first p.earlier) (second p.later) (passes_filter test p pairs among) in
+    (p, Contains_from_in p pairs (in_filter test p pairs among), both.0, both.1, is)
+
+pair_to :
+    (make : VersionPair → Label) (first second : Version → Bool) (pairs : List VersionPair) (v w : Version)
+    → Contains pairs (pair v w)
+    → first v ≡ true
+    → second w ≡ true
+    → In (make (pair v w)) (map make (filter (λ p. first p.earlier && second p.later) pairs))
+pair_to make first second pairs v w among is is' =
+    let test : VersionPair → Bool = λ p. first p.earlier && second p.later in
+    in_mapped make (pair v w) (filter test pairs)
+    (in_filtered test (pair v w) pairs (in_from_Contains (pair v w) pairs among) (and_from (first v) (second w) is is'))
+
 ww_from : (keys : KeyOrder) (ts : List Transaction) (t u : Transaction) (l : Label) → In l (ww_labels (version_pairs keys ts) t u) → Depends keys ts t u l
 ww_from keys ts t u l i =
-    let test : VersionPair → Bool = λ p. installs t p.earlier && installs u p.later in
-    let found = in_map the_ww l (filter test (version_pairs keys ts)) i in
-    let both = and_parts (installs t found.0.earlier) (installs u found.0.later) (passes_filter test found.0 (version_pairs keys ts) found.1) in
-    subst (Depends keys ts t u) found.2 (Contains_from_in found.0 (version_pairs keys ts) (in_filter test found.0 (version_pairs keys ts) found.1), both.0, both.1)
+    let (p, among, installed, later, is) = pair_from the_ww (installs t) (installs u) (version_pairs keys ts) l i in
+    subst (Depends keys ts t u) is (among, installed, later)
 
 wr_from : (keys : KeyOrder) (ts : List Transaction) (t u : Transaction) (l : Label) → In l (wr_labels t u) → Depends keys ts t u l
 wr_from keys ts t u l i =
@@ -34,10 +54,8 @@ wr_from keys ts t u l i =
 
 rw_from : (keys : KeyOrder) (ts : List Transaction) (t u : Transaction) (l : Label) → In l (rw_labels (version_pairs keys ts) t u) → Depends keys ts t u l
 rw_from keys ts t u l i =
-    let test : VersionPair → Bool = λ p. is_known_to_read t p.earlier && installs u p.later in
-    let found = in_map the_rw l (filter test (version_pairs keys ts)) i in
-    let both = and_parts (is_known_to_read t found.0.earlier) (installs u found.0.later) (passes_filter test found.0 (version_pairs keys ts) found.1) in
-    subst (Depends keys ts t u) found.2 (Contains_from_in found.0 (version_pairs keys ts) (in_filter test found.0 (version_pairs keys ts) found.1), both.0, both.1)
+    let (p, among, read, later, is) = pair_from the_rw (is_known_to_read t) (installs u) (version_pairs keys ts) l i in
+    subst (Depends keys ts t u) is (among, read, later)
 
 pub label_depends : (keys : KeyOrder) (ts : List Transaction) (t u : Transaction) (l : Label) → In l (dependency_labels (version_pairs keys ts) t u) → Depends keys ts t u l
 label_depends keys ts t u l i = elim (in_append l (ww_labels (version_pairs keys ts) t u ++ wr_labels t u) (rw_labels (version_pairs keys ts) t u) i) [
@@ -49,20 +67,14 @@ label_depends keys ts t u l i = elim (in_append l (ww_labels (version_pairs keys
 ]
 
 ww_to : (keys : KeyOrder) (ts : List Transaction) (t u : Transaction) (v w : Version) → Depends keys ts t u (ww v w) → In (ww v w) (ww_labels (version_pairs keys ts) t u)
-ww_to keys ts t u v w (is, installed, later) =
-    let test : VersionPair → Bool = λ p. installs t p.earlier && installs u p.later in
-    in_mapped the_ww (pair v w) (filter test (version_pairs keys ts))
-    (in_filtered test (pair v w) (version_pairs keys ts) (in_from_Contains (pair v w) (version_pairs keys ts) is) (and_from (installs t v) (installs u w) installed later))
+ww_to keys ts t u v w (is, installed, later) = pair_to the_ww (installs t) (installs u) (version_pairs keys ts) v w is installed later
 
 wr_to : (t u : Transaction) (v : Version) → IsTrue (installs t v) → IsTrue (is_known_to_read u v) → In (wr v) (wr_labels t u)
 wr_to t u v installed read =
     in_mapped wr v (filter (is_known_to_read u) (installed_by t)) (in_filtered (is_known_to_read u) v (installed_by t) (in_from_has v (installed_by t) installed) read)
 
 rw_to : (keys : KeyOrder) (ts : List Transaction) (t u : Transaction) (v w : Version) → Depends keys ts t u (rw v w) → In (rw v w) (rw_labels (version_pairs keys ts) t u)
-rw_to keys ts t u v w (is, read, later) =
-    let test : VersionPair → Bool = λ p. is_known_to_read t p.earlier && installs u p.later in
-    in_mapped the_rw (pair v w) (filter test (version_pairs keys ts))
-    (in_filtered test (pair v w) (version_pairs keys ts) (in_from_Contains (pair v w) (version_pairs keys ts) is) (and_from (is_known_to_read t v) (installs u w) read later))
+rw_to keys ts t u v w (is, read, later) = pair_to the_rw (is_known_to_read t) (installs u) (version_pairs keys ts) v w is read later
 
 depends_label : (keys : KeyOrder) (ts : List Transaction) (t u : Transaction) (l : Label) → Depends keys ts t u l → In l (dependency_labels (version_pairs keys ts) t u)
 depends_label keys ts t u (ww v w) d =

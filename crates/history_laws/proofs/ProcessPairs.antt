@@ -16,25 +16,25 @@ use Rattle.history_laws.specs.ProcessPairs.{IsProcessStep, EndsWith, LeavesAlone
 
 -- ---- one or the other
 
-or_some : {X : Type 0} (a b : Option X) (x : X) → option_or a b ≡ Some x → (a ≡ Some x) ⊎ ((a ≡ None) × (b ≡ Some x))
+pub or_some : {X : Type 0} (a b : Option X) (x : X) → option_or a b ≡ Some x → (a ≡ Some x) ⊎ ((a ≡ None) × (b ≡ Some x))
 or_some None b x e = inr (refl, e)
 or_some (Some y) b x e = inl e
 
-or_none : {X : Type 0} (a b : Option X) → option_or a b ≡ None → (a ≡ None) × (b ≡ None)
+pub or_none : {X : Type 0} (a b : Option X) → option_or a b ≡ None → (a ≡ None) × (b ≡ None)
 or_none None b e = (refl, e)
 or_none (Some x) b e = elim (none-some x (sym e)) [ ]
 
-or_nothing : {X : Type 0} (a : Option X) → option_or a None ≡ a
+pub or_nothing : {X : Type 0} (a : Option X) → option_or a None ≡ a
 or_nothing None = refl
 or_nothing (Some x) = refl
 
-or_assoc : {X : Type 0} (a b c : Option X) → option_or (option_or a b) c ≡ option_or a (option_or b c)
+pub or_assoc : {X : Type 0} (a b c : Option X) → option_or (option_or a b) c ≡ option_or a (option_or b c)
 or_assoc None b c = refl
 or_assoc (Some x) b c = refl
 
 -- ---- the last version of a key
 
-abbrev here : Atom → Version → Option Version
+abbrev pub here : Atom → Version → Option Version
 here key v = if atom_eq key v.key then Some v else None
 
 pub last_of-append : (key : Atom) (vs ws : List Version) → last_of key (vs ++ ws) ≡ option_or (last_of key ws) (last_of key vs)

@@ -100,9 +100,6 @@ all_uncounted g p q neither (x ∷ xs) e f =
 pub alike : (walk : List Edge) → SameCounts walk walk
 alike walk = record { ww = refl; wr = refl; rw = refl }
 
-alike_back : (walk other : List Edge) → SameCounts walk other → SameCounts other walk
-alike_back walk other a = record { ww = sym a.ww; wr = sym a.wr; rw = sym a.rw }
-
 alike_by :
     (p : Edge → Bool) (a b c d : List Edge)
     → count_by p a ≡ count_by p b
@@ -119,56 +116,51 @@ alike_both a b c d first second = record {
 
 -- ---- kinds of edges
 
+-- a label is of one kind at most
+by_kind :
+    (P : (ww wr rw : Bool) → Type 0)
+    → P true false false
+    → P false true false
+    → P false false true
+    → P false false false
+    → (l : Label)
+    → P (is_ww_label l) (is_wr_label l) (is_rw_label l)
+by_kind P ww wr rw none (Label.ww v w) = ww
+by_kind P ww wr rw none (Label.wr v) = wr
+by_kind P ww wr rw none (Label.rw v w) = rw
+by_kind P ww wr rw none (Label.process p) = none
+by_kind P ww wr rw none (Label.realtime c i) = none
+
 pub only_ww-wr :
     (l : Label)
     → (is_ww_label l || not (is_ww_label l || is_wr_label l || is_rw_label l)) ≡ true
     → is_wr_label l ≡ false
-only_ww-wr (Label.ww v w) e = refl
-only_ww-wr (Label.wr v) e = elim (false≢true e) [ ]
-only_ww-wr (Label.rw v w) e = refl
-only_ww-wr (Label.process p) e = refl
-only_ww-wr (Label.realtime c i) e = refl
+only_ww-wr = by_kind (λ a b c. (a || not (a || b || c)) ≡ true → b ≡ false) (λ e. refl) (λ e. elim (false≢true e) [ ]) (λ e. refl) (λ e. refl)
 
 pub only_ww-rw :
     (l : Label)
     → (is_ww_label l || not (is_ww_label l || is_wr_label l || is_rw_label l)) ≡ true
     → is_rw_label l ≡ false
-only_ww-rw (Label.ww v w) e = refl
-only_ww-rw (Label.wr v) e = refl
-only_ww-rw (Label.rw v w) e = elim (false≢true e) [ ]
-only_ww-rw (Label.process p) e = refl
-only_ww-rw (Label.realtime c i) e = refl
+only_ww-rw = by_kind (λ a b c. (a || not (a || b || c)) ≡ true → c ≡ false) (λ e. refl) (λ e. refl) (λ e. elim (false≢true e) [ ]) (λ e. refl)
 
 ww_only :
     (l : Label)
     → is_wr_label l ≡ false
     → is_rw_label l ≡ false
     → (is_ww_label l || not (is_ww_label l || is_wr_label l || is_rw_label l)) ≡ true
-ww_only (Label.ww v w) e f = refl
-ww_only (Label.wr v) e f = elim (false≢true (sym e)) [ ]
-ww_only (Label.rw v w) e f = elim (false≢true (sym f)) [ ]
-ww_only (Label.process p) e f = refl
-ww_only (Label.realtime c i) e f = refl
+ww_only = by_kind (λ a b c. b ≡ false → c ≡ false → (a || not (a || b || c)) ≡ true) (λ e f. refl) (λ e f. elim (false≢true (sym e)) [ ]) (λ e f. elim (false≢true (sym f)) [ ]) (λ e f. refl)
 
 pub no_rw-rw :
     (l : Label)
     → (is_ww_label l || is_wr_label l || not (is_ww_label l || is_wr_label l || is_rw_label l)) ≡ true
     → is_rw_label l ≡ false
-no_rw-rw (Label.ww v w) e = refl
-no_rw-rw (Label.wr v) e = refl
-no_rw-rw (Label.rw v w) e = elim (false≢true e) [ ]
-no_rw-rw (Label.process p) e = refl
-no_rw-rw (Label.realtime c i) e = refl
+no_rw-rw = by_kind (λ a b c. (a || b || not (a || b || c)) ≡ true → c ≡ false) (λ e. refl) (λ e. refl) (λ e. elim (false≢true e) [ ]) (λ e. refl)
 
 rw_no :
     (l : Label)
     → is_rw_label l ≡ false
     → (is_ww_label l || is_wr_label l || not (is_ww_label l || is_wr_label l || is_rw_label l)) ≡ true
-rw_no (Label.ww v w) f = refl
-rw_no (Label.wr v) f = refl
-rw_no (Label.rw v w) f = elim (false≢true (sym f)) [ ]
-rw_no (Label.process p) f = refl
-rw_no (Label.realtime c i) f = refl
+rw_no = by_kind (λ a b c. c ≡ false → (a || b || not (a || b || c)) ≡ true) (λ f. refl) (λ f. refl) (λ f. elim (false≢true (sym f)) [ ]) (λ f. refl)
 
 any_alike :
     (p : Edge → Bool) (walk other : List Edge)

@@ -16,7 +16,7 @@
 --     which itself comes after the one that installs the earlier version (ExplainedEdges has this step, for all pairs).
 use Rattle.std.proofs.Common.{◌≡◌, ◌⊎◌, inl, inr, ℕ, ◌+◌, ◌<◌, List, [], ◌∷◌, ◌++◌, Bool, true, false, not, if◌then◌else◌, nat_lt, Option, Some, None, is_some, IfSome, map, Contains, refl, sym, ◌∙◌, ap, subst, arith}
 use Rattle.std.specs.List.{list_any}
-use Rattle.std.specs.Option.{option_or, option_map_or}
+use Rattle.std.specs.Option.{option_map_or}
 use Rattle.std.proofs.lemmas.Bool.{false≢true, and_parts, and_from, or_parts, or_from, not-true, lt-ltb}
 use Rattle.std.proofs.lemmas.List.Elements.{recursion_from_All}
 use Rattle.std.proofs.lemmas.Option.{none-some, cond_some}
@@ -32,7 +32,7 @@ use Rattle.hist_types.proofs.Members.{In, in_from_Contains, Contains_from_in, in
 use Rattle.history_laws.specs.ProcessPairs.{EndsWith, IsStepBetweenTwo}
 use Rattle.history_laws.specs.Times.{AreInvokedInOrder}
 use Rattle.history_laws.proofs.PrintedEdges.{one_installed}
-use Rattle.history_laws.proofs.ProcessPairs.{of_one_key, met_by-read_or_installed}
+use Rattle.history_laws.proofs.ProcessPairs.{here, met_by-read_or_installed, of_one_key, or_none, or_some}
 use Rattle.history_laws.proofs.ThinningTimes.{invoked_in_order, completed_before}
 use Rattle.history_laws.proofs.VersionMembers.{has_from_in}
 use Rattle.history_laws.proofs.WrittenOnce.{one_writer}
@@ -41,17 +41,6 @@ use Rattle.report_laws.proofs.ExplainedRegisters.{WritesKey, HeldFrom, left_or_s
 use Rattle.report_laws.proofs.ExplainedReads.{IsExplained, installed_is_written, chosen_in, held_in, writer_before}
 
 -- ---- what a transaction leaves in a register
-
-or_some : {X : Type 0} (a b : Option X) (x : X) → option_or a b ≡ Some x → (a ≡ Some x) ⊎ ((a ≡ None) × (b ≡ Some x))
-or_some None b x e = inr (refl, e)
-or_some (Some y) b x e = inl e
-
-or_none : {X : Type 0} (a b : Option X) → option_or a b ≡ None → (a ≡ None) × (b ≡ None)
-or_none None b e = (refl, e)
-or_none (Some x) b e = elim (none-some x (sym e)) [ ]
-
-abbrev here : Atom → Version → Option Version
-here key v = if atom_eq key v.key then Some v else None
 
 elsewhere : (test : Bool) (v : Version) → (if test then Some v else None) ≡ None → test ≡ false
 elsewhere true v e = elim (none-some v (sym e)) [ ]

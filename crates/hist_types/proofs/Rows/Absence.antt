@@ -157,6 +157,18 @@ no_level phenomenon ts plain process realtime Realtime = realtime
 pub at_no_level : (phenomenon : Phenomenon) (ts : List Transaction) → ¬ IsThere Basic phenomenon Plain ts → ¬ IsThere Basic phenomenon Process ts → ¬ IsThere Basic phenomenon Realtime ts → IsFinding Basic phenomenon ts None
 at_no_level phenomenon ts plain process realtime = (no_level phenomenon ts plain process realtime, tt)
 
+-- at each level the edges lack what it needs
+pub no_finding :
+    (phenomenon : Phenomenon) (p : Edge → Bool)
+    → ((level : Level) (ts : List Transaction) → list_all p (edges_at Basic level ts) ≡ true → ¬ IsThere Basic phenomenon level ts)
+    → (ts : List Transaction)
+    → list_all p (edges_at Basic Plain ts) ≡ true
+    → list_all p (edges_at Basic Process ts) ≡ true
+    → list_all p (edges_at Basic Realtime ts) ≡ true
+    → IsFinding Basic phenomenon ts None
+no_finding phenomenon p none ts plain process realtime =
+    at_no_level phenomenon ts (none Plain ts plain) (none Process ts process) (none Realtime ts realtime)
+
 -- a level with a witness of the fewest dependency edges, and no lower one
 pub at_level :
     (phenomenon : Phenomenon) (ts : List Transaction) (found : Finding)

@@ -1,11 +1,9 @@
 -- Histories whose cycles are made of dependency edges alone, and one with no cycle.
-use Rattle.std.proofs.Common.{◌≡◌, List, [], ◌∷◌, Some, None, false, codes, refl}
+use Rattle.std.proofs.Common.{◌≡◌, List, [], ◌∷◌, Some, false, codes, refl}
 use Rattle.std.specs.Fmt.{digits}
 use Rattle.hist_types.specs.Operations.{Operation}
-use Rattle.hist_types.specs.Journal.{first_broken, events_of}
-use Rattle.hist_types.specs.Transactions.{transactions_of, nodes}
-use Rattle.hist_types.specs.Versions.{version_pairs}
-use Rattle.hist_types.specs.Edges.{Edge, dependency_edges}
+use Rattle.hist_types.specs.Transactions.{transactions_of}
+use Rattle.hist_types.specs.Edges.{Edge}
 use Rattle.hist_types.specs.Phenomena.{makes}
 use Rattle.hist_types.specs.Witness.{IsWitness}
 use Rattle.hist_types.specs.Reports.{edges_report}
@@ -13,7 +11,7 @@ use Rattle.hist_types.specs.Texts.{edges_text, finding_lines}
 use Rattle.hist_types.specs.declared.types.Level.TheVariants.{Plain}
 use Rattle.hist_types.specs.declared.types.Phenomenon.TheVariants.{G0, G1c, GSingle, G2Item}
 use Rattle.hist_types.specs.declared.types.KeyOrder.TheVariants.{Basic}
-use Rattle.hist_types.proofs.Rows.History.{x, y, sets, gets, finds_nil, invoke, ok, committed, nil_then, pair, ww_edge, wr_edge, rw_nil_edge, names, witness}
+use Rattle.hist_types.proofs.Rows.History.{x, y, sets, gets, finds_nil, invoke, ok, committed, nil_then, pair, ww_edge, wr_edge, rw_nil_edge, witness, HasAccount}
 
 -- ---- two transactions that read each other's writes
 
@@ -27,28 +25,20 @@ crossed_reads =
     ∷ []
 
 -- It keeps the rules of the journal, and is what the journal then holds.
-crossed_reads-legal : (first_broken [] crossed_reads ≡ None) × (events_of (crossed_reads ∷ []) ≡ crossed_reads)
-crossed_reads-legal = (refl, refl)
-
--- There are two transactions, open at once; their micro-operations are those of their completions.
-crossed_reads-transactions :
-    transactions_of crossed_reads
-    ≡ committed 0 0 2 (sets x 1 ∷ gets y 1 ∷ [])
-    ∷ committed 1 1 3 (sets y 1 ∷ gets x 1 ∷ [])
-    ∷ []
-crossed_reads-transactions = refl
-
--- Both are ok, so both are nodes.
-crossed_reads-nodes : names (nodes (transactions_of crossed_reads)) ≡ 0 ∷ 1 ∷ []
-crossed_reads-nodes = refl
-
--- nil comes before each of the two writes, and nothing else is known of the versions.
-crossed_reads-pairs : version_pairs Basic (transactions_of crossed_reads) ≡ nil_then x 1 ∷ nil_then y 1 ∷ []
-crossed_reads-pairs = refl
-
--- Each reads what the other wrote. Neither reads nil, so there is no rw edge.
-crossed_reads-edges : dependency_edges Basic (transactions_of crossed_reads) ≡ wr_edge 0 1 x 1 ∷ wr_edge 1 0 y 1 ∷ []
-crossed_reads-edges = refl
+crossed_reads-account : HasAccount crossed_reads (record {
+  -- There are two transactions, open at once; their micro-operations are those of their completions.
+  transactions =
+      committed 0 0 2 (sets x 1 ∷ gets y 1 ∷ [])
+      ∷ committed 1 1 3 (sets y 1 ∷ gets x 1 ∷ [])
+      ∷ [];
+  -- Both are ok, so both are nodes.
+  nodes = 0 ∷ 1 ∷ [];
+  -- nil comes before each of the two writes, and nothing else is known of the versions.
+  pairs = nil_then x 1 ∷ nil_then y 1 ∷ [];
+  -- Each reads what the other wrote. Neither reads nil, so there is no rw edge.
+  edges = wr_edge 0 1 x 1 ∷ wr_edge 1 0 y 1 ∷ [];
+})
+crossed_reads-account = ((refl, refl), refl)
 
 -- from one to the other and back
 abbrev pub crossed_reads_walk : List Edge
@@ -80,36 +70,21 @@ updates_of_nil =
     ∷ []
 
 -- It keeps the rules of the journal, and is what the journal then holds.
-updates_of_nil-legal : (first_broken [] updates_of_nil ≡ None) × (events_of (updates_of_nil ∷ []) ≡ updates_of_nil)
-updates_of_nil-legal = (refl, refl)
-
--- Both are open at once, and both complete.
-updates_of_nil-transactions :
-    transactions_of updates_of_nil
-    ≡ committed 0 0 2 (finds_nil x ∷ sets x 1 ∷ [])
-    ∷ committed 1 1 3 (finds_nil x ∷ sets x 2 ∷ [])
-    ∷ []
-updates_of_nil-transactions = refl
-
--- Both are nodes.
-updates_of_nil-nodes : names (nodes (transactions_of updates_of_nil)) ≡ 0 ∷ 1 ∷ []
-updates_of_nil-nodes = refl
-
--- nil comes before each write, once since each is a node's, and once since each follows its reader's nil.
-updates_of_nil-pairs :
-    version_pairs Basic (transactions_of updates_of_nil) ≡ nil_then x 1 ∷ nil_then x 2 ∷ nil_then x 1 ∷ nil_then x 2 ∷ []
-updates_of_nil-pairs = refl
-
--- Each read nil, which came before the other's write. That nil came before its own write makes no edge. (Each rw edge
--- stands twice in the list, as its version pair does; a list of edges is printed with each once.)
-updates_of_nil-edges :
-    dependency_edges Basic (transactions_of updates_of_nil)
-    ≡ rw_nil_edge 0 1 x 2
-    ∷ rw_nil_edge 0 1 x 2
-    ∷ rw_nil_edge 1 0 x 1
-    ∷ rw_nil_edge 1 0 x 1
-    ∷ []
-updates_of_nil-edges = refl
+updates_of_nil-account : HasAccount updates_of_nil (record {
+  -- Both are open at once, and both complete.
+  transactions =
+      committed 0 0 2 (finds_nil x ∷ sets x 1 ∷ [])
+      ∷ committed 1 1 3 (finds_nil x ∷ sets x 2 ∷ [])
+      ∷ [];
+  -- Both are nodes.
+  nodes = 0 ∷ 1 ∷ [];
+  -- nil comes before each write, once since each is a node's, and once since each follows its reader's nil.
+  pairs = nil_then x 1 ∷ nil_then x 2 ∷ nil_then x 1 ∷ nil_then x 2 ∷ [];
+  -- Each read nil, which came before the other's write. That nil came before its own write makes no edge. (Each rw edge
+  -- stands twice in the list, as its version pair does; a list of edges is printed with each once.)
+  edges = rw_nil_edge 0 1 x 2 ∷ rw_nil_edge 0 1 x 2 ∷ rw_nil_edge 1 0 x 1 ∷ rw_nil_edge 1 0 x 1 ∷ [];
+})
+updates_of_nil-account = ((refl, refl), refl)
 
 -- Each of the two edges is printed once.
 updates_of_nil-text : edges_text (edges_report Basic updates_of_nil) ≡ codes "prefix 4\ntxns 2\nT0 -rw :x nil 2-> T1\nT1 -rw :x nil 1-> T0\nedges 2\n"
@@ -146,43 +121,21 @@ crossed_updates =
     ∷ []
 
 -- It keeps the rules of the journal, and is what the journal then holds.
-crossed_updates-legal : (first_broken [] crossed_updates ≡ None) × (events_of (crossed_updates ∷ []) ≡ crossed_updates)
-crossed_updates-legal = (refl, refl)
-
--- Both are open at once, and both complete.
-crossed_updates-transactions :
-    transactions_of crossed_updates
-    ≡ committed 0 0 2 (sets x 1 ∷ gets y 1 ∷ sets y 2 ∷ [])
-    ∷ committed 1 1 3 (sets y 1 ∷ gets x 1 ∷ sets x 2 ∷ [])
-    ∷ []
-crossed_updates-transactions = refl
-
--- Both are nodes.
-crossed_updates-nodes : names (nodes (transactions_of crossed_updates)) ≡ 0 ∷ 1 ∷ []
-crossed_updates-nodes = refl
-
--- nil comes before all four writes. A write follows what its transaction read of its key: 1 comes before 2 at both
--- keys.
-crossed_updates-pairs :
-    version_pairs Basic (transactions_of crossed_updates)
-    ≡ nil_then x 1
-    ∷ nil_then y 2
-    ∷ nil_then y 1
-    ∷ nil_then x 2
-    ∷ pair y 1 2
-    ∷ pair x 1 2
-    ∷ []
-crossed_updates-pairs = refl
-
--- At x the first one's write comes before the second one's, which also read it; at y it is the other way round.
-crossed_updates-edges :
-    dependency_edges Basic (transactions_of crossed_updates)
-    ≡ ww_edge 0 1 x 1 2
-    ∷ wr_edge 0 1 x 1
-    ∷ ww_edge 1 0 y 1 2
-    ∷ wr_edge 1 0 y 1
-    ∷ []
-crossed_updates-edges = refl
+crossed_updates-account : HasAccount crossed_updates (record {
+  -- Both are open at once, and both complete.
+  transactions =
+      committed 0 0 2 (sets x 1 ∷ gets y 1 ∷ sets y 2 ∷ [])
+      ∷ committed 1 1 3 (sets y 1 ∷ gets x 1 ∷ sets x 2 ∷ [])
+      ∷ [];
+  -- Both are nodes.
+  nodes = 0 ∷ 1 ∷ [];
+  -- nil comes before all four writes. A write follows what its transaction read of its key: 1 comes before 2 at both
+  -- keys.
+  pairs = nil_then x 1 ∷ nil_then y 2 ∷ nil_then y 1 ∷ nil_then x 2 ∷ pair y 1 2 ∷ pair x 1 2 ∷ [];
+  -- At x the first one's write comes before the second one's, which also read it; at y it is the other way round.
+  edges = ww_edge 0 1 x 1 2 ∷ wr_edge 0 1 x 1 ∷ ww_edge 1 0 y 1 2 ∷ wr_edge 1 0 y 1 ∷ [];
+})
+crossed_updates-account = ((refl, refl), refl)
 
 -- The edges are printed so: by transactions, and ww before wr.
 crossed_updates-text : edges_text (edges_report Basic crossed_updates) ≡ codes "prefix 4\ntxns 2\nT0 -ww :x 1 2-> T1\nT0 -wr :x 1-> T1\nT1 -ww :y 1 2-> T0\nT1 -wr :y 1-> T0\nedges 4\n"
@@ -265,35 +218,21 @@ chained_updates =
     ∷ []
 
 -- It keeps the rules of the journal, and is what the journal then holds.
-chained_updates-legal : (first_broken [] chained_updates ≡ None) × (events_of (chained_updates ∷ []) ≡ chained_updates)
-chained_updates-legal = (refl, refl)
-
--- The first one is over before the second one begins.
-chained_updates-transactions :
-    transactions_of chained_updates
-    ≡ committed 0 0 1 (finds_nil x ∷ sets x 1 ∷ [])
-    ∷ committed 1 2 3 (gets x 1 ∷ sets x 2 ∷ [])
-    ∷ []
-chained_updates-transactions = refl
-
--- Both are nodes.
-chained_updates-nodes : names (nodes (transactions_of chained_updates)) ≡ 0 ∷ 2 ∷ []
-chained_updates-nodes = refl
-
--- nil comes before both writes, twice before the first one, whose writer read nil; and 1 comes before 2.
-chained_updates-pairs :
-    version_pairs Basic (transactions_of chained_updates) ≡ nil_then x 1 ∷ nil_then x 2 ∷ nil_then x 1 ∷ pair x 1 2 ∷ []
-chained_updates-pairs = refl
-
--- All edges lead to the second one. The first one read nil and wrote 1, so nil before 1 would join it to itself, which
--- is no edge.
-chained_updates-edges :
-    dependency_edges Basic (transactions_of chained_updates)
-    ≡ ww_edge 0 2 x 1 2
-    ∷ wr_edge 0 2 x 1
-    ∷ rw_nil_edge 0 2 x 2
-    ∷ []
-chained_updates-edges = refl
+chained_updates-account : HasAccount chained_updates (record {
+  -- The first one is over before the second one begins.
+  transactions =
+      committed 0 0 1 (finds_nil x ∷ sets x 1 ∷ [])
+      ∷ committed 1 2 3 (gets x 1 ∷ sets x 2 ∷ [])
+      ∷ [];
+  -- Both are nodes.
+  nodes = 0 ∷ 2 ∷ [];
+  -- nil comes before both writes, twice before the first one, whose writer read nil; and 1 comes before 2.
+  pairs = nil_then x 1 ∷ nil_then x 2 ∷ nil_then x 1 ∷ pair x 1 2 ∷ [];
+  -- All edges lead to the second one. The first one read nil and wrote 1, so nil before 1 would join it to itself, which
+  -- is no edge.
+  edges = ww_edge 0 2 x 1 2 ∷ wr_edge 0 2 x 1 ∷ rw_nil_edge 0 2 x 2 ∷ [];
+})
+chained_updates-account = ((refl, refl), refl)
 
 -- The edges are printed so, each once.
 chained_updates-text : edges_text (edges_report Basic chained_updates) ≡ codes "prefix 4\ntxns 2\nT0 -ww :x 1 2-> T2\nT0 -wr :x 1-> T2\nT0 -rw :x nil 2-> T2\nedges 3\n"

@@ -1,5 +1,5 @@
 -- Short names in which the worked histories are written, and what makes a written-out walk a witness.
-use Rattle.std.proofs.Common.{◌≡◌, ℕ, List, [], ◌∷◌, length, get_or, pos, codes, Some, None, true, nat_eq, nat_lt, map}
+use Rattle.std.proofs.Common.{◌≡◌, ℕ, List, [], ◌∷◌, ◌++◌, length, get_or, pos, codes, Some, None, true, nat_eq, nat_lt, map}
 use Rattle.std.specs.Bool.{⊤}
 use Rattle.std.specs.List.{AllByRecursion, Contains}
 use Rattle.std.proofs.lemmas.List.Elements.{All-from_recursion}
@@ -9,16 +9,20 @@ use Rattle.std.proofs.lemmas.Cmp.{nat_eq_equiv}
 use Rattle.std.proofs.lemmas.Map.Made.{IsDistinct-from_count}
 use Rattle.hist_types.specs.Atoms.{Atom, integer, keyword}
 use Rattle.hist_types.specs.Operations.{Mop, read, write, Operation}
-use Rattle.hist_types.specs.Transactions.{Transaction, Version, Ok, Fail, Info, Open}
-use Rattle.hist_types.specs.Versions.{VersionPair, nil_of}
+use Rattle.hist_types.specs.Journal.{first_broken, events_of}
+use Rattle.hist_types.specs.Transactions.{Transaction, Version, Ok, Fail, Info, Open, transactions_of, nodes}
+use Rattle.hist_types.specs.Versions.{VersionPair, nil_of, version_pairs}
 use Rattle.hist_types.specs.Versions as versions
-use Rattle.hist_types.specs.Edges.{ww, wr, rw, process, realtime, Edge, edges_at}
+use Rattle.hist_types.specs.Edges.{ww, wr, rw, process, realtime, Edge, edges_at, dependency_edges}
 use Rattle.hist_types.specs.Phenomena.{IsClosedWalk, makes}
 use Rattle.hist_types.specs.Witness.{IsWitness, stations, alternates, ends_in_order, begins_least}
+use Rattle.hist_types.specs.Texts.{finding_lines}
 use Rattle.hist_types.specs.declared.types.Level.{Level}
 use Rattle.hist_types.specs.declared.types.Phenomenon.{Phenomenon}
+use Rattle.hist_types.specs.declared.types.Phenomenon.TheVariants.{GSingle, G2Item}
 use Rattle.hist_types.specs.declared.types.OpKind.TheVariants as kinds
 use Rattle.hist_types.specs.declared.types.KeyOrder.{KeyOrder}
+use Rattle.hist_types.specs.declared.types.KeyOrder.TheVariants.{Basic}
 
 -- ---- keys and values
 
@@ -116,6 +120,30 @@ process_edge t u p = record { from = t; to = u; label = process p }
 abbrev pub realtime_edge : ℕ → ℕ → ℕ → ℕ → Edge
 realtime_edge t u completion invocation = record { from = t; to = u; label = realtime completion invocation }
 
+-- ---- what a history holds
+
+-- its transactions, the names of the nodes among them, the pairs of versions and the dependency edges
+pub record Account : Type 0 where
+  pub transactions : List Transaction
+  pub nodes : List ℕ
+  pub pairs : List VersionPair
+  pub edges : List Edge
+
+-- It keeps the rules of the journal, and is what the journal then holds.
+abbrev pub IsLegal : List Operation → Type 0
+IsLegal events = (first_broken [] events ≡ None) × (events_of (events ∷ []) ≡ events)
+
+-- It does, and holds this.
+abbrev pub HasAccount : List Operation → Account → Type 0
+HasAccount events account =
+    IsLegal events
+    × (record {
+      transactions = transactions_of events;
+      nodes = names (nodes (transactions_of events));
+      pairs = version_pairs Basic (transactions_of events);
+      edges = dependency_edges Basic (transactions_of events);
+    } ≡ account)
+
 -- ---- witnesses
 
 -- each edge of a walk stands in the list, at its place
@@ -150,3 +178,30 @@ witness keys phenomenon level ts places walk closed stand kinds different apart 
       apart = apart;
       least = least;
     }
+
+-- The walk is a witness of a G-single, and so of a G2-item.
+abbrev pub AreWitnesses : Level → List Operation → List Edge → Type 0
+AreWitnesses level events walk =
+    IsWitness Basic GSingle level (transactions_of events) walk × IsWitness Basic G2Item level (transactions_of events) walk
+
+pub witnesses :
+    (level : Level) (events : List Operation) (places : List ℕ) (walk : List Edge)
+    → IsClosedWalk walk
+    → StandAt (edges_at Basic level (transactions_of events)) places walk
+    → makes GSingle walk ≡ true
+    → makes G2Item walk ≡ true
+    → distinct_count nat_eq (stations walk) ≡ length (stations walk)
+    → alternates (ends_in_order walk) walk ≡ true
+    → begins_least (stations walk) ≡ true
+    → AreWitnesses level events walk
+witnesses level events places walk closed stand single item different apart least = (
+  witness Basic GSingle level (transactions_of events) places walk closed stand single different apart least,
+  witness Basic G2Item level (transactions_of events) places walk closed stand item different apart least,
+)
+
+-- It is printed so as each of the two, behind the phenomenon's name.
+abbrev pub ArePrinted : Level → List Edge → (text : List ℕ) → Type 0
+ArePrinted level walk text =
+    let found = Some (record { level = level; walk = walk }) in
+    (finding_lines (codes "G-single") found ≡ codes "G-single " ++ text)
+    × (finding_lines (codes "G2-item") found ≡ codes "G2-item " ++ text)

@@ -1,12 +1,11 @@
 -- Which transactions are nodes, and which of their reads and writes make version pairs and edges.
-use Rattle.std.proofs.Common.{◌≡◌, List, [], ◌∷◌, None, refl}
+use Rattle.std.proofs.Common.{◌≡◌, List, [], ◌∷◌, refl}
 use Rattle.hist_types.specs.Operations.{Operation}
-use Rattle.hist_types.specs.Journal.{first_broken, events_of}
 use Rattle.hist_types.specs.Transactions.{transactions_of, nodes}
 use Rattle.hist_types.specs.Versions.{version_pairs}
 use Rattle.hist_types.specs.Edges.{dependency_edges}
 use Rattle.hist_types.specs.declared.types.KeyOrder.TheVariants.{Basic}
-use Rattle.hist_types.proofs.Rows.History.{x, sets, gets, finds_nil, invoke, ok, info, nil_then, pair, ww_edge, wr_edge, rw_nil_edge, rw_edge, names}
+use Rattle.hist_types.proofs.Rows.History.{x, sets, gets, finds_nil, invoke, ok, info, nil_then, pair, ww_edge, wr_edge, rw_nil_edge, rw_edge, names, IsLegal}
 
 -- ---- which transactions are nodes
 
@@ -20,7 +19,7 @@ unread_unknown_write =
     ∷ []
 
 -- It keeps the rules of the journal, and is what the journal then holds.
-unread_unknown_write-legal : (first_broken [] unread_unknown_write ≡ None) × (events_of (unread_unknown_write ∷ []) ≡ unread_unknown_write)
+unread_unknown_write-legal : IsLegal unread_unknown_write
 unread_unknown_write-legal = (refl, refl)
 
 -- The unknown writer is no node.
@@ -45,7 +44,7 @@ read_unknown_write =
     ∷ []
 
 -- It keeps the rules of the journal, and is what the journal then holds.
-read_unknown_write-legal : (first_broken [] read_unknown_write ≡ None) × (events_of (read_unknown_write ∷ []) ≡ read_unknown_write)
+read_unknown_write-legal : IsLegal read_unknown_write
 read_unknown_write-legal = (refl, refl)
 
 -- The unknown writer is a node.
@@ -70,7 +69,7 @@ unknown_write_read_by_an_unknown =
     ∷ []
 
 -- It keeps the rules of the journal, and is what the journal then holds.
-unknown_write_read_by_an_unknown-legal : (first_broken [] unknown_write_read_by_an_unknown ≡ None) × (events_of (unknown_write_read_by_an_unknown ∷ []) ≡ unknown_write_read_by_an_unknown)
+unknown_write_read_by_an_unknown-legal : IsLegal unknown_write_read_by_an_unknown
 unknown_write_read_by_an_unknown-legal = (refl, refl)
 
 -- Only what an ok transaction reads makes a node.
@@ -87,7 +86,7 @@ overwritten_unknown_write =
     ∷ []
 
 -- It keeps the rules of the journal, and is what the journal then holds.
-overwritten_unknown_write-legal : (first_broken [] overwritten_unknown_write ≡ None) × (events_of (overwritten_unknown_write ∷ []) ≡ overwritten_unknown_write)
+overwritten_unknown_write-legal : IsLegal overwritten_unknown_write
 overwritten_unknown_write-legal = (refl, refl)
 
 -- Any write that was read makes a node, also one written over.
@@ -116,7 +115,7 @@ read_before_a_write =
     ∷ []
 
 -- It keeps the rules of the journal, and is what the journal then holds.
-read_before_a_write-legal : (first_broken [] read_before_a_write ≡ None) × (events_of (read_before_a_write ∷ []) ≡ read_before_a_write)
+read_before_a_write-legal : IsLegal read_before_a_write
 read_before_a_write-legal = (refl, refl)
 
 -- The write follows the read, whatever the read returned.
@@ -141,7 +140,7 @@ two_values_of_a_key =
     ∷ []
 
 -- It keeps the rules of the journal, and is what the journal then holds.
-two_values_of_a_key-legal : (first_broken [] two_values_of_a_key ≡ None) × (events_of (two_values_of_a_key ∷ []) ≡ two_values_of_a_key)
+two_values_of_a_key-legal : IsLegal two_values_of_a_key
 two_values_of_a_key-legal = (refl, refl)
 
 -- The write follows both reads.

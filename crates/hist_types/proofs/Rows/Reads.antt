@@ -2,18 +2,16 @@
 use Rattle.std.proofs.Common.{◌≡◌, List, [], ◌∷◌, ◌++◌, Some, None, codes, map, refl}
 use Rattle.std.specs.Fmt.{digits}
 use Rattle.hist_types.specs.Operations.{Operation}
-use Rattle.hist_types.specs.Journal.{first_broken, events_of}
+use Rattle.hist_types.specs.Journal.{first_broken}
 use Rattle.hist_types.specs.Transactions.{transactions_of, nodes, external_reads, intermediate_writes}
 use Rattle.hist_types.specs.Versions.{version_pairs}
 use Rattle.hist_types.specs.Edges.{Edge, dependency_edges}
 use Rattle.hist_types.specs.Phenomena.{g1a, g1b, stray}
-use Rattle.hist_types.specs.Witness.{IsWitness}
 use Rattle.hist_types.specs.Reports.{reads_report}
-use Rattle.hist_types.specs.Texts.{reads_text, finding_lines}
+use Rattle.hist_types.specs.Texts.{reads_text}
 use Rattle.hist_types.specs.declared.types.Level.TheVariants.{Process}
-use Rattle.hist_types.specs.declared.types.Phenomenon.TheVariants.{GSingle, G2Item}
 use Rattle.hist_types.specs.declared.types.KeyOrder.TheVariants.{Basic}
-use Rattle.hist_types.proofs.Rows.History.{x, y, number, sets, gets, finds_nil, invoke, ok, fail, info, committed, aborted, unfinished, nil_then, pair, wr_edge, rw_nil_edge, process_edge, names, witness, version}
+use Rattle.hist_types.proofs.Rows.History.{x, y, number, sets, gets, finds_nil, invoke, ok, fail, info, committed, aborted, unfinished, nil_then, pair, wr_edge, rw_nil_edge, process_edge, names, version, HasAccount, AreWitnesses, witnesses, ArePrinted, IsLegal}
 
 -- ---- a value of a transaction that failed
 
@@ -27,25 +25,17 @@ aborted_read =
     ∷ []
 
 -- It keeps the rules of the journal, and is what the journal then holds.
-aborted_read-legal : (first_broken [] aborted_read ≡ None) × (events_of (aborted_read ∷ []) ≡ aborted_read)
-aborted_read-legal = (refl, refl)
-
--- A failed transaction keeps what its invocation wrote.
-aborted_read-transactions :
-    transactions_of aborted_read ≡ aborted 0 0 1 (sets x 1 ∷ []) ∷ committed 1 2 3 (gets x 1 ∷ []) ∷ []
-aborted_read-transactions = refl
-
--- A failed transaction is no node, also where its value was read.
-aborted_read-nodes : names (nodes (transactions_of aborted_read)) ≡ 2 ∷ []
-aborted_read-nodes = refl
-
--- Its write is no version.
-aborted_read-pairs : version_pairs Basic (transactions_of aborted_read) ≡ []
-aborted_read-pairs = refl
-
--- So the read makes no edge.
-aborted_read-edges : dependency_edges Basic (transactions_of aborted_read) ≡ []
-aborted_read-edges = refl
+aborted_read-account : HasAccount aborted_read (record {
+  -- A failed transaction keeps what its invocation wrote.
+  transactions = aborted 0 0 1 (sets x 1 ∷ []) ∷ committed 1 2 3 (gets x 1 ∷ []) ∷ [];
+  -- A failed transaction is no node, also where its value was read.
+  nodes = 2 ∷ [];
+  -- Its write is no version.
+  pairs = [];
+  -- So the read makes no edge.
+  edges = [];
+})
+aborted_read-account = ((refl, refl), refl)
 
 -- The read is a G1a, told with its reader and its writer.
 aborted_read-g1a : g1a (transactions_of aborted_read) ≡ Some (record { reader = 2; version = version x 1; writer = 0 })
@@ -76,28 +66,17 @@ intermediate_read =
     ∷ []
 
 -- It keeps the rules of the journal, and is what the journal then holds.
-intermediate_read-legal : (first_broken [] intermediate_read ≡ None) × (events_of (intermediate_read ∷ []) ≡ intermediate_read)
-intermediate_read-legal = (refl, refl)
-
--- Both transactions are ok.
-intermediate_read-transactions :
-    transactions_of intermediate_read
-    ≡ committed 0 0 1 (sets x 1 ∷ sets x 2 ∷ [])
-    ∷ committed 1 2 3 (gets x 1 ∷ [])
-    ∷ []
-intermediate_read-transactions = refl
-
--- Both are nodes.
-intermediate_read-nodes : names (nodes (transactions_of intermediate_read)) ≡ 0 ∷ 2 ∷ []
-intermediate_read-nodes = refl
-
--- Only the last write of a key is a version.
-intermediate_read-pairs : version_pairs Basic (transactions_of intermediate_read) ≡ nil_then x 2 ∷ []
-intermediate_read-pairs = refl
-
--- Nobody wrote 1 externally, so its read makes no edge, and neither does the read follow nil.
-intermediate_read-edges : dependency_edges Basic (transactions_of intermediate_read) ≡ []
-intermediate_read-edges = refl
+intermediate_read-account : HasAccount intermediate_read (record {
+  -- Both transactions are ok.
+  transactions = committed 0 0 1 (sets x 1 ∷ sets x 2 ∷ []) ∷ committed 1 2 3 (gets x 1 ∷ []) ∷ [];
+  -- Both are nodes.
+  nodes = 0 ∷ 2 ∷ [];
+  -- Only the last write of a key is a version.
+  pairs = nil_then x 2 ∷ [];
+  -- Nobody wrote 1 externally, so its read makes no edge, and neither does the read follow nil.
+  edges = [];
+})
+intermediate_read-account = ((refl, refl), refl)
 
 -- The read is a G1b, told with its reader and its writer.
 intermediate_read-g1b : g1b (transactions_of intermediate_read) ≡ Some (record { reader = 2; version = version x 1; writer = 0 })
@@ -126,24 +105,17 @@ stray_read =
     ∷ []
 
 -- It keeps the rules of the journal, and is what the journal then holds.
-stray_read-legal : (first_broken [] stray_read ≡ None) × (events_of (stray_read ∷ []) ≡ stray_read)
-stray_read-legal = (refl, refl)
-
--- There is one transaction.
-stray_read-transactions : transactions_of stray_read ≡ committed 0 0 1 (gets x 7 ∷ []) ∷ []
-stray_read-transactions = refl
-
--- It is a node.
-stray_read-nodes : names (nodes (transactions_of stray_read)) ≡ 0 ∷ []
-stray_read-nodes = refl
-
--- There is no write.
-stray_read-pairs : version_pairs Basic (transactions_of stray_read) ≡ []
-stray_read-pairs = refl
-
--- There is no edge.
-stray_read-edges : dependency_edges Basic (transactions_of stray_read) ≡ []
-stray_read-edges = refl
+stray_read-account : HasAccount stray_read (record {
+  -- There is one transaction.
+  transactions = committed 0 0 1 (gets x 7 ∷ []) ∷ [];
+  -- It is a node.
+  nodes = 0 ∷ [];
+  -- There is no write.
+  pairs = [];
+  -- There is no edge.
+  edges = [];
+})
+stray_read-account = ((refl, refl), refl)
 
 -- One read is stray, and that is no phenomenon.
 stray_read-found : (stray (transactions_of stray_read) ≡ 1) × (g1a (transactions_of stray_read) ≡ None) × (g1b (transactions_of stray_read) ≡ None)
@@ -174,52 +146,34 @@ open_writer =
     ∷ []
 
 -- It keeps the rules of the journal, and is what the journal then holds.
-open_writer-legal : (first_broken [] open_writer ≡ None) × (events_of (open_writer ∷ []) ≡ open_writer)
-open_writer-legal = (refl, refl)
-
--- The writer has no completion.
-open_writer-transactions :
-    transactions_of open_writer
-    ≡ unfinished 0 0 (sets x 1 ∷ [])
-    ∷ committed 1 1 2 (gets x 1 ∷ [])
-    ∷ committed 1 3 4 (finds_nil x ∷ [])
-    ∷ []
-open_writer-transactions = refl
-
--- The open writer is a node, since its value was read.
-open_writer-nodes : names (nodes (transactions_of open_writer)) ≡ 0 ∷ 1 ∷ 3 ∷ []
-open_writer-nodes = refl
-
--- nil comes before its write.
-open_writer-pairs : version_pairs Basic (transactions_of open_writer) ≡ nil_then x 1 ∷ []
-open_writer-pairs = refl
-
--- One read saw the write, the other one missed it.
-open_writer-edges : dependency_edges Basic (transactions_of open_writer) ≡ wr_edge 0 1 x 1 ∷ rw_nil_edge 3 0 x 1 ∷ []
-open_writer-edges = refl
+open_writer-account : HasAccount open_writer (record {
+  -- The writer has no completion.
+  transactions =
+      unfinished 0 0 (sets x 1 ∷ [])
+      ∷ committed 1 1 2 (gets x 1 ∷ [])
+      ∷ committed 1 3 4 (finds_nil x ∷ [])
+      ∷ [];
+  -- The open writer is a node, since its value was read.
+  nodes = 0 ∷ 1 ∷ 3 ∷ [];
+  -- nil comes before its write.
+  pairs = nil_then x 1 ∷ [];
+  -- One read saw the write, the other one missed it.
+  edges = wr_edge 0 1 x 1 ∷ rw_nil_edge 3 0 x 1 ∷ [];
+})
+open_writer-account = ((refl, refl), refl)
 
 -- from the write to its reader, on to the next read, and back
 abbrev open_writer_walk : List Edge
 open_writer_walk = wr_edge 0 1 x 1 ∷ process_edge 1 3 1 ∷ rw_nil_edge 3 0 x 1 ∷ []
 
 -- There is a cycle while the writer is open.
-open_writer-witness :
-    IsWitness Basic GSingle Process (transactions_of open_writer) open_writer_walk
-    × IsWitness Basic G2Item Process (transactions_of open_writer) open_writer_walk
-open_writer-witness = (
-  witness Basic GSingle Process (transactions_of open_writer) (0 ∷ 2 ∷ 1 ∷ []) open_writer_walk (refl, (refl, refl)) (refl, refl, (refl, refl, (refl, refl, tt))) refl refl refl refl,
-  witness Basic G2Item Process (transactions_of open_writer) (0 ∷ 2 ∷ 1 ∷ []) open_writer_walk (refl, (refl, refl)) (refl, refl, (refl, refl, (refl, refl, tt))) refl refl refl refl,
-)
+open_writer-witness : AreWitnesses Process open_writer open_writer_walk
+open_writer-witness = witnesses Process open_writer (0 ∷ 2 ∷ 1 ∷ []) open_writer_walk (refl, (refl, refl)) (refl, refl, (refl, refl, (refl, refl, tt))) refl refl refl refl refl
 
--- It is printed so.
-open_writer-witness-lines : finding_lines (codes "G-single") (Some (record { level = Process; walk = open_writer_walk })) ≡ codes "G-single process\n  T0 -wr :x 1-> T1\n  T1 -process 1-> T3\n  T3 -rw :x nil 1-> T0\n"
+-- It is printed so, and as a G2-item alike.
+open_writer-witness-lines : ArePrinted Process open_writer_walk (codes "process\n  T0 -wr :x 1-> T1\n  T1 -process 1-> T3\n  T3 -rw :x nil 1-> T0\n")
 unfolding digits
-open_writer-witness-lines = refl
-
--- As a G2-item it is printed alike.
-open_writer-witness-lines-g2_item : finding_lines (codes "G2-item") (Some (record { level = Process; walk = open_writer_walk })) ≡ codes "G2-item process\n  T0 -wr :x 1-> T1\n  T1 -process 1-> T3\n  T3 -rw :x nil 1-> T0\n"
-unfolding digits
-open_writer-witness-lines-g2_item = refl
+open_writer-witness-lines = (refl, refl)
 
 -- An open writer has not failed.
 open_writer-g1a : g1a (transactions_of open_writer) ≡ None
@@ -251,7 +205,7 @@ own_intermediate =
     ∷ []
 
 -- It keeps the rules of the journal, and is what the journal then holds.
-own_intermediate-legal : (first_broken [] own_intermediate ≡ None) × (events_of (own_intermediate ∷ []) ≡ own_intermediate)
+own_intermediate-legal : IsLegal own_intermediate
 own_intermediate-legal = (refl, refl)
 
 -- nil comes before its write, and so does the 1 that it read.
@@ -274,7 +228,7 @@ own_later_write =
     ∷ []
 
 -- It keeps the rules of the journal, and is what the journal then holds.
-own_later_write-legal : (first_broken [] own_later_write ≡ None) × (events_of (own_later_write ∷ []) ≡ own_later_write)
+own_later_write-legal : IsLegal own_later_write
 own_later_write-legal = (refl, refl)
 
 -- A value does not come before itself, so only nil comes before it.
@@ -299,7 +253,7 @@ internal_read =
     ∷ []
 
 -- It keeps the rules of the journal, and is what the journal then holds.
-internal_read-legal : (first_broken [] internal_read ≡ None) × (events_of (internal_read ∷ []) ≡ internal_read)
+internal_read-legal : IsLegal internal_read
 internal_read-legal = (refl, refl)
 
 -- A read behind a write of its key is not external, and is looked at by none of the three.
@@ -316,7 +270,7 @@ both_at_once =
     ∷ []
 
 -- It keeps the rules of the journal, and is what the journal then holds.
-both_at_once-legal : (first_broken [] both_at_once ≡ None) × (events_of (both_at_once ∷ []) ≡ both_at_once)
+both_at_once-legal : IsLegal both_at_once
 both_at_once-legal = (refl, refl)
 
 -- The read is both a G1a and a G1b, which looks at writers of every status.
@@ -336,7 +290,7 @@ unknown_reader =
     ∷ []
 
 -- It keeps the rules of the journal, and is what the journal then holds.
-unknown_reader-legal : (first_broken [] unknown_reader ≡ None) × (events_of (unknown_reader ∷ []) ≡ unknown_reader)
+unknown_reader-legal : IsLegal unknown_reader
 unknown_reader-legal = (refl, refl)
 
 -- Only what an ok transaction read counts, and what an invocation says of a read is not looked at.
@@ -355,7 +309,7 @@ two_bad_reads =
     ∷ []
 
 -- It keeps the rules of the journal, and is what the journal then holds.
-two_bad_reads-legal : (first_broken [] two_bad_reads ≡ None) × (events_of (two_bad_reads ∷ []) ≡ two_bad_reads)
+two_bad_reads-legal : IsLegal two_bad_reads
 two_bad_reads-legal = (refl, refl)
 
 -- The reader with the least index is told, and its first such read.

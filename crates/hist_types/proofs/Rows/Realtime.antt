@@ -1,19 +1,16 @@
 -- Order edges and what is left of them when they are thinned.
-use Rattle.std.proofs.Common.{◌≡◌, List, [], ◌∷◌, ◌++◌, Some, None, true, false, codes, refl}
+use Rattle.std.proofs.Common.{◌≡◌, List, [], ◌∷◌, ◌++◌, None, true, false, codes, refl}
 use Rattle.std.specs.Fmt.{digits}
 use Rattle.hist_types.specs.Operations.{Operation}
-use Rattle.hist_types.specs.Journal.{first_broken, events_of}
-use Rattle.hist_types.specs.Transactions.{transactions_of, nodes}
-use Rattle.hist_types.specs.Versions.{version_pairs}
-use Rattle.hist_types.specs.Edges.{Edge, dependency_edges, order_edges, all_order_edges}
+use Rattle.hist_types.specs.Journal.{first_broken}
+use Rattle.hist_types.specs.Transactions.{transactions_of}
+use Rattle.hist_types.specs.Edges.{Edge, order_edges, all_order_edges}
 use Rattle.hist_types.specs.ThinnedOrder.{thinned_edges, all_thinned_edges}
 use Rattle.hist_types.specs.Phenomena.{makes}
-use Rattle.hist_types.specs.Witness.{IsWitness, alternates, ends_in_order, begins_least, stations}
-use Rattle.hist_types.specs.Texts.{finding_lines}
+use Rattle.hist_types.specs.Witness.{alternates, ends_in_order, begins_least, stations}
 use Rattle.hist_types.specs.declared.types.Level.TheVariants.{Process, Realtime}
-use Rattle.hist_types.specs.declared.types.Phenomenon.TheVariants.{GSingle, G2Item}
-use Rattle.hist_types.specs.declared.types.KeyOrder.TheVariants.{Basic}
-use Rattle.hist_types.proofs.Rows.History.{x, y, sets, finds_nil, invoke, ok, fail, committed, aborted, unfinished, nil_then, rw_nil_edge, process_edge, realtime_edge, names, witness}
+use Rattle.hist_types.specs.declared.types.Phenomenon.TheVariants.{GSingle}
+use Rattle.hist_types.proofs.Rows.History.{x, y, sets, finds_nil, invoke, ok, fail, committed, aborted, unfinished, nil_then, rw_nil_edge, process_edge, realtime_edge, HasAccount, AreWitnesses, witnesses, ArePrinted}
 
 -- ---- a write, a transaction between, and a read that misses the write
 
@@ -29,29 +26,21 @@ missed_write =
     ∷ []
 
 -- It keeps the rules of the journal, and is what the journal then holds.
-missed_write-legal : (first_broken [] missed_write ≡ None) × (events_of (missed_write ∷ []) ≡ missed_write)
-missed_write-legal = (refl, refl)
-
--- There are three transactions.
-missed_write-transactions :
-    transactions_of missed_write
-    ≡ committed 0 0 1 (sets x 1 ∷ [])
-    ∷ committed 1 2 3 (sets y 1 ∷ [])
-    ∷ committed 2 4 5 (finds_nil x ∷ [])
-    ∷ []
-missed_write-transactions = refl
-
--- All three are ok.
-missed_write-nodes : names (nodes (transactions_of missed_write)) ≡ 0 ∷ 2 ∷ 4 ∷ []
-missed_write-nodes = refl
-
--- nil comes before both writes.
-missed_write-pairs : version_pairs Basic (transactions_of missed_write) ≡ nil_then x 1 ∷ nil_then y 1 ∷ []
-missed_write-pairs = refl
-
--- Only the read that missed the write makes an edge.
-missed_write-edges : dependency_edges Basic (transactions_of missed_write) ≡ rw_nil_edge 4 0 x 1 ∷ []
-missed_write-edges = refl
+missed_write-account : HasAccount missed_write (record {
+  -- There are three transactions.
+  transactions =
+      committed 0 0 1 (sets x 1 ∷ [])
+      ∷ committed 1 2 3 (sets y 1 ∷ [])
+      ∷ committed 2 4 5 (finds_nil x ∷ [])
+      ∷ [];
+  -- All three are ok.
+  nodes = 0 ∷ 2 ∷ 4 ∷ [];
+  -- nil comes before both writes.
+  pairs = nil_then x 1 ∷ nil_then y 1 ∷ [];
+  -- Only the read that missed the write makes an edge.
+  edges = rw_nil_edge 4 0 x 1 ∷ [];
+})
+missed_write-account = ((refl, refl), refl)
 
 -- Each of the three was over before the next one began, and all pairs are meant.
 missed_write-order :
@@ -76,23 +65,13 @@ abbrev missed_write_walk : List Edge
 missed_write_walk = realtime_edge 0 4 1 4 ∷ rw_nil_edge 4 0 x 1 ∷ []
 
 -- A witness tells one order edge, also where thinned edges need two for it.
-missed_write-witness :
-    IsWitness Basic GSingle Realtime (transactions_of missed_write) missed_write_walk
-    × IsWitness Basic G2Item Realtime (transactions_of missed_write) missed_write_walk
-missed_write-witness = (
-  witness Basic GSingle Realtime (transactions_of missed_write) (2 ∷ 0 ∷ []) missed_write_walk (refl, refl) (refl, refl, (refl, refl, tt)) refl refl refl refl,
-  witness Basic G2Item Realtime (transactions_of missed_write) (2 ∷ 0 ∷ []) missed_write_walk (refl, refl) (refl, refl, (refl, refl, tt)) refl refl refl refl,
-)
+missed_write-witness : AreWitnesses Realtime missed_write missed_write_walk
+missed_write-witness = witnesses Realtime missed_write (2 ∷ 0 ∷ []) missed_write_walk (refl, refl) (refl, refl, (refl, refl, tt)) refl refl refl refl refl
 
--- It is printed so.
-missed_write-witness-lines : finding_lines (codes "G-single") (Some (record { level = Realtime; walk = missed_write_walk })) ≡ codes "G-single realtime\n  T0 -realtime 1 4-> T4\n  T4 -rw :x nil 1-> T0\n"
+-- It is printed so, and as a G2-item alike.
+missed_write-witness-lines : ArePrinted Realtime missed_write_walk (codes "realtime\n  T0 -realtime 1 4-> T4\n  T4 -rw :x nil 1-> T0\n")
 unfolding digits
-missed_write-witness-lines = refl
-
--- As a G2-item it is printed alike.
-missed_write-witness-lines-g2_item : finding_lines (codes "G2-item") (Some (record { level = Realtime; walk = missed_write_walk })) ≡ codes "G2-item realtime\n  T0 -realtime 1 4-> T4\n  T4 -rw :x nil 1-> T0\n"
-unfolding digits
-missed_write-witness-lines-g2_item = refl
+missed_write-witness-lines = (refl, refl)
 
 -- the same cycle, with both thinned edges in it
 abbrev thinned_walk : List Edge
@@ -122,30 +101,21 @@ missed_write_past_a_fail =
     ∷ []
 
 -- It keeps the rules of the journal, and is what the journal then holds.
-missed_write_past_a_fail-legal : (first_broken [] missed_write_past_a_fail ≡ None) × (events_of (missed_write_past_a_fail ∷ []) ≡ missed_write_past_a_fail)
-missed_write_past_a_fail-legal = (refl, refl)
-
--- The one between has failed.
-missed_write_past_a_fail-transactions :
-    transactions_of missed_write_past_a_fail
-    ≡ committed 0 0 1 (sets x 1 ∷ [])
-    ∷ aborted 1 2 3 (sets y 1 ∷ [])
-    ∷ committed 2 4 5 (finds_nil x ∷ [])
-    ∷ []
-missed_write_past_a_fail-transactions = refl
-
--- The failed one is no node.
-missed_write_past_a_fail-nodes : names (nodes (transactions_of missed_write_past_a_fail)) ≡ 0 ∷ 4 ∷ []
-missed_write_past_a_fail-nodes = refl
-
--- A failed transaction's write is no version.
-missed_write_past_a_fail-pairs : version_pairs Basic (transactions_of missed_write_past_a_fail) ≡ nil_then x 1 ∷ []
-missed_write_past_a_fail-pairs = refl
-
--- Only the read that missed the write makes an edge.
-missed_write_past_a_fail-edges :
-    dependency_edges Basic (transactions_of missed_write_past_a_fail) ≡ rw_nil_edge 4 0 x 1 ∷ []
-missed_write_past_a_fail-edges = refl
+missed_write_past_a_fail-account : HasAccount missed_write_past_a_fail (record {
+  -- The one between has failed.
+  transactions =
+      committed 0 0 1 (sets x 1 ∷ [])
+      ∷ aborted 1 2 3 (sets y 1 ∷ [])
+      ∷ committed 2 4 5 (finds_nil x ∷ [])
+      ∷ [];
+  -- The failed one is no node.
+  nodes = 0 ∷ 4 ∷ [];
+  -- A failed transaction's write is no version.
+  pairs = nil_then x 1 ∷ [];
+  -- Only the read that missed the write makes an edge.
+  edges = rw_nil_edge 4 0 x 1 ∷ [];
+})
+missed_write_past_a_fail-account = ((refl, refl), refl)
 
 -- The failed one has no edge.
 missed_write_past_a_fail-order :
@@ -170,23 +140,13 @@ abbrev missed_write_past_a_fail_walk : List Edge
 missed_write_past_a_fail_walk = realtime_edge 0 4 1 4 ∷ rw_nil_edge 4 0 x 1 ∷ []
 
 -- The witness is alike.
-missed_write_past_a_fail-witness :
-    IsWitness Basic GSingle Realtime (transactions_of missed_write_past_a_fail) missed_write_past_a_fail_walk
-    × IsWitness Basic G2Item Realtime (transactions_of missed_write_past_a_fail) missed_write_past_a_fail_walk
-missed_write_past_a_fail-witness = (
-  witness Basic GSingle Realtime (transactions_of missed_write_past_a_fail) (1 ∷ 0 ∷ []) missed_write_past_a_fail_walk (refl, refl) (refl, refl, (refl, refl, tt)) refl refl refl refl,
-  witness Basic G2Item Realtime (transactions_of missed_write_past_a_fail) (1 ∷ 0 ∷ []) missed_write_past_a_fail_walk (refl, refl) (refl, refl, (refl, refl, tt)) refl refl refl refl,
-)
+missed_write_past_a_fail-witness : AreWitnesses Realtime missed_write_past_a_fail missed_write_past_a_fail_walk
+missed_write_past_a_fail-witness = witnesses Realtime missed_write_past_a_fail (1 ∷ 0 ∷ []) missed_write_past_a_fail_walk (refl, refl) (refl, refl, (refl, refl, tt)) refl refl refl refl refl
 
--- It is printed so.
-missed_write_past_a_fail-witness-lines : finding_lines (codes "G-single") (Some (record { level = Realtime; walk = missed_write_past_a_fail_walk })) ≡ codes "G-single realtime\n  T0 -realtime 1 4-> T4\n  T4 -rw :x nil 1-> T0\n"
+-- It is printed so, and as a G2-item alike.
+missed_write_past_a_fail-witness-lines : ArePrinted Realtime missed_write_past_a_fail_walk (codes "realtime\n  T0 -realtime 1 4-> T4\n  T4 -rw :x nil 1-> T0\n")
 unfolding digits
-missed_write_past_a_fail-witness-lines = refl
-
--- As a G2-item it is printed alike.
-missed_write_past_a_fail-witness-lines-g2_item : finding_lines (codes "G2-item") (Some (record { level = Realtime; walk = missed_write_past_a_fail_walk })) ≡ codes "G2-item realtime\n  T0 -realtime 1 4-> T4\n  T4 -rw :x nil 1-> T0\n"
-unfolding digits
-missed_write_past_a_fail-witness-lines-g2_item = refl
+missed_write_past_a_fail-witness-lines = (refl, refl)
 
 -- The transaction between is still open.
 abbrev missed_write_past_an_open_one : List Operation
@@ -199,31 +159,21 @@ missed_write_past_an_open_one =
     ∷ []
 
 -- It keeps the rules of the journal, and is what the journal then holds.
-missed_write_past_an_open_one-legal : (first_broken [] missed_write_past_an_open_one ≡ None) × (events_of (missed_write_past_an_open_one ∷ []) ≡ missed_write_past_an_open_one)
-missed_write_past_an_open_one-legal = (refl, refl)
-
--- The one between has no completion, and keeps its place among the events.
-missed_write_past_an_open_one-transactions :
-    transactions_of missed_write_past_an_open_one
-    ≡ committed 0 0 1 (sets x 1 ∷ [])
-    ∷ unfinished 1 2 (sets y 1 ∷ [])
-    ∷ committed 2 3 4 (finds_nil x ∷ [])
-    ∷ []
-missed_write_past_an_open_one-transactions = refl
-
--- The open one is no node, since nobody read what it wrote.
-missed_write_past_an_open_one-nodes : names (nodes (transactions_of missed_write_past_an_open_one)) ≡ 0 ∷ 3 ∷ []
-missed_write_past_an_open_one-nodes = refl
-
--- The open one's write is no version, since it is no node.
-missed_write_past_an_open_one-pairs :
-    version_pairs Basic (transactions_of missed_write_past_an_open_one) ≡ nil_then x 1 ∷ []
-missed_write_past_an_open_one-pairs = refl
-
--- Only the read that missed the write makes an edge.
-missed_write_past_an_open_one-edges :
-    dependency_edges Basic (transactions_of missed_write_past_an_open_one) ≡ rw_nil_edge 3 0 x 1 ∷ []
-missed_write_past_an_open_one-edges = refl
+missed_write_past_an_open_one-account : HasAccount missed_write_past_an_open_one (record {
+  -- The one between has no completion, and keeps its place among the events.
+  transactions =
+      committed 0 0 1 (sets x 1 ∷ [])
+      ∷ unfinished 1 2 (sets y 1 ∷ [])
+      ∷ committed 2 3 4 (finds_nil x ∷ [])
+      ∷ [];
+  -- The open one is no node, since nobody read what it wrote.
+  nodes = 0 ∷ 3 ∷ [];
+  -- The open one's write is no version, since it is no node.
+  pairs = nil_then x 1 ∷ [];
+  -- Only the read that missed the write makes an edge.
+  edges = rw_nil_edge 3 0 x 1 ∷ [];
+})
+missed_write_past_an_open_one-account = ((refl, refl), refl)
 
 -- The open one is no node, so it has no edge.
 missed_write_past_an_open_one-order :
@@ -248,23 +198,13 @@ abbrev missed_write_past_an_open_one_walk : List Edge
 missed_write_past_an_open_one_walk = realtime_edge 0 3 1 3 ∷ rw_nil_edge 3 0 x 1 ∷ []
 
 -- The witness is alike.
-missed_write_past_an_open_one-witness :
-    IsWitness Basic GSingle Realtime (transactions_of missed_write_past_an_open_one) missed_write_past_an_open_one_walk
-    × IsWitness Basic G2Item Realtime (transactions_of missed_write_past_an_open_one) missed_write_past_an_open_one_walk
-missed_write_past_an_open_one-witness = (
-  witness Basic GSingle Realtime (transactions_of missed_write_past_an_open_one) (1 ∷ 0 ∷ []) missed_write_past_an_open_one_walk (refl, refl) (refl, refl, (refl, refl, tt)) refl refl refl refl,
-  witness Basic G2Item Realtime (transactions_of missed_write_past_an_open_one) (1 ∷ 0 ∷ []) missed_write_past_an_open_one_walk (refl, refl) (refl, refl, (refl, refl, tt)) refl refl refl refl,
-)
+missed_write_past_an_open_one-witness : AreWitnesses Realtime missed_write_past_an_open_one missed_write_past_an_open_one_walk
+missed_write_past_an_open_one-witness = witnesses Realtime missed_write_past_an_open_one (1 ∷ 0 ∷ []) missed_write_past_an_open_one_walk (refl, refl) (refl, refl, (refl, refl, tt)) refl refl refl refl refl
 
--- It is printed so.
-missed_write_past_an_open_one-witness-lines : finding_lines (codes "G-single") (Some (record { level = Realtime; walk = missed_write_past_an_open_one_walk })) ≡ codes "G-single realtime\n  T0 -realtime 1 3-> T3\n  T3 -rw :x nil 1-> T0\n"
+-- It is printed so, and as a G2-item alike.
+missed_write_past_an_open_one-witness-lines : ArePrinted Realtime missed_write_past_an_open_one_walk (codes "realtime\n  T0 -realtime 1 3-> T3\n  T3 -rw :x nil 1-> T0\n")
 unfolding digits
-missed_write_past_an_open_one-witness-lines = refl
-
--- As a G2-item it is printed alike.
-missed_write_past_an_open_one-witness-lines-g2_item : finding_lines (codes "G2-item") (Some (record { level = Realtime; walk = missed_write_past_an_open_one_walk })) ≡ codes "G2-item realtime\n  T0 -realtime 1 3-> T3\n  T3 -rw :x nil 1-> T0\n"
-unfolding digits
-missed_write_past_an_open_one-witness-lines-g2_item = refl
+missed_write_past_an_open_one-witness-lines = (refl, refl)
 
 -- ---- three transactions that are open at once, and what comes after them
 

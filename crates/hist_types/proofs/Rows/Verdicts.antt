@@ -10,7 +10,7 @@ use Rattle.hist_types.specs.Texts.{verdict_text, IsVerdictText}
 use Rattle.hist_types.specs.declared.types.Level.TheVariants.{Plain, Process, Realtime}
 use Rattle.hist_types.specs.declared.types.Phenomenon.TheVariants.{G0, G1c, GSingle, G2Item}
 use Rattle.hist_types.specs.declared.types.KeyOrder.TheVariants.{Basic}
-use Rattle.hist_types.proofs.Rows.Absence.{no_cycle, no_g1c_cycle, no_ww, no_wr, no_rw, no_single_rw, only_rw, at_no_level, at_level, below_plain, below_process, below_realtime}
+use Rattle.hist_types.proofs.Rows.Absence.{no_cycle, no_g1c_cycle, no_ww, no_wr, no_rw, no_single_rw, only_rw, at_no_level, no_finding, at_level, below_plain, below_process, below_realtime}
 use Rattle.hist_types.proofs.Rows.Fewest.{fewest_of_two, fewest_of_one_single, fewest_of_one_item, fewest_with_wr_single, fewest_with_wr_item}
 use Rattle.hist_types.proofs.Rows.Cycles.{crossed_reads, crossed_reads_walk, crossed_reads-witness, updates_of_nil, updates_of_nil_walk, updates_of_nil-witness, crossed_updates, ww_walk, crossed_updates-g0, read_back_walk, crossed_updates-read_back}
 use Rattle.hist_types.proofs.Rows.Orders.{stale_read, stale_read_walk, stale_read-witness, own_stale_read, own_stale_read_walk, own_stale_read-witness, unknown_write, unknown_write_walk, unknown_write-witness}
@@ -79,10 +79,10 @@ unfolding digits
 no_events-verdict =
     verdict_by _ _
     (record { g0 = None; g1c = None; single = None; item = None })
-    (at_no_level G0 (transactions_of []) (no_ww Plain (transactions_of []) refl) (no_ww Process (transactions_of []) refl) (no_ww Realtime (transactions_of []) refl))
-    (at_no_level G1c (transactions_of []) (no_wr Plain (transactions_of []) refl) (no_wr Process (transactions_of []) refl) (no_wr Realtime (transactions_of []) refl))
-    (at_no_level GSingle (transactions_of []) (no_single_rw Plain (transactions_of []) refl) (no_single_rw Process (transactions_of []) refl) (no_single_rw Realtime (transactions_of []) refl))
-    (at_no_level G2Item (transactions_of []) (no_rw Plain (transactions_of []) refl) (no_rw Process (transactions_of []) refl) (no_rw Realtime (transactions_of []) refl))
+    (no_finding G0 _ no_ww (transactions_of []) refl refl refl)
+    (no_finding G1c _ no_wr (transactions_of []) refl refl refl)
+    (no_finding GSingle _ no_single_rw (transactions_of []) refl refl refl)
+    (no_finding G2Item _ no_rw (transactions_of []) refl refl refl)
     refl
 
 -- Reads that cross are a G1c, and nothing else.
@@ -91,10 +91,10 @@ unfolding digits
 crossed_reads-verdict =
     verdict_by _ _
     (record { g0 = None; g1c = Some (record { level = Plain; walk = crossed_reads_walk }); single = None; item = None })
-    (at_no_level G0 (transactions_of crossed_reads) (no_ww Plain (transactions_of crossed_reads) refl) (no_ww Process (transactions_of crossed_reads) refl) (no_ww Realtime (transactions_of crossed_reads) refl))
+    (no_finding G0 _ no_ww (transactions_of crossed_reads) refl refl refl)
     (at_level G1c (transactions_of crossed_reads) (record { level = Plain; walk = crossed_reads_walk }) crossed_reads-witness (fewest_of_two G1c Plain (transactions_of crossed_reads) crossed_reads_walk refl (omega arith)) (below_plain G1c (transactions_of crossed_reads)))
-    (at_no_level GSingle (transactions_of crossed_reads) (no_single_rw Plain (transactions_of crossed_reads) refl) (no_single_rw Process (transactions_of crossed_reads) refl) (no_single_rw Realtime (transactions_of crossed_reads) refl))
-    (at_no_level G2Item (transactions_of crossed_reads) (no_rw Plain (transactions_of crossed_reads) refl) (no_rw Process (transactions_of crossed_reads) refl) (no_rw Realtime (transactions_of crossed_reads) refl))
+    (no_finding GSingle _ no_single_rw (transactions_of crossed_reads) refl refl refl)
+    (no_finding G2Item _ no_rw (transactions_of crossed_reads) refl refl refl)
     refl
 
 -- Two updates of nil are a G2-item and no G-single: a walk over their edges has two rw edges at least.
@@ -103,9 +103,9 @@ unfolding digits
 updates_of_nil-verdict =
     verdict_by _ _
     (record { g0 = None; g1c = None; single = None; item = Some (record { level = Plain; walk = updates_of_nil_walk }) })
-    (at_no_level G0 (transactions_of updates_of_nil) (no_ww Plain (transactions_of updates_of_nil) refl) (no_ww Process (transactions_of updates_of_nil) refl) (no_ww Realtime (transactions_of updates_of_nil) refl))
-    (at_no_level G1c (transactions_of updates_of_nil) (no_wr Plain (transactions_of updates_of_nil) refl) (no_wr Process (transactions_of updates_of_nil) refl) (no_wr Realtime (transactions_of updates_of_nil) refl))
-    (at_no_level GSingle (transactions_of updates_of_nil) (only_rw Plain (transactions_of updates_of_nil) refl) (only_rw Process (transactions_of updates_of_nil) refl) (only_rw Realtime (transactions_of updates_of_nil) refl))
+    (no_finding G0 _ no_ww (transactions_of updates_of_nil) refl refl refl)
+    (no_finding G1c _ no_wr (transactions_of updates_of_nil) refl refl refl)
+    (no_finding GSingle _ only_rw (transactions_of updates_of_nil) refl refl refl)
     (at_level G2Item (transactions_of updates_of_nil) (record { level = Plain; walk = updates_of_nil_walk }) updates_of_nil-witness (fewest_of_two G2Item Plain (transactions_of updates_of_nil) updates_of_nil_walk refl (omega arith)) (below_plain G2Item (transactions_of updates_of_nil)))
     refl
 
@@ -117,8 +117,8 @@ crossed_updates-verdict =
     (record { g0 = Some (record { level = Plain; walk = ww_walk }); g1c = Some (record { level = Plain; walk = read_back_walk }); single = None; item = None })
     (at_level G0 (transactions_of crossed_updates) (record { level = Plain; walk = ww_walk }) crossed_updates-g0 (fewest_of_two G0 Plain (transactions_of crossed_updates) ww_walk refl (omega arith)) (below_plain G0 (transactions_of crossed_updates)))
     (at_level G1c (transactions_of crossed_updates) (record { level = Plain; walk = read_back_walk }) crossed_updates-read_back (fewest_of_two G1c Plain (transactions_of crossed_updates) read_back_walk refl (omega arith)) (below_plain G1c (transactions_of crossed_updates)))
-    (at_no_level GSingle (transactions_of crossed_updates) (no_single_rw Plain (transactions_of crossed_updates) refl) (no_single_rw Process (transactions_of crossed_updates) refl) (no_single_rw Realtime (transactions_of crossed_updates) refl))
-    (at_no_level G2Item (transactions_of crossed_updates) (no_rw Plain (transactions_of crossed_updates) refl) (no_rw Process (transactions_of crossed_updates) refl) (no_rw Realtime (transactions_of crossed_updates) refl))
+    (no_finding GSingle _ no_single_rw (transactions_of crossed_updates) refl refl refl)
+    (no_finding G2Item _ no_rw (transactions_of crossed_updates) refl refl refl)
     refl
 
 -- A stale read is a G-single and a G2-item, and neither at a lower level than realtime.
@@ -127,8 +127,8 @@ unfolding digits
 stale_read-verdict =
     verdict_by _ _
     (record { g0 = None; g1c = None; single = Some (record { level = Realtime; walk = stale_read_walk }); item = Some (record { level = Realtime; walk = stale_read_walk }) })
-    (at_no_level G0 (transactions_of stale_read) (no_ww Plain (transactions_of stale_read) refl) (no_ww Process (transactions_of stale_read) refl) (no_ww Realtime (transactions_of stale_read) refl))
-    (at_no_level G1c (transactions_of stale_read) (no_wr Plain (transactions_of stale_read) refl) (no_wr Process (transactions_of stale_read) refl) (no_wr Realtime (transactions_of stale_read) refl))
+    (no_finding G0 _ no_ww (transactions_of stale_read) refl refl refl)
+    (no_finding G1c _ no_wr (transactions_of stale_read) refl refl refl)
     (at_level GSingle (transactions_of stale_read) (record { level = Realtime; walk = stale_read_walk }) stale_read-witness.0 (fewest_of_one_single Realtime (transactions_of stale_read) stale_read_walk (omega arith)) (below_realtime GSingle (transactions_of stale_read) (no_cycle GSingle Plain (transactions_of stale_read) (λ n. n) refl) (no_cycle GSingle Process (transactions_of stale_read) (λ n. n) refl)))
     (at_level G2Item (transactions_of stale_read) (record { level = Realtime; walk = stale_read_walk }) stale_read-witness.1 (fewest_of_one_item Realtime (transactions_of stale_read) stale_read_walk (omega arith)) (below_realtime G2Item (transactions_of stale_read) (no_cycle G2Item Plain (transactions_of stale_read) (λ n. n) refl) (no_cycle G2Item Process (transactions_of stale_read) (λ n. n) refl)))
     refl
@@ -139,8 +139,8 @@ unfolding digits
 own_stale_read-verdict =
     verdict_by _ _
     (record { g0 = None; g1c = None; single = Some (record { level = Process; walk = own_stale_read_walk }); item = Some (record { level = Process; walk = own_stale_read_walk }) })
-    (at_no_level G0 (transactions_of own_stale_read) (no_ww Plain (transactions_of own_stale_read) refl) (no_ww Process (transactions_of own_stale_read) refl) (no_ww Realtime (transactions_of own_stale_read) refl))
-    (at_no_level G1c (transactions_of own_stale_read) (no_wr Plain (transactions_of own_stale_read) refl) (no_wr Process (transactions_of own_stale_read) refl) (no_wr Realtime (transactions_of own_stale_read) refl))
+    (no_finding G0 _ no_ww (transactions_of own_stale_read) refl refl refl)
+    (no_finding G1c _ no_wr (transactions_of own_stale_read) refl refl refl)
     (at_level GSingle (transactions_of own_stale_read) (record { level = Process; walk = own_stale_read_walk }) own_stale_read-witness.0 (fewest_of_one_single Process (transactions_of own_stale_read) own_stale_read_walk (omega arith)) (below_process GSingle (transactions_of own_stale_read) (no_cycle GSingle Plain (transactions_of own_stale_read) (λ n. n) refl)))
     (at_level G2Item (transactions_of own_stale_read) (record { level = Process; walk = own_stale_read_walk }) own_stale_read-witness.1 (fewest_of_one_item Process (transactions_of own_stale_read) own_stale_read_walk (omega arith)) (below_process G2Item (transactions_of own_stale_read) (no_cycle G2Item Plain (transactions_of own_stale_read) (λ n. n) refl)))
     refl
@@ -151,7 +151,7 @@ unfolding digits
 unknown_write-verdict =
     verdict_by _ _
     (record { g0 = None; g1c = None; single = Some (record { level = Process; walk = unknown_write_walk }); item = Some (record { level = Process; walk = unknown_write_walk }) })
-    (at_no_level G0 (transactions_of unknown_write) (no_ww Plain (transactions_of unknown_write) refl) (no_ww Process (transactions_of unknown_write) refl) (no_ww Realtime (transactions_of unknown_write) refl))
+    (no_finding G0 _ no_ww (transactions_of unknown_write) refl refl refl)
     (at_no_level G1c (transactions_of unknown_write) (no_g1c_cycle Plain (transactions_of unknown_write) forth refl) (no_g1c_cycle Process (transactions_of unknown_write) forth refl) (no_g1c_cycle Realtime (transactions_of unknown_write) forth refl))
     (at_level GSingle (transactions_of unknown_write) (record { level = Process; walk = unknown_write_walk }) unknown_write-witness.0 (fewest_with_wr_single Process (transactions_of unknown_write) seen_first unknown_write_walk refl (omega arith)) (below_process GSingle (transactions_of unknown_write) (no_cycle GSingle Plain (transactions_of unknown_write) seen_last refl)))
     (at_level G2Item (transactions_of unknown_write) (record { level = Process; walk = unknown_write_walk }) unknown_write-witness.1 (fewest_with_wr_item Process (transactions_of unknown_write) seen_first unknown_write_walk refl (omega arith)) (below_process G2Item (transactions_of unknown_write) (no_cycle G2Item Plain (transactions_of unknown_write) seen_last refl)))

@@ -1,13 +1,12 @@
 -- Which versions of keys a transaction reads, installs and writes over, and what becomes of a read by who wrote its version.
 use Rattle.std.proofs.Common.{◌≡◌, List, [], ◌∷◌, true, false, Some, None, map, refl}
 use Rattle.hist_types.specs.Operations.{Mop, Operation}
-use Rattle.hist_types.specs.Journal.{first_broken, events_of}
 use Rattle.hist_types.specs.Transactions.{Transaction, transactions_of, installed_by, is_known_to_read, installs, writes, wrote_intermediate}
 use Rattle.hist_types.specs.Versions.{nil_of, update_pairs, version_pairs}
 use Rattle.hist_types.specs.Edges.{dependency_edges}
 use Rattle.hist_types.specs.Phenomena.{g1a, g1b, stray_reads, stray}
 use Rattle.hist_types.specs.declared.types.KeyOrder.TheVariants.{Basic}
-use Rattle.hist_types.proofs.Rows.History.{x, y, sets, gets, finds_nil, invoke, ok, fail, info, committed, unknown, version, nil_then, wr_edge}
+use Rattle.hist_types.proofs.Rows.History.{x, y, sets, gets, finds_nil, invoke, ok, fail, info, committed, unknown, version, nil_then, wr_edge, IsLegal}
 
 -- ---- one transaction
 
@@ -57,7 +56,7 @@ one_number =
     ∷ []
 
 -- It keeps the rules of the journal, and is what the journal then holds.
-one_number-legal : (first_broken [] one_number ≡ None) × (events_of (one_number ∷ []) ≡ one_number)
+one_number-legal : IsLegal one_number
 one_number-legal = (refl, refl)
 
 -- The read is of the version that wasn't written over.
@@ -76,7 +75,7 @@ other_key =
     ∷ []
 
 -- It keeps the rules of the journal, and is what the journal then holds.
-other_key-legal : (first_broken [] other_key ≡ None) × (events_of (other_key ∷ []) ≡ other_key)
+other_key-legal : IsLegal other_key
 other_key-legal = (refl, refl)
 
 -- Its write follows nil alone, and no ww edge leads to it.
@@ -99,7 +98,7 @@ four_reads =
     ∷ []
 
 -- It keeps the rules of the journal, and is what the journal then holds.
-four_reads-legal : (first_broken [] four_reads ≡ None) × (events_of (four_reads ∷ []) ≡ four_reads)
+four_reads-legal : IsLegal four_reads
 four_reads-legal = (refl, refl)
 
 -- One of them is stray: what was written to another key doesn't count.
