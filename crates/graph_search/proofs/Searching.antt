@@ -1,10 +1,11 @@
 -- A whole search, layer by layer.
-use Rattle.std.proofs.Common.{◌≡◌, ℕ, ◌+◌, ◌-◌, ◌<◌, ◌≤◌, ◌⊎◌, List, [], ◌∷◌, length, Bool, true, false, cond, get_or, set, replicate, suc, subst, sym, ap, refl, ◌∙◌, inl, inr, arith, IsTrue}
-use Rattle.std.proofs.lemmas.Bool.{cases_lt, cases_eq, false_from_ne_true}
-use Rattle.std.specs.Prelude.{None}
+use Rattle.std.proofs.Common.{◌≡◌, ℕ, ◌+◌, ◌-◌, ◌<◌, ◌≤◌, ◌⊎◌, List, [], ◌∷◌, length, Bool, true, false, cond, get_or, set, replicate, suc, subst, sym, ap, refl, ◌∙◌, inl, inr, arith, IsTrue, Ok, Err, Result}
+use Rattle.std.proofs.lemmas.Bool.{OnFalse_at, OnTrue_at, cases_lt, cases_eq, false_from_ne_true}
+use Rattle.std.specs.Bool.{OnFalse, OnTrue}
+use Rattle.std.specs.Prelude.{None, IfOk}
 use Rattle.graph_search.specs.Costs.{LeadsWithin, IsWalkWithin, IsWalkToTargetIfAny}
 use Rattle.graph_search.specs.Graphs.{VertexSet, IsWalk}
-use Rattle.graph_search.specs.Visits.{vertex_at, parent_at, AreCheap, AreOpened, AreReached, EndsIn, EndsInOther, Extends, HasNoneOf, IsMarked, IsOpened, IsStep}
+use Rattle.graph_search.specs.Visits.{vertex_at, parent_at, AreCheap, AreOpened, AreReached, EndsIn, EndsInOther, Extends, GoesOn, HasNoneOf, IsMarked, IsOpened, IsStep}
 use Rattle.graph_search.specs.declared.breadth_first.Visit.{Visit}
 use Rattle.graph_search.proofs.Costs.{Costs, HasRest, costs, more, rest_of}
 use Rattle.graph_search.proofs.Reaching.{visit, start, extend_twice, parent_within}
@@ -26,32 +27,46 @@ none_twice Leads targets limit place m m' q q' x none none' k ge lt = elim (case
   | inr ge' ↦ none' k ge' lt
 ]
 
--- a target that is found later is new as well
-pub ends_further : (Leads : ℕ → ℕ → Type 0) (targets : VertexSet) (limit : ℕ) (m m' : List Bool) (q q' q'' : List Visit) → Extends Leads limit m q m' q'
-    → EndsIn targets q' q'' → EndsIn targets q q''
-ends_further Leads targets limit m m' q q' q'' x (longer, target) = (omega (arith, x.longer, longer), target)
-
 -- what was opened stays so
-pub still_opened : (Leads Leads' : ℕ → ℕ → Type 0) (limit from to : ℕ) (m m' : List Bool) (q q' : List Visit) → Extends Leads' limit m q m' q' → to ≤ length q
+still_opened : (Leads Leads' : ℕ → ℕ → Type 0) (limit from to : ℕ) (m m' : List Bool) (q q' : List Visit) → Extends Leads' limit m q m' q' → to ≤ length q
     → AreOpened Leads m q from to → AreOpened Leads m' q' from to
 still_opened Leads Leads' limit from to m m' q q' x within opened k ge lt =
     subst (λ v. IsOpened Leads m' v) (sym (x.same k (omega (arith, lt, within)))) (λ w leads. x.marked w (opened k ge lt w leads))
 
-pub further : (Leads : ℕ → ℕ → Type 0) (targets : VertexSet) (limit limit' from at : ℕ) (m m' m'' : List Bool) (q q' q'' : List Visit)
-    → AreReached m q → IsOpeningAll Leads targets limit m q from at m' q' → at < length q' → limit ≤ limit' → at + 1 ≤ limit' → AreReached m'' q''
-    → Extends Leads (at + 1) m' q' m'' q'' → HasNoneOf targets (length q') q'' → IsOpened Leads m'' (vertex_at q' at)
+-- one more was opened, which led to no target
+pub further : {Leads : ℕ → ℕ → Type 0} {targets : VertexSet} {limit limit' from at : ℕ} {m m' m'' : List Bool} {q q' q'' : List Visit} {stopped : Bool}
+    → AreReached m q → IsOpeningAll Leads targets limit m q from at m' q' → at < length q' → limit ≤ limit' → at + 1 ≤ limit'
+    → GoesOn Leads targets (at + 1) m' q' m'' q'' stopped → stopped ≡ false → OnFalse stopped (IsOpened Leads m'' (vertex_at q' at))
     → IsOpeningAll Leads targets limit' m q from (at + 1) m'' q''
-further Leads targets limit limit' from at m m' m'' q q' q'' are is h below below' reached x none opened = record {
-  reached = reached;
-  extends = extend_twice Leads limit (at + 1) limit' m m' m'' q q' q'' below below' are is.reached is.extends x;
-  unfound = none_twice Leads targets (at + 1) (length q) m' m'' q' q'' x is.unfound none;
+further {Leads = Leads} {targets = targets} {limit = limit} {limit' = limit'} {from = from} {at = at} {m = m} {m' = m'} {m'' = m''} {q = q} {q' = q'} {q'' = q''} are is h below below' on e opened = record {
+  reached = on.reached;
+  extends = extend_twice Leads limit (at + 1) limit' m m' m'' q q' q'' below below' are is.reached is.extends on.extends;
+  unfound = none_twice Leads targets (at + 1) (length q) m' m'' q' q'' on.extends is.unfound (OnFalse_at e on.unfound);
   opened = λ k ge lt. elim (cases_lt k at) [
-    | inl before ↦ still_opened Leads Leads (at + 1) from at m' m'' q' q'' x (omega (arith, h)) is.opened k ge before
+    | inl before ↦ still_opened Leads Leads (at + 1) from at m' m'' q' q'' on.extends (omega (arith, h)) is.opened k ge before
     | inr ge' ↦
         let here : at ≡ k = omega (arith, ge', lt) in
-        subst (λ i. IsOpened Leads m'' (vertex_at q'' i)) here (subst (λ v. IsOpened Leads m'' v) (sym (x.same at h)) opened)
+        subst (λ i. IsOpened Leads m'' (vertex_at q'' i)) here (subst (λ v. IsOpened Leads m'' v) (sym (on.extends.same at h)) (OnFalse_at e opened))
   ];
 }
+
+-- or led to one, which is new as well
+pub found_one : {Leads : ℕ → ℕ → Type 0} {targets : VertexSet} {limit limit' from at : ℕ} {m m' m'' : List Bool} {q q' q'' : List Visit} {stopped : Bool}
+    → AreReached m q → IsOpeningAll Leads targets limit m q from at m' q' → limit ≤ limit' → at + 1 ≤ limit'
+    → GoesOn Leads targets (at + 1) m' q' m'' q'' stopped → stopped ≡ true → GoesOn Leads targets limit' m q m'' q'' true
+found_one {Leads = Leads} {limit = limit} {limit' = limit'} {at = at} {m = m} {m' = m'} {m'' = m''} {q = q} {q' = q'} {q'' = q''} are is below below' on e =
+    let ends = OnTrue_at e on.found in
+    record {
+      reached = on.reached;
+      extends = extend_twice Leads limit (at + 1) limit' m m' m'' q q' q'' below below' are is.reached is.extends on.extends;
+      found = (omega (arith, is.extends.longer, ends.0), ends.1);
+      unfound = tt;
+    }
+
+-- or none did
+pub found_none : {Leads : ℕ → ℕ → Type 0} {targets : VertexSet} {limit from at : ℕ} {m m' : List Bool} {q q' : List Visit}
+    → IsOpeningAll Leads targets limit m q from at m' q' → GoesOn Leads targets limit m q m' q' false
+found_none is = record { reached = is.reached; extends = is.extends; found = tt; unfound = is.unfound }
 
 -- costs of the vertices that are new
 
@@ -70,7 +85,7 @@ old_step : (Leads : ℕ → ℕ → Type 0) (limit k : ℕ) (m m' : List Bool) (
 old_step Leads limit k m m' q q' are x pos old =
     (k, pos, old, sym (ap (vertex_at q') (x.parents k old) ∙ x.same (parent_at q k) (parent_within m q k are pos old)), sym (x.same k old))
 
-pub cheap : (Free Paid Leads : ℕ → ℕ → Type 0) (limit cost cost' : ℕ) (m m' : List Bool) (q q' : List Visit) → AreReached m q → Extends Leads limit m q m' q'
+cheap : (Free Paid Leads : ℕ → ℕ → Type 0) (limit cost cost' : ℕ) (m m' : List Bool) (q q' : List Visit) → AreReached m q → Extends Leads limit m q m' q'
     → cost ≤ cost' → AreCheap Free Paid cost q
     → ((costs : ℕ → ℕ) → ((k : ℕ) → k < length q → costs (vertex_at q k) ≤ cost) → ((k : ℕ) → k < length q' → costs (vertex_at q' k) ≤ cost')
     → (k : ℕ) → length q ≤ k → k < length q' → costs (vertex_at q' k) ≡ cost'
@@ -111,7 +126,7 @@ cheap Free Paid Leads limit cost cost' m m' q q' are x le is rise =
           subst (λ u. Rises u w) at-v (subst (λ u. Rises (vertex_at q' (parent_at q' k)) u) at-w here);
     }
 
-pub cheap_freely : (Free Paid : ℕ → ℕ → Type 0) (limit cost : ℕ) (m m' : List Bool) (q q' : List Visit) → AreReached m q → AreReached m' q'
+cheap_freely : (Free Paid : ℕ → ℕ → Type 0) (limit cost : ℕ) (m m' : List Bool) (q q' : List Visit) → AreReached m q → AreReached m' q'
     → Extends Free limit m q m' q' → AreCheap Free Paid cost q → AreCheap Free Paid cost q'
 cheap_freely Free Paid limit cost m m' q q' are are' x is =
     cheap Free Paid Free limit cost cost m m' q q' are x (omega arith) is
@@ -119,7 +134,7 @@ cheap_freely Free Paid limit cost m m' q q' are are' x is =
     let back : parent_at q' k < length q' = parent_within m' q' k are' (omega (arith, are.some, ge)) lt in
     inl (x.led k ge lt, omega (arith, new, within (parent_at q' k) back)))
 
-pub cheap_paid : (Free Paid : ℕ → ℕ → Type 0) (cost : ℕ) (m m' : List Bool) (q q' : List Visit) → AreReached m q
+cheap_paid : (Free Paid : ℕ → ℕ → Type 0) (cost : ℕ) (m m' : List Bool) (q q' : List Visit) → AreReached m q
     → Extends Paid (length q) m q m' q' → AreCheap Free Paid cost q → AreCheap Free Paid (cost + 1) q'
 cheap_paid Free Paid cost m m' q q' are x is =
     cheap Free Paid Paid (length q) cost (cost + 1) m m' q q' are x (omega arith) is
@@ -128,7 +143,7 @@ cheap_paid Free Paid cost m m' q q' are x is =
     let cheaper : costs (vertex_at q' (parent_at q' k)) ≤ cost = subst (λ v. costs v ≤ cost) (sym (x.same (parent_at q' k) back)) (old (parent_at q' k) back) in
     inr (x.led k ge lt, omega (arith, new, cheaper)))
 
-pub cheaper : (Free Paid : ℕ → ℕ → Type 0) (cost cost' : ℕ) (q : List Visit) → cost ≤ cost' → AreCheap Free Paid cost q → AreCheap Free Paid cost' q
+cheaper : (Free Paid : ℕ → ℕ → Type 0) (cost cost' : ℕ) (q : List Visit) → cost ≤ cost' → AreCheap Free Paid cost q → AreCheap Free Paid cost' q
 cheaper Free Paid cost cost' q le is = record {
   costs = is.costs;
   within = λ k h. omega (arith, is.within k h, le);
@@ -189,9 +204,9 @@ opened_at Leads m m' q are opened v is =
     let (k, h, e) = are.queued v is in
     subst (λ u. IsOpened Leads m' u) e (opened k (omega arith) h)
 
-pub started : (Free Paid : ℕ → ℕ → Type 0) (targets : VertexSet) (n most from : ℕ) (marks : List Bool) (queue : List Visit) → from < n
+pub started : {Free Paid : ℕ → ℕ → Type 0} {targets : VertexSet} {n most from : ℕ} {marks : List Bool} {queue : List Visit} → from < n
     → marks ≡ set (replicate n false) from true → queue ≡ visit from 0 ∷ [] → IsLayered Free Paid targets most from 0 0 marks queue
-started Free Paid targets n most from marks queue h ms q =
+started {Free = Free} {Paid = Paid} {targets = targets} {n = n} {most = most} {from = from} {queue = queue} h ms q =
     let m = set (replicate n false) from true in
     let are : AreReached m (visit from 0 ∷ []) = start n from h in
     let is : IsLayered Free Paid targets most from 0 0 m (visit from 0 ∷ []) = record {
@@ -220,6 +235,7 @@ pub record IsClosed (Free Paid : ℕ → ℕ → Type 0) (targets : VertexSet) (
   pub first : vertex_at queue 0 ≡ from
   pub cheap : AreCheap Free Paid cost queue
   pub none : HasNoneOf targets 1 queue
+  pub within : layer ≤ length queue
   pub free : AreOpened Free marks queue 0 (length queue)
   pub paid : AreOpened Paid marks queue 0 layer
   pub carries : Carries Free Paid targets most from (most - cost) marks
@@ -228,20 +244,23 @@ pub record IsClosed (Free Paid : ℕ → ℕ → Type 0) (targets : VertexSet) (
 opened_from : (Leads : ℕ → ℕ → Type 0) (place to : ℕ) (m : List Bool) (q : List Visit) → AreOpened Leads m q 0 place → AreOpened Leads m q place to → AreOpened Leads m q 0 to
 opened_from Leads place to m q before after k ge lt = elim (cases_lt k place) [ inl h ↦ before k ge h | inr h ↦ after k h lt ]
 
-pub close : (Free Paid : ℕ → ℕ → Type 0) (targets : VertexSet) (limit most from cost layer : ℕ) (m m' : List Bool) (q q' : List Visit)
-    → IsLayered Free Paid targets most from cost layer m q → AreReached m' q' → Extends Free limit m q m' q' → HasNoneOf targets (length q) q'
-    → AreOpened Free m' q' layer (length q') → IsClosed Free Paid targets most from cost layer m' q'
-close Free Paid targets limit most from cost layer m m' q q' is are x none opened = record {
-  reached = are;
-  first = x.same 0 is.reached.some ∙ is.first;
-  cheap = cheap_freely Free Paid limit cost m m' q q' is.reached are x is.cheap;
-  none = none_twice Free targets limit 1 m m' q q' x is.none none;
-  free = opened_from Free layer (length q') m' q' (still_opened Free Free limit 0 layer m m' q q' x is.within is.free) opened;
-  paid = still_opened Paid Free limit 0 layer m m' q q' x is.within is.paid;
-  carries = λ to target other rest leads.
-      let (v, rest', marked, on) = is.carries to target other rest leads in
-      (v, rest', x.marked v marked, on);
-}
+pub close : {Free Paid : ℕ → ℕ → Type 0} {targets : VertexSet} {limit most from cost layer : ℕ} {m m' : List Bool} {q q' : List Visit} {stopped : Bool}
+    → IsLayered Free Paid targets most from cost layer m q → GoesOn Free targets limit m q m' q' stopped → stopped ≡ false
+    → OnFalse stopped (AreOpened Free m' q' layer (length q')) → IsClosed Free Paid targets most from cost layer m' q'
+close {Free = Free} {Paid = Paid} {targets = targets} {limit = limit} {cost = cost} {layer = layer} {m = m} {m' = m'} {q = q} {q' = q'} is on e opened =
+    let x : Extends Free limit m q m' q' = on.extends in
+    record {
+      reached = on.reached;
+      first = x.same 0 is.reached.some ∙ is.first;
+      cheap = cheap_freely Free Paid limit cost m m' q q' is.reached on.reached x is.cheap;
+      none = none_twice Free targets limit 1 m m' q q' x is.none (OnFalse_at e on.unfound);
+      within = omega (arith, is.within, x.longer);
+      free = opened_from Free layer (length q') m' q' (still_opened Free Free limit 0 layer m m' q q' x is.within is.free) (OnFalse_at e opened);
+      paid = still_opened Paid Free limit 0 layer m m' q q' x is.within is.paid;
+      carries = λ to target other rest leads.
+          let (v, rest', marked, on') = is.carries to target other rest leads in
+          (v, rest', x.marked v marked, on');
+    }
 
 -- a target is still ahead of a vertex of the next layer
 carry : (Free Paid : ℕ → ℕ → Type 0) (targets : VertexSet) (from left left' to : ℕ) (m m' : List Bool) (q : List Visit) → AreReached m q → vertex_at q 0 ≡ from
@@ -260,26 +279,26 @@ carry Free Paid targets from left left' to m m' q are first none free paid one t
           (w, rest, opened_at Paid m m' q are paid v marked w h.2, subst (λ l. LeadsWithin Free Paid l w rest to) same h.3)
     ]
 
-pub next : (Free Paid : ℕ → ℕ → Type 0) (targets : VertexSet) (most from cost layer : ℕ) (m m' : List Bool) (q q' : List Visit)
-    → IsClosed Free Paid targets most from cost layer m q → cost < most → layer ≤ length q → AreReached m' q' → Extends Paid (length q) m q m' q'
-    → HasNoneOf targets (length q) q' → AreOpened Paid m' q' layer (length q)
-    → IsLayered Free Paid targets most from (cost + 1) (length q) m' q'
-next Free Paid targets most from cost layer m m' q q' is below within are x none opened =
+pub next : {Free Paid : ℕ → ℕ → Type 0} {targets : VertexSet} {most from cost layer : ℕ} {m m' : List Bool} {q q' : List Visit} {stopped : Bool}
+    → IsClosed Free Paid targets most from cost layer m q → cost < most → GoesOn Paid targets (length q) m q m' q' stopped → stopped ≡ false
+    → OnFalse stopped (AreOpened Paid m' q' layer (length q)) → IsLayered Free Paid targets most from (cost + 1) (length q) m' q'
+next {Free = Free} {Paid = Paid} {targets = targets} {most = most} {from = from} {cost = cost} {layer = layer} {m = m} {m' = m'} {q = q} {q' = q'} is below on e opened =
+    let x : Extends Paid (length q) m q m' q' = on.extends in
     let paid : AreOpened Paid m' q' 0 (length q) =
-    opened_from Paid layer (length q) m' q' (still_opened Paid Paid (length q) 0 layer m m' q q' x within is.paid) opened in
+    opened_from Paid layer (length q) m' q' (still_opened Paid Paid (length q) 0 layer m m' q q' x is.within is.paid) (OnFalse_at e opened) in
     let paid' : AreOpened Paid m' q 0 (length q) = λ k ge lt. subst (λ v. IsOpened Paid m' v) (x.same k lt) (paid k ge lt) in
     record {
-      reached = are;
+      reached = on.reached;
       first = x.same 0 is.reached.some ∙ is.first;
       cheap = cheap_paid Free Paid cost m m' q q' is.reached x is.cheap;
-      none = none_twice Paid targets (length q) 1 m m' q q' x is.none none;
+      none = none_twice Paid targets (length q) 1 m m' q q' x is.none (OnFalse_at e on.unfound);
       within = x.longer;
       free = still_opened Free Paid (length q) 0 (length q) m m' q q' x (omega arith) is.free;
       paid = paid;
       carries = λ to target other rest leads.
-          let (v, rest', marked, on) = is.carries to target other rest leads in
+          let (v, rest', marked, on') = is.carries to target other rest leads in
           let one : most - cost ≡ suc (most - (cost + 1)) = omega (arith, below) in
-          carry Free Paid targets from (most - cost) (most - (cost + 1)) to m m' q is.reached is.first is.none is.free paid' one target other v rest' marked on;
+          carry Free Paid targets from (most - cost) (most - (cost + 1)) to m m' q is.reached is.first is.none is.free paid' one target other v rest' marked on';
     }
 
 -- where all was opened, whatever a marked vertex leads to is marked
@@ -295,28 +314,85 @@ all_marked Free Paid left to m free paid v (w ∷ rest) marked leads =
           all_marked Free Paid h.0 to m free (λ u fewer one. paid u h.0 e) w rest (paid v h.0 e marked w h.2) h.3
     ]
 
-pub spent : (Free Paid : ℕ → ℕ → Type 0) (targets : VertexSet) (most from cost layer : ℕ) (m : List Bool) (q : List Visit)
+-- a search has ended
+pub record IsSearched (Free Paid : ℕ → ℕ → Type 0) (targets : VertexSet) (most from : ℕ) (marks : List Bool) (queue : List Visit) (stopped : Bool) : Type 0 where
+  pub reached : AreReached marks queue
+  pub first : vertex_at queue 0 ≡ from
+  pub cheap : AreCheap Free Paid most queue
+  pub found : OnTrue stopped (EndsInOther targets queue)
+  pub unfound : OnFalse stopped (IsWalkToTargetIfAny Free Paid targets most from None)
+
+-- all was opened at the last cost
+spent : {Free Paid : ℕ → ℕ → Type 0} {targets : VertexSet} {most from cost layer : ℕ} {m : List Bool} {q : List Visit}
     → IsClosed Free Paid targets most from cost layer m q → most ≤ cost → IsWalkToTargetIfAny Free Paid targets most from None
-spent Free Paid targets most from cost layer m q is all to target other rest leads =
+spent {Free = Free} {Paid = Paid} {targets = targets} {most = most} {from = from} {cost = cost} {m = m} {q = q} is all to target other rest leads =
     let (v, rest', marked, on) = is.carries to target other rest leads in
     let none : most - cost ≡ 0 = omega (arith, all) in
     unreached targets from to m q is.reached is.first is.none target other
     (all_marked Free Paid (most - cost) to m (opened_at Free m m q is.reached is.free) (λ u fewer one. absurd (omega (arith, none, one))) v rest' marked on)
 
-pub stuck : (Free Paid : ℕ → ℕ → Type 0) (targets : VertexSet) (most from cost layer : ℕ) (m : List Bool) (q : List Visit)
-    → IsLayered Free Paid targets most from cost layer m q → length q ≡ layer → IsWalkToTargetIfAny Free Paid targets most from None
-stuck Free Paid targets most from cost layer m q is all to target other rest leads =
-    let (v, rest', marked, on) = is.carries to target other rest leads in
+-- a layer is empty
+pub stuck : {Free Paid : ℕ → ℕ → Type 0} {targets : VertexSet} {most from cost layer : ℕ} {m : List Bool} {q : List Visit}
+    → IsLayered Free Paid targets most from cost layer m q → length q ≡ layer → cost ≤ most → IsSearched Free Paid targets most from m q false
+stuck {Free = Free} {Paid = Paid} {targets = targets} {most = most} {from = from} {cost = cost} {m = m} {q = q} is all le =
     let free : AreOpened Free m q 0 (length q) = subst (λ n. AreOpened Free m q 0 n) (sym all) is.free in
     let paid : AreOpened Paid m q 0 (length q) = subst (λ n. AreOpened Paid m q 0 n) (sym all) is.paid in
-    unreached targets from to m q is.reached is.first is.none target other
-    (all_marked Free Paid (most - cost) to m (opened_at Free m m q is.reached free) (λ u fewer one. opened_at Paid m m q is.reached paid u) v rest' marked on)
+    record {
+      reached = is.reached;
+      first = is.first;
+      cheap = cheaper Free Paid cost most q le is.cheap;
+      found = tt;
+      unfound = λ to target other rest leads.
+          let (v, rest', marked, on) = is.carries to target other rest leads in
+          unreached targets from to m q is.reached is.first is.none target other
+          (all_marked Free Paid (most - cost) to m (opened_at Free m m q is.reached free) (λ u fewer one. opened_at Paid m m q is.reached paid u) v rest' marked on);
+    }
 
 -- a target that is new is not the vertex where the search began
-pub another : (Leads : ℕ → ℕ → Type 0) (targets : VertexSet) (limit : ℕ) (m m' : List Bool) (q q' : List Visit) → AreReached m q → Extends Leads limit m q m' q'
+another : (Leads : ℕ → ℕ → Type 0) (targets : VertexSet) (limit : ℕ) (m m' : List Bool) (q q' : List Visit) → AreReached m q → Extends Leads limit m q m' q'
     → EndsIn targets q q' → EndsInOther targets q'
 another Leads targets limit m m' q q' are x (longer, target) = (
   target,
   λ same. x.new (length q' - 1) (omega (arith, longer)) (omega (arith, longer))
       (subst (λ v. IsMarked m v) (sym (x.same 0 are.some) ∙ same) (are.marked 0 are.some)),
 )
+
+-- a target was found by free arcs
+pub ends_freely : {Free Paid : ℕ → ℕ → Type 0} {targets : VertexSet} {limit most from cost layer : ℕ} {m m' : List Bool} {q q' : List Visit} {stopped : Bool}
+    → IsLayered Free Paid targets most from cost layer m q → cost ≤ most → GoesOn Free targets limit m q m' q' stopped → stopped ≡ true
+    → IsSearched Free Paid targets most from m' q' true
+ends_freely {Free = Free} {Paid = Paid} {targets = targets} {limit = limit} {most = most} {cost = cost} {m = m} {m' = m'} {q = q} {q' = q'} is le on e = record {
+  reached = on.reached;
+  first = on.extends.same 0 is.reached.some ∙ is.first;
+  cheap = cheaper Free Paid cost most q' le (cheap_freely Free Paid limit cost m m' q q' is.reached on.reached on.extends is.cheap);
+  found = another Free targets limit m m' q q' is.reached on.extends (OnTrue_at e on.found);
+  unfound = tt;
+}
+
+-- or by paid ones
+pub ends_paid : {Free Paid : ℕ → ℕ → Type 0} {targets : VertexSet} {most from cost layer : ℕ} {m m' : List Bool} {q q' : List Visit} {stopped : Bool}
+    → IsClosed Free Paid targets most from cost layer m q → cost < most → GoesOn Paid targets (length q) m q m' q' stopped → stopped ≡ true
+    → IsSearched Free Paid targets most from m' q' true
+ends_paid {Free = Free} {Paid = Paid} {targets = targets} {most = most} {cost = cost} {m = m} {m' = m'} {q = q} {q' = q'} is below on e = record {
+  reached = on.reached;
+  first = on.extends.same 0 is.reached.some ∙ is.first;
+  cheap = cheaper Free Paid (cost + 1) most q' (omega (arith, below)) (cheap_paid Free Paid cost m m' q q' is.reached on.extends is.cheap);
+  found = another Paid targets (length q) m m' q q' is.reached on.extends (OnTrue_at e on.found);
+  unfound = tt;
+}
+
+-- at the last cost all is opened by free arcs, if memory suffices
+pub ends : {E : Type 0} {Free Paid : ℕ → ℕ → Type 0} {targets : VertexSet} {most from cost layer : ℕ} {m : List Bool} {q : List Visit} (m' : List Bool) (q' : List Visit)
+    (r : Result Bool E) → IsLayered Free Paid targets most from cost layer m q → cost ≡ most → IfOk r (GoesOn Free targets (length q') m q m' q')
+    → IfOk r (λ stopped. OnFalse stopped (AreOpened Free m' q' layer (length q'))) → IfOk r (IsSearched Free Paid targets most from m' q')
+ends m' q' (Ok true) is last on opened = ends_freely is (omega (arith, last)) on refl
+ends {Free = Free} {Paid = Paid} {targets = targets} {most = most} {from = from} {cost = cost} {layer = layer} m' q' (Ok false) is last on opened =
+    let all : IsClosed Free Paid targets most from cost layer m' q' = close is on refl opened in
+    record {
+      reached = all.reached;
+      first = all.first;
+      cheap = cheaper Free Paid cost most q' (omega (arith, last)) all.cheap;
+      found = tt;
+      unfound = spent all (omega (arith, last));
+    }
+ends m' q' (Err e) is last on opened = tt
