@@ -36,6 +36,13 @@ pub length-known : (first : ℕ) (ws : List Written) (rs : List (ℕ × ℕ)) (f
 length-known first [] rs fs = refl
 length-known first (w ∷ ws) rs fs = ap suc (length-known (first + 1) ws rs fs)
 
+-- a place among what is known is one of a writer
+pub known_place : (ws : List Written) (rs : List (ℕ × ℕ)) (fs : List (ℕ × Follower)) {known : List Known} {n : ℕ} → known_from 0 ws rs fs ≡ known → n < length known → n < length ws
+known_place ws rs fs {n = n} is below = subst (λ k. n < k) (ap length (sym is) ∙ length-known 0 ws rs fs) below
+
+pub groups_same : {A : Type 0} {n m : ℕ} {ps qs : List (ℕ × A)} → n ≡ m → ps ≡ qs → groups_from 0 n ps ≡ groups_from 0 m qs
+groups_same {m = m} {ps = ps} count same = ap (λ k. groups_from 0 k ps) count ∙ ap (groups_from 0 m) same
+
 -- ---- writers
 
 pub known_written :

@@ -43,14 +43,6 @@ next_from (suc index) process nil seen some other =
         ∙ enough m index m process nil seen (omega arith) low
         ∙ sym (ap (λ b. cond b (Some index) (index_from index m process nil seen)) (ap (λ j. is_of process nil (get_or seen j nothing)) (sym e) ∙ other))
 
-pub here_from :
-    (place process nil : ℕ) (seen : List Seen) → 0 < place → is_of process nil (get_or seen (place - 1) nothing) ≡ true
-    → Some (place - 1) ≡ index_from place place process nil seen
-here_from zero process nil seen some is = absurd (omega (arith, some))
-here_from (suc index) process nil seen some is =
-    let e : suc index - 1 ≡ index = omega arith in
-    ap Some e ∙ sym (ap (λ b. cond b (Some index) (index_from index (min (get_or seen index nothing).next index) process nil seen)) (ap (λ j. is_of process nil (get_or seen j nothing)) (sym e) ∙ is))
-
 pub none_from : (place process nil : ℕ) (seen : List Seen) → place ≤ 0 → None ≡ index_from place place process nil seen
 none_from zero process nil seen none = refl
 none_from (suc index) process nil seen none = absurd (omega (arith, none))
@@ -424,3 +416,16 @@ place_read seen newest process nil hash n next are count is read =
     let at : hash ≡ hash_of process nil (length newest) = is ∙ ap (hash_of process nil) count in
     read ∙ ap (λ h. get_or newest h next) at
     ∙ get_or_default newest (hash_of process nil (length newest)) next 0 (hash_within process nil (length newest) are.some)
+
+-- what was added is what is seen with it
+pub linked_now :
+    {seen now : List Seen} {newest : List ℕ} {hash n next place : ℕ} (process nil version : ℕ) (are : AreLinked seen newest) → n ≡ length newest
+    → hash ≡ hash_of process nil n → next ≡ get_or newest hash next → place ≡ length seen + 1
+    → now ≡ seen ++ record { process = process; nil = nil; version = version; next = next } ∷ []
+    → linked_by now (set newest hash place) ≡ grown seen newest process nil version are
+linked_now {seen = seen} {newest = newest} {hash = hash} {n = n} {next = next} {place = place} process nil version are count is read here pushed =
+    let with : ℕ → List Seen = λ k. seen ++ record { process = process; nil = nil; version = version; next = k } ∷ [] in
+    ap (λ xs. linked_by xs (set newest hash place)) pushed
+    ∙ ap (λ k. linked_by (with k) (set newest hash place)) (place_read seen newest process nil hash n next are count is read)
+    ∙ ap (λ p. linked_by (with (place_of (linked_by seen newest) process nil)) (set newest hash p)) here
+    ∙ ap (λ h. linked_by (with (place_of (linked_by seen newest) process nil)) (set newest h (length seen + 1))) (is ∙ ap (hash_of process nil) count)

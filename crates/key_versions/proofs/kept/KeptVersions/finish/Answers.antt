@@ -1,43 +1,26 @@
-use Rattle.std.proofs.Common.{◌≡◌, ◌∙◌, List, length, map, sym, ap, subst}
-use Rattle.std.proofs.lemmas.List.{length-map}
-use Rattle.hist_types.specs.Transactions.{Transaction}
-use Rattle.key_versions.specs.Histories.{writer_of}
+use Rattle.std.proofs.Common.{ap}
 use Rattle.key_versions.specs.Kept.{KeptVersions}
 use Rattle.key_versions.specs.Numbering.{versions_of}
-use Rattle.key_versions.specs.Rows.{Known}
-use Rattle.key_versions.specs.Tables.{IsTableOf}
-use Rattle.key_versions.specs.Views.{table_by}
-use Rattle.key_versions.proofs.Finished.{are_versions, table_same, same_table}
+use Rattle.key_versions.proofs.Finished.{IsKnown, are_versions, is_table}
+use Rattle.key_versions.proofs.kept.KeptVersions.finish.Given.{Over}
+use Rattle.key_versions.proofs.kept.KeptVersions.finish.Goals.{In_ok-known}
 use Rattle.key_versions.proofs.kept.KeptVersions.finish.Goals as goal
+
+known : (g : Over) (c : In_ok-known g)
+    → IsKnown c.in_ok-numbered.numbered.keys.items c.in_ok-numbered.numbered.values.items c.in_ok-numbered.numbered.pairs.items (versions_of c.self.inside.numbering) c.in_ok-rows.rows.rows c.in_ok-known.known.writers.items c.in_ok-known.known.readers c.in_ok-known.known.followers
+known g c = record {
+  versions = c.in_ok-numbered.ensures.versions;
+  writers = c.in_ok-known.ensures.writers;
+  readers = c.in_ok-known.ensures.readers;
+  followers = c.in_ok-known.ensures.followers;
+}
 
 pub new-requires : goal.new-requires
 new-requires g c =
-    let numbered = c.in_ok-numbered.numbered in
-    let known = c.in_ok-known.known in
-    let vs = versions_of c.self.inside.numbering in
-    let rows = c.in_ok-rows.rows.rows in
-    let count : length (map (λ (k : Known). k.writer) rows) ≡ length vs =
-    ap length c.in_ok-rows.ensures.writers ∙ length-map c.args.self.now.versions (writer_of c.as_slice.result.now) ∙ ap (λ (k : KeptVersions). length k.versions) (sym c.self.view_is) in
-    are_versions numbered.keys.items numbered.values.items numbered.pairs.items vs rows known.writers.items known.readers known.followers
-    c.in_ok-numbered.ensures.versions c.in_ok-known.ensures.writers c.in_ok-known.ensures.readers c.in_ok-known.ensures.followers
-    c.in_ok-numbered.ensures.keys c.in_ok-numbered.ensures.in_range count
+    are_versions (known g (goal.at.new-requires g c).In_ok-known) c.args.self.now (ap (λ (k : KeptVersions). k.versions) c.self.view_is) c.as_slice.result.now c.in_ok-rows.rows.accesses c.in_ok-rows.ensures
+    c.in_ok-numbered.ensures.keys c.in_ok-numbered.ensures.in_range
 
 pub returns-clause-ok : goal.returns-clause-ok
 returns-clause-ok g c =
-    let numbered = c.in_ok-numbered.numbered in
-    let known = c.in_ok-known.known in
-    let vs = versions_of c.self.inside.numbering in
-    let rows = c.in_ok-rows.rows.rows in
-    let accesses = c.in_ok-rows.rows.accesses in
-    let keys = c.args.self.now.keys in
-    let ts = c.args.txns.now in
-    let known_of : IsTableOf keys ts (table_by c.args.self.now.versions rows accesses) =
-    subst (λ (txns : List Transaction). IsTableOf keys txns (table_by c.args.self.now.versions rows accesses)) c.as_slice.ensures c.in_ok-rows.ensures in
-    let is : IsTableOf keys ts (table_by vs rows accesses) =
-    subst (λ (k : KeptVersions). IsTableOf keys ts (table_by k.versions rows accesses)) (sym c.self.view_is) known_of in
-    subst (IsTableOf keys ts)
-    (sym
-    (c.new.ensures
-    ∙ table_same numbered.keys.items numbered.values.items numbered.pairs.items vs rows known.writers.items known.readers known.followers
-    c.in_ok-numbered.ensures.versions c.in_ok-known.ensures.writers c.in_ok-known.ensures.readers c.in_ok-known.ensures.followers c.self.inside.keys accesses))
-    (same_table keys c.self.inside.keys ts (table_by vs rows accesses) is)
+    is_table (known g (goal.at.returns-clause-ok g c).In_ok-known) c.args.self.now (ap (λ (k : KeptVersions). k.versions) c.self.view_is) c.as_slice.result.now c.in_ok-rows.rows.accesses c.in_ok-rows.ensures
+    c.as_slice.ensures c.new.ensures

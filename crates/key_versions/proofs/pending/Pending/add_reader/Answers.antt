@@ -1,8 +1,8 @@
-use Rattle.std.proofs.Common.{◌<◌, ◌∙◌, All, length, sym, ap, subst}
+use Rattle.std.proofs.Common.{◌∙◌, All, length, sym, ap, subst}
 use Rattle.flat_groups.specs.Groups.{IsNumbered}
 use Rattle.key_versions.specs.Pending.{known_from}
 use Rattle.key_versions.specs.Rows.{change, with_place}
-use Rattle.key_versions.proofs.Gathered.{length-known, known_read, all_one_more, from_zero}
+use Rattle.key_versions.proofs.Gathered.{all_one_more, from_zero, known_place, known_read}
 use Rattle.key_versions.proofs.pending.Pending.add_reader.Goals as goal
 
 pub invariant_of-self-2 : goal.invariant_of-self-2
@@ -10,7 +10,7 @@ invariant_of-self-2 c =
     let ws = c.self.inside.writers.items in
     let rs = c.self.inside.readers.items in
     let fs = c.self.inside.followers.items in
-    let below : c.args.version < length ws = subst (λ n. c.args.version < n) (ap length (sym c.self.view_is) ∙ length-known 0 ws rs fs) c.requires in
+    let below = known_place ws rs fs c.self.view_is c.requires in
     (subst (λ xs. All (IsNumbered (length ws)) xs) (sym c.in_ok-push.ensures.items) (all_one_more (length ws) rs (c.args.version, c.args.place) c.self.invariant.0 below), c.self.invariant.1, c.self.invariant.2)
 
 pub returns : goal.returns

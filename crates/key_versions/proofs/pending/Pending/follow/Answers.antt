@@ -1,10 +1,10 @@
-use Rattle.std.proofs.Common.{◌<◌, ◌∙◌, ℕ, List, All, length, sym, ap, subst, arith}
+use Rattle.std.proofs.Common.{◌∙◌, ℕ, List, All, length, sym, ap, subst, arith}
 use Rattle.flat_groups.specs.Groups.{IsNumbered}
 use Rattle.key_versions.specs.Pending.{known_from, AreInOrder}
 use Rattle.key_versions.specs.Rows.{Known, change, with_follower}
 use Rattle.key_versions.specs.Steps.{FollowersAreUpTo}
 use Rattle.key_versions.specs.declared.types.Follower.{Follower}
-use Rattle.key_versions.proofs.Gathered.{length-known, known_followed, all_one_more, from_zero}
+use Rattle.key_versions.proofs.Gathered.{all_one_more, from_zero, known_followed, known_place}
 use Rattle.key_versions.proofs.Interleaved.{followers_up_to, in_order_more}
 use Rattle.key_versions.proofs.pending.Pending.follow.Goals as goal
 
@@ -14,7 +14,7 @@ invariant_of-self-2 c =
     let rs = c.self.inside.readers.items in
     let fs = c.self.inside.followers.items in
     let p : ℕ × Follower = (c.args.version, c.args.follower) in
-    let below : c.args.version < length ws = subst (λ n. c.args.version < n) (ap length (sym c.self.view_is) ∙ length-known 0 ws rs fs) c.requires.version in
+    let below = known_place ws rs fs c.self.view_is c.requires.version in
     let up_to : All (FollowersAreUpTo c.args.follower.txn) (known_from 0 ws rs fs) =
     subst (λ (ks : List Known). All (FollowersAreUpTo c.args.follower.txn) ks) (sym c.self.view_is) c.requires.order in (
       c.self.invariant.0,

@@ -7,25 +7,23 @@ use Rattle.key_versions.specs.Steps.{FollowersAreUpTo}
 use Rattle.key_versions.proofs.Sequenced.{rows_up_to}
 use Rattle.key_versions.proofs.UpTo.{up_to_grown}
 use Rattle.key_versions.proofs.Told.{accesses_within, grown_enough, told}
+use Rattle.key_versions.proofs.rows.Rows.take.Goals.{In_ok-grow}
 use Rattle.key_versions.proofs.rows.Rows.take.Goals as goal
+
+enough : (c : In_ok-grow) → c.args.versions ≤ length c.grow.new.self.rows
+enough c = subst (λ (xs : List Known). c.args.versions ≤ length xs) (sym c.in_ok-grow.ensures.rows) (grown_enough c.args.versions c.args.self.now.rows)
 
 pub add-requires-clause-reads : goal.add-requires-clause-reads
 add-requires-clause-reads c =
     let (given, before, after, ts, t, is, adds, has) = c.requires in
-    let rows = c.args.self.now.rows in
-    let enough : length after ≤ length c.grow.new.self.rows =
-    subst (λ n. n ≤ length c.grow.new.self.rows) adds.count
-    (subst (λ (xs : List Known). c.args.versions ≤ length xs) (sym c.in_ok-grow.ensures.rows) (grown_enough c.args.versions rows)) in
-    accesses_within after (read_by t) c.args.reads.now (length c.grow.new.self.rows) enough has.reads
+    let rows = length c.grow.new.self.rows in
+    accesses_within after (read_by t) c.args.reads.now rows (subst (λ n. n ≤ rows) adds.count (enough (goal.at.add-requires-clause-reads c).In_ok-grow)) has.reads
 
 pub add-requires-clause-writes : goal.add-requires-clause-writes
 add-requires-clause-writes c =
     let (given, before, after, ts, t, is, adds, has) = c.requires in
-    let rows = c.args.self.now.rows in
-    let enough : length after ≤ length c.grow.new.self.rows =
-    subst (λ n. n ≤ length c.grow.new.self.rows) adds.count
-    (subst (λ (xs : List Known). c.args.versions ≤ length xs) (sym c.in_ok-grow.ensures.rows) (grown_enough c.args.versions rows)) in
-    accesses_within after (map version_of (writes_of t.mops)) c.args.writes.now (length c.grow.new.self.rows) enough has.writes
+    let rows = length c.grow.new.self.rows in
+    accesses_within after (map version_of (writes_of t.mops)) c.args.writes.now rows (subst (λ n. n ≤ rows) adds.count (enough (goal.at.add-requires-clause-writes c).In_ok-grow)) has.writes
 
 pub add-requires-clause-order : goal.add-requires-clause-order
 add-requires-clause-order c =
