@@ -62,8 +62,3 @@ within_at xs n x e = within xs n x e
 pub gathered : {A B E : Type 0} (f : A → List E) (g : B → List E) (h : A → B) (xs : List A) → ((x : A) → f x ≡ g (h x)) → flat_map f xs ≡ flat_map g (map h xs)
 gathered f g h [] same = refl
 gathered f g h (x ∷ xs) same = ap (λ es. es ++ flat_map f xs) (same x) ∙ ap (λ es. g (h x) ++ es) (gathered f g h xs same)
-
-pub gathered_alike : {A E : Type 0} (f g : A → List E) (xs : List A) → ((x : A) → In x xs → f x ≡ g x) → flat_map f xs ≡ flat_map g xs
-gathered_alike f g [] same = refl
-gathered_alike f g (x ∷ xs) same =
-    ap (λ es. es ++ flat_map f xs) (same x (inl refl)) ∙ ap (λ es. g x ++ es) (gathered_alike f g xs (λ y i. same y (inr i)))

@@ -3,7 +3,7 @@ use Rattle.std.proofs.Common.{◌≡◌, ℕ, zero, suc, ◌+◌, ◌<◌, List,
 use Rattle.std.specs.List.{list_any}
 use Rattle.std.specs.Option.{is_some}
 use Rattle.std.proofs.Math.ListN.{set}
-use Rattle.std.proofs.lemmas.Bool.{false≢true, and_parts, and_from, or_cases, cases_Bool, eqb-true, eq-eqb}
+use Rattle.std.proofs.lemmas.Bool.{false≢true, and_parts, and_from, cases_Bool, eqb-true, eq-eqb}
 use Rattle.std.proofs.lemmas.List.{get_or-set_same, get_or-set_other, length-set, length-map}
 use Rattle.std.proofs.lemmas.Option.{none-some, same_Some}
 use Rattle.std.proofs.lemmas.Grind.{take_at_read, fold-append}
@@ -15,7 +15,7 @@ use Rattle.hist_types.specs.Versions.{nil_of}
 use Rattle.hist_types.specs.declared.types.KeyOrder.{KeyOrder}
 use Rattle.hist_types.proofs.Members.{In, in_from_Contains, Contains_from_in, in_front, in_back, in_map, in_mapped}
 use Rattle.history_laws.proofs.Processes.{told_apart}
-use Rattle.history_laws.proofs.ThinningPaths.{any_passes}
+use Rattle.history_laws.proofs.ThinningPaths.{any_passes, some_passes}
 use Rattle.history_laws.proofs.VersionMembers.{in_from_has, has_from_in}
 use Rattle.history_laws.proofs.WrittenOnce.{AreApart, one_writer}
 use Rattle.key_versions.specs.Histories.{named_in, named_by, from_place, readers_of, writer_of}
@@ -67,13 +67,6 @@ to_some_place f k (u ∷ ts) zero t y e i =
 to_some_place f k (u ∷ ts) (suc j) t y e i =
     let at : k + suc j ≡ k + 1 + j = omega arith in
     in_back y (f k u) (from_place f (k + 1) ts) (to_some_place f (k + 1) ts j t y e (subst (λ n. In y (f n t)) at i))
-
-some_passes : {X : Type 0} (p : X → Bool) (xs : List X) → list_any p xs ≡ true → (x : X) × In x xs × (p x ≡ true)
-some_passes p [] e = elim (false≢true e) [ ]
-some_passes p (x ∷ xs) e = elim (or_cases (p x) (list_any p xs) e) [
-  | inl here ↦ (x, inl refl, here)
-  | inr further ↦ (let found = some_passes p xs further in (found.0, inr found.1, found.2))
-]
 
 same_tests : (a b : Bool) → (a ≡ true → b ≡ true) → (b ≡ true → a ≡ true) → a ≡ b
 same_tests true b to back = sym (to refl)

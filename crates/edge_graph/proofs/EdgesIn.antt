@@ -1,7 +1,7 @@
 -- The list of a graph's edges: dependency edges, and order edges to nodes.
 use Rattle.std.proofs.Common.{◌≡◌, ◌↔◌, ◌∙◌, ◌⊎◌, inl, inr, List, [], ◌∷◌, ◌++◌, ◌==◌, ◌||◌, Bool, true, false, not, filter, Contains, refl, sym, ap, subst}
 use Rattle.std.specs.List.{list_any}
-use Rattle.std.proofs.lemmas.Bool.{false≢true, or_cases, or_left, or_right, eqb-true, eq-eqb}
+use Rattle.std.proofs.lemmas.Bool.{false≢true, or_left, or_right, eqb-true, eq-eqb}
 use Rattle.history_laws.specs.Dependencies.{Depends}
 use Rattle.hist_types.specs.declared.types.KeyOrder.{KeyOrder}
 use Rattle.hist_types.specs.Edges.{Label, ww, wr, rw, process, realtime, Edge, edge, dependency_edges, order_labels, all_order_edges, order_edges, edges_at}
@@ -14,6 +14,7 @@ use Rattle.hist_types.specs.declared.types.Level.TheVariants.{Plain, Process, Re
 use Rattle.history_laws.proofs.DependencyEdges.{edges_by_versions}
 use Rattle.hist_types.proofs.Members.{In, in_from_Contains, Contains_from_in, in_front, in_back, in_append, in_some, in_map, in_filter, in_filtered, passes_filter}
 use Rattle.history_laws.proofs.OrderEdges.{Comes, comes_from, goes_to, order_edges-all, order_edges-leave, order_edges-lead, order_edges-between, thinned_edges-order, all_thinned_edges-order}
+use Rattle.history_laws.proofs.ThinningPaths.{some_passes}
 use Rattle.order_frontier.specs.Predecessors.{Before, process_edge, realtime_edge, edges_to, edges_of, HasOrderEdges, HasThinnedEdges}
 use Rattle.dep_edges.specs.Histories.{AreOfHistory}
 use Rattle.dep_edges.proofs.Out.{one_by_invocation}
@@ -27,15 +28,8 @@ use Rattle.edge_graph.proofs.EdgesOut.{IsOrderLabel}
 
 leads_from : (ns : List Transaction) (e : Edge) → leads_to_one ns e ≡ true → LeadsToOne ns e
 leads_from ns e h =
-    let (u, i, same) = one_passes (λ (u : Transaction). e.to == u.invocation) ns h in
+    let (u, i, same) = some_passes (λ (u : Transaction). e.to == u.invocation) ns h in
     (u, Contains_from_in u ns i, eqb-true e.to u.invocation same)
-  where
-    one_passes : {X : Type 0} (test : X → Bool) (xs : List X) → list_any test xs ≡ true → (x : X) × In x xs × (test x ≡ true)
-    one_passes test [] e = absurd (false≢true e)
-    one_passes test (x ∷ xs) e = elim (or_cases (test x) (list_any test xs) e) [
-      | inl here ↦ (x, inl refl, here)
-      | inr there ↦ let (y, i, passes) = one_passes test xs there in (y, inr i, passes)
-    ]
 
 leads_to : (ns : List Transaction) (e : Edge) → LeadsToOne ns e → leads_to_one ns e ≡ true
 leads_to ns e (u, c, same) = passes (λ (u : Transaction). e.to == u.invocation) ns u (in_from_Contains u ns c) (eq-eqb e.to u.invocation same)

@@ -1,7 +1,7 @@
 -- Order edges by the lists of successors.
 use Rattle.std.proofs.Common.{◌≡◌, ◌∙◌, ◌<◌, ◌≤◌, ◌+◌, inl, inr, ℕ, zero, suc, List, [], ◌∷◌, length, get_or, map, Bool, true, false, ◌&&◌, ◌==◌, if◌then◌else◌, Option, Some, None, unwrap_or, Contains, refl, sym, ap, subst, arith}
-use Rattle.std.specs.List.{list_any, range_with_len}
-use Rattle.std.proofs.lemmas.Bool.{false≢true, and_parts, and_from, or_cases, or_left, or_right, eqb-true, eq-eqb, cases_eq}
+use Rattle.std.specs.List.{range_with_len}
+use Rattle.std.proofs.lemmas.Bool.{false≢true, and_parts, and_from, eqb-true, eq-eqb, cases_eq}
 use Rattle.std.proofs.lemmas.List.{get_or-map, get_or_past}
 use Rattle.std.proofs.lemmas.Option.{slice_get-get_or, get_or_from_slice_get}
 use Rattle.hist_types.specs.Edges.{Label, process, realtime, Edge, edge, realtime_label, is_ok_before, same_process}
@@ -17,6 +17,7 @@ use Rattle.dep_edges.specs.Tables.{txn_at}
 use Rattle.dep_edges.proofs.Apart.{apart_filter}
 use Rattle.dep_edges.proofs.Out.{one_by_invocation}
 use Rattle.history_laws.proofs.WrittenOnce.{AreApart}
+use Rattle.history_laws.proofs.ThinningPaths.{any_passes, some_passes}
 use Rattle.edge_graph.specs.Made.{order_labels_to, order_edges_to}
 use Rattle.edge_graph.specs.Parts.{IsOrderOf}
 use Rattle.edge_graph.specs.Successors.{predecessors_at, has_invocation, is_successor, Turned, list_at, lists_at, AreSuccessors, AreTurned}
@@ -140,15 +141,8 @@ module _ (ts : List Transaction) (order : List Before) (kept : AreOfHistory ts) 
       let ps = predecessors_at level (before_at order next) in
       let inv = (txn_at ts place).invocation in
       let (node, some) = and_parts (is_node ts (txn_at ts next)) (has_invocation ps inv) e in
-      let (p, i, same) = one_passes (λ (p : Predecessor). p.invocation == inv) ps some in
+      let (p, i, same) = some_passes (λ (p : Predecessor). p.invocation == inv) ps some in
       (node, p, i, sym (eqb-true p.invocation inv same))
-    where
-      one_passes : {X : Type 0} (test : X → Bool) (xs : List X) → list_any test xs ≡ true → (x : X) × In x xs × (test x ≡ true)
-      one_passes test [] e = absurd (false≢true e)
-      one_passes test (x ∷ xs) e = elim (or_cases (test x) (list_any test xs) e) [
-        | inl here ↦ (x, inl refl, here)
-        | inr there ↦ let (y, i, passes) = one_passes test xs there in (y, inr i, passes)
-      ]
 
   -- the order edge to a successor
   pub order_from :
@@ -193,15 +187,10 @@ module _ (ts : List Transaction) (order : List Before) (kept : AreOfHistory ts) 
         k',
         to_u,
         and_from (is_node ts u) (has_invocation (predecessors_at level (before_at order next)) t.invocation) node
-            (some_passes (λ (q : Predecessor). q.invocation == t.invocation) p (predecessors_at level (before_at order next)) p_there (eq-eqb p.invocation t.invocation (sym p_is))),
+            (any_passes (λ (q : Predecessor). q.invocation == t.invocation) p (predecessors_at level (before_at order next)) p_there (eq-eqb p.invocation t.invocation (sym p_is))),
         subst (In e) (sym (same_edge level next p t k' p_there (txn_in ts place h) p_is))
             (inl (ap (λ x. level_edge level x p) at ∙ same)),
       )
-    where
-      some_passes : {X : Type 0} (test : X → Bool) (x : X) (xs : List X) → In x xs → test x ≡ true → list_any test xs ≡ true
-      some_passes test x [] i passes = absurd i
-      some_passes test x (y ∷ ys) (inl e) passes = or_left (test y) (list_any test ys) (ap test e ∙ passes)
-      some_passes test x (y ∷ ys) (inr i) passes = or_right (test y) (list_any test ys) (some_passes test x ys i passes)
 
   -- ---- lists of successors
 

@@ -1,20 +1,21 @@
 -- Transactions by place and versions by number, and what the places of readers and followers say.
-use Rattle.std.proofs.Common.{◌≡◌, ◌∙◌, ◌<◌, ◌+◌, inl, inr, ℕ, zero, suc, List, [], ◌∷◌, length, get_or, map, Bool, true, false, if◌then◌else◌, Option, Some, None, unwrap_or, refl, sym, ap, subst, arith, pos}
+use Rattle.std.proofs.Common.{◌≡◌, ◌∙◌, ◌<◌, ◌+◌, inl, inr, ℕ, List, [], ◌∷◌, length, get_or, map, Bool, true, false, if◌then◌else◌, Option, Some, None, unwrap_or, refl, sym, ap, subst, arith, pos}
 use Rattle.std.specs.Prelude.{slice_get}
 use Rattle.std.proofs.lemmas.Bool.{cases_lt, and_from, and_parts, or_left}
-use Rattle.std.proofs.lemmas.Option.{none-some, same_Some, slice_get_within, slice_get-get_or, get_or_from_slice_get}
+use Rattle.std.proofs.lemmas.Option.{none-some, slice_get_within, slice_get-get_or, get_or_from_slice_get}
 use Rattle.hist_types.specs.Transactions.{Transaction, Version, is_ok, external_reads, has_version, is_known_to_read, is_node, Open}
 use Rattle.hist_types.specs.Versions.{nil_of, process_pairs}
 use Rattle.hist_types.specs.Atoms.{integer}
 use Rattle.hist_types.specs.declared.types.KeyOrder.{KeyOrder}
-use Rattle.hist_types.proofs.Members.{In, in_from_Contains, Contains_from_in, in_front, in_back, in_mapped, in_map, in_filter, in_filtered, passes_filter}
+use Rattle.hist_types.proofs.Members.{In, in_from_Contains, Contains_from_in, in_mapped, in_map, in_filter, in_filtered, passes_filter}
 use Rattle.history_laws.proofs.ThinningTimes.{invoked_in_order}
 use Rattle.history_laws.proofs.VersionMembers.{in_from_has, has_from_in}
 use Rattle.history_laws.specs.Times.{AreInvokedInOrder}
-use Rattle.key_versions.specs.Histories.{read_by, installs_behind, from_place, readers_of, followers_of}
+use Rattle.key_versions.specs.Histories.{read_by, installs_behind, readers_of, followers_of}
 use Rattle.key_versions.specs.Tables.{Table}
 use Rattle.dep_edges.specs.Histories.{AreOfHistory}
 use Rattle.dep_edges.specs.Tables.{txn_at, version_at}
+use Rattle.dep_edges.proofs.Marks.{to_some_place}
 use Rattle.dep_edges.proofs.Places.{from_some_place}
 use Rattle.edge_graph.specs.LaidOut.{nodes_behind}
 use Rattle.edge_graph.proofs.Placed.{order_at}
@@ -79,15 +80,6 @@ version_of_number table number v e = ap (λ o. unwrap_or o nothing) e
 
 -- ---- readers and followers
 
-to_place : {A : Type 0} (f : ℕ → Transaction → List A) (k : ℕ) (ts : List Transaction) (j : ℕ) (t : Transaction) (y : A) → slice_get ts j ≡ Some t → In y (f (k + j) t) → In y (from_place f k ts)
-to_place f k [] j t y e i = absurd (none-some t e)
-to_place f k (u ∷ ts) zero t y e i =
-    let at : k + 0 ≡ k = omega arith in
-    in_front y (f k u) (from_place f (k + 1) ts) (subst (λ x. In y (f k x)) (sym (same_Some u t e)) (subst (λ n. In y (f n t)) at i))
-to_place f k (u ∷ ts) (suc j) t y e i =
-    let at : k + suc j ≡ k + 1 + j = omega arith in
-    in_back y (f k u) (from_place f (k + 1) ts) (to_place f (k + 1) ts j t y e (subst (λ n. In y (f n t)) at i))
-
 in_if : (test : Bool) (n m : ℕ) → In m (if test then n ∷ [] else []) → (test ≡ true) × (n ≡ m)
 in_if true n m (inl e) = (refl, e)
 in_if true n m (inr i) = absurd i
@@ -107,7 +99,7 @@ reader_at ts v place i =
 pub at_reader : (ts : List Transaction) (v : Version) (place : ℕ) → place < length ts → is_known_to_read (txn_at ts place) v ≡ true → In place (readers_of ts v)
 at_reader ts v place h read =
     let at : 0 + place ≡ place = omega arith in
-    to_place (λ place t. if is_known_to_read t v then place ∷ [] else []) 0 ts place (txn_at ts place) place (txn_there ts place h)
+    to_some_place (λ place t. if is_known_to_read t v then place ∷ [] else []) 0 ts place (txn_at ts place) place (txn_there ts place h)
     (subst (λ n. In place (if is_known_to_read (txn_at ts place) v then n ∷ [] else [])) (sym at) (if_in (is_known_to_read (txn_at ts place) v) place read))
 
 abbrev at_place : ℕ × Version → ℕ
@@ -139,7 +131,7 @@ behind_node keys ts v w place h node behind =
     let t = txn_at ts place in
     let p : ℕ × Version = (place, w) in
     let there : In p (followers_of keys ts v) =
-    to_place (λ place t. map (λ w. (place, w)) (installs_behind (process_pairs keys ts) t v)) 0 ts place t p (txn_there ts place h)
+    to_some_place (λ place t. map (λ w. (place, w)) (installs_behind (process_pairs keys ts) t v)) 0 ts place t p (txn_there ts place h)
     (subst (λ n. In p (map (λ w. (n, w)) (installs_behind (process_pairs keys ts) t v))) (sym at) (in_mapped (λ (w : Version). (place, w)) w (installs_behind (process_pairs keys ts) t v) behind)) in
     in_filtered test place (map at_place (followers_of keys ts v)) (in_mapped at_place p (followers_of keys ts v) there) node
 

@@ -1,4 +1,4 @@
-use Rattle.std.proofs.Common.{◌≡◌, ◌<◌, ◌≤◌, ℕ, ◌+◌, List, Some, slice_get, arith, inl, inr, sym, subst}
+use Rattle.std.proofs.Common.{◌<◌, ℕ, ◌+◌, List, arith, inl, inr, sym, subst}
 use Rattle.std.proofs.lemmas.Option.{slice_get_within, slice_get-get_or, get_or_from_slice_get}
 use Rattle.dep_edges.specs.Pieces.{Piece, IsByKeys, IsOfKeys, IsSeen, Sees}
 use Rattle.dep_edges.specs.Tables.{version_at}

@@ -11,7 +11,7 @@ use Rattle.edge_graph.proofs.OrderTo.{before_there}
 use Rattle.edge_graph.proofs.Ordered.{long, have_places, have_own_places, places_tell, next_successors}
 use Rattle.edge_graph.proofs.RunSteps.{empty_runs, empty_list}
 use Rattle.edge_graph.proofs.orders.turned.Goals as goal
-use Rattle.edge_graph.proofs.orders.turned.Goals.{then-is_node+in_ok-number+in_ok-push_node, else-is_node}
+use Rattle.edge_graph.proofs.orders.turned.Goals.{After-predecessors, then-is_node+in_ok-number+in_ok-push_node, else-is_node}
 
 pub loop-place-init : goal.loop-place-init
 loop-place-init c =
@@ -32,27 +32,26 @@ loop-place-init c =
           });
     }
 
+there : (c : After-predecessors) → In (before_at c.args.order.now c.loop-place.place) c.args.order.now
+there c = before_there c.args.order.now c.loop-place.place (let test = c.loop-place-test.true in omega (arith, test, c.len-place-end.ensures))
+
 pub push_node-requires-clause-placed : goal.push_node-requires-clause-placed
 push_node-requires-clause-placed c =
     let ts = c.args.deps.now.txns in
     let order = c.args.order.now in
     let places = c.args.places.now in
-    let u : Before = before_at order c.loop-place.place in
-    let i : In u order = before_there order c.loop-place.place (let test = c.loop-place-test.true in omega (arith, test, c.len-place-end.ensures)) in
     let count : length c.deref_mut.result.now ≡ length ts =
     ap length c.deref_mut.ensures.value ∙ sym (length-map c.loop-place.runs.items (run_in c.loop-place.nodes.items)) ∙ c.loop-place.invariant.lists.count in
     subst (λ n. HavePlaces places n c.predecessors.result.now) (sym count)
-    (subst (HavePlaces places (length ts)) (sym c.predecessors.ensures) (have_places ts order c.requires.kept c.requires.order places c.requires.places c.args.level u i))
+    (subst (HavePlaces places (length ts)) (sym c.predecessors.ensures) (have_places ts order c.requires.kept c.requires.order places c.requires.places c.args.level (before_at order c.loop-place.place) (there (goal.at.push_node-requires-clause-placed c).After-predecessors)))
 
 pub push_node-requires-clause-apart : goal.push_node-requires-clause-apart
 push_node-requires-clause-apart c =
     let ts = c.args.deps.now.txns in
     let order = c.args.order.now in
     let places = c.args.places.now in
-    let u : Before = before_at order c.loop-place.place in
-    let i : In u order = before_there order c.loop-place.place (let test = c.loop-place-test.true in omega (arith, test, c.len-place-end.ensures)) in
     subst (HaveOwnPlaces places) (sym c.predecessors.ensures)
-    (have_own_places ts order c.requires.kept c.requires.order places c.requires.places c.args.level u i)
+    (have_own_places ts order c.requires.kept c.requires.order places c.requires.places c.args.level (before_at order c.loop-place.place) (there (goal.at.push_node-requires-clause-apart c).After-predecessors))
 
 pub loop-place-preserved : goal.loop-place-preserved
 loop-place-preserved c =

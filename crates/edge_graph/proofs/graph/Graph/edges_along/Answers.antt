@@ -13,7 +13,7 @@ use Rattle.edge_graph.proofs.WalkEdges.{IsReached, IsNext, next_on_walk, reached
 use Rattle.edge_graph.proofs.CheapWalks.{IsCheapTo, cheap_start, still_cheap, cheap_on, one_more_at_most, no_more}
 use Rattle.edge_graph.proofs.Known.{known, some_edge, the_edge, the_order_edge}
 use Rattle.edge_graph.proofs.graph.Graph.edges_along.Goals as goal
-use Rattle.edge_graph.proofs.graph.Graph.edges_along.Goals.{then-vertex-txns+then-vertex-from+in_ok-edge+in_ok-push, else-vertex-txns, else-vertex-txns-via-then-vertex-txns+else-vertex-from, else-vertex-txns-via-else-vertex-txns}
+use Rattle.edge_graph.proofs.graph.Graph.edges_along.Goals.{After-txns, then-vertex-txns+then-vertex-from+in_ok-edge+in_ok-push, else-vertex-txns, else-vertex-txns-via-then-vertex-txns+else-vertex-from, else-vertex-txns-via-else-vertex-txns}
 
 pub loop-vertex-init : goal.loop-vertex-init
 loop-vertex-init c =
@@ -35,37 +35,40 @@ loop-vertex-init c =
 pub edge_between-requires-clause-from : goal.edge_between-requires-clause-from
 edge_between-requires-clause-from c = c.loop-vertex.invariant.place
 
-pub unwrap-requires : goal.unwrap-requires
-unwrap-requires c =
+count : (c : After-txns) → length c.txns.result.now ≡ length c.args.self.now.txns
+count c = ap length c.txns.ensures.value ∙ ap (λ (g : Parts). length g.txns) c.self.view_is
+
+next_vertex : (c : After-txns) → IsNext c.args.self.now c.of-kinds.result c.loop-vertex.from (slice_index c.args.walk.now c.loop-vertex.vertex-index)
+next_vertex c =
     let a = c.self.inside in
     let g : Parts = c.args.self.now in
-    let kinds : Kinds = c.of-kinds.result in
     let walk = c.args.walk.now in
-    let i = c.loop-vertex.vertex-index in
-    let from = c.loop-vertex.from in
-    let vertex = slice_index walk i in
     let (first, last, is) = subst (λ (k : Kinds). IsTxnWalk g k walk) (sym c.of-kinds.ensures) c.requires in
     let (kept, by) = known a.deps.now a.history.now a.order.now a.rows a.orders c.self.invariant g c.self.view_is in
-    let n : length c.txns.result.now ≡ length g.txns = ap length c.txns.ensures.value ∙ ap (λ (g : Parts). length g.txns) c.self.view_is in
-    let inv = c.loop-vertex.invariant in
-    let next : IsNext g kinds from vertex = next_on_walk g kinds kept by first last walk from i is inv.place c.loop-vertex-test.true inv.reached in
-    let here : IsPlace g.txns vertex = omega (arith, c.if-vertex-txns.true, n) in
-    some_edge g kinds from vertex c.in_ok-edge.edge c.in_ok-edge.ensures.edge (edge_there g kinds from vertex next here c.if-vertex-from.true)
+    next_on_walk g c.of-kinds.result kept by first last walk c.loop-vertex.from c.loop-vertex.vertex-index is c.loop-vertex.invariant.place c.loop-vertex-test.true c.loop-vertex.invariant.reached
+
+pub unwrap-requires : goal.unwrap-requires
+unwrap-requires c =
+    let at = (goal.at.unwrap-requires c).After-txns in
+    let g : Parts = c.args.self.now in
+    let kinds : Kinds = c.of-kinds.result in
+    let from = c.loop-vertex.from in
+    let vertex = slice_index c.args.walk.now c.loop-vertex.vertex-index in
+    let here : IsPlace g.txns vertex = omega (arith, c.if-vertex-txns.true, count at) in
+    some_edge g kinds from vertex c.in_ok-edge.edge c.in_ok-edge.ensures.edge (edge_there g kinds from vertex (next_vertex at) here c.if-vertex-from.true)
 
 pub loop-vertex-preserved : goal.loop-vertex-preserved
 loop-vertex-preserved c =
-    let a = c.self.inside in
     let g : Parts = c.args.self.now in
     let kinds : Kinds = c.of-kinds.result in
     let walk = c.args.walk.now in
     let i = c.loop-vertex.vertex-index in
     let from = c.loop-vertex.from in
     let vertex = slice_index walk i in
-    let (first, last, is) = subst (λ (k : Kinds). IsTxnWalk g k walk) (sym c.of-kinds.ensures) c.requires in
-    let (kept, by) = known a.deps.now a.history.now a.order.now a.rows a.orders c.self.invariant g c.self.view_is in
-    let n : length c.txns.result.now ≡ length g.txns = ap length c.txns.ensures.value ∙ ap (λ (g : Parts). length g.txns) c.self.view_is in
+    let at = (goal.at.loop-vertex-preserved c).After-txns in
+    let n = count at in
+    let next = next_vertex at in
     let inv = c.loop-vertex.invariant in
-    let next : IsNext g kinds from vertex = next_on_walk g kinds kept by first last walk from i is inv.place c.loop-vertex-test.true inv.reached in
     let d = c.args.dependencies in
     let level = c.args.level in
     let begin = slice_index walk 0 in
