@@ -140,7 +140,7 @@ impl<'a, S: BuildHasher> AtomIndex<'a, S> {
         }
     }
 
-    /// How many more atoms can be numbered without asking for memory.
+    /// How many more atoms can be numbered without more memory.
     fn spare(&self) -> usize
         ensures { result ≡ self.now.spare }
     {
@@ -214,7 +214,7 @@ impl<'a, S: BuildHasher> AtomIndex<'a, S> {
         Ok(self.push(atom))
     }
 
-    /// The same where there is room for one more atom, so that no memory is asked for.
+    /// The same where there is room for one more atom, so that no memory is needed.
     pub fn insert_reserved(&mut self, atom: Atom<'a>) -> u32
         requires { 0 < self.old.spare }
         ensures number { number_in atom_eq atom.entry self.new.items ≡ Some result }

@@ -72,7 +72,7 @@ impl<K: Eq + Hash + Ord, S: BuildHasher> NumberMap<K, S> {
         self.len() == 0
     }
 
-    /// How many more keys can be inserted without asking for memory.
+    /// How many more keys can be inserted without more memory.
     pub fn spare(&self) -> usize
         ensures { result ≡ spare self.now }
     {
