@@ -4,3 +4,6 @@ pub mod Indexed
 pub mod LeftOut
 pub mod PairPushed
 pub mod Lengthened
+pub mod Lookups
+pub mod NumberMaps
+pub mod Sorted

@@ -1,10 +1,23 @@
 -- What an index keeps: the items by number, a table for the small ones, and a map for the others.
-use Rattle.std.specs.Prelude.{◌≡◌, ◌<◌, ◌-◌, ℕ, min, List, length, Bool, Option, None, Some, Vec, vec_len, vec_capacity}
-use Rattle.indexmap.specs.IndexMap.{IndexMap, get, spare}
+use Rattle.std.specs.Prelude.{◌≡◌, ◌<◌, ◌-◌, ◌++◌, ℕ, min, List, length, Bool, Option, None, Some, Vec, vec_len, vec_capacity, if◌then◌else◌}
+use Rattle.indexmap.specs.IndexMap.{IndexMap, get, spare, hasher_of}
+use Rattle.indexmap.specs.Layout.{hash_map}
 use Rattle.hist_types.specs.Atoms.{Atom, atom_eq}
 use Rattle.atom_index.specs.Numbers.{Index, number_in, AreNumbered, pair_eq}
 use Rattle.atom_index.specs.Slots.{HoldsNumbersOf, slot_of, integer_at, slot_of_pair, pair_at}
 use Rattle.atom_index.specs.declared.table.TheConstants.{MAX_NUMBERS}
+
+-- A map whose keys are looked up by their hash or by their order: a key has a number iff one of the
+-- two has it. There is room for as many more as can be hashed.
+abbrev pub map_in : {K S : Type 0} → IndexMap K ℕ S → List (K × ℕ) → IndexMap K ℕ S
+map_in hashed ordered =
+    hash_map (hashed.entries ++ ordered) (hasher_of hashed) (spare hashed)
+
+-- this key gets this number, and every other keeps its own
+abbrev pub AddsNumber : {K S : Type 0} → (K → K → Bool) → (old new : IndexMap K ℕ S)
+    → K → ℕ → Type 0
+AddsNumber {K} eq old new key number =
+    (k : K) → get eq new k ≡ (if eq key k then Some number else get eq old k)
 
 -- An index as its callers see it: there is room for as many more as the list, the map and the
 -- numbers that are left allow.

@@ -5,8 +5,8 @@ use Rattle.std.specs.Option.{option_eq}
 use Rattle.hist_types.specs.Atoms.{Atom}
 use Rattle.hist_types.specs.Stored.{coded_atom}
 
--- What has a number, in the order of its numbers, and how many more can be inserted without asking
--- for memory.
+-- What has a number, in the order of its numbers, and how many more can be inserted without more
+-- memory.
 pub record Index (A : Type 0) : Type 0 where
   pub items : List A
   pub spare : ℕ

@@ -1,13 +1,14 @@
 //! Numbers for atoms.
 
-ghost use Rattle.std.specs.Prelude.{◌≡◌, ◌≤◌, ◌<◌, ◌+◌, ◌++◌, ◌∷◌, [], length, None, Some, IfOk, OnOk, OnErr, slice_get};
+ghost use Rattle.std.specs.Prelude.{◌≡◌, ◌≤◌, ◌<◌, ◌+◌, ◌++◌, ◌∷◌, [], length, None, Some, IfSome, IfOk, OnOk, OnErr, slice_get};
 ghost use Rattle.hist_types.specs.Atoms.{atom_eq};
-ghost use Rattle.indexmap.specs.IndexMap.{get, spare, Updates};
+ghost use Rattle.indexmap.specs.IndexMap.{get, spare};
 ghost use Rattle.atom_index.specs.Numbers.{number_in, with_item};
+ghost use Rattle.atom_index.specs.Lookups.{AddsNumber};
 
+use crate::number_map::NumberMap;
 use crate::slots::{slot_of, table_of};
 use crate::table::{MAX_NUMBERS, Table};
-use indexmap::IndexMap;
 use op_view::atom::Atom;
 use std::alloc::{AllocError, Global};
 use std::hash::{BuildHasher, BuildHasherDefault, FoldHasher};
@@ -25,7 +26,7 @@ pub struct AtomIndex<'a, S: BuildHasher = BuildHasherDefault<FoldHasher>> {
     /// The number of each small integer that has one.
     small: Table,
     /// The numbers of the other atoms.
-    others: IndexMap<Atom<'a>, u32, S>,
+    others: NumberMap<Atom<'a>, S>,
 }
 
 // Written out, as what is derived is repeated wherever one is dropped.
@@ -58,27 +59,21 @@ impl<'a, S: BuildHasher> Model for AtomIndex<'a, S> {
 /// The number of an atom in the map, if it is there. It takes a copy, so that callers can keep the
 /// atom in registers.
 #[inline(never)]
-fn number_of_other<S: BuildHasher>(
-    others: &IndexMap<Atom<'_>, u32, S>,
-    atom: Atom<'_>,
-) -> Option<u32>
+fn number_of_other<S: BuildHasher>(others: &NumberMap<Atom<'_>, S>, atom: Atom<'_>) -> Option<u32>
     ensures { result ≡ get atom_eq others.now atom.entry }
 {
-    others.get(&atom).copied()
+    others.get(&atom)
 }
 
 /// Puts an atom into the map, where there is room.
 #[inline(never)]
-fn add_other<'a, S: BuildHasher>(
-    others: &mut IndexMap<Atom<'a>, u32, S>,
-    atom: Atom<'a>,
-    number: u32,
-)
-    requires { 0 < spare others.old }
-    ensures updates { Updates atom_eq others.old others.new atom.entry (Some number) }
-    ensures spare { spare others.old ≤ spare others.new + 1 }
+fn add_other<'a, S: BuildHasher>(others: &mut NumberMap<Atom<'a>, S>, atom: Atom<'a>, number: u32)
+    requires room { 0 < spare others.old }
+    requires same { IfSome (get atom_eq others.old atom) (λ n. n ≡ number) }
+    ensures adds { AddsNumber atom_eq others.old others.new atom.entry number }
+    ensures room { spare others.old ≤ spare others.new + 1 }
 {
-    others.insert(atom, number).unwrap();
+    others.insert(atom, number);
 }
 
 impl<'a> AtomIndex<'a> {
@@ -99,7 +94,7 @@ impl<'a, S: BuildHasher> AtomIndex<'a, S> {
             alloc,
             atoms: Vec::new(alloc),
             small: Table::new(alloc),
-            others: IndexMap::with_hasher(alloc, hasher),
+            others: NumberMap::with_hasher(alloc, hasher),
         }
     }
 
@@ -145,13 +140,13 @@ impl<'a, S: BuildHasher> AtomIndex<'a, S> {
         }
     }
 
-    /// How many more atoms can be numbered without asking for memory.
+    /// How many more atoms can be numbered without more memory.
     fn spare(&self) -> usize
         ensures { result ≡ self.now.spare }
     {
         let numbers = MAX_NUMBERS.saturating_sub(self.atoms.len());
         let atoms = self.atoms.capacity() - self.atoms.len();
-        let others = self.others.capacity() - self.others.len();
+        let others = self.others.spare();
         numbers.min(atoms.min(others))
     }
 
@@ -219,7 +214,7 @@ impl<'a, S: BuildHasher> AtomIndex<'a, S> {
         Ok(self.push(atom))
     }
 
-    /// The same where there is room for one more atom, so that no memory is asked for.
+    /// The same where there is room for one more atom, so that no memory is needed.
     pub fn insert_reserved(&mut self, atom: Atom<'a>) -> u32
         requires { 0 < self.old.spare }
         ensures number { number_in atom_eq atom.entry self.new.items ≡ Some result }

@@ -2,7 +2,10 @@
 #![tactic(auto)]
 
 pub mod atoms;
+mod crowds;
+mod number_map;
 mod pair_slots;
 pub mod pairs;
 mod slots;
+mod sorted_map;
 mod table;

@@ -26,14 +26,14 @@ loop-pair-preserved g c =
       | then-is_some+then-is_none+in_ok-reserve w ↦ (
           let after = w.add_other.new.others in
           let updated : (p : ℕ × Option ℕ) → get pair_eq after p ≡ cond (pair_eq pair p) (Some c.loop-pair.number) (get pair_eq others p) =
-          λ p. w.add_other.ensures.updates.0 p ∙ ap (λ (o : Option ℕ). cond (pair_eq pair p) (Some c.loop-pair.number) o) (rw w.reserve.ensures.entries refl) in
+          λ p. w.add_other.ensures.adds p ∙ ap (λ (o : Option ℕ). cond (pair_eq pair p) (Some c.loop-pair.number) o) (rw w.reserve.ensures.entries refl) in
           rw w.others-is (
             ap (λ (n : ℕ). n + 1) nth,
             numbers_stay pairs others after pair c.loop-pair.number number updated c.loop-pair.invariant.1,
             others_stay pairs others after pair c.loop-pair.number number updated old.width (length old.numbers) c.loop-pair.invariant.2,
             moved_on pairs others after pair c.loop-pair.number number updated new.width (length new.numbers) i c.loop-pair-test.true is moved,
             c.loop-pair.invariant.4,
-            omega (arith, w.add_other.ensures.spare, w.in_ok-reserve.ensures.ok, c.loop-pair.invariant.4),
+            omega (arith, w.add_other.ensures.room, w.in_ok-reserve.ensures.ok, c.loop-pair.invariant.4),
           ))
       | else-is_some w ↦ (
           let right : slot_of_pair new.width pair (length new.numbers) ≡ None → get pair_eq others pair ≡ number_in pair_eq pair pairs =
