@@ -1,22 +1,23 @@
 -- Reading on through a source's text.
 use Rattle.std.proofs.Common.{◌≡◌, ◌⊎◌, inl, inr, ℕ, ◌+◌, ◌-◌, ◌≤◌, List, ◌++◌, length, take, drop, Option, Some, None, Result, Ok, Err, IsErrAnd, IfErr, true, refl, sym, ◌∙◌, ap, subst, arith, append_assoc, length-append, drop-drop}
 use Rattle.std.proofs.Math.Seq.{drop-append_seam}
-use Rattle.std.proofs.lemmas.List.{length-take, take-append-drop}
-use Rattle.std.specs.Io.KnownBytes.{Consumes}
+use Rattle.std.proofs.KnownBytes.{Consumes-trans}
+use Rattle.std.proofs.lemmas.List.{length-take, take-append-drop, drop_at}
+use Rattle.std.specs.Io.KnownBytes.{Consumes, IsAtEnd}
 use Rattle.hist_types.specs.Operations.{Operation}
 use Rattle.hist_types.specs.Devices.{CountsFailure}
 use Rattle.hist_types.specs.Refusals.{memory_fault}
 use Rattle.hist_types.specs.declared.device.Source.{Ghosts as Source}
 use Rattle.hist_types.specs.declared.types.Fault.{Fault}
-use Rattle.reading_laws.specs.Parts.{EndsWithMap}
-use Rattle.hist_types.specs.Reading.{GivesFrom, FailsFrom}
-use Rattle.block_reader.specs.Parts.{ReadsThrough}
-use Rattle.block_reader.specs.Rounds.{HasGivenAll, HasReadAll, HasPassed, HasCome, IsFaultOf, IsCounted}
+use Rattle.reading_laws.specs.Parts.{EndsLine, fault_behind}
+use Rattle.hist_types.specs.Reading.{GivesFrom, FailsFrom, GivesFault}
+use Rattle.block_reader.specs.Parts.{ReadsThrough, FailsThere}
+use Rattle.block_reader.specs.Rounds.{HasGivenAll, HasReadAll, HasPassed, HasCome, IsRefused, IsFaultOf, IsCounted}
 use Rattle.block_reader.specs.declared.rounds.Reading.{Reading}
 use Rattle.block_reader.specs.declared.rounds.InputFault.{InputFault}
 use Rattle.block_reader.specs.declared.rounds.InputFault.TheVariants.{Device, Text}
-use Rattle.block_reader.specs.Starts.{IsBehindMap}
-use Rattle.block_reader.proofs.StartsMore.{ends_behind_map}
+use Rattle.block_reader.specs.Starts.{IsBehindLine}
+use Rattle.block_reader.proofs.StartsMore.{ends_behind_line}
 
 through_both : (a b : List ℕ) (os ps : List Operation) → ReadsThrough a os → ReadsThrough b ps → ReadsThrough (a ++ b) (os ++ ps)
 through_both a b os ps first second text behind offset later fault has rest =
@@ -44,10 +45,10 @@ come_on device source now reading reading' end os ps come within through passed 
       at_end = λ ended. come.at_end (sym passed.ended ∙ ended);
     }
 
-pub lines_end : (window : List ℕ) (end : ℕ) → IsBehindMap window 0 end → EndsWithMap (take end window)
+pub lines_end : (window : List ℕ) (end : ℕ) → IsBehindLine window 0 end → EndsLine (take end window)
 lines_end window end found =
     let behind = found.behind in let same : end - 0 ≡ end = omega arith in
-    subst (λ n. EndsWithMap (take n window)) same (ends_behind_map window 0 end (omega arith) found.within found.brace found.line)
+    subst (λ n. EndsLine (take n window)) same (ends_behind_line window 0 end (omega arith) found.within found.before found.line)
 
 given_all : {S : Type 0} (device : Source S) (source now : S) (reading : Reading) (os : List Operation)
     → (come : HasCome device source now reading os) → reading.ended ≡ true → HasGivenAll device source now (come.front ++ reading.window.bytes)
@@ -84,8 +85,47 @@ come_fails device source now reading os fault come ended fails = elim (fails com
   )
 ]
 
+-- the window's first lines are refused, so the window is
+pub refused_there : (reading : Reading) (end : ℕ) (fault : Fault) → FailsThere (take end reading.window.bytes) fault → IsRefused reading fault
+refused_there reading end fault there front more long =
+    let window = reading.window.bytes in
+    there (front ++ window ++ more) (drop end window ++ more) reading.offset
+    (ap (drop reading.offset) (append_assoc front window more)
+    ∙ drop_at front (window ++ more) reading.offset long
+    ∙ (ap (λ xs. xs ++ more) (sym (take-append-drop end window)) ∙ append_assoc (take end window) (drop end window) more))
+
+-- the fault of a window that is refused, once the source is read to its end
+pub come_refused :
+    {S : Type 0} (device : Source S) (source now later : S) (reading : Reading) (os : List Operation) (fault given : Fault)
+    → HasCome device source now reading os
+    → IsRefused reading fault
+    → (more : List ℕ) × Consumes (device.remaining now) (device.remaining later) more
+    → IsAtEnd (device.remaining later)
+    → device.failures later ≡ device.failures now
+    → (given ≡ memory_fault) ⊎ (given ≡ fault_behind reading.offset fault)
+    → IsFaultOf device source later (Text given)
+come_refused device source now later reading os fault given come refused (more, read) at_end same (inl memory) = inl (memory, same ∙ come.no_failure)
+come_refused device source now later reading os fault given come refused (more, read) at_end same (inr is) =
+    let window = reading.window.bytes in
+    let failed = refused come.front more come.long in
+    let same_text = append_assoc come.front window more in
+    inr (
+      come.front ++ window ++ more,
+      record {
+        given = Consumes-trans _ _ _ _ _ come.given read;
+        at_end = at_end;
+        no_failure = same ∙ come.no_failure;
+      },
+      subst (GivesFault (come.front ++ window ++ more)) (sym is)
+          (subst (λ t. GivesFault t (fault_behind reading.offset fault)) (sym same_text) (
+            os ++ failed.0,
+            whole come.front (window ++ more) reading.offset os failed.0 _ come.long come.through
+                (subst (λ t. GivesFrom t reading.offset failed.0 (Some (fault_behind reading.offset fault))) same_text failed.1),
+          )),
+    )
+
 -- a failure since then is one of the whole
-come_counted :
+pub come_counted :
     {S : Type 0} (device : Source S) (source now later : S) (reading : Reading) (os : List Operation)
     → HasCome device source now reading os
     → (fault : InputFault)

@@ -4,7 +4,7 @@ use Rattle.std.proofs.Math.Seq.{drop-append_seam, take-add}
 use Rattle.std.proofs.lemmas.List.{take_all}
 use Rattle.hist_types.specs.Operations.{Operation}
 use Rattle.hist_types.specs.declared.types.Fault.{Fault}
-use Rattle.reading_laws.specs.Parts.{HasPartAt, EndsWithMap}
+use Rattle.reading_laws.specs.Parts.{HasPartAt, EndsLine}
 use Rattle.hist_types.specs.Reading.{GivesOperations, GivesFrom}
 use Rattle.block_reader.specs.Parts.{end_of_part, part_at, AreStarts, ReadsThrough, front_of}
 
@@ -12,13 +12,13 @@ use Rattle.block_reader.specs.Parts.{end_of_part, part_at, AreStarts, ReadsThrou
 abbrev pub PartLaw : Type 0
 PartLaw =
     (text part behind : List ℕ) (offset : ℕ) (operations later : List Operation) (fault : Option Fault)
-    → HasPartAt text offset part behind → EndsWithMap part → GivesOperations part operations
+    → HasPartAt text offset part behind → EndsLine part → GivesOperations part operations
     → GivesFrom text (offset + length part) later fault → GivesFrom text offset (operations ++ later) fault
 
 pub nothing_through : ReadsThrough [] []
 nothing_through text behind offset later fault has gives = subst (λ n. GivesFrom text n later fault) (omega arith) gives
 
-more_through : PartLaw → (a part : List ℕ) (os ps : List Operation) → ReadsThrough a os → EndsWithMap part → GivesOperations part ps → ReadsThrough (a ++ part) (os ++ ps)
+more_through : PartLaw → (a part : List ℕ) (os ps : List Operation) → ReadsThrough a os → EndsLine part → GivesOperations part ps → ReadsThrough (a ++ part) (os ++ ps)
 more_through law a part os ps through ends gives text behind offset later fault has rest =
     let there : drop (offset + length a) text ≡ part ++ behind =
     sym (drop-drop (length a) offset text) ∙ (ap (drop (length a)) (has ∙ append_assoc a part behind) ∙ drop-append_seam a (part ++ behind)) in

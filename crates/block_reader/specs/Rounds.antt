@@ -5,7 +5,9 @@ use Rattle.hist_types.specs.Devices.{CountsFailure}
 use Rattle.hist_types.specs.Operations.{Operation}
 use Rattle.hist_types.specs.Refusals.{memory_fault}
 use Rattle.hist_types.specs.declared.device.Source.{Ghosts as Source}
-use Rattle.hist_types.specs.Reading.{GivesOperations, GivesFault}
+use Rattle.hist_types.specs.declared.types.Fault.{Fault}
+use Rattle.hist_types.specs.Reading.{GivesOperations, GivesFault, FailsFrom}
+use Rattle.reading_laws.specs.Parts.{fault_behind}
 use Rattle.block_reader.specs.Parts.{ReadsThrough}
 use Rattle.block_reader.specs.declared.rounds.Reading.{Reading}
 use Rattle.block_reader.specs.declared.rounds.InputFault.{InputFault}
@@ -68,3 +70,12 @@ pub record HasCome {S : Type 0} (device : Source S) (source source' : S) (readin
   pub long : length front ≡ reading.offset
   pub through : ReadsThrough front operations
   pub at_end : reading.ended ≡ true → IsAtEnd (device.remaining source')
+
+-- behind any front of the bytes before, and whatever is read yet, the window has this fault, as far
+-- behind its start
+abbrev pub IsRefused : Reading → Fault → Type 0
+IsRefused reading fault =
+    (front more : List ℕ)
+    → length front ≡ reading.offset
+    → FailsFrom (front ++ reading.window.bytes ++ more) reading.offset
+    (fault_behind reading.offset fault)

@@ -1,8 +1,8 @@
 //! Texts that are read by themselves.
 
-ghost use Rattle.std.specs.Prelude.{◌≡◌, ◌⊎◌, ◌≤◌, length, false, None, IfOk, IfErr, OnErr};
+ghost use Rattle.std.specs.Prelude.{◌≡◌, ◌⊎◌, IfOk, IfErr};
 ghost use Rattle.hist_types.specs.Refusals.{memory_fault};
-ghost use Rattle.hist_types.specs.Reading.{GivesFrom, FailsFrom};
+ghost use Rattle.hist_types.specs.Reading.{GivesOperations, GivesFault};
 ghost use Rattle.block_reader.specs.Blocks.{operations_in};
 ghost use Rattle.block_reader.specs.Reading.{ReadsOn};
 
@@ -35,15 +35,12 @@ fn read_op(
     Ok(true)
 }
 
-/// The operations from the offset on, as if nothing stood before it, in blocks.
-pub fn blocks_from(alloc: Global, text: &[u8], offset: usize) -> Result<Vec<Block>, Fault>
-    requires { offset ≤ length text.now }
-    ensures ok { IfOk result
-        (λ blocks. GivesFrom text.now offset (operations_in blocks.items) None) }
-    ensures err { IfErr result
-        (λ fault. (fault ≡ memory_fault) ⊎ FailsFrom text.now offset fault) }
+/// The operations of a text, in blocks.
+pub fn blocks_of(alloc: Global, text: &[u8]) -> Result<Vec<Block>, Fault>
+    ensures ok { IfOk result (λ blocks. GivesOperations text.now (operations_in blocks.items)) }
+    ensures err { IfErr result (λ fault. (fault ≡ memory_fault) ⊎ GivesFault text.now fault) }
 {
-    let mut reader = OpReader::at(alloc, text, offset);
+    let mut reader = OpReader::new(alloc, text);
     let mut blocks = Blocks::new(alloc)?;
     let mut shape = OpShape::new(alloc);
     for _ in 0..u64::MAX {

@@ -4,7 +4,7 @@ ghost use Rattle.std.specs.Prelude.{◌≡◌, ◌≤◌, ◌<◌, ◌+◌, leng
 ghost use Rattle.block_reader.specs.Blocks.{operations_in};
 ghost use Rattle.block_reader.specs.Parts.{AreStarts, IsPartOf, ReadsThrough, front_of, part_at};
 
-use crate::alone::blocks_from;
+use crate::alone::blocks_of;
 use op_block::block::Block;
 use reading_laws::parts_read_alone;
 use std::alloc::Global;
@@ -36,7 +36,7 @@ fn read_part(alloc: Global, text: &[u8], starts: &[usize], index: usize) -> Opti
     requires index { index < length starts.now }
     ensures { IfSome result (IsPartOf text.now starts.now) }
 {
-    let blocks = blocks_from(alloc, part_at(text, starts, index), 0).ok()?;
+    let blocks = blocks_of(alloc, part_at(text, starts, index)).ok()?;
     Some(Part { index, blocks })
 }
 

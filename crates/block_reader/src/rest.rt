@@ -3,22 +3,30 @@
 ghost use Rattle.std.specs.Prelude.{◌≡◌, ◌⊎◌, ℕ, List, ◌++◌, length, None, IfOk, IfErr};
 ghost use Rattle.hist_types.specs.Refusals.{memory_fault};
 ghost use Rattle.hist_types.specs.Reading.{GivesFrom, FailsFrom};
+ghost use Rattle.reading_laws.specs.Parts.{fault_behind};
 ghost use Rattle.block_reader.specs.Blocks.{operations_in};
 
-use crate::alone::blocks_from;
-use hist_types::types::Fault;
+use crate::alone::blocks_of;
+use hist_types::types::{At, Fault};
 use op_block::block::Block;
 use reading_laws::parts_read_alone;
-use std::alloc::{AllocError, Global};
+use std::alloc::Global;
 
-/// The rest behind so many blanks, in place of the bytes before it.
-fn behind_blanks(alloc: Global, rest: &[u8], offset: usize) -> Result<Vec<u8>, AllocError>
-    ensures { IfOk result (λ text. (blanks : List ℕ) × (length blanks ≡ offset)
-        × (text.items ≡ blanks ++ rest.now)) }
+/// The fault, with its place counted from so many bytes earlier.
+pub(crate) fn fault_from(offset: usize, fault: Fault) -> Fault
+    ensures { (result ≡ memory_fault) ⊎ (result ≡ fault_behind offset fault) }
 {
-    let mut text = vec![in alloc; b' '; offset]?;
-    text.extend_from_slice(rest)?;
-    Ok(text)
+    let At::Byte(place) = fault.at else {
+        return fault;
+    };
+    let Some(place) = offset.checked_add(place) else {
+        // No memory holds so many bytes.
+        return Fault::memory();
+    };
+    Fault {
+        refusal: fault.refusal,
+        at: At::Byte(place),
+    }
 }
 
 /// The operations of the rest of a text, whose front has so many bytes and leaves nothing open.
@@ -31,8 +39,8 @@ pub(crate) fn blocks_of_rest(alloc: Global, rest: &[u8], offset: usize) -> Resul
 {
     // A law, called for its clause: what is left of a text reads as it does by itself.
     parts_read_alone();
-    if let Ok(blocks) = blocks_from(alloc, rest, 0) {
-        return Ok(blocks);
+    match blocks_of(alloc, rest) {
+        Ok(blocks) => Ok(blocks),
+        Err(fault) => Err(fault_from(offset, fault)),
     }
-    blocks_from(alloc, &behind_blanks(alloc, rest, offset)?, offset)
 }

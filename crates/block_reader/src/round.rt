@@ -1,15 +1,19 @@
 //! One round of reading: lines of a text, by several threads, while what was read before is handed
 //! on.
 
-ghost use Rattle.std.specs.Prelude.{◌≡◌, ℕ, List, ◌++◌, All, IfOk, IfSome};
+ghost use Rattle.std.specs.Prelude.{◌≡◌, ◌≢◌, ℕ, List, ◌++◌, All, IfOk, false};
+ghost use Rattle.hist_types.specs.declared.types.Refusal.TheVariants.{Memory};
 ghost use Rattle.hist_types.specs.Operations.{Operation};
-ghost use Rattle.reading_laws.specs.Parts.{EndsWithMap};
+ghost use Rattle.reading_laws.specs.Parts.{EndsLine, can_come_at_end};
 ghost use Rattle.block_reader.specs.Blocks.{operations_in};
-ghost use Rattle.block_reader.specs.Parts.{AreStarts, IsPartOf, ReadsThrough};
+ghost use Rattle.block_reader.specs.Parts.{AreStarts, IsPartOf, IsRoundOf};
 
+use crate::alone::blocks_of;
 use crate::parts::{Part, joined, take_parts};
 use crate::starts::starts_of;
+use hist_types::types::{Fault, Refusal};
 use op_block::block::Block;
+use reading_laws::parts_read_alone;
 use std::alloc::{AllocError, Global};
 use std::sync::atomic::AtomicUsize;
 use std::thread::{Threads, join, map_indices};
@@ -22,6 +26,17 @@ pub trait Consumer<'a>: Drop {
     fn take(self, blocks: &'a [Block]) -> Self
         ensures { (before : List Operation) → has_taken self before
             → has_taken result (before ++ operations_in blocks.now) };
+}
+
+/// What the lines of a round give by themselves.
+#[derive(Drop)]
+pub enum Round {
+    /// Their operations, in blocks.
+    Read(Vec<Block>),
+    /// A fault, which nothing behind them can change.
+    Refused(Fault),
+    /// It isn't known: something is open at their end, or memory ran out.
+    Unknown,
 }
 
 /// What so many threads take.
@@ -106,7 +121,37 @@ fn read_parts<'a, R: Threads + Sync, C: Consumer<'a>>(
     }
 }
 
-/// The blocks of these lines, if each part of them reads by itself and memory doesn't run out.
+/// Whether a text may be refused so at its end, and no longer if it goes on, or memory ran out.
+fn may_pass(refusal: Refusal) -> bool
+    ensures end { result ≡ false → can_come_at_end refusal ≡ false }
+    ensures memory { result ≡ false → refusal ≢ Memory }
+{
+    matches!(
+        refusal,
+        Refusal::UnclosedString | Refusal::Unclosed | Refusal::DanglingTag | Refusal::Memory
+    )
+}
+
+/// What these lines give, read at once.
+fn read_at_once(alloc: Global, lines: &[u8]) -> Round
+    requires { EndsLine lines.now }
+    ensures { IsRoundOf lines.now result }
+{
+    // A law, called for its clauses: lines that read by themselves give the same anywhere.
+    parts_read_alone();
+    match blocks_of(alloc, lines) {
+        Ok(blocks) => Round::Read(blocks),
+        Err(fault) => {
+            if may_pass(fault.refusal) {
+                Round::Unknown
+            } else {
+                Round::Refused(fault)
+            }
+        }
+    }
+}
+
+/// What these lines give: each part of them is read by itself, or else they are read at once.
 /// Before that, the consumer takes the blocks of the round before.
 pub(crate) fn read_round<'a, R: Threads + Sync, C: Consumer<'a>>(
     rt: &R,
@@ -115,19 +160,21 @@ pub(crate) fn read_round<'a, R: Threads + Sync, C: Consumer<'a>>(
     lines: &[u8],
     consumer: C,
     blocks: &'a [Block],
-) -> (Option<Vec<Block>>, C)
-    requires { EndsWithMap lines.now }
-    ensures round { IfSome result.0
-        (λ round. ReadsThrough lines.now (operations_in round.items)) }
+) -> (Round, C)
+    requires { EndsLine lines.now }
+    ensures round { IsRoundOf lines.now result.0 }
     ensures consumer { (before : List Operation) → C.has_taken consumer before
         → C.has_taken result.1 (before ++ operations_in blocks.now) }
 {
     let Ok(starts) = starts_of(alloc, helpers, lines) else {
-        return (None, consumer.take(blocks));
+        return (Round::Unknown, consumer.take(blocks));
     };
     let (parts, consumer) = read_parts(rt, alloc, helpers, lines, &starts, consumer, blocks);
-    match parts {
-        Ok(parts) => (joined(alloc, lines, &starts, parts), consumer),
-        Err(_) => (None, consumer),
+    let Ok(parts) = parts else {
+        return (Round::Unknown, consumer);
+    };
+    match joined(alloc, lines, &starts, parts) {
+        Some(blocks) => (Round::Read(blocks), consumer),
+        None => (read_at_once(alloc, lines), consumer),
     }
 }

@@ -3,10 +3,10 @@
 ghost use Rattle.std.specs.Prelude.{◌≡◌, ◌≤◌, List, [], ◌++◌, length, IfOk, IfErr, OnOk};
 ghost use Rattle.hist_types.specs.Operations.{Operation};
 ghost use Rattle.block_reader.specs.Blocks.{operations_in};
-ghost use Rattle.block_reader.specs.Rounds.{HasReadAll, IsNew, HasPassed, HasCome, IsFaultOf, IsCounted};
+ghost use Rattle.block_reader.specs.Rounds.{HasReadAll, IsNew, HasPassed, HasCome, IsRefused, IsFaultOf, IsCounted};
 
-use crate::rest::blocks_of_rest;
-use crate::round::{Consumer, read_round};
+use crate::rest::{blocks_of_rest, fault_from};
+use crate::round::{Consumer, Round, read_round};
 use crate::starts::{helpers_of, last_line};
 use crate::window::Window;
 use hist_types::device::{Failed, Source};
@@ -145,11 +145,30 @@ impl Reading {
         self.window.forget(end);
         Ok(())
     }
+
+    /// Reads the source to its end and keeps none of it, and returns the fault, whose place was
+    /// counted from the window's start, unless the source fails.
+    fn refuse<S: Source>(&mut self, source: &mut S, fault: Fault) -> InputFault
+        ensures { (began : S) (operations : List Operation)
+            → HasCome S.Source began source.old self.old operations → IsRefused self.old fault
+            → IsFaultOf S.Source began source.new result }
+    {
+        let refused = InputFault::Text(fault_from(self.offset, fault));
+        if self.ended {
+            return refused;
+        }
+        match self.window.read_out(source) {
+            Ok(()) => refused,
+            Err(failed) => failed,
+        }
+    }
 }
 
 /// Reads one round more into the cell, by this thread and up to so many others, while the consumer
 /// takes the blocks of the round before, and returns the round's blocks and whether there may be
-/// another. Where no line ends, or a part doesn't read by itself, it gives none.
+/// another. Where no line ends, or the lines don't read by themselves, it gives none; where they
+/// have a fault that nothing behind them can change, the source is read to its end for nothing but
+/// its own failures.
 fn one_round<'a, R: Threads + Sync, S: Source, C: Consumer<'a>>(
     rt: &R,
     alloc: Global,
@@ -174,11 +193,14 @@ fn one_round<'a, R: Threads + Sync, S: Source, C: Consumer<'a>>(
     };
     let lines = &reading.window.as_slice()[..end];
     let (round, consumer) = read_round(rt, alloc, helpers, lines, consumer, last);
-    let Some(blocks) = round else {
-        return Ok((consumer, &[], false));
-    };
-    reading.pass(end)?;
-    Ok((consumer, fill(cell, blocks)?, !reading.ended))
+    match round {
+        Round::Read(blocks) => {
+            reading.pass(end)?;
+            Ok((consumer, fill(cell, blocks)?, !reading.ended))
+        }
+        Round::Refused(fault) => Err(reading.refuse(source, fault)),
+        Round::Unknown => Ok((consumer, &[], false)),
+    }
 }
 
 /// Reads all that is left, into the cell.
@@ -209,8 +231,9 @@ fn the_rest<'a, S: Source>(
 /// the end. A fault of reading comes wherever it is in the text.
 ///
 /// The lines of a round are read in parts, while the consumer takes what the round before gave, and
-/// are then forgotten: the blocks have copies of what is wanted of them. Where a part doesn't read
-/// by itself, all that is left of the text is read at once.
+/// are then forgotten: the blocks have copies of what is wanted of them. Where they don't read by
+/// themselves, since something is open at their end, all that is left of the text is read at once.
+/// Behind a fault that more of the text can't change, nothing is kept.
 pub fn read_source<'a, R: Threads + Sync, S: Source, C: Consumer<'a>>(
     rt: &R,
     alloc: Global,

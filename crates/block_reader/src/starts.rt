@@ -1,10 +1,10 @@
 //! Where the parts of a text begin.
 
 ghost use Rattle.std.specs.Prelude.{◌≡◌, ◌≤◌, ◌+◌, ◌-◌, length, get_or, IfOk, IfSome};
-ghost use Rattle.hist_types.specs.Bytes.{close_brace, line_feed};
-ghost use Rattle.reading_laws.specs.Parts.{EndsWithMap};
+ghost use Rattle.hist_types.specs.Bytes.{backslash, line_feed};
+ghost use Rattle.reading_laws.specs.Parts.{EndsLine};
 ghost use Rattle.block_reader.specs.Parts.{AreStarts};
-ghost use Rattle.block_reader.specs.Starts.{IsBehindMap};
+ghost use Rattle.block_reader.specs.Starts.{IsBehindLine};
 
 use memchr::{memchr, memrchr};
 use std::alloc::{AllocError, Global};
@@ -24,7 +24,7 @@ pub(crate) fn helpers_of<R: Threads>(rt: &R, workers: usize) -> usize {
 
 /// The end of the first line behind the offset that ends with a map.
 fn line_behind(text: &[u8], offset: usize) -> Option<usize>
-    ensures { IfSome result (IsBehindMap text.now offset) }
+    ensures { IfSome result (IsBehindLine text.now offset) }
 {
     let mut at = offset.checked_add(1)?;
     while at < text.len() {
@@ -38,18 +38,43 @@ fn line_behind(text: &[u8], offset: usize) -> Option<usize>
 }
 
 /// The end of the last line that ends with a map.
-pub(crate) fn last_line(text: &[u8]) -> Option<usize>
-    ensures { IfSome result (IsBehindMap text.now 0) }
+fn last_map(text: &[u8]) -> Option<usize>
+    ensures { IfSome result (IsBehindLine text.now 0) }
+{
+    let mut end = text.len().saturating_sub(1);
+    while end > 0 {
+        let brace = memrchr(b'}', &text[..end])?;
+        if text[brace + 1] == b'\n' {
+            return Some(brace + 2);
+        }
+        end = brace;
+    }
+    None
+}
+
+/// The end of the last line, whatever it ends with but a `\`, which may take the end of the line.
+fn last_end(text: &[u8]) -> Option<usize>
+    ensures { IfSome result (IsBehindLine text.now 0) }
 {
     let mut end = text.len();
     while end > 1 {
         let line = memrchr(b'\n', &text[1..end])? + 1;
-        if text[line - 1] == b'}' {
+        if text[line - 1] != b'\\' {
             return Some(line + 1);
         }
         end = line;
     }
     None
+}
+
+/// The end of the last line that ends with a map, or of the last line if none does.
+pub(crate) fn last_line(text: &[u8]) -> Option<usize>
+    ensures { IfSome result (IsBehindLine text.now 0) }
+{
+    match last_map(text) {
+        Some(end) => Some(end),
+        None => last_end(text),
+    }
 }
 
 /// Where the parts of a text begin, in order: at its start alone if one thread reads it, else also
@@ -59,7 +84,7 @@ pub(crate) fn starts_of(
     helpers: usize,
     text: &[u8],
 ) -> Result<Vec<usize>, AllocError>
-    requires { EndsWithMap text.now }
+    requires { EndsLine text.now }
     ensures { IfOk result (λ starts. AreStarts text.now starts.items) }
 {
     let mut starts = Vec::new(alloc);

@@ -163,4 +163,23 @@ impl Window {
         }
         Err(InputFault::Text(Fault::memory()))
     }
+
+    /// Reads the source to its end, and keeps none of its bytes.
+    pub fn read_out<S: Source>(&mut self, source: &mut S) -> Result<(), InputFault>
+        ensures given { OnOk result ((more : List ℕ)
+            × Consumes (S.remaining source.old) (S.remaining source.new) more) }
+        ensures end { OnOk result (IsAtEnd (S.remaining source.new)) }
+        ensures no_failure { OnOk result (S.failures source.new ≡ S.failures source.old) }
+        ensures fault { IfErr result
+            (λ fault. IsCounted fault (S.failures source.old) (S.failures source.new)) }
+    {
+        for _ in 0..u64::MAX {
+            self.clear();
+            self.grow()?;
+            if self.read_more(source)? == 0 {
+                return Ok(());
+            }
+        }
+        Err(InputFault::Text(Fault::memory()))
+    }
 }

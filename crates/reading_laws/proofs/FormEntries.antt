@@ -12,7 +12,8 @@ use Rattle.reading_laws.specs.Nesting.{AreForms, nothing, alone, nested, with_ta
 use Rattle.hist_types.specs.Reading.{Reading, is_operation_place, in_operation_place, may_open, at_top, Step, only_opens, step_by, step, fault_at_end, refuse_unfinished, ending_fault, after_entries, and_then_read, reading_from, nothing_open, Reads}
 use Rattle.hist_types.specs.Tokens.{Item, Opener, Closer, HasTokens}
 use Rattle.hist_types.specs.declared.types.Fault.{Fault}
-use Rattle.reading_laws.proofs.MovedReading.{Runs, opened, open_collection, closes_as}
+use Rattle.reading_laws.proofs.MovedSteps.{open_collection}
+use Rattle.reading_laws.proofs.MovedReading.{Runs, opened, closes_as}
 use Rattle.reading_laws.proofs.Nesting.{settle, IsInside, inside_opener, step-plain, step-plain_refused, step-opener, step-opener_refused, given_if, step-closer, Runs-collection, runs_inside, with_forms-members, form_after_tag, form_left_out, are_forms}
 
 -- ---- entries that are all there

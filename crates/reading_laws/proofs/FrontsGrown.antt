@@ -2,13 +2,15 @@
 -- a line.
 use Rattle.std.proofs.Common.{◌≡◌, ◌⊎◌, inl, inr, ℕ, zero, suc, ◌+◌, ◌<◌, ◌≤◌, List, [], ◌∷◌, ◌++◌, length, take, drop, Bool, true, false, not, ◌==◌, ◌&&◌, cond, Option, Some, None, option_map, refl, sym, ◌∙◌, ap, subst, arith, append_assoc, length-append}
 use Rattle.std.specs.Bool.{if◌then◌else◌}
+use Rattle.std.specs.Prelude.{◌≢◌}
 use Rattle.std.specs.List.{prefix_len}
 use Rattle.std.proofs.Math.Nat.{eq-or-lt_of_le}
 use Rattle.std.proofs.lemmas.Bool.{eqb-true}
 use Rattle.std.proofs.lemmas.List.{take-append-le}
 use Rattle.std.proofs.lemmas.Option.{none-some, same_Some}
-use Rattle.hist_types.specs.Bytes.{is_blank, is_opener, is_closer, is_run_byte, quote, semicolon, backslash, hash, line_feed, open_brace, close_brace, underscore}
+use Rattle.hist_types.specs.Bytes.{is_blank, is_opener, is_closer, is_run_byte, quote, semicolon, backslash, hash, line_feed, open_brace, underscore}
 use Rattle.hist_types.specs.Tokens.{ItemKind, Blank, Comment, Opener, Closer, Str, Char, Drop, Tag, run_of, run_len, run_kind, character_len, content_len, hash_front, front, BeginsWith}
+use Rattle.reading_laws.specs.Parts.{EndsLine}
 use Rattle.reading_laws.proofs.PartCuts.{closed_alike, Kept, kept_both, kept_same, len_of, kept_item, kept_string, BeginsWith-len}
 
 -- ---- rows that end before the text does
@@ -132,27 +134,27 @@ front_not_whole b xs n long taken =
 
 -- ---- items at the front of a text
 
--- a text that ends with a `}` and the end of its line, and so do its ends
+-- a text that ends a line, and so do its ends
 abbrev pub EndsSo : List ℕ → Type 0
-EndsSo text = (text ≡ line_feed ∷ []) ⊎ ((before : List ℕ) × (text ≡ before ++ close_brace ∷ line_feed ∷ []))
+EndsSo text = (text ≡ line_feed ∷ []) ⊎ EndsLine text
 
-no_item : (before : List ℕ) (kind : ItemKind) (bytes : List ℕ)
-    → BeginsWith (before ++ close_brace ∷ line_feed ∷ []) kind bytes → length bytes ≡ length (before ++ close_brace ∷ line_feed ∷ []) → ⊥
-no_item [] kind bytes begins long = front_not_whole close_brace [] (length bytes) long (λ e none. absurd (omega arith)) kind begins.0
-no_item (b ∷ before) kind bytes begins long =
-    let inner = before ++ close_brace ∷ [] in
-    let same : before ++ close_brace ∷ line_feed ∷ [] ≡ inner ++ line_feed ∷ [] = sym (append_assoc before (close_brace ∷ []) (line_feed ∷ [])) in
-    let len : length (before ++ close_brace ∷ line_feed ∷ []) ≡ length before + 2 = length-append before (close_brace ∷ line_feed ∷ []) in
-    let some : length inner ≡ length before + 1 = length-append before (close_brace ∷ []) in
+no_item : (before : List ℕ) (last : ℕ) (kind : ItemKind) (bytes : List ℕ) → last ≢ backslash
+    → BeginsWith (before ++ last ∷ line_feed ∷ []) kind bytes → length bytes ≡ length (before ++ last ∷ line_feed ∷ []) → ⊥
+no_item [] last kind bytes other begins long = front_not_whole last [] (length bytes) long (λ e none. other e) kind begins.0
+no_item (b ∷ before) last kind bytes other begins long =
+    let inner = before ++ last ∷ [] in
+    let same : before ++ last ∷ line_feed ∷ [] ≡ inner ++ line_feed ∷ [] = sym (append_assoc before (last ∷ []) (line_feed ∷ [])) in
+    let len : length (before ++ last ∷ line_feed ∷ []) ≡ length before + 2 = length-append before (last ∷ line_feed ∷ []) in
+    let some : length inner ≡ length before + 1 = length-append before (last ∷ []) in
     front_not_whole b inner (length bytes) (omega arith) (λ e none. let no : length inner ≡ 0 = ap length none in absurd (omega arith)) kind
     (ap (front b) (sym same) ∙ begins.0)
 
 pub item_ends : (text : List ℕ) (kind : ItemKind) (bytes : List ℕ) → EndsSo text → BeginsWith text kind bytes → (length bytes < length text) ⊎ (text ≡ line_feed ∷ [])
 item_ends text kind bytes (inl is) begins = inr is
-item_ends text kind bytes (inr (before, is)) begins =
+item_ends text kind bytes (inr (before, last, other, is)) begins =
     let long = (BeginsWith-len text kind bytes begins).1 in
     elim (eq-or-lt_of_le long) [
-      | inl all ↦ absurd (no_item before kind bytes (subst (λ t. BeginsWith t kind bytes) is begins) (all ∙ ap length is))
+      | inl all ↦ absurd (no_item before last kind bytes other (subst (λ t. BeginsWith t kind bytes) is begins) (all ∙ ap length is))
       | inr less ↦ inl less
     ]
 
@@ -179,11 +181,11 @@ BeginsWith-more (b ∷ rest) more kind bytes (inr is) begins =
 -- what is left of such a text behind an item
 pub ends_so_behind : (text : List ℕ) (n : ℕ) → EndsSo text → n < length text → 0 < n → EndsSo (drop n text)
 ends_so_behind text n (inl is) less some = let one : length text ≡ 1 = ap length is in absurd (omega arith)
-ends_so_behind text n (inr (before, is)) less some = subst (λ t. EndsSo (drop n t)) (sym is) (by before n (subst (λ t. n < length t) is less))
+ends_so_behind text n (inr (before, last, other, is)) less some = subst (λ t. EndsSo (drop n t)) (sym is) (by before n (subst (λ t. n < length t) is less))
   where
-    by : (before : List ℕ) (n : ℕ) → n < length (before ++ close_brace ∷ line_feed ∷ []) → EndsSo (drop n (before ++ close_brace ∷ line_feed ∷ []))
-    by [] zero h = inr ([], refl)
+    by : (before : List ℕ) (n : ℕ) → n < length (before ++ last ∷ line_feed ∷ []) → EndsSo (drop n (before ++ last ∷ line_feed ∷ []))
+    by [] zero h = inr ([], last, other, refl)
     by [] (suc zero) h = inl refl
     by [] (suc (suc n)) h = absurd (omega arith)
-    by (b ∷ before) zero h = inr (b ∷ before, refl)
+    by (b ∷ before) zero h = inr (b ∷ before, last, other, refl)
     by (b ∷ before) (suc n) h = by before n (omega arith)

@@ -8,7 +8,7 @@ pub mod PartCuts
 pub mod FrontsGrown
 pub mod Checks
 pub mod MovedForms
-pub mod MovedEntries
+pub mod MovedSteps
 pub mod MovedReading
 pub mod MapAlone
 pub mod SpelledParts

@@ -18,7 +18,7 @@ use Rattle.hist_types.specs.declared.types.Refusal.{Refusal}
 use Rattle.hist_types.specs.declared.types.Refusal.TheVariants.{TooDeep, OddMap, BadProcess, BadType, TooLong}
 use Rattle.reading_laws.proofs.Checks.{ok_then, ok_is}
 use Rattle.hist_types.proofs.Members.{In, in_append, in_from_Contains}
-use Rattle.reading_laws.proofs.MovedForms.{entry_at, entry_of-moved}
+use Rattle.reading_laws.proofs.MovedForms.{entry_at, entry_of-moved, follows_value}
 use Rattle.reading_laws.proofs.MovedReading.{collection_from, opened, inside, Runs, Runs-reading, Histories, tokens_of-gap, tokens_of-token, tokens_of-token_last, Histories-gap, Histories-step, closed, closes_as, went_on_if, went_on_unless, same_step, no_step, none_given}
 use Rattle.reading_laws.proofs.PartCuts.{item_fault-elsewhere, width, closers_after, IsCut-front, IsCut-back, IsCut-within, IsCut-moved}
 
@@ -407,7 +407,7 @@ closes_alone c t o closes is none gives order =
     let at : (o.start ≡ k) × (o.end ≡ end_of t) = entry_of-at c.opener t c.members (operation o) gives in
     let begins : o.start ≡ k = at.0 in
     let ends : o.end ≡ t.start + length t.bytes = at.1 in
-    let moved = entry_of-moved (λ n. n - k) c.opener t c.members (omega arith) (operation o) gives in
+    let moved = follows_value _ _ _ _ (operation o) (entry_of-moved (λ n. n - k) c.opener t c.members (omega arith)) gives in
     let same = from_start k (end_of u) o begins (omega arith) in
     let entry : entry_of d.opener u d.members ≡ Ok (operation (from_its_start o)) =
     moved ∙ (let ok : Entry → Result Entry Fault = λ x. Ok x in ap ok same) in

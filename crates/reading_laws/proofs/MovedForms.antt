@@ -1,19 +1,20 @@
 -- Forms at other places of a text, and what a map of such forms gives.
-use Rattle.std.proofs.Common.{◌≡◌, ℕ, ℤ, suc, ◌-◌, ◌%◌, List, [], ◌∷◌, length, map, Bool, true, false, ◌==◌, if◌then◌else◌, Option, Some, None, option_map, Result, Ok, Err, filter, refl, sym, ◌∙◌, ap, subst, codes}
+use Rattle.std.proofs.Common.{◌≡◌, ℕ, ℤ, suc, ◌-◌, ◌%◌, List, [], ◌∷◌, length, map, Bool, true, false, ◌==◌, if◌then◌else◌, Option, Some, None, option_map, Result, Ok, Err, filter, refl, sym, ◌∙◌, ap, ap₂, subst, codes}
 use Rattle.std.proofs.lemmas.List.{length-map}
 use Rattle.std.specs.Prelude.{nat_le, nat_lt}
 use Rattle.hist_types.specs.Atoms.{Atom, Value}
 use Rattle.hist_types.specs.AtomTokens.{atom_of_token, is_nil_kind, process_of}
-use Rattle.hist_types.specs.Entries.{PlacedMop, Entry, operation, skipped, atom_of, is_nil, value_of, is_named, int_of, elements_of, ◌>>=◌, refuse_if, or_refuse, pairs_of, the_one, field, kind_of, is_write_of, placed_write, placed_read, read_or_write, micro_op_of, micro_ops_of, transaction_of, mops_of, client_operation, entry_by, end_of, entry_of}
+use Rattle.hist_types.specs.Entries.{PlacedMop, Entry, operation, skipped, atom_of, is_nil, value_of, is_named, int_of, elements_of, ◌>>=◌, refuse_if, or_refuse, pairs_of, the_one, field, kind_of, is_write_of, read_or_write, micro_op_of, micro_ops_of, transaction_of, mops_of, client_operation, entry_by, end_of, entry_of}
 use Rattle.hist_types.specs.Forms.{Form, plain, collection, tagged, Forms, no_form, form, forms_of, list_of, place_of, is_vector_or_list}
-use Rattle.hist_types.specs.Tokens.{Item}
+use Rattle.hist_types.specs.Tokens.{Item, byte_fault}
 use Rattle.hist_types.specs.declared.limits.TheConstants.{MAX_MICRO_OPS, MAX_OPERATION_BYTES}
+use Rattle.hist_types.specs.declared.types.At.{At}
+use Rattle.hist_types.specs.declared.types.At.TheVariants.{Byte, Event, Nowhere}
 use Rattle.hist_types.specs.declared.types.Fault.{Fault}
 use Rattle.hist_types.specs.declared.types.OpKind.{OpKind}
 use Rattle.hist_types.specs.declared.types.OpKind.TheVariants as kinds
 use Rattle.hist_types.specs.declared.types.Refusal.{Refusal}
-use Rattle.hist_types.specs.declared.types.Refusal.TheVariants.{OddMap, BadType, BadProcess, NotTxn, BadAtom, NilWritten, TooLong, TooManyMicroOps}
-use Rattle.reading_laws.proofs.Checks.{no_ok, same_ok}
+use Rattle.hist_types.specs.declared.types.Refusal.TheVariants.{OddMap, MissingField, DuplicateField, BadType, BadProcess, NotTxn, BadAtom, NilWritten, TooLong, TooManyMicroOps}
 
 -- ---- tokens at other places
 
@@ -47,35 +48,61 @@ forms_of-moved to (f ∷ fs) = ap (form (form_moved to f)) (forms_of-moved to fs
 
 -- ---- results
 
--- where r is a value, s is what g makes of it
-abbrev pub Follows : {A B : Type 0} → (A → B) → Result A Fault → Result B Fault → Type 0
-Follows {A} g r s = (x : A) → r ≡ Ok x → s ≡ Ok (g x)
+abbrev at_moved : (ℕ → ℕ) → At → At
+at_moved to (Byte place) = Byte (to place)
+at_moved to (Event index) = Event index
+at_moved to Nowhere = Nowhere
 
-follows_ok : {A B : Type 0} (g : A → B) (x : A) → Follows g (Ok x) (Ok (g x))
-follows_ok g x y e = ap (λ z. Ok (g z)) (same_ok x y e)
+-- the fault, with another place
+abbrev pub fault_moved : (ℕ → ℕ) → Fault → Fault
+fault_moved to fault = record { refusal = fault.refusal; at = at_moved to fault.at }
+
+-- what g makes of the value, or the fault with another place
+abbrev pub result_moved : {A B : Type 0} → (ℕ → ℕ) → (A → B) → Result A Fault → Result B Fault
+result_moved to g (Ok x) = Ok (g x)
+result_moved to g (Err fault) = Err (fault_moved to fault)
+
+-- s is what becomes of r at other places
+abbrev pub Follows : {A B : Type 0} → (ℕ → ℕ) → (A → B) → Result A Fault → Result B Fault → Type 0
+Follows {A} to g r s = s ≡ result_moved to g r
+
+pub follows_value :
+    {A B : Type 0} (to : ℕ → ℕ) (g : A → B) (r : Result A Fault) (s : Result B Fault) (x : A)
+    → Follows to g r s
+    → r ≡ Ok x
+    → s ≡ Ok (g x)
+follows_value to g r s x follows e = follows ∙ ap (result_moved to g) e
+
+follows_fault :
+    {A B : Type 0} (to : ℕ → ℕ) (g : A → B) (refusal : Refusal) (m n : ℕ)
+    → n ≡ to m
+    → Follows to g (Err (byte_fault refusal m)) (Err (byte_fault refusal n))
+follows_fault to g refusal m n place = ap (λ k. Err (byte_fault refusal k)) place
 
 follows_then :
-    {A B C D : Type 0} (g : A → B) (h : C → D) (r : Result A Fault) (s : Result B Fault)
+    {A B C D : Type 0} (to : ℕ → ℕ) (g : A → B) (h : C → D) (r : Result A Fault) (s : Result B Fault)
     (next : A → Result C Fault) (further : B → Result D Fault)
-    → Follows g r s
-    → ((x : A) → Follows h (next x) (further (g x)))
-    → Follows h (r >>= next) (s >>= further)
-follows_then g h (Ok x) s next further first rest y e = ap (λ z. z >>= further) (first x refl) ∙ rest x y e
-follows_then g h (Err f) s next further first rest y e = absurd (no_ok f y e)
+    → Follows to g r s
+    → ((x : A) → Follows to h (next x) (further (g x)))
+    → Follows to h (r >>= next) (s >>= further)
+follows_then to g h (Ok x) s next further first rest = ap (λ z. z >>= further) first ∙ rest x
+follows_then to g h (Err f) s next further first rest = ap (λ z. z >>= further) first
 
 follows_refuse :
-    (test other : Bool) (refusal : Refusal) (m n : ℕ)
+    (to : ℕ → ℕ) (test other : Bool) (refusal : Refusal) (m n : ℕ)
     → other ≡ test
-    → Follows (λ u. u) (refuse_if test refusal m) (refuse_if other refusal n)
-follows_refuse true other refusal m n same u e = absurd (no_ok _ u e)
-follows_refuse false other refusal m n same u e = ap (λ b. refuse_if b refusal n) same ∙ e
+    → n ≡ to m
+    → Follows to (λ u. u) (refuse_if test refusal m) (refuse_if other refusal n)
+follows_refuse to true other refusal m n same place = ap₂ (λ b k. refuse_if b refusal k) same place
+follows_refuse to false other refusal m n same place = ap (λ b. refuse_if b refusal n) same
 
 follows_or :
-    {A B : Type 0} (g : A → B) (o : Option A) (p : Option B) (refusal : Refusal) (m n : ℕ)
+    {A B : Type 0} (to : ℕ → ℕ) (g : A → B) (o : Option A) (p : Option B) (refusal : Refusal) (m n : ℕ)
     → p ≡ option_map g o
-    → Follows g (or_refuse o refusal m) (or_refuse p refusal n)
-follows_or g None p refusal m n same x e = absurd (no_ok _ x e)
-follows_or g (Some y) p refusal m n same x e = ap (λ q. or_refuse q refusal n) same ∙ follows_ok g y x e
+    → n ≡ to m
+    → Follows to g (or_refuse o refusal m) (or_refuse p refusal n)
+follows_or to g None p refusal m n same place = ap₂ (λ q k. or_refuse q refusal k) same place
+follows_or to g (Some y) p refusal m n same place = ap (λ q. or_refuse q refusal n) same
 
 option_map-same : {A : Type 0} (o : Option A) → o ≡ option_map (λ (x : A). x) o
 option_map-same None = refl
@@ -154,6 +181,11 @@ is_nil-moved to (plain t) = refl
 is_nil-moved to (collection opener closer members) = refl
 is_nil-moved to (tagged tag f) = refl
 
+place_of-moved : (to : ℕ → ℕ) (f : Form) → place_of (form_moved to f) ≡ to (place_of f)
+place_of-moved to (plain t) = refl
+place_of-moved to (collection opener closer members) = refl
+place_of-moved to (tagged tag f) = refl
+
 -- ---- fields
 
 abbrev pair_moved : (ℕ → ℕ) → Form × Form → Form × Form
@@ -184,83 +216,84 @@ named-moved name to (p ∷ ps) =
 
 the_one-moved :
     (to : ℕ → ℕ) (m n : ℕ) (ps : List (Form × Form))
-    → Follows (form_moved to) (the_one m ps) (the_one n (map (pair_moved to) ps))
-the_one-moved to m n [] f e = absurd (no_ok _ f e)
-the_one-moved to m n (p ∷ []) f e = follows_ok (form_moved to) p.1 f e
-the_one-moved to m n (p ∷ q ∷ ps) f e = absurd (no_ok _ f e)
+    → n ≡ to m
+    → Follows to (form_moved to) (the_one m ps) (the_one n (map (pair_moved to) ps))
+the_one-moved to m n [] place = follows_fault to (form_moved to) MissingField m n place
+the_one-moved to m n (p ∷ []) place = refl
+the_one-moved to m n (p ∷ q ∷ ps) place = follows_fault to (form_moved to) DuplicateField _ _ (place_of-moved to q.0)
 
 field-moved :
     (name : List ℕ) (to : ℕ → ℕ) (m n : ℕ) (ps : List (Form × Form))
-    → Follows (form_moved to) (field name m ps) (field name n (map (pair_moved to) ps))
-field-moved name to m n ps =
-    subst (λ qs. Follows (form_moved to) (field name m ps) (the_one n qs)) (sym (named-moved name to ps))
-    (the_one-moved to m n (filter (λ pair. is_named name pair.0) ps))
+    → n ≡ to m
+    → Follows to (form_moved to) (field name m ps) (field name n (map (pair_moved to) ps))
+field-moved name to m n ps place =
+    subst (λ qs. Follows to (form_moved to) (field name m ps) (the_one n qs)) (sym (named-moved name to ps))
+    (the_one-moved to m n (filter (λ pair. is_named name pair.0) ps) place)
 
 -- ---- micro-operations
 
 read_or_write-moved :
     (to : ℕ → ℕ) (is_write : Bool) (key : Item × Atom) (f : Form)
-    → Follows (mop_moved to) (read_or_write is_write key f) (read_or_write is_write (atom_moved to key) (form_moved to f))
+    → Follows to (mop_moved to) (read_or_write is_write key f) (read_or_write is_write (atom_moved to key) (form_moved to f))
 read_or_write-moved to true key f =
-    follows_then (λ u. u) (mop_moved to) _ _ _ _
-    (follows_refuse (is_nil f) (is_nil (form_moved to f)) NilWritten _ _ (is_nil-moved to f)) (λ u.
-    follows_then (atom_moved to) (mop_moved to) _ _ _ _
-    (follows_or (atom_moved to) (atom_of f) _ BadAtom _ _ (atom_of-moved to f)) (λ value.
-    follows_ok (mop_moved to) (placed_write key value)))
+    follows_then to (λ u. u) (mop_moved to) _ _ _ _
+    (follows_refuse to (is_nil f) (is_nil (form_moved to f)) NilWritten _ _ (is_nil-moved to f) (place_of-moved to f)) (λ u.
+    follows_then to (atom_moved to) (mop_moved to) _ _ _ _
+    (follows_or to (atom_moved to) (atom_of f) _ BadAtom _ _ (atom_of-moved to f) (place_of-moved to f)) (λ value. refl))
 read_or_write-moved to false key f =
-    follows_then (value_moved to) (mop_moved to) _ _ _ _
-    (follows_or (value_moved to) (value_of f) _ BadAtom _ _ (value_of-moved to f)) (λ value.
-    follows_ok (mop_moved to) (placed_read key value))
+    follows_then to (value_moved to) (mop_moved to) _ _ _ _
+    (follows_or to (value_moved to) (value_of f) _ BadAtom _ _ (value_of-moved to f) (place_of-moved to f)) (λ value. refl)
 
 micro_op_of-moved :
     (to : ℕ → ℕ) (m n : ℕ) (o : Option (List Form))
-    → Follows (mop_moved to) (micro_op_of m o) (micro_op_of n (option_map (map (form_moved to)) o))
-micro_op_of-moved to m n None x e = absurd (no_ok _ x e)
-micro_op_of-moved to m n (Some []) x e = absurd (no_ok _ x e)
-micro_op_of-moved to m n (Some (a ∷ [])) x e = absurd (no_ok _ x e)
-micro_op_of-moved to m n (Some (a ∷ b ∷ [])) x e = absurd (no_ok _ x e)
-micro_op_of-moved to m n (Some (a ∷ b ∷ c ∷ [])) x e =
-    follows_then (λ (w : Bool). w) (mop_moved to) _ _ _ _
-    (follows_or (λ (w : Bool). w) (is_write_of a) (is_write_of (form_moved to a)) NotTxn m n
-    (is_write_of-moved to a ∙ option_map-same (is_write_of a))) (λ is_write.
-    follows_then (atom_moved to) (mop_moved to) _ _ _ _
-    (follows_or (atom_moved to) (atom_of b) _ BadAtom _ _ (atom_of-moved to b)) (λ key.
-    read_or_write-moved to is_write key c)) x e
-micro_op_of-moved to m n (Some (a ∷ b ∷ c ∷ d ∷ more)) x e = absurd (no_ok _ x e)
+    → n ≡ to m
+    → Follows to (mop_moved to) (micro_op_of m o) (micro_op_of n (option_map (map (form_moved to)) o))
+micro_op_of-moved to m n None place = follows_fault to (mop_moved to) NotTxn m n place
+micro_op_of-moved to m n (Some []) place = follows_fault to (mop_moved to) NotTxn m n place
+micro_op_of-moved to m n (Some (a ∷ [])) place = follows_fault to (mop_moved to) NotTxn m n place
+micro_op_of-moved to m n (Some (a ∷ b ∷ [])) place = follows_fault to (mop_moved to) NotTxn m n place
+micro_op_of-moved to m n (Some (a ∷ b ∷ c ∷ [])) place =
+    follows_then to (λ (w : Bool). w) (mop_moved to) _ _ _ _
+    (follows_or to (λ (w : Bool). w) (is_write_of a) (is_write_of (form_moved to a)) NotTxn m n
+    (is_write_of-moved to a ∙ option_map-same (is_write_of a)) place) (λ is_write.
+    follows_then to (atom_moved to) (mop_moved to) _ _ _ _
+    (follows_or to (atom_moved to) (atom_of b) _ BadAtom _ _ (atom_of-moved to b) (place_of-moved to b)) (λ key.
+    read_or_write-moved to is_write key c))
+micro_op_of-moved to m n (Some (a ∷ b ∷ c ∷ d ∷ more)) place = follows_fault to (mop_moved to) NotTxn m n place
 
 micro_ops_of-moved :
     (to : ℕ → ℕ) (fs : List Form) (before : ℕ)
-    → Follows (map (mop_moved to)) (micro_ops_of before fs) (micro_ops_of before (map (form_moved to) fs))
-micro_ops_of-moved to [] before = follows_ok (map (mop_moved to)) []
+    → Follows to (map (mop_moved to)) (micro_ops_of before fs) (micro_ops_of before (map (form_moved to) fs))
+micro_ops_of-moved to [] before = refl
 micro_ops_of-moved to (f ∷ fs) before =
-    follows_then (λ u. u) (map (mop_moved to)) _ _ _ _
-    (follows_refuse (nat_le MAX_MICRO_OPS before) (nat_le MAX_MICRO_OPS before) TooManyMicroOps _ _ refl) (λ u.
-    follows_then (mop_moved to) (map (mop_moved to)) _ _ _ _
-    (subst (λ o. Follows (mop_moved to) (micro_op_of (place_of f) (elements_of f))
+    follows_then to (λ u. u) (map (mop_moved to)) _ _ _ _
+    (follows_refuse to (nat_le MAX_MICRO_OPS before) (nat_le MAX_MICRO_OPS before) TooManyMicroOps _ _ refl (place_of-moved to f)) (λ u.
+    follows_then to (mop_moved to) (map (mop_moved to)) _ _ _ _
+    (subst (λ o. Follows to (mop_moved to) (micro_op_of (place_of f) (elements_of f))
     (micro_op_of (place_of (form_moved to f)) o)) (sym (elements_of-moved to f))
-    (micro_op_of-moved to _ _ (elements_of f))) (λ mop.
-    follows_then (map (mop_moved to)) (map (mop_moved to)) _ _ _ _ (micro_ops_of-moved to fs (suc before)) (λ mops.
-    follows_ok (map (mop_moved to)) (mop ∷ mops))))
+    (micro_op_of-moved to _ _ (elements_of f) (place_of-moved to f))) (λ mop.
+    follows_then to (map (mop_moved to)) (map (mop_moved to)) _ _ _ _ (micro_ops_of-moved to fs (suc before)) (λ mops. refl)))
 
 transaction_of-moved :
     (to : ℕ → ℕ) (f : Form)
-    → Follows (map (mop_moved to)) (transaction_of f) (transaction_of (form_moved to f))
+    → Follows to (map (mop_moved to)) (transaction_of f) (transaction_of (form_moved to f))
 transaction_of-moved to f =
-    follows_then (map (form_moved to)) (map (mop_moved to)) _ _ _ _
-    (follows_or (map (form_moved to)) (elements_of f) _ NotTxn _ _ (elements_of-moved to f)) (λ fs.
+    follows_then to (map (form_moved to)) (map (mop_moved to)) _ _ _ _
+    (follows_or to (map (form_moved to)) (elements_of f) _ NotTxn _ _ (elements_of-moved to f) (place_of-moved to f)) (λ fs.
     micro_ops_of-moved to fs 0)
 
 mops_of-moved :
     (to : ℕ → ℕ) (kind : OpKind) (m n : ℕ) (ps : List (Form × Form))
-    → Follows (map (mop_moved to)) (mops_of kind m ps) (mops_of kind n (map (pair_moved to) ps))
-mops_of-moved to kinds.Invoke m n ps =
-    follows_then (form_moved to) (map (mop_moved to)) _ _ _ _ (field-moved (codes ":value") to m n ps)
+    → n ≡ to m
+    → Follows to (map (mop_moved to)) (mops_of kind m ps) (mops_of kind n (map (pair_moved to) ps))
+mops_of-moved to kinds.Invoke m n ps place =
+    follows_then to (form_moved to) (map (mop_moved to)) _ _ _ _ (field-moved (codes ":value") to m n ps place)
     (λ f. transaction_of-moved to f)
-mops_of-moved to kinds.Ok m n ps =
-    follows_then (form_moved to) (map (mop_moved to)) _ _ _ _ (field-moved (codes ":value") to m n ps)
+mops_of-moved to kinds.Ok m n ps place =
+    follows_then to (form_moved to) (map (mop_moved to)) _ _ _ _ (field-moved (codes ":value") to m n ps place)
     (λ f. transaction_of-moved to f)
-mops_of-moved to kinds.Fail m n ps = follows_ok (map (mop_moved to)) []
-mops_of-moved to kinds.Info m n ps = follows_ok (map (mop_moved to)) []
+mops_of-moved to kinds.Fail m n ps place = refl
+mops_of-moved to kinds.Info m n ps place = refl
 
 -- ---- a closed map
 
@@ -273,56 +306,58 @@ entry_at to start end skipped = skipped
 client_operation-moved :
     (to : ℕ → ℕ) (number : ℤ) (place there m n start end : ℕ) (ps : List (Form × Form))
     → (end - start) ≡ (n - m)
-    → Follows (entry_at to start end) (client_operation number place m n ps)
+    → there ≡ to place
+    → start ≡ to m
+    → Follows to (entry_at to start end) (client_operation number place m n ps)
     (client_operation number there start end (map (pair_moved to) ps))
-client_operation-moved to number place there m n start end ps len =
-    follows_then (λ (p : ℕ). p) (entry_at to start end) _ _ _ _
-    (follows_or (λ (p : ℕ). p) (process_of number) (process_of number) BadProcess _ _
-    (option_map-same (process_of number))) (λ process.
-    follows_then (λ u. u) (entry_at to start end) _ _ _ _
-    (follows_refuse (nat_lt MAX_OPERATION_BYTES (n - m)) (nat_lt MAX_OPERATION_BYTES (end - start)) TooLong m start
-    (ap (nat_lt MAX_OPERATION_BYTES) len)) (λ u.
-    follows_then (form_moved to) (entry_at to start end) _ _ _ _ (field-moved (codes ":type") to m start ps) (λ type.
-    follows_then (λ (x : OpKind). x) (entry_at to start end) _ _ _ _
-    (follows_or (λ (x : OpKind). x) (kind_of type) (kind_of (form_moved to type)) BadType _ _
-    (kind_of-moved to type ∙ option_map-same (kind_of type))) (λ kind.
-    follows_then (map (mop_moved to)) (entry_at to start end) _ _ _ _ (mops_of-moved to kind m start ps) (λ mops.
-    follows_ok (entry_at to start end)
-    (operation (record { kind = kind; process = process; mops = mops; start = m; end = n })))))))
+client_operation-moved to number place there m n start end ps len is begins =
+    follows_then to (λ (p : ℕ). p) (entry_at to start end) _ _ _ _
+    (follows_or to (λ (p : ℕ). p) (process_of number) (process_of number) BadProcess _ _
+    (option_map-same (process_of number)) is) (λ process.
+    follows_then to (λ u. u) (entry_at to start end) _ _ _ _
+    (follows_refuse to (nat_lt MAX_OPERATION_BYTES (n - m)) (nat_lt MAX_OPERATION_BYTES (end - start)) TooLong m start
+    (ap (nat_lt MAX_OPERATION_BYTES) len) begins) (λ u.
+    follows_then to (form_moved to) (entry_at to start end) _ _ _ _ (field-moved (codes ":type") to m start ps begins) (λ type.
+    follows_then to (λ (x : OpKind). x) (entry_at to start end) _ _ _ _
+    (follows_or to (λ (x : OpKind). x) (kind_of type) (kind_of (form_moved to type)) BadType _ _
+    (kind_of-moved to type ∙ option_map-same (kind_of type)) (place_of-moved to type)) (λ kind.
+    follows_then to (map (mop_moved to)) (entry_at to start end) _ _ _ _ (mops_of-moved to kind m start ps begins) (λ mops. refl)))))
 
 entry_by-moved :
     (to : ℕ → ℕ) (number : Option ℤ) (place there m n start end : ℕ) (ps : List (Form × Form))
     → (end - start) ≡ (n - m)
-    → Follows (entry_at to start end) (entry_by number place m n ps)
+    → there ≡ to place
+    → start ≡ to m
+    → Follows to (entry_at to start end) (entry_by number place m n ps)
     (entry_by number there start end (map (pair_moved to) ps))
-entry_by-moved to None place there m n start end ps len = follows_ok (entry_at to start end) skipped
-entry_by-moved to (Some number) place there m n start end ps len =
-    client_operation-moved to number place there m n start end ps len
+entry_by-moved to None place there m n start end ps len is begins = refl
+entry_by-moved to (Some number) place there m n start end ps len is begins =
+    client_operation-moved to number place there m n start end ps len is begins
 
 pub entry_of-moved :
     (to : ℕ → ℕ) (opener closer : Item) (fs : List Form)
     → (end_of (item_moved to closer) - to opener.start) ≡ (end_of closer - opener.start)
-    → Follows (entry_at to (to opener.start) (end_of (item_moved to closer))) (entry_of opener closer fs)
+    → Follows to (entry_at to (to opener.start) (end_of (item_moved to closer))) (entry_of opener closer fs)
     (entry_of (item_moved to opener) (item_moved to closer) (map (form_moved to) fs))
 entry_of-moved to opener closer fs len =
     let at = entry_at to (to opener.start) (end_of (item_moved to closer)) in
-    follows_then (λ u. u) at _ _ _ _
-    (follows_refuse (length fs % 2 == 1) (length (map (form_moved to) fs) % 2 == 1) OddMap _ _
-    (ap (λ n. n % 2 == 1) (length-map fs (form_moved to)))) (λ u.
-    subst (λ qs. Follows at
+    follows_then to (λ u. u) at _ _ _ _
+    (follows_refuse to (length fs % 2 == 1) (length (map (form_moved to) fs) % 2 == 1) OddMap _ _
+    (ap (λ n. n % 2 == 1) (length-map fs (form_moved to))) refl) (λ u.
+    subst (λ qs. Follows to at
     (field (codes ":process") opener.start (pairs_of fs) >>= λ process. entry_by (int_of process)
     (place_of process) opener.start (end_of closer) (pairs_of fs))
     (field (codes ":process") (to opener.start) qs >>= λ process. entry_by (int_of process) (place_of process)
     (to opener.start) (end_of (item_moved to closer)) qs))
     (sym (pairs_of-moved to fs))
-    (follows_then (form_moved to) at _ _ _ _
-    (field-moved (codes ":process") to opener.start (to opener.start) (pairs_of fs)) (λ process.
-    subst (λ number. Follows at
+    (follows_then to (form_moved to) at _ _ _ _
+    (field-moved (codes ":process") to opener.start (to opener.start) (pairs_of fs) refl) (λ process.
+    subst (λ number. Follows to at
     (entry_by (int_of process) (place_of process) opener.start (end_of closer) (pairs_of fs))
     (entry_by number (place_of (form_moved to process)) (to opener.start) (end_of (item_moved to closer))
     (map (pair_moved to) (pairs_of fs))))
     (sym (int_of-moved to process))
-    (entry_by-moved to (int_of process) _ _ _ _ _ _ (pairs_of fs) len))))
+    (entry_by-moved to (int_of process) _ _ _ _ _ _ (pairs_of fs) len (place_of-moved to process) refl))))
 
 -- ---- counted from a later offset
 

@@ -1,80 +1,27 @@
 -- What happens inside a map in an operation's place is what happens inside the map alone.
-use Rattle.std.proofs.Common.{◌≡◌, ◌⊎◌, inl, inr, ℕ, ◌-◌, List, [], ◌∷◌, ◌++◌, map, Bool, true, false, not, ◌&&◌, ◌||◌, if◌then◌else◌, Option, Some, None, option_map, Result, Ok, Err, refl, sym, ◌∙◌, ap, subst, append_assoc}
+use Rattle.std.proofs.Common.{◌≡◌, ◌⊎◌, inl, inr, ℕ, ◌-◌, List, [], ◌∷◌, ◌++◌, map, Bool, true, false, not, ◌&&◌, ◌||◌, if◌then◌else◌, Option, Result, Ok, Err, refl, sym, ◌∙◌, ap, subst, append_assoc}
 use Rattle.std.specs.Prelude.{bytes_eq, nat_eq}
 use Rattle.std.proofs.lemmas.Bool.{and_parts, and_right, eqb-true}
 use Rattle.std.proofs.lemmas.List.{map-append, append-nil}
 use Rattle.std.proofs.lemmas.List.Elements.{filter-append}
 use Rattle.hist_types.specs.Entries.{PlacedOperation, Entry, operation, entry_of, ◌>>=◌, refuse_if}
-use Rattle.hist_types.specs.Forms.{Form, plain, collection, tagged, OpenCollection, Open, is_map, is_drop, has_drop, settled, still_waiting, with_member, with_form_in, with_form, with_mark, with_opener, form_of}
+use Rattle.hist_types.specs.Forms.{Form, plain, OpenCollection, Open, is_map, has_drop, still_waiting, with_form_in, with_form, with_mark, with_opener, form_of}
 use Rattle.reading_laws.specs.Placed.{item_from}
 use Rattle.hist_types.specs.Reading.{is_operation_place, in_operation_place, may_open, Step, only_opens, refuse_waiting, entries_at_close, close, step_by, step, and_then_read, reading_from, nothing_open}
 use Rattle.hist_types.specs.Tokens.{Item, ItemKind, Opener, Closer, Drop, Tag, is_token, tokens_of, byte_fault}
 use Rattle.hist_types.specs.declared.types.Fault.{Fault}
 use Rattle.hist_types.specs.declared.types.Refusal.TheVariants.{NotAMap}
 use Rattle.hist_types.proofs.Members.{In}
-use Rattle.reading_laws.proofs.MovedForms.{form_from, forms_of-moved}
+use Rattle.reading_laws.proofs.MovedForms.{form_from}
+use Rattle.reading_laws.proofs.MovedSteps.{open_collection, collection_moved, with_form_in-moved, form_of-moved}
 
 -- ---- open collections with their places counted from a later offset
-
-abbrev pub open_collection : Item → List Form → List Item → OpenCollection
-open_collection opener members marks = record { opener = opener; members = members; marks = marks }
 
 abbrev pub opened : List Item → List OpenCollection → Open
 opened marks collections = record { marks = marks; collections = collections }
 
 abbrev pub collection_from : ℕ → OpenCollection → OpenCollection
-collection_from k c = open_collection (item_from k c.opener) (map (form_from k) c.members) (map (item_from k) c.marks)
-
-if_settled :
-    (k : ℕ) (drops : Bool) (x y : Option Form)
-    → y ≡ option_map (form_from k) x
-    → (if drops then None else y) ≡ option_map (form_from k) (if drops then None else x)
-if_settled k true x y same = refl
-if_settled k false x y same = same
-
-settled-from :
-    (k : ℕ) (marks : List Item) (f : Form)
-    → settled (map (item_from k) marks) (form_from k f) ≡ option_map (form_from k) (settled marks f)
-settled-from k [] f = refl
-settled-from k (mark ∷ marks) f =
-    if_settled k (is_drop mark) (settled marks (tagged mark f)) _ (settled-from k marks (tagged mark f))
-
-if_waiting :
-    (k : ℕ) (drops : Bool) (marks xs ys : List Item)
-    → ys ≡ map (item_from k) xs
-    → (if drops then map (item_from k) marks else ys) ≡ map (item_from k) (if drops then marks else xs)
-if_waiting k true marks xs ys same = refl
-if_waiting k false marks xs ys same = same
-
-still_waiting-from :
-    (k : ℕ) (marks : List Item)
-    → still_waiting (map (item_from k) marks) ≡ map (item_from k) (still_waiting marks)
-still_waiting-from k [] = refl
-still_waiting-from k (mark ∷ marks) =
-    if_waiting k (is_drop mark) marks (still_waiting marks) _ (still_waiting-from k marks)
-
-with_member-from :
-    (k : ℕ) (o : Option Form) (fs : List Form)
-    → with_member (option_map (form_from k) o) (map (form_from k) fs) ≡ map (form_from k) (with_member o fs)
-with_member-from k None fs = refl
-with_member-from k (Some f) fs = sym (map-append (form_from k) fs (f ∷ []))
-
-with_form_in-from :
-    (k : ℕ) (f : Form) (c : OpenCollection)
-    → with_form_in (form_from k f) (collection_from k c) ≡ collection_from k (with_form_in f c)
-with_form_in-from k f c =
-    let opener = item_from k c.opener in
-    let waiting = still_waiting (map (item_from k) c.marks) in
-    ap (λ (o : Option Form). open_collection opener (with_member o (map (form_from k) c.members)) waiting)
-    (settled-from k c.marks f)
-    ∙ (ap (λ (fs : List Form). open_collection opener fs waiting) (with_member-from k (settled c.marks f) c.members)
-    ∙ ap (open_collection opener (map (form_from k) (with_member (settled c.marks f) c.members)))
-    (still_waiting-from k c.marks))
-
-form_of-from :
-    (k : ℕ) (c : OpenCollection) (closer : Item)
-    → form_of (collection_from k c) (item_from k closer) ≡ form_from k (form_of c closer)
-form_of-from k c closer = ap (collection (item_from k c.opener) (item_from k closer)) (forms_of-moved (λ n. n - k) c.members)
+collection_from k c = collection_moved (λ n. n - k) c
 
 -- what is open inside a map alone, of the collections inside it and of the map itself
 abbrev pub inside : ℕ → List OpenCollection → OpenCollection → Open
@@ -339,8 +286,8 @@ closes_inside k c d rest t closes none place =
     ∙ (ap (λ (ms : List Item). closes_as (refuse_waiting (map (item_from k) ms))
     (entries_at_close (collection_from k c) u [] (e ∷ outer)) (with_form f [] (e ∷ outer))) none
     ∙ (ap (λ (r : Result (List Entry) Fault). closes_as (Ok tt) r (with_form f [] (e ∷ outer))) given
-    ∙ (ap (λ (g : Form). went_on (with_form_in g e ∷ outer)) (form_of-from k c t)
-    ∙ ap (λ (x : OpenCollection). went_on (x ∷ outer)) (with_form_in-from k (form_of c t) d))))
+    ∙ (ap (λ (g : Form). went_on (with_form_in g e ∷ outer)) (form_of-moved (λ n. n - k) c t)
+    ∙ ap (λ (x : OpenCollection). went_on (x ∷ outer)) (with_form_in-moved (λ n. n - k) (form_of c t) d))))
 
 Histories-closed_inside :
     (done marks : List Item) (c d : OpenCollection) (outer : List OpenCollection) (t : Item)
@@ -475,7 +422,7 @@ plain_changes t c alone k rest place =
     alone (opened [] (map (collection_from k) (c ∷ rest))) u refl
     ∙ (ap (λ (b : Bool). refuse_if b NotAMap u.start >>= λ _. went_on (with_form_in (plain u) (collection_from k c) ∷ outer))
     place
-    ∙ ap (λ (x : OpenCollection). went_on (x ∷ outer)) (with_form_in-from k (plain t) c))
+    ∙ ap (λ (x : OpenCollection). went_on (x ∷ outer)) (with_form_in-moved (λ n. n - k) (plain t) c))
 
 Histories-by_plain :
     (done marks : List Item) (collections : List OpenCollection) (t : Item)

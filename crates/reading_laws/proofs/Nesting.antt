@@ -12,7 +12,8 @@ use Rattle.hist_types.specs.Tokens.{Item, ItemKind, Opener, Closer, Drop, Tag, b
 use Rattle.hist_types.specs.declared.types.Fault.{Fault}
 use Rattle.hist_types.specs.declared.types.Refusal.TheVariants.{NotAMap}
 use Rattle.reading_laws.proofs.Checks.{no_ok, same_ok}
-use Rattle.reading_laws.proofs.MovedReading.{Runs, opened, open_collection, closes_as, same_step, no_step, went_on_if, went_on_unless, closed}
+use Rattle.reading_laws.proofs.MovedSteps.{open_collection}
+use Rattle.reading_laws.proofs.MovedReading.{Runs, opened, closes_as, same_step, no_step, went_on_if, went_on_unless, closed}
 
 -- ---- one token after the other
 

@@ -3,17 +3,17 @@
 //! what was read, cite them.
 #![tactic(auto)]
 
-ghost use Rattle.std.specs.Prelude.{◌↔◌, ◌≡◌, ◌+◌, ℕ, List, [], ◌++◌, Option, None, length, drop, IsTrue, All};
+ghost use Rattle.std.specs.Prelude.{◌↔◌, ◌≡◌, ◌+◌, ℕ, List, [], ◌++◌, Option, None, option_map, false, length, drop, IsTrue, All};
 ghost use Rattle.hist_types.specs.Operations.{Operation};
 ghost use Rattle.hist_types.specs.declared.types.Fault.{Fault};
-ghost use Rattle.reading_laws.specs.Parts.{HasPartAt, EndsWithMap};
+ghost use Rattle.reading_laws.specs.Parts.{HasPartAt, EndsLine, fault_behind, can_come_at_end};
 ghost use Rattle.hist_types.specs.Bytes.{is_run_byte};
 ghost use Rattle.reading_laws.specs.Readings.{HasOneReading, IsReadIn, IsReadInPart, HasPartsOf, IsOfTokens, HasAtom, IsFaultlessToken, RunEndsAt};
 ghost use Rattle.hist_types.specs.Entries.{PlacedOperation, Entry};
 ghost use Rattle.hist_types.specs.Forms.{Form};
 ghost use Rattle.reading_laws.specs.Nesting.{AreForms, AreNoOtherForms, ActAs, FillAnyCollection, FillAlone, HoldWhatIsBetween, IsOfForms, IsMapOfForms};
 ghost use Rattle.reading_laws.specs.Placed.{KeepsLimits, IsTextOf, IsIn, IsTokenAlone};
-ghost use Rattle.hist_types.specs.Reading.{GivesOperations, GivesFrom, Reads};
+ghost use Rattle.hist_types.specs.Reading.{GivesOperations, GivesFrom, GivesFault, FailsFrom, Reads};
 ghost use Rattle.hist_types.specs.Tokens.{IsCut, HasTokens, run_of, run_len, Item, ItemKind};
 
 /// A run is the longest sequence of bytes of a run at the front of a text.
@@ -78,14 +78,20 @@ pub fn texts_read_by_forms()
 {}
 
 /// A part of a text that reads by itself without a fault is read so in the text, where nothing is
-/// open before it, if it ends with a map at the end of a line or with the text: first come its
-/// operations, and then what is read after it.
+/// open before it, if it ends a line: first come its operations, and then what is read after it.
+/// What is left of a text gives what it gives by itself, with a fault as far after its start. A
+/// fault of lines that more of the text can't change stays, whatever comes after them.
 pub fn parts_read_alone()
     ensures part { (text part behind : List ℕ) (offset : ℕ) (operations later : List Operation)
-        (fault : Option Fault) → HasPartAt text offset part behind → EndsWithMap part
+        (fault : Option Fault) → HasPartAt text offset part behind → EndsLine part
         → GivesOperations part operations → GivesFrom text (offset + length part) later fault
         → GivesFrom text offset (operations ++ later) fault }
     ensures rest { (text part : List ℕ) (offset : ℕ) (operations : List Operation)
-        → HasPartAt text offset part [] → GivesOperations part operations
-        → GivesFrom text offset operations None }
+        (fault : Option Fault) → HasPartAt text offset part []
+        → GivesFrom part 0 operations fault
+        → GivesFrom text offset operations (option_map (fault_behind offset) fault) }
+    ensures fault { (text part behind : List ℕ) (offset : ℕ) (fault : Fault)
+        → HasPartAt text offset part behind → EndsLine part
+        → can_come_at_end fault.refusal ≡ false → GivesFault part fault
+        → FailsFrom text offset (fault_behind offset fault) }
 {}

@@ -1,5 +1,5 @@
 use Rattle.std.proofs.Common.{◌≤◌, length}
-use Rattle.block_reader.proofs.starts.last_line.Given as goal
+use Rattle.block_reader.proofs.starts.last_end.Given as goal
 
 abbrev pub invariant-loop-end : goal.invariant-loop-end
 invariant-loop-end l = l.end ≤ length l.text
