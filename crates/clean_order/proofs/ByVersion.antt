@@ -45,7 +45,7 @@ pub txn_of :
     → txn_at ts place ≡ t
 txn_of ts place t e = ap (λ o. unwrap_or o nobody) e
 
-placed :
+pub placed :
     (ts : List Transaction)
     → AreInvokedInOrder ts
     → (k : ℕ) (t : Transaction)

@@ -1,3 +1,11 @@
 pub mod ByVersion
 pub mod Timely
 pub mod Certified
+pub mod Accesses
+pub mod Installed
+pub mod CleanReads
+pub mod Dependencies
+pub mod Points
+pub mod PutAfter
+pub mod Replayed
+pub mod Shown

@@ -1,3 +1,10 @@
 pub mod Listed
 pub mod AtVersions
 pub mod Highest
+pub mod Points
+pub mod ByVersion
+pub mod CleanReads
+pub mod Accesses
+pub mod Shown
+pub mod Replaying
+pub mod Waiting

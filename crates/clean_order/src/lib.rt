@@ -1,4 +1,9 @@
-//! Schedules of a history's transactions, which show without a graph that no cycle is there.
+//! Schedules of a finished history's transactions, which show without a graph that no cycle is
+//! there.
+//!
+//! A schedule is proposed, and a certificate shows whether it keeps the history's edges. Either it
+//! is given as two lists, over the table of versions, or the transactions are put in one order,
+//! which is looked at as it is made, over numbers of versions alone.
 #![tactic(auto)]
 
 ghost use Rattle.std.specs.Prelude.{IfOk, true, false};
@@ -8,9 +13,16 @@ ghost use Rattle.schedules.specs.declared.types.TheConstants.EdgeKinds.{ALL, PLA
 
 pub mod attempt;
 mod earlier;
-pub mod ends;
+mod ends;
+pub mod in_time;
 mod keeping;
+pub mod laws;
 mod propose_schedules;
+mod propose_turns;
+mod propose_waiting;
+pub mod replay;
+mod replaying;
+pub mod updates;
 
 use crate::attempt::Attempt;
 use crate::keeping::keeps;

@@ -24,22 +24,23 @@ use Rattle.dep_edges.proofs.Found.{read_at_place}
 use Rattle.dep_edges.proofs.Lists.{all_in}
 use Rattle.dep_edges.proofs.Marks.{place_in}
 use Rattle.dep_edges.proofs.Writers.{in_at}
+use Rattle.clean_order.specs.Accesses.{updates}
+use Rattle.clean_order.specs.ByVersion.{IsAnother, IsAbovePredecessors, RisesInto, RisesOutOf}
+use Rattle.clean_order.specs.CleanReads.{IsInstalled, IsCleanRead, ReadsAreClean}
+use Rattle.clean_order.specs.Points.{IsNotBefore, IsNotAfter, ArePoints}
+use Rattle.clean_order.proofs.Accesses.{has_accesses, kept_count, read_access, write_access}
+use Rattle.clean_order.proofs.Dependencies.{ends_by, node_among, rises_between, rises_into, rises_out_of}
+use Rattle.clean_order.proofs.Points.{by_points, point_begun, point_ended, points_rise}
 use Rattle.serial_points.specs.Bounds.{AreBounds, BoundsReads, BoundAll, AreFloors, IsFloored, FloorAll}
 use Rattle.serial_points.specs.ByPlace.{AreListed}
-use Rattle.serial_points.specs.ByVersion.{IsAnother, IsAbovePredecessors, RisesInto, RisesOutOf}
 use Rattle.serial_points.specs.Clean.{AreUnread}
-use Rattle.serial_points.specs.CleanReads.{IsInstalled, IsCleanRead, ReadsAreClean}
 use Rattle.serial_points.specs.Falls.{HaveFallen, PassesAt, PassesUnlessOk, PassesAfter}
 use Rattle.serial_points.specs.KeptPoints.{BasicPoints, HasBasicPoints, FallAndPass, UsersAdvance}
 use Rattle.serial_points.specs.NextPoints.{HasMoved, AreNextPoints}
-use Rattle.serial_points.specs.Points.{IsNotBefore, IsNotAfter, ArePoints}
-use Rattle.serial_points.proofs.Points.{by_points, point_begun, point_ended, points_rise}
-use Rattle.serial_points.specs.Users.{updates, places_at, IsListed, AreUsers, IsAmongUsers, UsersStay}
+use Rattle.serial_points.specs.Users.{places_at, IsListed, AreUsers, IsAmongUsers, UsersStay}
 use Rattle.serial_points.specs.declared.falls.Fall.{Fall}
 use Rattle.serial_points.specs.declared.users.Users.{Users}
-use Rattle.serial_points.proofs.Accesses.{has_accesses, kept_count, read_access, write_access}
 use Rattle.serial_points.proofs.ByPlace.{list_points, look_ups_suffice}
-use Rattle.serial_points.proofs.ByVersion.{ends_by, node_among, rises_between, rises_into, rises_out_of}
 use Rattle.serial_points.proofs.Changed.{IsChanged, same_or_not}
 use Rattle.serial_points.proofs.NextPoints.{ok_is_node, points_move}
 use Rattle.serial_points.proofs.Passed.{above_readers, above_writers, below_successors, reader_listed, writer_listed}

@@ -13,11 +13,11 @@ use Rattle.dep_edges.specs.Tables.{IsPlace, txn_at}
 use Rattle.dep_edges.proofs.Found.{read_at_place}
 use Rattle.dep_edges.proofs.Marks.{place_in}
 use Rattle.clean_order.specs.AtVersions.{IsLowerIfOther}
+use Rattle.clean_order.specs.ByVersion.{Follows, IsBelow}
 use Rattle.clean_order.specs.Listed.{place}
 use Rattle.clean_order.proofs.ByVersion.{txn_of, number_of, reader_there, writer_at}
-use Rattle.serial_points.specs.ByVersion.{Follows, IsBelow}
+use Rattle.clean_order.proofs.Dependencies.{node_among}
 use Rattle.serial_points.specs.ByPlace.{ListPoints, LookUpsSuffice}
-use Rattle.serial_points.proofs.ByVersion.{node_among}
 
 -- ---- points that are listed
 

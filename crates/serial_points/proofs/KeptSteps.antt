@@ -23,6 +23,7 @@ use Rattle.key_versions.proofs.Stepping.{last_stays, met_are, own_of, seen_step,
 use Rattle.txn_pairs.specs.Growth.{IsChange}
 use Rattle.txn_pairs.specs.Places.{completed}
 use Rattle.dep_edges.proofs.Writers.{in_at}
+use Rattle.clean_order.proofs.Accesses.{has_accesses, kept_count}
 use Rattle.serial_points.specs.Bounds.{BoundAll}
 use Rattle.serial_points.specs.KeptPoints.{KeptPoints, HasBasicPoints, HasPoints, IsNext, HasSettled, PointsAdvance, UsersAdvance}
 use Rattle.serial_points.specs.KeptSteps.{HasPair, HasSteps}
@@ -33,7 +34,6 @@ use Rattle.serial_points.specs.Users.{AreUsers}
 use Rattle.serial_points.specs.declared.falls.Fall.{Fall}
 use Rattle.serial_points.specs.declared.steps.Steps.{Steps}
 use Rattle.serial_points.specs.declared.users.Users.{Users}
-use Rattle.serial_points.proofs.Accesses.{has_accesses, kept_count}
 use Rattle.serial_points.proofs.Changed.{IsChanged, begins_or_completes, changed_by_begin, changed_by_end}
 use Rattle.serial_points.proofs.OneCompletion.{IsLastOk, is_last_ok}
 use Rattle.serial_points.proofs.OneEvent.{completes, invoked}

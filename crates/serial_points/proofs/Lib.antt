@@ -1,5 +1,3 @@
-pub mod Points
-pub mod ByVersion
 pub mod ByPlace
 pub mod OneEvent
 pub mod NextPoints
@@ -7,16 +5,12 @@ pub mod OkSteps
 pub mod Staying
 pub mod Rows
 pub mod Listed
-pub mod Accesses
 pub mod Unbounded
 pub mod Passed
-pub mod CleanReads
 pub mod Bounded
 pub mod Counted
 pub mod StrayReads
 pub mod Changed
-pub mod PutAfter
-pub mod Shown
 pub mod Installed
 pub mod Advancing
 pub mod OneMore
@@ -24,4 +18,3 @@ pub mod OneCompletion
 pub mod RisingSteps
 pub mod KeptSteps
 pub mod SequentialPoints
-pub mod Replayed

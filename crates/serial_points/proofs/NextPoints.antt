@@ -5,28 +5,25 @@ use Rattle.std.proofs.lemmas.Bool.{and_parts, and_from, or_cases, or_left, or_ri
 use Rattle.hist_types.specs.Edges.{edge, dependency_edges}
 use Rattle.hist_types.specs.Journal.{writes_of, KeepsRules}
 use Rattle.hist_types.specs.Operations.{Operation}
-use Rattle.hist_types.specs.Transactions.{Transaction, Version, version_of, transactions_of, has_version, is_ok, is_failed, external_reads, installs, is_known_to_read, was_read, is_node, nodes}
+use Rattle.hist_types.specs.Transactions.{Transaction, Version, version_of, transactions_of, is_ok, is_failed, installs, is_known_to_read, was_read, is_node, nodes}
 use Rattle.hist_types.specs.declared.types.KeyOrder.TheVariants.{Basic}
 use Rattle.hist_types.proofs.Members.{In, in_from_Contains, Contains_from_in, in_map, in_filtered, passes_filter}
 use Rattle.history_laws.proofs.ThinningPaths.{any_passes}
 use Rattle.history_laws.proofs.ThinningTimes.{transactions_timed}
 use Rattle.history_laws.proofs.VersionMembers.{in_from_has}
 use Rattle.history_laws.proofs.WrittenOnce.{installed_or_over}
-use Rattle.serial_points.specs.ByVersion.{IsAnother, DependsBy}
+use Rattle.clean_order.specs.ByVersion.{IsAnother, DependsBy, Rises}
+use Rattle.clean_order.specs.Points.{IsNotBefore, IsNotAfter, ArePoints}
+use Rattle.clean_order.proofs.CleanReads.{reader_is_ok}
+use Rattle.clean_order.proofs.Dependencies.{node_among, ends_by, edge_by, rises_between}
+use Rattle.clean_order.proofs.Points.{by_points, point_begun, point_ended, points_rise}
 use Rattle.serial_points.specs.NextPoints.{IsOfEvent, HasMoved, AreNextPoints, PointsMove}
-use Rattle.serial_points.specs.Points.{IsNotBefore, IsNotAfter, ArePoints}
-use Rattle.serial_points.proofs.Points.{by_points, point_begun, point_ended, points_rise}
-use Rattle.serial_points.specs.ByVersion.{Rises}
-use Rattle.serial_points.proofs.ByVersion.{node_among, ends_by, edge_by, rises_between}
 use Rattle.serial_points.proofs.OneEvent.{others_stay}
 
 -- ---- nodes
 
 pub ok_is_node : (ts : List Transaction) (t : Transaction) → In t ts → is_ok t ≡ true → In t (nodes ts)
 ok_is_node ts t i ok = in_filtered (is_node ts) t ts i (or_left (is_ok t) (not (is_failed t) && was_read ts t) ok)
-
-pub reader_is_ok : (t : Transaction) (v : Version) → is_known_to_read t v ≡ true → is_ok t ≡ true
-reader_is_ok t v read = (and_parts (is_ok t) (has_version (external_reads t) v) read).0
 
 -- who installed what another one reads was read
 pub installer_was_read :

@@ -11,7 +11,7 @@ use Rattle.history_laws.proofs.ThinningTimes.{invocation_by}
 use Rattle.txn_pairs.specs.Places.{is_open, is_open_status, has_process, open_place, completed, with_completed}
 use Rattle.txn_pairs.proofs.Growth.{takes_invocation, takes_completion}
 use Rattle.txn_pairs.proofs.Places.{with_completed-behind}
-use Rattle.serial_points.specs.ByVersion.{IsAnother}
+use Rattle.clean_order.specs.ByVersion.{IsAnother}
 use Rattle.serial_points.specs.NextPoints.{IsOfEvent}
 
 -- ---- transactions of events are of none that comes later

@@ -25,24 +25,24 @@ use Rattle.txn_pairs.specs.Places.{completed}
 use Rattle.dep_edges.proofs.Lists.{all_in}
 use Rattle.dep_edges.proofs.Marks.{place_in}
 use Rattle.dep_edges.proofs.Writers.{in_at}
+use Rattle.clean_order.specs.CleanReads.{IsCleanRead}
+use Rattle.clean_order.specs.Points.{ArePoints}
+use Rattle.clean_order.proofs.Accesses.{installs_writes, read_access}
+use Rattle.clean_order.proofs.CleanReads.{reader_is_ok}
+use Rattle.clean_order.proofs.Installed.{installs_number}
+use Rattle.clean_order.proofs.Points.{by_points}
 use Rattle.serial_points.specs.Bounds.{AreBounds, BoundsReads, BoundAll, AreFloors, IsFloored, FloorAll}
 use Rattle.serial_points.specs.ByPlace.{AreListed}
 use Rattle.serial_points.specs.Clean.{IsClean}
-use Rattle.serial_points.specs.CleanReads.{IsCleanRead}
 use Rattle.serial_points.specs.KeptPoints.{BasicPoints, HasBasicPoints, IsBasicNext, IsUnreadAt, IsCleanAt, AdvancesBy, HasSettled, PointsAdvance, UsersAdvance}
 use Rattle.serial_points.specs.NextPoints.{WritesNothingRead}
-use Rattle.serial_points.specs.Points.{ArePoints}
-use Rattle.serial_points.proofs.Points.{by_points}
 use Rattle.serial_points.specs.Strays.{unwritten, StraysAdvance}
 use Rattle.serial_points.specs.Users.{IsListed, ListVersions, ListKeys, ListUpdated, AreUsers}
 use Rattle.serial_points.specs.declared.falls.Fall.{Fall}
 use Rattle.serial_points.specs.declared.users.Users.{Users}
-use Rattle.serial_points.proofs.Accesses.{installs_writes, read_access}
 use Rattle.serial_points.proofs.Advancing.{bound_after, floor_after, clean_after, has_points, own_accesses, points_fall, points_stay, unread_by, users_are}
 use Rattle.serial_points.proofs.Changed.{IsChanged, begins_or_completes, changed_by_begin, changed_by_end, same_or_not}
 use Rattle.serial_points.proofs.Counted.{total, total_more, total_set, any_more, any_set}
-use Rattle.serial_points.proofs.Installed.{installs_number}
-use Rattle.serial_points.proofs.NextPoints.{reader_is_ok}
 use Rattle.serial_points.proofs.Staying.{stay_at_end, stay_at_unread_invocation}
 use Rattle.serial_points.proofs.StrayReads.{writes_itself, is_written, strays_in, stray_more, strays_counted, reads_none, reads_nothing, nobody_listed}
 

@@ -16,16 +16,17 @@ use Rattle.dep_edges.proofs.Lists.{all_in}
 use Rattle.dep_edges.proofs.Marks.{place_in}
 use Rattle.dep_edges.proofs.Places.{from_some_place}
 use Rattle.dep_edges.proofs.Writers.{writer_wrote}
+use Rattle.clean_order.specs.Accesses.{updates}
+use Rattle.clean_order.specs.AtVersions.{IsLowerIfOther}
+use Rattle.clean_order.specs.ByVersion.{Follows, IsBelow, IsBelowSuccessors}
+use Rattle.clean_order.proofs.Accesses.{has_accesses, installs_writes, read_access, same_number, write_access}
+use Rattle.clean_order.proofs.Dependencies.{node_among}
+use Rattle.clean_order.proofs.Installed.{installer_updates}
 use Rattle.serial_points.specs.Bounds.{BoundAll, FloorAll}
 use Rattle.serial_points.specs.ByPlace.{AreListed, IsAboveWriter, IsAboveReaders}
-use Rattle.serial_points.specs.ByVersion.{Follows, IsBelow, IsBelowSuccessors}
 use Rattle.serial_points.specs.Passing.{AllLower, AllHigher, IsAboveReadersOf, HasNilFollowers, PassesInto, PassesOutOf}
-use Rattle.clean_order.specs.AtVersions.{IsLowerIfOther}
-use Rattle.serial_points.specs.Users.{updates, places_at, IsListed, AreUsers}
+use Rattle.serial_points.specs.Users.{places_at, IsListed, AreUsers}
 use Rattle.serial_points.specs.declared.users.Users.{Users}
-use Rattle.serial_points.proofs.Accesses.{has_accesses, installs_writes, read_access, same_number, write_access}
-use Rattle.serial_points.proofs.ByVersion.{node_among}
-use Rattle.serial_points.proofs.Installed.{installer_updates}
 use Rattle.serial_points.proofs.Unbounded.{reader_lower}
 
 pub reader_at : (ts : List Transaction) (v : Version) (place : ℕ) → In place (readers_of ts v) → (t : Transaction) × (slice_get ts place ≡ Some t) × (is_known_to_read t v ≡ true)

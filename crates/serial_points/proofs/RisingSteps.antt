@@ -11,13 +11,14 @@ use Rattle.history_laws.proofs.ThinningPaths.{some_passes}
 use Rattle.key_versions.specs.Kept.{StayBeside}
 use Rattle.key_versions.specs.TxnAccesses.{TxnAccesses}
 use Rattle.key_versions.specs.declared.pending.Access.{Access}
+use Rattle.clean_order.specs.Accesses.{updates}
 use Rattle.clean_order.specs.AtVersions.{IsLowerIfOther}
 use Rattle.serial_points.specs.Bounds.{BoundAll}
 use Rattle.serial_points.specs.Falls.{IsAmong}
 use Rattle.serial_points.specs.KeptPoints.{AdvancesBy, PointsAdvance}
 use Rattle.serial_points.specs.Stepping.{has_install, IsNoNode, IsLowerUnlessLeftOut, AboveUsers, IsAboveStepsTo, AboveSteps, IsHigherUnlessLeftOut, BelowInstallers, BelowReadSteps, IsBelowStepsFrom, BelowOwnSteps, IsBelowUnlessOk, WritersPassSteps, IsAboveStep, StepRises, StepsPass, HasReader, Uses, AllStepsRise}
 use Rattle.serial_points.specs.Steps.{HasStep, AreListedTwice, StepsAdvance}
-use Rattle.serial_points.specs.Users.{updates, places_at, IsListed, HasAccess, ListOnlyVersions, AreUsers}
+use Rattle.serial_points.specs.Users.{places_at, IsListed, HasAccess, ListOnlyVersions, AreUsers}
 use Rattle.serial_points.specs.declared.falls.Fall.{Fall}
 use Rattle.serial_points.specs.declared.steps.StepLists.{StepLists}
 use Rattle.serial_points.specs.declared.steps.Steps.{Steps}

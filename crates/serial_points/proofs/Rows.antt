@@ -9,8 +9,8 @@ use Rattle.hist_types.specs.declared.types.KeyOrder.TheVariants.{Basic}
 use Rattle.hist_types.proofs.Members.{in_from_Contains, Contains_from_in}
 use Rattle.hist_types.proofs.Rows.History.{x, sets, gets, finds_nil, invoke, ok, committed, unfinished, wr_edge, rw_nil_edge}
 use Rattle.hist_types.proofs.Rows.Realtime.{missed_write}
-use Rattle.serial_points.specs.Points.{point_at, ArePoints}
-use Rattle.serial_points.proofs.Points.{by_points, point_begun, point_ended, points_rise}
+use Rattle.clean_order.specs.Points.{point_at, ArePoints}
+use Rattle.clean_order.proofs.Points.{by_points, point_begun, point_ended, points_rise}
 use Rattle.serial_points.specs.NextPoints.{HasMoved, AreNextPoints}
 
 -- ---- a write that is read before it is confirmed

@@ -19,19 +19,18 @@ use Rattle.history_laws.proofs.VersionMembers.{has_from_in, pairs_by_membership}
 use Rattle.key_versions.specs.Kept.{KeptVersions, AreKept}
 use Rattle.key_versions.specs.TxnAccesses.{TxnAccesses}
 use Rattle.dep_edges.proofs.Marks.{place_in}
-use Rattle.serial_points.specs.ByVersion.{RisesAlong}
+use Rattle.clean_order.specs.ByVersion.{RisesAlong, IsAnother}
+use Rattle.clean_order.specs.Points.{ArePoints}
+use Rattle.clean_order.proofs.Accesses.{has_accesses, read_access, same_number, write_access}
+use Rattle.clean_order.proofs.Dependencies.{node_among, rises_between}
+use Rattle.clean_order.proofs.Points.{by_points, point_begun, point_ended, points_rise}
 use Rattle.serial_points.specs.ByPlace.{AreListed}
-use Rattle.serial_points.specs.ByVersion.{IsAnother}
 use Rattle.serial_points.specs.KeptPoints.{KeptPoints, HasPoints}
 use Rattle.serial_points.specs.KeptSteps.{HasSteps}
-use Rattle.serial_points.specs.Points.{ArePoints}
-use Rattle.serial_points.proofs.Points.{by_points, point_begun, point_ended, points_rise}
 use Rattle.serial_points.specs.Stepping.{has_install, HasReader, Uses}
 use Rattle.serial_points.specs.Users.{HasAccess, AreUsers}
 use Rattle.serial_points.specs.declared.steps.Steps.{Steps}
 use Rattle.serial_points.specs.declared.users.Users.{Users}
-use Rattle.serial_points.proofs.Accesses.{has_accesses, read_access, same_number, write_access}
-use Rattle.serial_points.proofs.ByVersion.{node_among, rises_between}
 use Rattle.serial_points.proofs.Installed.{installer_has}
 use Rattle.serial_points.proofs.Passed.{reader_listed}
 

@@ -17,11 +17,12 @@ use Rattle.history_laws.proofs.DependencyEdges.{edges_by_versions}
 use Rattle.history_laws.proofs.ThinningPaths.{some_passes, any_passes}
 use Rattle.history_laws.proofs.VersionMembers.{has_from_in, pairs_by_membership}
 use Rattle.txn_pairs.specs.Places.{completed}
+use Rattle.clean_order.specs.Points.{point_at, ArePoints}
+use Rattle.clean_order.proofs.CleanReads.{reader_is_ok}
+use Rattle.clean_order.proofs.Dependencies.{node_among}
+use Rattle.clean_order.proofs.Points.{by_points, point_begun, point_ended, points_rise}
 use Rattle.serial_points.specs.NextPoints.{PointsStay, WritesNothingRead}
-use Rattle.serial_points.specs.Points.{point_at, ArePoints}
-use Rattle.serial_points.proofs.Points.{by_points, point_begun, point_ended, points_rise}
-use Rattle.serial_points.proofs.ByVersion.{node_among}
-use Rattle.serial_points.proofs.NextPoints.{ok_is_node, reader_is_ok}
+use Rattle.serial_points.proofs.NextPoints.{ok_is_node}
 use Rattle.serial_points.proofs.OneEvent.{invoked, completes, open_not_failed}
 use Rattle.serial_points.proofs.OkSteps.{same_process_pairs}
 

@@ -22,13 +22,13 @@ use Rattle.key_versions.specs.TxnAccesses.{TxnAccesses}
 use Rattle.key_versions.specs.declared.pending.Access.{Access}
 use Rattle.dep_edges.proofs.Marks.{place_in}
 use Rattle.dep_edges.proofs.Writers.{in_at}
+use Rattle.clean_order.proofs.Accesses.{accesses_here, version_at, installs_writes, same_number}
+use Rattle.clean_order.proofs.Installed.{installs_number}
 use Rattle.serial_points.specs.Clean.{IsClean, has_write}
 use Rattle.serial_points.specs.Strays.{is_unwritten, unwritten}
 use Rattle.serial_points.specs.Users.{places_at, AreUsers}
 use Rattle.serial_points.specs.declared.users.Users.{Users}
-use Rattle.serial_points.proofs.Accesses.{accesses_here, version_at, installs_writes, same_number}
 use Rattle.serial_points.proofs.Counted.{total, total_same, total_each, each_same, one_if, count_more}
-use Rattle.serial_points.proofs.Installed.{installs_number}
 use Rattle.serial_points.proofs.Passed.{writer_listed}
 
 abbrev pub is_written : List Transaction → Version → Bool

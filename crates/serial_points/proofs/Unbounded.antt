@@ -5,10 +5,11 @@ use Rattle.std.proofs.lemmas.Bool.{cases_Bool}
 use Rattle.std.proofs.lemmas.List.Elements.{All-contains}
 use Rattle.key_versions.specs.TxnAccesses.{TxnAccesses}
 use Rattle.key_versions.specs.declared.pending.Access.{Access}
+use Rattle.clean_order.specs.Accesses.{updates}
 use Rattle.clean_order.specs.AtVersions.{IsLowerIfOther}
 use Rattle.serial_points.specs.Bounds.{BoundAll}
 use Rattle.serial_points.specs.Passing.{IsAboveReadersOf}
-use Rattle.serial_points.specs.Users.{updates, IsListed, AreUsers}
+use Rattle.serial_points.specs.Users.{IsListed, AreUsers}
 use Rattle.serial_points.specs.declared.users.Users.{Users}
 
 pub reader_lower :

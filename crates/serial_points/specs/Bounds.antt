@@ -5,7 +5,8 @@
 use Rattle.std.specs.Prelude.{◌≡◌, ◌⊎◌, ◌≤◌, ℕ, List, slice_index, slice_get, Some, All, IsFalse}
 use Rattle.key_versions.specs.TxnAccesses.{TxnAccesses}
 use Rattle.key_versions.specs.declared.pending.Access.{Access}
-use Rattle.serial_points.specs.Users.{places_at, updates}
+use Rattle.clean_order.specs.Accesses.{updates}
+use Rattle.serial_points.specs.Users.{places_at}
 
 -- no bound fell
 abbrev pub AreHigher : (before after : List ℕ) → Type 0

@@ -7,7 +7,7 @@ use Rattle.key_versions.specs.Histories.{writer_of, readers_of}
 use Rattle.key_versions.specs.declared.types.Writer.{Writer}
 use Rattle.dep_edges.specs.Tables.{IsPlace, txn_at}
 use Rattle.clean_order.specs.AtVersions.{IsLowerIfOther}
-use Rattle.serial_points.specs.ByVersion.{Follows, IsAbovePredecessors}
+use Rattle.clean_order.specs.ByVersion.{Follows, IsAbovePredecessors}
 
 -- the list has the point of each transaction at its place
 abbrev pub AreListed : List Transaction → (points : List ℕ) → (point : ℕ → ℕ) → Type 0

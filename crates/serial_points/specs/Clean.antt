@@ -1,22 +1,11 @@
 -- Whether what is read was installed, over numbers.
-use Rattle.std.specs.Prelude.{◌≡◌, ◌⊎◌, ◌<◌, ◌+◌, ◌==◌, ℕ, List, [], Bool, drop, length, slice_get, slice_index_or, Some, All, IsTrue, IsFalse}
+use Rattle.std.specs.Prelude.{◌≡◌, ◌⊎◌, ◌==◌, ℕ, List, [], Bool, slice_get, Some, All, IsTrue, IsFalse}
 use Rattle.std.specs.List.{list_any}
 use Rattle.hist_types.specs.Transactions.{Transaction, is_failed}
-use Rattle.key_versions.specs.Rows.{has_nil}
 use Rattle.key_versions.specs.TxnAccesses.{TxnAccesses}
 use Rattle.key_versions.specs.declared.pending.Access.{Access}
+use Rattle.clean_order.specs.Accesses.{InstallsNumber}
 use Rattle.serial_points.specs.Users.{places_at}
-
-abbrev pub access_at : List Access → ℕ → Access
-access_at accesses i = slice_index_or accesses i (record { nil = 0; version = 0 })
-
--- one of the writes is of the version, and no later one is of its key
-abbrev pub InstallsNumber : List Access → (version : ℕ) → Type 0
-InstallsNumber writes version =
-    (i : ℕ)
-    × (i < length writes)
-    × ((access_at writes i).version ≡ version)
-    × IsFalse (has_nil (access_at writes i).nil (drop (i + 1) writes))
 
 -- the transaction at the place so installs the version, and it didn't fail
 abbrev pub InstallsUnfailed :

@@ -3,9 +3,9 @@ use Rattle.std.specs.Prelude.{◌≡◌, ◌⊎◌, ◌≤◌, ◌<◌, ℕ, Lis
 use Rattle.hist_types.specs.Transactions.{Transaction, is_ok}
 use Rattle.key_versions.specs.TxnAccesses.{TxnAccesses}
 use Rattle.key_versions.specs.declared.pending.Access.{Access}
+use Rattle.clean_order.specs.Points.{IsNotBefore, IsNotAfter}
 use Rattle.serial_points.specs.Bounds.{IsFloored}
 use Rattle.serial_points.specs.Passing.{PassesInto, PassesOutOf}
-use Rattle.serial_points.specs.Points.{IsNotBefore, IsNotAfter}
 use Rattle.serial_points.specs.Users.{places_at}
 use Rattle.serial_points.specs.declared.falls.Fall.{Fall}
 use Rattle.serial_points.specs.declared.users.Users.{Users}

@@ -8,13 +8,13 @@ use Rattle.hist_types.specs.declared.types.KeyOrder.TheVariants.{Basic, Sequenti
 use Rattle.key_versions.specs.Kept.{KeptVersions, AreKept, KeepNumbers, StayBeside}
 use Rattle.key_versions.specs.TxnAccesses.{TxnAccesses}
 use Rattle.txn_pairs.specs.Growth.{IsChange}
+use Rattle.clean_order.specs.CleanReads.{ReadsAreClean}
+use Rattle.clean_order.specs.Points.{ArePoints}
 use Rattle.serial_points.specs.Bounds.{AreBounds, AreFloors, BoundsReads, BoundAll, IsFloored, FloorAll}
 use Rattle.serial_points.specs.ByPlace.{AreListed}
 use Rattle.serial_points.specs.Clean.{IsClean, AreUnread}
-use Rattle.serial_points.specs.CleanReads.{ReadsAreClean}
 use Rattle.serial_points.specs.Falls.{HaveFallen, AreFloored, PassesAfter}
 use Rattle.serial_points.specs.KeptSteps.{HasSteps}
-use Rattle.serial_points.specs.Points.{ArePoints}
 use Rattle.serial_points.specs.Users.{AreUsers, IsAmongUsers, UsersStay, ListOnlyVersions}
 use Rattle.serial_points.specs.declared.falls.Fall.{Fall}
 use Rattle.serial_points.specs.declared.steps.Steps.{Steps}

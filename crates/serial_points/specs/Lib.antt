@@ -1,8 +1,5 @@
-pub mod Points
-pub mod ByVersion
 pub mod ByPlace
 pub mod NextPoints
-pub mod CleanReads
 pub mod Users
 pub mod Bounds
 pub mod Strays
@@ -13,6 +10,3 @@ pub mod KeptPoints
 pub mod Steps
 pub mod Stepping
 pub mod KeptSteps
-pub mod Replayed
-pub mod Replaying
-pub mod Waiting

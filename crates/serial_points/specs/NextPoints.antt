@@ -13,8 +13,8 @@ use Rattle.hist_types.specs.Operations.{Operation}
 use Rattle.hist_types.specs.Transactions.{Transaction, Version, transactions_of, version_of, has_version, is_known_to_read, is_node, nodes}
 use Rattle.hist_types.specs.declared.types.KeyOrder.{KeyOrder}
 use Rattle.hist_types.specs.declared.types.KeyOrder.TheVariants.{Basic}
-use Rattle.serial_points.specs.ByVersion.{IsAnother, RisesInto, RisesOutOf}
-use Rattle.serial_points.specs.Points.{IsNotBefore, IsNotAfter, ArePoints}
+use Rattle.clean_order.specs.ByVersion.{IsAnother, RisesInto, RisesOutOf}
+use Rattle.clean_order.specs.Points.{IsNotBefore, IsNotAfter, ArePoints}
 
 -- points of the events are points of these and one more
 abbrev pub PointsStay : KeyOrder → List Operation → Operation → Type 0

@@ -2,8 +2,9 @@
 -- and writes is given, and of other ones where they are listed as users of the versions.
 use Rattle.std.specs.Prelude.{◌≡◌, ◌⊎◌, ◌<◌, ℕ, List, [], slice_index, All, IsTrue}
 use Rattle.key_versions.specs.declared.pending.Access.{Access}
+use Rattle.clean_order.specs.Accesses.{updates}
 use Rattle.clean_order.specs.AtVersions.{IsLowerIfOther}
-use Rattle.serial_points.specs.Users.{places_at, updates}
+use Rattle.serial_points.specs.Users.{places_at}
 use Rattle.serial_points.specs.declared.users.Users.{Users}
 
 -- each of the places has a lower point than this one, or a higher one, if it is another one

@@ -8,12 +8,13 @@ use Rattle.std.specs.List.{list_any}
 use Rattle.hist_types.specs.Transactions.{Transaction, is_ok}
 use Rattle.key_versions.specs.TxnAccesses.{TxnAccesses}
 use Rattle.key_versions.specs.declared.pending.Access.{Access}
+use Rattle.clean_order.specs.Accesses.{updates}
 use Rattle.clean_order.specs.AtVersions.{IsLowerIfOther}
 use Rattle.serial_points.specs.Clean.{AreUnread}
 use Rattle.serial_points.specs.Falls.{fall_at}
 use Rattle.serial_points.specs.Passing.{IsAboveReadersOf}
 use Rattle.serial_points.specs.Steps.{HasStep}
-use Rattle.serial_points.specs.Users.{updates, places_at, IsListed, HasAccess}
+use Rattle.serial_points.specs.Users.{places_at, IsListed, HasAccess}
 use Rattle.serial_points.specs.declared.falls.Fall.{Fall}
 use Rattle.serial_points.specs.declared.steps.StepLists.{StepLists}
 use Rattle.serial_points.specs.declared.users.Users.{Users}

@@ -1,9 +1,10 @@
 -- Who reads each version and who writes it, kept by number of version while a run goes on.
 --
 -- The lists may have more places than those: it is enough that nobody is left out.
-use Rattle.std.specs.Prelude.{◌≡◌, ◌⊎◌, ℕ, ◌==◌, not, List, [], Bool, false, if◌then◌else◌, fold, slice_get, slice_index_or, Some, All, Contains, IsTrue}
+use Rattle.std.specs.Prelude.{◌≡◌, ◌⊎◌, ℕ, List, [], slice_get, slice_index_or, Some, All, Contains, IsTrue}
 use Rattle.key_versions.specs.TxnAccesses.{TxnAccesses}
 use Rattle.key_versions.specs.declared.pending.Access.{Access}
+use Rattle.clean_order.specs.Accesses.{updates}
 use Rattle.serial_points.specs.declared.users.Users.{Users}
 
 -- the places that are listed under the number
@@ -43,16 +44,6 @@ ListVersions lists place accesses = All (λ (a : Access). IsListed lists a.versi
 
 abbrev pub ListKeys : List (List ℕ) → (place : ℕ) → List Access → Type 0
 ListKeys lists place accesses = All (λ (a : Access). IsListed lists a.nil place) accesses
-
--- whether the last version that is written of its key, so far and with one write more, is another
--- one than is read
-abbrev pub updates_with : (read : Access) → (so_far : Bool) → (write : Access) → Bool
-updates_with read so_far write =
-    if write.nil == read.nil then not (write.version == read.version) else so_far
-
--- whether the last of the writes of the key that is read is of another version
-abbrev pub updates : (writes : List Access) → Access → Bool
-updates writes read = fold (updates_with read) false writes
 
 -- the place is listed under each version that is read, if another one of its key is installed
 abbrev pub ListUpdated : List (List ℕ) → (place : ℕ) → (reads writes : List Access) → Type 0

@@ -4,7 +4,7 @@ ghost use Rattle.std.specs.Prelude.{◌≡◌, ◌≤◌, ℕ, [], length, slice
 ghost use Rattle.serial_points.specs.Bounds.{AreHigher, AreBounds, AreAtMost, BoundsReads, AreAtLeast, AreFloors, FloorsWrites};
 
 use crate::places::Places;
-use crate::users::updates;
+use clean_order::updates::updates;
 use key_versions::kept::Access;
 use std::alloc::{AllocError, Global};
 use std::marker::Model;

@@ -1,15 +1,16 @@
 //! Whether what a transaction reads was installed by one that didn't fail.
 
 ghost use Rattle.std.specs.Prelude.{◌≡◌, ℕ, true, false, All};
-ghost use Rattle.hist_types.specs.Transactions.{is_failed};
 ghost use Rattle.key_versions.specs.Kept.{AreKept};
-ghost use Rattle.serial_points.specs.Clean.{InstallsNumber, InstallsUnfailed, has_write, IsClean, AreUnread};
+ghost use Rattle.clean_order.specs.Accesses.{InstallsNumber};
+ghost use Rattle.serial_points.specs.Clean.{InstallsUnfailed, has_write, IsClean, AreUnread};
 
 use crate::places::Places;
-use crate::users::has_key;
+use clean_order::in_time::is_failed;
+use clean_order::updates::has_key;
 use key_versions::kept::{Access, KeptVersions};
 use std::hash::BuildHasher;
-use txn_pairs::types::{Status, Txn};
+use txn_pairs::types::Txn;
 
 /// Whether one of the writes is of the version, and no later one is of its key.
 fn installs(writes: &[Access], version: u32) -> bool
@@ -21,12 +22,6 @@ fn installs(writes: &[Access], version: u32) -> bool
         }
     }
     false
-}
-
-pub(crate) fn is_failed(txn: &Txn<'_>) -> bool
-    ensures { result ≡ is_failed txn.now }
-{
-    txn.status() == Status::Fail
 }
 
 fn installs_unfailed<'a, S: BuildHasher + Copy>(

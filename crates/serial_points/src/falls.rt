@@ -6,16 +6,13 @@ ghost use Rattle.key_versions.specs.Kept.{AreKept};
 ghost use Rattle.key_versions.specs.TxnAccesses.{TxnAccesses};
 ghost use Rattle.serial_points.specs.Falls.{FallsAt, HaveFallen, PassesAt, PassesUnlessOk, WritersPass, FallsPass, PassesAfter};
 ghost use Rattle.serial_points.specs.Passing.{PassesInto, PassesOutOf};
-ghost use Rattle.serial_points.specs.Points.{IsNotBefore, IsNotAfter};
 
 use crate::passing::{passes_into, passes_out_of};
 use crate::users::Users;
+use clean_order::in_time::{is_not_after, is_not_before};
 use key_versions::kept::{Access, KeptVersions};
 use std::hash::BuildHasher;
 use txn_pairs::types::{Status, Txn};
-
-/// How many points an event has.
-pub(crate) const POINTS: u64 = 4_294_967_296;
 
 /// A point that a transaction gets in place of a higher one.
 #[derive(Clone, Copy, Debug, PartialEq, Eq)]
@@ -47,27 +44,6 @@ pub(crate) fn lower(points: &mut [u64], falls: &[Fall]) -> bool
         }
     }
     true
-}
-
-pub(crate) fn is_not_before(point: u64, txn: &Txn<'_>) -> bool
-    ensures { result ≡ true → IsNotBefore point txn.now }
-{
-    match txn.invocation().checked_mul(POINTS) {
-        Some(first) => first <= point,
-        None => false,
-    }
-}
-
-pub(crate) fn is_not_after(point: u64, txn: &Txn<'_>) -> bool
-    ensures { result ≡ true → IsNotAfter point txn.now }
-{
-    let Some(completion) = txn.completion() else {
-        return true;
-    };
-    match completion.checked_mul(POINTS) {
-        Some(first) => point < first.saturating_add(POINTS),
-        None => false,
-    }
 }
 
 /// Whether the point at the place passes.

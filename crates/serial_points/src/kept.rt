@@ -6,7 +6,7 @@ ghost use Rattle.hist_types.specs.Phenomena.{stray};
 ghost use Rattle.hist_types.specs.Transactions.{transactions_of};
 ghost use Rattle.hist_types.specs.Reports.{AreFindings, no_findings};
 ghost use Rattle.key_versions.specs.Kept.{KeptVersions as Kept, AreKept};
-ghost use Rattle.serial_points.specs.CleanReads.{HasNoBadRead};
+ghost use Rattle.clean_order.specs.CleanReads.{HasNoBadRead};
 ghost use Rattle.serial_points.specs.KeptPoints.{HasPoints, IsNext};
 
 use crate::advance::{add_users, advance};

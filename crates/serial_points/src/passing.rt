@@ -1,12 +1,13 @@
 //! Looks at points that may be next, at one transaction.
 
 ghost use Rattle.std.specs.Prelude.{◌≡◌, true};
-ghost use Rattle.serial_points.specs.Passing.{AllLower, AllHigher, IsAboveReadersOf, AboveWriters, AboveReaders, AboveNilReaders, PassesInto, BelowReaders, BelowUpdaters, BelowKeyWriters, PassesOutOf};
 ghost use Rattle.clean_order.specs.AtVersions.{IsLowerIfOther};
+ghost use Rattle.serial_points.specs.Passing.{AllLower, AllHigher, IsAboveReadersOf, AboveWriters, AboveReaders, AboveNilReaders, PassesInto, BelowReaders, BelowUpdaters, BelowKeyWriters, PassesOutOf};
 
 use crate::bounds::point_of;
 use crate::places::Places;
-use crate::users::{Users, updates};
+use crate::users::Users;
+use clean_order::updates::updates;
 use key_versions::kept::Access;
 
 /// Whether the first one has a lower point than the second one, if they are two.

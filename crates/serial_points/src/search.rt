@@ -4,10 +4,12 @@
 ghost use Rattle.std.specs.Prelude.{◌<◌, length};
 ghost use Rattle.key_versions.specs.Kept.{AreKept};
 
-use crate::falls::{Fall, POINTS};
+use crate::falls::Fall;
 use crate::stepping::{has_another, has_no_install, is_left_out};
 use crate::steps::StepLists;
-use crate::users::{Users, has_key, updates};
+use crate::users::Users;
+use clean_order::in_time::POINTS;
+use clean_order::updates::{has_key, updates};
 use key_versions::kept::{Access, KeptVersions};
 use std::alloc::{AllocError, Global};
 use std::hash::BuildHasher;

@@ -1,12 +1,13 @@
 //! Who reads and writes each version, kept while a run goes on.
 
 ghost use Rattle.std.specs.Prelude.{◌≡◌, [], OnOk};
-ghost use Rattle.key_versions.specs.Rows.{has_nil};
-ghost use Rattle.serial_points.specs.Users.{StayListed, updates, ListVersions, ListOnlyVersions, ListKeys, ListUpdated, IsAmongUsers, UsersStay, AreUsers};
+ghost use Rattle.clean_order.specs.Accesses.{updates};
+ghost use Rattle.serial_points.specs.Users.{StayListed, ListVersions, ListOnlyVersions, ListKeys, ListUpdated, IsAmongUsers, UsersStay, AreUsers};
 ghost use Rattle.serial_points.specs.Passing.{AreUnboundedReaders, HasNilFollowers};
 
 use crate::bounds::Bounds;
 use crate::places::Places;
+use clean_order::updates::updates;
 use key_versions::kept::Access;
 use std::alloc::{AllocError, Global};
 
@@ -39,26 +40,6 @@ impl Drop for Users {
             floors: _,
         } = self;
     }
-}
-
-/// Whether one of them is of the key with this nil version.
-pub(crate) fn has_key(accesses: &[Access], nil: u32) -> bool
-    ensures { result ≡ has_nil nil accesses.now }
-{
-    accesses.iter().any(|access| access.nil == nil)
-}
-
-/// Whether the last one of the key that is read writes another version.
-pub(crate) fn updates(writes: &[Access], read: Access) -> bool
-    ensures { result ≡ updates writes.now read }
-{
-    let mut found = false;
-    for write in writes {
-        if write.nil == read.nil {
-            found = write.version != read.version;
-        }
-    }
-    found
 }
 
 fn add_versions(lists: &mut Places, place: u32, accesses: &[Access]) -> Result<(), AllocError>

@@ -18,11 +18,11 @@ use Rattle.journal_core.proofs.Journals.{rules_fit}
 use Rattle.journal_core.specs.Blocks.{operations_in}
 use Rattle.op_block.specs.Contents.{Contents, operations_of, operation_meant}
 use Rattle.txn_pairs.specs.Growth.{TakesEvent, IsChange}
+use Rattle.clean_order.specs.CleanReads.{ReadsAreClean}
+use Rattle.clean_order.specs.Points.{ArePoints}
 use Rattle.serial_points.specs.ByPlace.{AreListed}
-use Rattle.serial_points.specs.CleanReads.{ReadsAreClean}
 use Rattle.serial_points.specs.KeptPoints.{KeptPoints, HasPoints}
 use Rattle.serial_points.specs.KeptSteps.{HasSteps}
-use Rattle.serial_points.specs.Points.{ArePoints}
 use Rattle.verdict.specs.Analysed.{AreTablesSoFar, AreBehind, ChangesOne, events_of_blocks}
 use Rattle.hist_types.specs.declared.types.KeyOrder.{KeyOrder}
 use Rattle.key_versions.specs.Kept.{KeptVersions, AreKept}

@@ -11,7 +11,7 @@ use Rattle.hist_types.specs.Phenomena.{g1a, g1b, stray}
 use Rattle.hist_types.specs.Reports.{Findings, AreFindings, Report, IsVerdictOf, no_findings}
 use Rattle.hist_types.specs.Transactions.{Transaction}
 use Rattle.hist_types.specs.declared.types.KeyOrder.{KeyOrder}
-use Rattle.serial_points.specs.CleanReads.{HasNoBadRead}
+use Rattle.clean_order.specs.CleanReads.{HasNoBadRead}
 use Rattle.verdict.specs.Tables.{AreBadReadsOf, AreTables, AreTablesOf, IsVerdictFor, history_of, keys_in}
 use Rattle.verdict.specs.declared.tables.Tables.{Tables}
 use Rattle.verdict.specs.declared.types.BadReads.{BadReads}

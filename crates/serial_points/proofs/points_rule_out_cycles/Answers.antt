@@ -1,4 +1,4 @@
-use Rattle.serial_points.proofs.Points.{nothing_found}
+use Rattle.clean_order.proofs.Points.{nothing_found}
 use Rattle.serial_points.proofs.points_rule_out_cycles.Goals as goal
 
 pub returns : goal.returns

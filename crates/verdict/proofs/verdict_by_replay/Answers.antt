@@ -1,14 +1,7 @@
-use Rattle.std.proofs.Common.{List, sym, subst, ◌∙◌}
-use Rattle.hist_types.specs.Transactions.{Transaction}
-use Rattle.key_versions.specs.Kept.{AreKept}
-use Rattle.serial_points.specs.Replayed.{ShowsNothing}
+use Rattle.std.proofs.Common.{sym, ◌∙◌}
+use Rattle.clean_order.specs.Shown.{ShowsNothing}
 use Rattle.verdict.proofs.Reports.{nothing_found, no_bad_read}
 use Rattle.verdict.proofs.verdict_by_replay.Goals as goal
-
-pub replays-requires : goal.replays-requires
-replays-requires g c =
-    let (events, rules, of) = c.requires.history in
-    (events, rules, c.as_slice.ensures ∙ of, subst (λ (ts : List Transaction). AreKept ts c.args.versions.now) (sym c.as_slice.ensures) c.requires.versions)
 
 pub returns-clause-ok : goal.returns-clause-ok
 returns-clause-ok g c =

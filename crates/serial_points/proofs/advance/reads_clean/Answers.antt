@@ -1,7 +1,7 @@
 use Rattle.std.proofs.Common.{All, subst}
 use Rattle.key_versions.specs.TxnAccesses.{TxnAccesses}
+use Rattle.clean_order.proofs.Accesses.{has_place, part_at}
 use Rattle.serial_points.specs.Clean.{IsClean}
-use Rattle.serial_points.proofs.Accesses.{has_place, part_at}
 use Rattle.serial_points.proofs.advance.reads_clean.Goals as goal
 
 pub reads-requires : goal.reads-requires

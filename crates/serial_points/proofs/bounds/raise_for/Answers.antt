@@ -2,7 +2,7 @@ use Rattle.std.proofs.Common.{◌≤◌, take, slice_index, IsFalse, sym, ◌∙
 use Rattle.std.proofs.lemmas.Bool.{false≢true}
 use Rattle.std.proofs.lemmas.List.Elements.{All-more, All-weaker}
 use Rattle.key_versions.specs.declared.pending.Access.{Access}
-use Rattle.serial_points.specs.Users.{updates}
+use Rattle.clean_order.specs.Accesses.{updates}
 use Rattle.serial_points.proofs.Bounded.{higher_again}
 use Rattle.serial_points.proofs.Listed.{all_gone}
 use Rattle.serial_points.proofs.bounds.raise_for.Goals as goal

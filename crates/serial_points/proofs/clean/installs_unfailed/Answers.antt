@@ -1,8 +1,8 @@
 use Rattle.std.proofs.Common.{◌∙◌, length, refl, sym, subst}
 use Rattle.std.proofs.lemmas.Option.{slice_get_read}
 use Rattle.key_versions.specs.TxnAccesses.{TxnAccesses}
-use Rattle.serial_points.specs.Clean.{InstallsNumber}
-use Rattle.serial_points.proofs.Accesses.{has_accesses, has_place, part_at}
+use Rattle.clean_order.specs.Accesses.{InstallsNumber}
+use Rattle.clean_order.proofs.Accesses.{has_accesses, has_place, part_at}
 use Rattle.serial_points.proofs.clean.installs_unfailed.Goals as goal
 
 pub writes-requires : goal.writes-requires

@@ -1,9 +1,9 @@
 use Rattle.std.proofs.Common.{◌∙◌, slice_index, subst}
 use Rattle.std.proofs.lemmas.Option.{get_or_from_slice_get}
 use Rattle.key_versions.specs.TxnAccesses.{TxnAccesses}
+use Rattle.clean_order.specs.Points.{IsNotBefore}
+use Rattle.clean_order.proofs.Accesses.{has_place, part_at}
 use Rattle.serial_points.specs.Passing.{PassesInto}
-use Rattle.serial_points.specs.Points.{IsNotBefore}
-use Rattle.serial_points.proofs.Accesses.{has_place, part_at}
 use Rattle.serial_points.proofs.falls.passes.Goals as goal
 
 pub reads-requires : goal.reads-requires

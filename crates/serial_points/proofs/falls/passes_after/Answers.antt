@@ -1,10 +1,10 @@
 use Rattle.std.proofs.Common.{rules, ◌∙◌, slice_index, subst}
 use Rattle.std.proofs.lemmas.Option.{get_or_from_slice_get}
 use Rattle.key_versions.specs.TxnAccesses.{TxnAccesses}
+use Rattle.clean_order.specs.Points.{IsNotAfter}
+use Rattle.clean_order.proofs.Accesses.{has_place, part_at}
 use Rattle.serial_points.specs.Falls.{WritersPass}
 use Rattle.serial_points.specs.Passing.{PassesOutOf}
-use Rattle.serial_points.specs.Points.{IsNotAfter}
-use Rattle.serial_points.proofs.Accesses.{has_place, part_at}
 use Rattle.serial_points.proofs.falls.passes_after.Goals as goal
 
 pub reads-reads-requires : goal.reads-reads-requires

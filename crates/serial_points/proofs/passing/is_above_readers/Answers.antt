@@ -3,8 +3,8 @@ use Rattle.std.proofs.lemmas.Bool.{false≢true}
 use Rattle.std.proofs.lemmas.List.Elements.{All-more}
 use Rattle.key_versions.specs.declared.pending.Access.{Access}
 use Rattle.std.specs.Bool.{IsTrue}
+use Rattle.clean_order.specs.Accesses.{updates}
 use Rattle.serial_points.specs.Passing.{IsAboveReadersOf}
-use Rattle.serial_points.specs.Users.{updates}
 use Rattle.serial_points.proofs.Listed.{all_gone}
 use Rattle.serial_points.proofs.passing.is_above_readers.Goals.{else-updates-via-then-updates+else-not-is_above_readers_of, else-updates-via-else-updates}
 use Rattle.serial_points.proofs.passing.is_above_readers.Goals as goal

@@ -1,4 +1,4 @@
-use Rattle.serial_points.proofs.Accesses.{has_place}
+use Rattle.clean_order.proofs.Accesses.{has_place}
 use Rattle.serial_points.proofs.search.lower_new_node.Goals as goal
 
 pub writes-writes-requires : goal.writes-writes-requires

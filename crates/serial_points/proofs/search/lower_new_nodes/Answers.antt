@@ -1,4 +1,4 @@
-use Rattle.serial_points.proofs.Accesses.{has_place}
+use Rattle.clean_order.proofs.Accesses.{has_place}
 use Rattle.serial_points.proofs.search.lower_new_nodes.Goals as goal
 
 pub reads-read-items-requires : goal.reads-read-items-requires

@@ -1,8 +1,8 @@
 use Rattle.std.proofs.Common.{subst, arith}
 use Rattle.std.proofs.lemmas.Option.{slice_get_within}
 use Rattle.key_versions.specs.TxnAccesses.{TxnAccesses}
+use Rattle.clean_order.proofs.Accesses.{has_place, kept_count, part_at}
 use Rattle.serial_points.specs.Bounds.{FloorsWrites}
-use Rattle.serial_points.proofs.Accesses.{has_place, kept_count, part_at}
 use Rattle.serial_points.proofs.settling.lower_at.Goals as goal
 
 pub returns-then-place-txns-clause-floored : goal.returns-then-place-txns-clause-floored

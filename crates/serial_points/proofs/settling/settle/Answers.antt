@@ -1,4 +1,4 @@
-use Rattle.serial_points.proofs.Accesses.{has_place}
+use Rattle.clean_order.proofs.Accesses.{has_place}
 use Rattle.serial_points.proofs.settling.settle.Goals as goal
 
 pub reads-reads-requires : goal.reads-reads-requires

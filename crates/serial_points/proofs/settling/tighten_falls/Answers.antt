@@ -1,5 +1,5 @@
 use Rattle.std.proofs.Common.{slice_index_or}
-use Rattle.serial_points.proofs.Accesses.{has_place}
+use Rattle.clean_order.proofs.Accesses.{has_place}
 use Rattle.serial_points.proofs.settling.tighten_falls.Goals as goal
 
 pub writes-requires : goal.writes-requires

@@ -1,7 +1,7 @@
 use Rattle.std.proofs.Common.{inr, subst}
 use Rattle.key_versions.specs.TxnAccesses.{TxnAccesses}
+use Rattle.clean_order.proofs.Accesses.{has_place, part_at}
 use Rattle.serial_points.specs.Stepping.{BelowOwnSteps}
-use Rattle.serial_points.proofs.Accesses.{has_place, part_at}
 use Rattle.serial_points.proofs.stepping.is_below_if_node.Goals as goal
 
 pub writes-requires : goal.writes-requires

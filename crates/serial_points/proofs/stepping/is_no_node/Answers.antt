@@ -3,8 +3,8 @@ use Rattle.std.proofs.lemmas.Bool.{not-true}
 use Rattle.std.proofs.lemmas.Option.{get_or_from_slice_get}
 use Rattle.hist_types.specs.Transactions.{is_ok}
 use Rattle.key_versions.specs.TxnAccesses.{TxnAccesses}
+use Rattle.clean_order.proofs.Accesses.{has_place, part_at}
 use Rattle.serial_points.specs.Clean.{AreUnread}
-use Rattle.serial_points.proofs.Accesses.{has_place, part_at}
 use Rattle.serial_points.proofs.stepping.is_no_node.Goals as goal
 
 pub writes-requires : goal.writes-requires

@@ -1,7 +1,7 @@
 use Rattle.std.proofs.Common.{rules, All, subst}
 use Rattle.key_versions.specs.TxnAccesses.{TxnAccesses}
+use Rattle.clean_order.proofs.Accesses.{has_place, part_at}
 use Rattle.serial_points.specs.Stepping.{BelowReadSteps, NewNodesBelowSteps, StepRises}
-use Rattle.serial_points.proofs.Accesses.{has_place, part_at}
 use Rattle.serial_points.proofs.stepping.steps_pass.Goals as goal
 
 pub reads-reads-requires : goal.reads-reads-requires

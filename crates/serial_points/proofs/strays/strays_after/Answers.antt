@@ -1,7 +1,7 @@
 use Rattle.std.proofs.Common.{◌+◌, ◌<◌, ◌∙◌, ap}
 use Rattle.key_versions.specs.TxnAccesses.{TxnAccesses}
+use Rattle.clean_order.proofs.Accesses.{has_place, part_at}
 use Rattle.serial_points.specs.Strays.{unwritten, StraysAdvance}
-use Rattle.serial_points.proofs.Accesses.{has_place, part_at}
 use Rattle.serial_points.proofs.Counted.{if_some}
 use Rattle.serial_points.proofs.strays.strays_after.Goals as goal
 

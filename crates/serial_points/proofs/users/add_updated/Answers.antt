@@ -3,7 +3,8 @@ use Rattle.std.specs.Bool.{IsTrue}
 use Rattle.std.proofs.lemmas.Bool.{false≢true}
 use Rattle.std.proofs.lemmas.List.Elements.{All-more, All-weaker}
 use Rattle.key_versions.specs.declared.pending.Access.{Access}
-use Rattle.serial_points.specs.Users.{updates, IsListed}
+use Rattle.clean_order.specs.Accesses.{updates}
+use Rattle.serial_points.specs.Users.{IsListed}
 use Rattle.serial_points.proofs.Listed.{all_gone}
 use Rattle.serial_points.proofs.users.add_updated.Goals.{then-updates+in_ok-add, else-updates}
 use Rattle.serial_points.proofs.users.add_updated.Goals as goal

@@ -4,7 +4,7 @@ use Rattle.std.proofs.lemmas.Option.{slice_get_within}
 use Rattle.std.proofs.lemmas.Result.{on_ok_weaker}
 use Rattle.hist_types.specs.Transactions.{Transaction, transactions_of}
 use Rattle.key_versions.specs.Kept.{AreKept, StayBeside}
-use Rattle.serial_points.proofs.Accesses.{kept_count}
+use Rattle.clean_order.proofs.Accesses.{kept_count}
 use Rattle.verdict.proofs.OneEvent.{begins_where_open, ends_where_not_open, not_open}
 use Rattle.verdict.proofs.changes.update_versions.Goals as goal
 

@@ -1,6 +1,6 @@
 use Rattle.hist_types.specs.Transactions.{transactions_of}
-use Rattle.serial_points.proofs.CleanReads.{clean_reads_suffice}
-use Rattle.serial_points.proofs.Points.{nothing_found}
+use Rattle.clean_order.proofs.CleanReads.{clean_reads_suffice}
+use Rattle.clean_order.proofs.Points.{nothing_found}
 use Rattle.serial_points.proofs.SequentialPoints.{points_by_keys}
 use Rattle.serial_points.proofs.kept.Points.find_nothing.Goals as goal
 

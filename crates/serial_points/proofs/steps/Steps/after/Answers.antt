@@ -7,8 +7,8 @@ use Rattle.key_versions.specs.LastSeen.{last_seen}
 use Rattle.key_versions.specs.Steps.{firsts, seen_after, steps_to}
 use Rattle.key_versions.specs.TxnAccesses.{TxnAccesses}
 use Rattle.key_versions.proofs.Keeping.{seen_at}
+use Rattle.clean_order.proofs.Accesses.{has_place, part_at}
 use Rattle.serial_points.specs.Steps.{AddSteps}
-use Rattle.serial_points.proofs.Accesses.{has_place, part_at}
 use Rattle.serial_points.proofs.steps.Steps.after.Goals as goal
 
 pub reads-requires : goal.reads-requires
