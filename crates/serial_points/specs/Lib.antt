@@ -5,6 +5,7 @@ pub mod NextPoints
 pub mod CleanReads
 pub mod Users
 pub mod Bounds
+pub mod Views
 pub mod Strays
 pub mod Passing
 pub mod Falls

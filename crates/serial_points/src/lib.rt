@@ -24,15 +24,16 @@ mod falls;
 pub mod kept;
 mod passing;
 mod places;
+mod propose_falls;
 pub mod replay;
 mod replaying;
-mod search;
 mod settling;
 mod stepping;
 mod steps;
 mod strays;
 mod turns;
 mod users;
+mod views;
 mod waiting;
 
 /// Where transactions have points, no cycle shows any phenomenon at any level. No order edge has to
