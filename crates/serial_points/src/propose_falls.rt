@@ -242,14 +242,14 @@ impl Proposal {
     }
 
     /// Makes those fall that read or install a version from which a process went to one that the
-    /// transaction at the place installs.
+    /// transaction at the place, which writes this, installs.
     fn lower_for_steps<'r, 'a, S: BuildHasher + Copy>(
         &mut self,
         users: &Users,
         run: &LiveRun<'r, 'a, S>,
         place: u32,
+        writes: &[Access],
     ) -> Result<(), AllocError> {
-        let writes = run.writes(place as usize);
         for write in writes {
             let earlier = run.earlier(write.version);
             if !earlier.is_empty() && !updates(writes, *write) {
@@ -276,7 +276,7 @@ impl Proposal {
         for write in writes {
             self.lower_readers(users, place, write.nil)?;
         }
-        self.lower_for_steps(users, run, place)
+        self.lower_for_steps(users, run, place, writes)
     }
 
     /// Makes those fall that read or install the earlier version of a step, where they aren't below
