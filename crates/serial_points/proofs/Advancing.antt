@@ -24,13 +24,13 @@ use Rattle.dep_edges.proofs.Found.{read_at_place}
 use Rattle.dep_edges.proofs.Lists.{all_in}
 use Rattle.dep_edges.proofs.Marks.{place_in}
 use Rattle.dep_edges.proofs.Writers.{in_at}
-use Rattle.clean_order.specs.Accesses.{updates}
 use Rattle.clean_order.specs.ByVersion.{IsAnother, IsAbovePredecessors, RisesInto, RisesOutOf}
 use Rattle.clean_order.specs.CleanReads.{IsInstalled, IsCleanRead, ReadsAreClean}
 use Rattle.clean_order.specs.Points.{IsNotBefore, IsNotAfter, ArePoints}
+use Rattle.clean_order.proofs.Points.{by_points, point_begun, point_ended, points_rise}
+use Rattle.clean_order.specs.Accesses.{updates}
 use Rattle.clean_order.proofs.Accesses.{has_accesses, kept_count, read_access, write_access}
 use Rattle.clean_order.proofs.Dependencies.{ends_by, node_among, rises_between, rises_into, rises_out_of}
-use Rattle.clean_order.proofs.Points.{by_points, point_begun, point_ended, points_rise}
 use Rattle.serial_points.specs.Bounds.{AreBounds, BoundsReads, BoundAll, AreFloors, IsFloored, FloorAll}
 use Rattle.serial_points.specs.ByPlace.{AreListed}
 use Rattle.serial_points.specs.Clean.{AreUnread}
@@ -38,7 +38,9 @@ use Rattle.serial_points.specs.Falls.{HaveFallen, PassesAt, PassesUnlessOk, Pass
 use Rattle.serial_points.specs.KeptPoints.{BasicPoints, HasBasicPoints, FallAndPass, UsersAdvance}
 use Rattle.serial_points.specs.NextPoints.{HasMoved, AreNextPoints}
 use Rattle.serial_points.specs.Users.{places_at, IsListed, AreUsers, IsAmongUsers, UsersStay}
+use Rattle.serial_points.specs.Views.{PointsView, run_of, view_of}
 use Rattle.serial_points.specs.declared.falls.Fall.{Fall}
+use Rattle.serial_points.specs.declared.steps.StepLists.{StepLists}
 use Rattle.serial_points.specs.declared.users.Users.{Users}
 use Rattle.serial_points.proofs.ByPlace.{list_points, look_ups_suffice}
 use Rattle.serial_points.proofs.Changed.{IsChanged, same_or_not}
@@ -209,10 +211,13 @@ module _ (events : List Operation) (event : Operation) (before after : KeptVersi
 
   -- ---- an ok
 
-  module _ (bound : BoundAll after.accesses points users.bounds) (floored : FloorAll after.accesses points users.floors) (falls : List Fall) (fallen : HaveFallen p.points points falls (length falls)) (passes : PassesAfter points users later after.accesses falls place)
+  module _ (bound : BoundAll after.accesses points users.bounds) (floored : FloorAll after.accesses points users.floors) (lists : StepLists) (falls : List Fall) (fallen : HaveFallen p.points points falls (length falls)) (passes : PassesAfter (view_of points users (run_of later after lists)) falls place)
       (point next : ℕ → ℕ) (listed : AreListed ts p.points point) (next_listed : AreListed later points next) where
+    abbrev pub view : PointsView
+    view = view_of points users (run_of later after lists)
+
     abbrev pub Pass : ℕ → Type 0
-    Pass k = PassesAt points users later after.accesses k
+    Pass k = PassesAt view k
 
     only_falls : (u : Transaction) → Contains (nodes ts) u → IsAnother t u → next u.invocation ≤ point u.invocation
     only_falls u node other =
@@ -273,8 +278,8 @@ module _ (events : List Operation) (event : Operation) (before after : KeptVersi
             let (x, i, number) = read_access later after kept place t a changed.at there v read in
             let wrote_it : writes u v ≡ true = has_from_in v (map version_of (writes_of u.mops)) (in_mapped version_of w (writes_of u.mops) wrote) in
             let listed_there = writer_listed later after users kept users_are x.version k u v at wrote_it number.1 in
-            let all = All-contains (λ (y : Access). All (PassesUnlessOk points users later after.accesses) (places_at users.writers y.version)) a.reads x (passes.writers a there) (Contains_from_in x a.reads i) in
-            elim (All-contains (PassesUnlessOk points users later after.accesses) (places_at users.writers x.version) k all listed_there) [
+            let all = All-contains (λ (y : Access). All (PassesUnlessOk view) (places_at users.writers y.version)) a.reads x (passes.writers a there) (Contains_from_in x a.reads i) in
+            elim (All-contains (PassesUnlessOk view) (places_at users.writers x.version) k all listed_there) [
               | inl ok ↦ absurd (not_ok (ok u at))
               | inr pass ↦ pass
             ]
@@ -331,16 +336,16 @@ module _ (events : List Operation) (event : Operation) (before after : KeptVersi
     }
 
   pub points_fall :
-      (falls : List Fall)
+      (lists : StepLists) (falls : List Fall)
       → is_ok t ≡ true
       → BoundAll after.accesses points users.bounds
       → FloorAll after.accesses points users.floors
-      → FallAndPass p.points points users later after.accesses falls place
+      → FallAndPass p.points (view_of points users (run_of later after lists)) falls place
       → (point : ℕ → ℕ) × AreListed later points point × ArePoints Basic later point
-  points_fall falls ok bound floored (count, fallen, passes, lowered) =
+  points_fall lists falls ok bound floored (count, fallen, passes, lowered) =
       let (point, listed, are) = had.are_points in
       let (next, next_listed) = list_points (events ++ event ∷ []) points in
-      (next, next_listed, points_move events event rules t point next (Contains_from_in t later is_among) changed.of are (are_next bound floored falls fallen passes point next listed next_listed ok))
+      (next, next_listed, points_move events event rules t point next (Contains_from_in t later is_among) changed.of are (are_next bound floored lists falls fallen passes point next listed next_listed ok))
 
   -- ---- an invocation
 

@@ -31,6 +31,7 @@ use Rattle.serial_points.specs.Stepping.{StepsPass, AllStepsRise}
 use Rattle.serial_points.specs.Steps.{HasStep, AreNoSteps, IsStepped, StepsAdvance}
 use Rattle.serial_points.specs.Strays.{StraysAdvance}
 use Rattle.serial_points.specs.Users.{AreUsers}
+use Rattle.serial_points.specs.Views.{PointsView, run_of, view_of}
 use Rattle.serial_points.specs.declared.falls.Fall.{Fall}
 use Rattle.serial_points.specs.declared.steps.Steps.{Steps}
 use Rattle.serial_points.specs.declared.users.Users.{Users}
@@ -105,15 +106,18 @@ pair_stays vs us stay s p is =
 module _ (events : List Operation) (event : Operation) (before after : KeptVersions) (p : KeptPoints) (points : List ℕ) (users : Users) (steps : Steps) (falls : List Fall) (place : ℕ)
     (next : IsNext events event before p (transactions_of (events ++ event ∷ [])) after place)
     (used : AreUsers after.accesses users) (grown : UsersAdvance p.basic.users users after.accesses place) (bound : BoundAll after.accesses points users.bounds)
-    (advance : PointsAdvance p.basic.points points users (transactions_of (events ++ event ∷ [])) after.accesses falls place)
+    (advance : PointsAdvance p.basic.points (view_of points users (run_of (transactions_of (events ++ event ∷ [])) after steps.lists)) falls place)
     (stepped : StepsAdvance p.steps steps (transactions_of (events ++ event ∷ [])) after.accesses place)
-    (passes : StepsPass points users steps.lists (transactions_of (events ++ event ∷ [])) after.accesses falls place)
+    (passes : StepsPass (view_of points users (run_of (transactions_of (events ++ event ∷ [])) after steps.lists)) falls place)
     (sequential : after.keys ≡ Sequential) where
   abbrev ts : List Transaction
   ts = transactions_of events
 
   abbrev later : List Transaction
   later = transactions_of (events ++ event ∷ [])
+
+  abbrev view : PointsView
+  view = view_of points users (run_of later after steps.lists)
 
   abbrev vs : List Version
   vs = after.versions
@@ -185,12 +189,12 @@ module _ (events : List Operation) (event : Operation) (before after : KeptVersi
         | inr own ↦ own_pair q own
       ]
 
-    rise_now : AllStepsRise later after.accesses points users steps.lists
+    rise_now : AllStepsRise view
     rise_now =
-        still_rise ts later before.accesses after.accesses p.basic.points points p.basic.users users p.steps.lists steps.lists falls place a there used bound (grown.only a there) changed.other
+        still_rise (view_of p.basic.points p.basic.users (run_of ts before p.steps.lists)) view falls place a there used bound (grown.only a there) changed.other
         next.basic.others passes
         (kept_count ts before next.basic.points.versions ∙ sym next.basic.points.count)
-        (fall_beside p.basic.points points users later after.accesses falls place t changed.at advance)
+        (fall_beside p.basic.points view falls place t changed.at advance)
         (still_twice p.steps steps later after.accesses place t a changed.at there stepped had.twice)
         (there_or_fresh p.steps steps later after.accesses place t a changed.at there stepped)
         had.rise
@@ -225,22 +229,22 @@ pub all_after :
     → middle.bounds ≡ p.basic.users.bounds
     → middle.floors ≡ p.basic.users.floors
     → HasSettled points middle users after.accesses place
-    → PointsAdvance p.basic.points points users later after.accesses falls place
+    → PointsAdvance p.basic.points (view_of points users (run_of later after steps.lists)) falls place
     → StraysAdvance p.basic.strays strays users.writers after.accesses place
     → (after.keys ≡ Sequential → StepsAdvance p.steps steps later after.accesses place)
-    → StepsPass points users steps.lists later after.accesses falls place
+    → StepsPass (view_of points users (run_of later after steps.lists)) falls place
     → HasPoints (events ++ event ∷ []) after (record { basic = record { points = points; users = users; strays = strays }; steps = steps })
 all_after events event before after p points middle users steps strays later falls place next grown same level settled advance counted stepped passes =
-    let basic = points_after events event before after p.basic points middle users strays later falls place next.basic grown same level settled advance counted in
+    let basic = points_after events event before after p.basic points middle users steps.lists strays later falls place next.basic grown same level settled advance counted in
     let is = next.basic.txns in
     record {
       basic = basic;
       steps = λ sequential.
           has_steps events event before after p points users steps falls place (subst (λ us. IsNext events event before p us after place) is next) basic.users
           (still_advanced points p.basic.users middle users after.accesses place grown settled) basic.bounds
-          (subst (λ us. PointsAdvance p.basic.points points users us after.accesses falls place) is advance)
+          (subst (λ us. PointsAdvance p.basic.points (view_of points users (run_of us after steps.lists)) falls place) is advance)
           (subst (λ us. StepsAdvance p.steps steps us after.accesses place) is (stepped sequential))
-          (subst (λ us. StepsPass points users steps.lists us after.accesses falls place) is passes) sequential;
+          (subst (λ us. StepsPass (view_of points users (run_of us after steps.lists)) falls place) is passes) sequential;
     }
 
 pub all_of_none :

@@ -27,18 +27,21 @@ use Rattle.dep_edges.proofs.Marks.{place_in}
 use Rattle.dep_edges.proofs.Writers.{in_at}
 use Rattle.clean_order.specs.CleanReads.{IsCleanRead}
 use Rattle.clean_order.specs.Points.{ArePoints}
-use Rattle.clean_order.proofs.Accesses.{installs_writes, read_access}
-use Rattle.clean_order.proofs.CleanReads.{reader_is_ok}
-use Rattle.clean_order.proofs.Installed.{installs_number}
 use Rattle.clean_order.proofs.Points.{by_points}
+use Rattle.clean_order.proofs.Accesses.{installs_writes, read_access}
+use Rattle.clean_order.proofs.Installed.{installs_number}
+use Rattle.clean_order.proofs.CleanReads.{reader_is_ok}
 use Rattle.serial_points.specs.Bounds.{AreBounds, BoundsReads, BoundAll, AreFloors, IsFloored, FloorAll}
 use Rattle.serial_points.specs.ByPlace.{AreListed}
 use Rattle.serial_points.specs.Clean.{IsClean}
-use Rattle.serial_points.specs.KeptPoints.{BasicPoints, HasBasicPoints, IsBasicNext, IsUnreadAt, IsCleanAt, AdvancesBy, HasSettled, PointsAdvance, UsersAdvance}
+use Rattle.serial_points.specs.KeptPoints.{BasicPoints, HasBasicPoints, IsBasicNext, IsCleanAt, AdvancesBy, HasSettled, PointsAdvance, UsersAdvance}
 use Rattle.serial_points.specs.NextPoints.{WritesNothingRead}
+use Rattle.serial_points.specs.Stepping.{IsUnreadAt}
 use Rattle.serial_points.specs.Strays.{unwritten, StraysAdvance}
 use Rattle.serial_points.specs.Users.{IsListed, ListVersions, ListKeys, ListUpdated, AreUsers}
+use Rattle.serial_points.specs.Views.{PointsView, run_of, view_of}
 use Rattle.serial_points.specs.declared.falls.Fall.{Fall}
+use Rattle.serial_points.specs.declared.steps.StepLists.{StepLists}
 use Rattle.serial_points.specs.declared.users.Users.{Users}
 use Rattle.serial_points.proofs.Advancing.{bound_after, floor_after, clean_after, has_points, own_accesses, points_fall, points_stay, unread_by, users_are}
 use Rattle.serial_points.proofs.Changed.{IsChanged, begins_or_completes, changed_by_begin, changed_by_end, same_or_not}
@@ -52,20 +55,23 @@ is_invocation kinds.Ok e = elim (false≢true e) [ ]
 is_invocation kinds.Fail e = elim (false≢true e) [ ]
 is_invocation kinds.Info e = elim (false≢true e) [ ]
 
-module _ (events : List Operation) (event : Operation) (before after : KeptVersions) (p : BasicPoints) (points : List ℕ) (users : Users) (strays : ℕ) (falls : List Fall) (place : ℕ)
+module _ (events : List Operation) (event : Operation) (before after : KeptVersions) (p : BasicPoints) (points : List ℕ) (users : Users) (lists : StepLists) (strays : ℕ) (falls : List Fall) (place : ℕ)
     (next : IsBasicNext events event before p (transactions_of (events ++ event ∷ [])) after place)
     (grown : UsersAdvance p.users users after.accesses place)
     (bounds : AreBounds points users.readers p.users.bounds users.bounds)
     (floors : AreFloors points users.key_writers p.users.floors users.floors)
     (bound_own : (a : TxnAccesses) → slice_get after.accesses place ≡ Some a → BoundsReads users.bounds (slice_index points place) a.reads a.writes)
     (floor_own : IsFloored after.accesses points users.floors place)
-    (advance : PointsAdvance p.points points users (transactions_of (events ++ event ∷ [])) after.accesses falls place)
+    (advance : PointsAdvance p.points (view_of points users (run_of (transactions_of (events ++ event ∷ [])) after lists)) falls place)
     (counted : StraysAdvance p.strays strays users.writers after.accesses place) where
   abbrev pub ts : List Transaction
   ts = transactions_of events
 
   abbrev pub later : List Transaction
   later = transactions_of (events ++ event ∷ [])
+
+  abbrev pub view : PointsView
+  view = view_of points users (run_of later after lists)
 
   abbrev pub Has : Type 0
   Has = HasBasicPoints (events ++ event ∷ []) after (record { points = points; users = users; strays = strays })
@@ -87,8 +93,8 @@ module _ (events : List Operation) (event : Operation) (before after : KeptVersi
     strays_after more same own =
         let all = stray_more ts later t more same in
         let before = next.points.strays in
-        let now = counted own_there.0 own_there.1 in
-        omega (arith, all, before, own, now)
+        let counts = counted own_there.0 own_there.1 in
+        omega (arith, all, before, own, counts)
 
     -- a transaction that isn't ok reads nothing
     no_strays : is_ok t ≡ false → strays_in later t ≡ unwritten users.writers own_there.0.reads
@@ -128,7 +134,7 @@ module _ (events : List Operation) (event : Operation) (before after : KeptVersi
       changed : IsChanged (length events) ts later place t
       changed = changed_by_begin (length events) event place ts later begins
 
-      by : IsUnreadAt users after.accesses place × ((point : ℕ) × (points ≡ p.points ++ point ∷ []))
+      by : IsUnreadAt users view.run place × ((point : ℕ) × (points ≡ p.points ++ point ∷ []))
       by = advance t changed.at
 
       a : (a : TxnAccesses) × (slice_get after.accesses place ≡ Some a)
@@ -193,8 +199,8 @@ module _ (events : List Operation) (event : Operation) (before after : KeptVersi
         let is : w ≡ done.was = same_Some w done.was (sym at ∙ done.there) in
         subst (λ ws. has_version (map version_of (last_writes ws)) v ≡ true) (ap (λ (x : Transaction). writes_of x.mops) is ∙ sym same_writes) installed
 
-    by_status : (s : Status) → status_by event.kind ≡ s → AdvancesBy s p.points points users later after.accesses falls place
-    by_status s e = subst (λ s. AdvancesBy s p.points points users later after.accesses falls place) e (advance own changed_own.at)
+    by_status : (s : Status) → status_by event.kind ≡ s → AdvancesBy s p.points view falls place
+    by_status s e = subst (λ s. AdvancesBy s p.points view falls place) e (advance own changed_own.at)
 
     same_length : length later ≡ length ts
     same_length = ap length done.listed ∙ length-set ts place own
@@ -267,7 +273,7 @@ module _ (events : List Operation) (event : Operation) (before after : KeptVersi
         (ap length same ∙ next.points.count ∙ sym same_length)
         (points_at_end (inr e) same)
 
-    own_clean : IsCleanAt later users after.accesses place → (v : Version) → is_known_to_read own v ≡ true → IsCleanRead later own v
+    own_clean : IsCleanAt view place → (v : Version) → is_known_to_read own v ≡ true → IsCleanRead later own v
     own_clean clean v read =
         let (a, there) = own_accesses events event before after p points users place own next.points next.rules next.kept next.others changed_own grown in
         let (x, i, number) = read_access later after next.kept place own a changed_own.at there v read in
@@ -301,7 +307,7 @@ module _ (events : List Operation) (event : Operation) (before after : KeptVersi
         (λ v k u at read nobody. unwritten_still v nobody))
         (strays_more (strays_counted later after users next.kept (known_users own changed_own) place own a changed_own.at there (clean a there)))
         (count ∙ next.points.count ∙ sym same_length)
-        (points_fall events event before after p points users place own next.points next.rules next.kept next.others changed_own grown falls (ap (λ k. is_ok_status (status_by k)) e) bound floored fall)
+        (points_fall events event before after p points users place own next.points next.rules next.kept next.others changed_own grown lists falls (ap (λ k. is_ok_status (status_by k)) e) bound floored fall)
 
     completes_by : (kind : OpKind) → event.kind ≡ kind → Has
     completes_by kinds.Invoke e = absurd (false≢true (sym ends ∙ ap is_invoke e))
@@ -339,23 +345,23 @@ still_advanced points before middle after accesses place grown settled = record 
 }
 
 pub points_after :
-    (events : List Operation) (event : Operation) (before after : KeptVersions) (p : BasicPoints) (points : List ℕ) (middle users : Users) (strays : ℕ) (us : List Transaction)
+    (events : List Operation) (event : Operation) (before after : KeptVersions) (p : BasicPoints) (points : List ℕ) (middle users : Users) (lists : StepLists) (strays : ℕ) (us : List Transaction)
     (falls : List Fall) (place : ℕ)
     → IsBasicNext events event before p us after place
     → UsersAdvance p.users middle after.accesses place
     → middle.bounds ≡ p.users.bounds
     → middle.floors ≡ p.users.floors
     → HasSettled points middle users after.accesses place
-    → PointsAdvance p.points points users us after.accesses falls place
+    → PointsAdvance p.points (view_of points users (run_of us after lists)) falls place
     → StraysAdvance p.strays strays users.writers after.accesses place
     → HasBasicPoints (events ++ event ∷ []) after (record { points = points; users = users; strays = strays })
-points_after events event before after p points middle users strays us falls place next grown same level settled advance counted =
-    advanced events event before after p points users strays falls place (subst (λ all. IsBasicNext events event before p all after place) next.txns next)
+points_after events event before after p points middle users lists strays us falls place next grown same level settled advance counted =
+    advanced events event before after p points users lists strays falls place (subst (λ all. IsBasicNext events event before p all after place) next.txns next)
     (still_advanced points p.users middle users after.accesses place grown settled)
     (subst (λ bounds. AreBounds points users.readers bounds users.bounds) same settled.bounds)
     (subst (λ floors. AreFloors points users.key_writers floors users.floors) level settled.floors)
     settled.bound settled.floored
-    (subst (λ all. PointsAdvance p.points points users all after.accesses falls place) next.txns advance) counted
+    (subst (λ all. PointsAdvance p.points (view_of points users (run_of all after lists)) falls place) next.txns advance) counted
 
 pub next_place :
     (events : List Operation) (event : Operation) (before after : KeptVersions) (p : BasicPoints) (us : List Transaction) (place : ℕ)

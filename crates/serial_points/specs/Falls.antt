@@ -7,8 +7,8 @@ use Rattle.clean_order.specs.Points.{IsNotBefore, IsNotAfter}
 use Rattle.serial_points.specs.Bounds.{IsFloored}
 use Rattle.serial_points.specs.Passing.{PassesInto, PassesOutOf}
 use Rattle.serial_points.specs.Users.{places_at}
+use Rattle.serial_points.specs.Views.{PointsView}
 use Rattle.serial_points.specs.declared.falls.Fall.{Fall}
-use Rattle.serial_points.specs.declared.users.Users.{Users}
 
 abbrev pub fall_at : List Fall → (k : ℕ) → Fall
 fall_at falls k = slice_index_or falls k (record { place = 0; point = 0 })
@@ -39,48 +39,41 @@ AreFloored accesses points floors falls =
 -- ---- what is looked at
 
 -- the point at the place is not before the transaction's invocation, and above what it depends on
-pub record PassesAt (points : List ℕ) (users : Users) (ts : List Transaction)
-    (accesses : List TxnAccesses) (place : ℕ) : Type 0 where
+pub record PassesAt (p : PointsView) (place : ℕ) : Type 0 where
   pub begun :
-      (t : Transaction) → slice_get ts place ≡ Some t → IsNotBefore (slice_index points place) t
+      (t : Transaction)
+      → slice_get p.run.txns place ≡ Some t
+      → IsNotBefore (slice_index p.points place) t
   pub into :
       (a : TxnAccesses)
-      → slice_get accesses place ≡ Some a
-      → PassesInto points users place a.reads a.writes
+      → slice_get p.run.accesses place ≡ Some a
+      → PassesInto p.points p.users place a.reads a.writes
 
 -- the transaction at the place is ok, or its point passes
-abbrev pub PassesUnlessOk :
-    (points : List ℕ) → Users → List Transaction → List TxnAccesses → (place : ℕ) → Type 0
-PassesUnlessOk points users ts accesses place =
-    ((t : Transaction) → slice_get ts place ≡ Some t → IsTrue (is_ok t))
-    ⊎ PassesAt points users ts accesses place
+abbrev pub PassesUnlessOk : PointsView → (place : ℕ) → Type 0
+PassesUnlessOk p place =
+    ((t : Transaction) → slice_get p.run.txns place ≡ Some t → IsTrue (is_ok t))
+    ⊎ PassesAt p place
 
 -- so it is of all that write what is read
-abbrev pub WritersPass :
-    (points : List ℕ) → Users → List Transaction → List TxnAccesses → List Access → Type 0
-WritersPass points users ts accesses reads =
-    All
-    (λ (a : Access).
-    All (PassesUnlessOk points users ts accesses) (places_at users.writers a.version))
-    reads
+abbrev pub WritersPass : PointsView → List Access → Type 0
+WritersPass p reads =
+    All (λ (a : Access). All (PassesUnlessOk p) (places_at p.users.writers a.version)) reads
 
-abbrev pub FallsPass :
-    (points : List ℕ) → Users → List Transaction → List TxnAccesses → List Fall → Type 0
-FallsPass points users ts accesses falls =
-    (k : ℕ) → k < length falls → PassesAt points users ts accesses (fall_at falls k).place
+abbrev pub FallsPass : PointsView → List Fall → Type 0
+FallsPass p falls = (k : ℕ) → k < length falls → PassesAt p (fall_at falls k).place
 
 -- what is looked at after the transaction at the place became ok, and these points fell
-pub record PassesAfter (points : List ℕ) (users : Users) (ts : List Transaction)
-    (accesses : List TxnAccesses) (falls : List Fall) (place : ℕ) : Type 0 where
-  pub own : PassesAt points users ts accesses place
+pub record PassesAfter (p : PointsView) (falls : List Fall) (place : ℕ) : Type 0 where
+  pub own : PassesAt p place
   pub ended :
-      (t : Transaction) → slice_get ts place ≡ Some t → IsNotAfter (slice_index points place) t
+      (t : Transaction)
+      → slice_get p.run.txns place ≡ Some t
+      → IsNotAfter (slice_index p.points place) t
   pub out :
       (a : TxnAccesses)
-      → slice_get accesses place ≡ Some a
-      → PassesOutOf points users place a.reads a.writes
-  pub fallen : FallsPass points users ts accesses falls
+      → slice_get p.run.accesses place ≡ Some a
+      → PassesOutOf p.points p.users place a.reads a.writes
+  pub fallen : FallsPass p falls
   pub writers :
-      (a : TxnAccesses)
-      → slice_get accesses place ≡ Some a
-      → WritersPass points users ts accesses a.reads
+      (a : TxnAccesses) → slice_get p.run.accesses place ≡ Some a → WritersPass p a.reads

@@ -12,9 +12,11 @@ use Rattle.clean_order.specs.CleanReads.{ReadsAreClean}
 use Rattle.clean_order.specs.Points.{ArePoints}
 use Rattle.serial_points.specs.Bounds.{AreBounds, AreFloors, BoundsReads, BoundAll, IsFloored, FloorAll}
 use Rattle.serial_points.specs.ByPlace.{AreListed}
-use Rattle.serial_points.specs.Clean.{IsClean, AreUnread}
+use Rattle.serial_points.specs.Clean.{IsClean}
 use Rattle.serial_points.specs.Falls.{HaveFallen, AreFloored, PassesAfter}
 use Rattle.serial_points.specs.KeptSteps.{HasSteps}
+use Rattle.serial_points.specs.Stepping.{IsUnreadAt}
+use Rattle.serial_points.specs.Views.{PointsView}
 use Rattle.serial_points.specs.Users.{AreUsers, IsAmongUsers, UsersStay, ListOnlyVersions}
 use Rattle.serial_points.specs.declared.falls.Fall.{Fall}
 use Rattle.serial_points.specs.declared.steps.Steps.{Steps}
@@ -78,63 +80,35 @@ pub record IsNext (events : List Operation) (event : Operation) (before : KeptVe
 
 -- ---- one event, by how its transaction is now
 
--- nobody is listed as a reader of what the transaction at the place writes
-abbrev pub IsUnreadAt : Users → List TxnAccesses → (place : ℕ) → Type 0
-IsUnreadAt users accesses place =
-    (a : TxnAccesses) → slice_get accesses place ≡ Some a → AreUnread users.readers a.writes
-
 -- the reads of the transaction at the place are clean
-abbrev pub IsCleanAt : List Transaction → Users → List TxnAccesses → (place : ℕ) → Type 0
-IsCleanAt ts users accesses place =
+abbrev pub IsCleanAt : PointsView → (place : ℕ) → Type 0
+IsCleanAt p place =
     (a : TxnAccesses)
-    → slice_get accesses place ≡ Some a
-    → All (IsClean ts accesses users.writers a.writes) a.reads
+    → slice_get p.run.accesses place ≡ Some a
+    → All (IsClean p.run.txns p.run.accesses p.users.writers a.writes) a.reads
 
 -- points fell, and pass
-abbrev pub FallAndPass :
-    (before after : List ℕ)
-    → Users
-    → List Transaction
-    → List TxnAccesses
-    → List Fall
-    → (place : ℕ)
-    → Type 0
-FallAndPass before after users ts accesses falls place =
-    (length after ≡ length before)
-    × HaveFallen before after falls (length falls)
-    × PassesAfter after users ts accesses falls place
-    × AreFloored accesses after users.floors falls
+abbrev pub FallAndPass : (before : List ℕ) → PointsView → List Fall → (place : ℕ) → Type 0
+FallAndPass before p falls place =
+    (length p.points ≡ length before)
+    × HaveFallen before p.points falls (length falls)
+    × PassesAfter p falls place
+    × AreFloored p.run.accesses p.points p.users.floors falls
 
 abbrev pub AdvancesBy :
-    Status
-    → (before after : List ℕ)
-    → Users
-    → List Transaction
-    → List TxnAccesses
-    → List Fall
-    → (place : ℕ)
-    → Type 0
-AdvancesBy Open before after users ts accesses falls place =
-    IsUnreadAt users accesses place × ((point : ℕ) × (after ≡ before ++ point ∷ []))
-AdvancesBy Fail before after users ts accesses falls place =
-    IsUnreadAt users accesses place × (after ≡ before)
-AdvancesBy Info before after users ts accesses falls place = after ≡ before
-AdvancesBy Ok before after users ts accesses falls place =
-    IsCleanAt ts users accesses place × FallAndPass before after users ts accesses falls place
+    Status → (before : List ℕ) → PointsView → List Fall → (place : ℕ) → Type 0
+AdvancesBy Open before p falls place =
+    IsUnreadAt p.users p.run place × ((point : ℕ) × (p.points ≡ before ++ point ∷ []))
+AdvancesBy Fail before p falls place = IsUnreadAt p.users p.run place × (p.points ≡ before)
+AdvancesBy Info before p falls place = p.points ≡ before
+AdvancesBy Ok before p falls place = IsCleanAt p place × FallAndPass before p falls place
 
 -- so it is by the status of the transaction at the place
-abbrev pub PointsAdvance :
-    (before after : List ℕ)
-    → Users
-    → List Transaction
-    → List TxnAccesses
-    → List Fall
-    → (place : ℕ)
-    → Type 0
-PointsAdvance before after users ts accesses falls place =
+abbrev pub PointsAdvance : (before : List ℕ) → PointsView → List Fall → (place : ℕ) → Type 0
+PointsAdvance before p falls place =
     (t : Transaction)
-    → slice_get ts place ≡ Some t
-    → AdvancesBy t.status before after users ts accesses falls place
+    → slice_get p.run.txns place ≡ Some t
+    → AdvancesBy t.status before p falls place
 
 -- the same users are listed, and what is above their points, or below them, is so again; the
 -- transaction at the place is within it

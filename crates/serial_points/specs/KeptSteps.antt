@@ -8,6 +8,7 @@ use Rattle.key_versions.specs.LastSeen.{last_seen}
 use Rattle.key_versions.specs.Stepped.{step_at, as_step, HasLastSeen}
 use Rattle.serial_points.specs.Stepping.{AllStepsRise}
 use Rattle.serial_points.specs.Steps.{HasStep, AreListedTwice}
+use Rattle.serial_points.specs.Views.{run_of, view_of}
 use Rattle.serial_points.specs.declared.steps.StepLists.{StepLists}
 use Rattle.serial_points.specs.declared.steps.Steps.{Steps}
 use Rattle.serial_points.specs.declared.users.Users.{Users}
@@ -29,4 +30,4 @@ pub record HasSteps (ts : List Transaction) (kept : KeptVersions) (points : List
       → Contains (process_pairs Sequential ts) p
       → HasPair kept.versions steps.lists p
   pub twice : AreListedTwice steps.lists
-  pub rise : AllStepsRise ts kept.accesses points users steps.lists
+  pub rise : AllStepsRise (view_of points users (run_of ts kept steps.lists))

@@ -2,6 +2,7 @@ pub mod ByPlace
 pub mod NextPoints
 pub mod Users
 pub mod Bounds
+pub mod Views
 pub mod Strays
 pub mod Passing
 pub mod Falls

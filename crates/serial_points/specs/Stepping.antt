@@ -8,15 +8,15 @@ use Rattle.std.specs.List.{list_any}
 use Rattle.hist_types.specs.Transactions.{Transaction, is_ok}
 use Rattle.key_versions.specs.TxnAccesses.{TxnAccesses}
 use Rattle.key_versions.specs.declared.pending.Access.{Access}
-use Rattle.clean_order.specs.Accesses.{updates}
 use Rattle.clean_order.specs.AtVersions.{IsLowerIfOther}
+use Rattle.clean_order.specs.Accesses.{updates}
 use Rattle.serial_points.specs.Clean.{AreUnread}
 use Rattle.serial_points.specs.Falls.{fall_at}
 use Rattle.serial_points.specs.Passing.{IsAboveReadersOf}
 use Rattle.serial_points.specs.Steps.{HasStep}
 use Rattle.serial_points.specs.Users.{places_at, IsListed, HasAccess}
+use Rattle.serial_points.specs.Views.{LiveRun, PointsView}
 use Rattle.serial_points.specs.declared.falls.Fall.{Fall}
-use Rattle.serial_points.specs.declared.steps.StepLists.{StepLists}
 use Rattle.serial_points.specs.declared.users.Users.{Users}
 
 -- ---- who is left out
@@ -26,165 +26,100 @@ abbrev pub has_install : (version : ℕ) → List Access → Bool
 has_install version writes =
     list_any (λ (write : Access). write.version == version && not (updates writes write)) writes
 
-abbrev pub HasNoInstall : List TxnAccesses → (version place : ℕ) → Type 0
-HasNoInstall accesses version place =
-    (a : TxnAccesses) → slice_get accesses place ≡ Some a → IsFalse (has_install version a.writes)
+abbrev pub HasNoInstall : LiveRun → (version place : ℕ) → Type 0
+HasNoInstall run version place =
+    (a : TxnAccesses)
+    → slice_get run.accesses place ≡ Some a
+    → IsFalse (has_install version a.writes)
 
--- the transaction at the place isn't ok, and nobody is listed as a reader of what it writes
-pub record IsNoNode (users : Users) (ts : List Transaction) (accesses : List TxnAccesses)
-    (place : ℕ) : Type 0 where
-  pub not_ok : (t : Transaction) → slice_get ts place ≡ Some t → IsFalse (is_ok t)
-  pub unread :
-      (a : TxnAccesses) → slice_get accesses place ≡ Some a → AreUnread users.readers a.writes
+-- nobody is listed as a reader of what the transaction at the place writes
+abbrev pub IsUnreadAt : Users → LiveRun → (place : ℕ) → Type 0
+IsUnreadAt users run place =
+    (a : TxnAccesses) → slice_get run.accesses place ≡ Some a → AreUnread users.readers a.writes
+
+-- nor is the transaction ok
+pub record IsNoNode (users : Users) (run : LiveRun) (place : ℕ) : Type 0 where
+  pub not_ok : (t : Transaction) → slice_get run.txns place ≡ Some t → IsFalse (is_ok t)
+  pub unread : IsUnreadAt users run place
 
 -- it doesn't install the version, or is no node
-abbrev pub IsLeftOut :
-    Users → List Transaction → List TxnAccesses → (version place : ℕ) → Type 0
-IsLeftOut users ts accesses version place =
-    HasNoInstall accesses version place ⊎ IsNoNode users ts accesses place
+abbrev pub IsLeftOut : Users → LiveRun → (version place : ℕ) → Type 0
+IsLeftOut users run version place = HasNoInstall run version place ⊎ IsNoNode users run place
 
 -- ---- what is looked at
 
 -- the one at the place has a lower point than the other one, if they are two, or is left out
-abbrev pub IsLowerUnlessLeftOut :
-    (points : List ℕ)
-    → Users
-    → List Transaction
-    → List TxnAccesses
-    → (other version place : ℕ)
-    → Type 0
-IsLowerUnlessLeftOut points users ts accesses other version place =
-    IsLowerIfOther points place other ⊎ IsLeftOut users ts accesses version place
+abbrev pub IsLowerUnlessLeftOut : PointsView → (other version place : ℕ) → Type 0
+IsLowerUnlessLeftOut p other version place =
+    IsLowerIfOther p.points place other ⊎ IsLeftOut p.users p.run version place
 
 -- the point at the place is above those of all other nodes that install the version
-abbrev pub AboveInstallers :
-    (points : List ℕ) → Users → List Transaction → List TxnAccesses → (place version : ℕ) → Type 0
-AboveInstallers points users ts accesses place version =
-    All
-    (IsLowerUnlessLeftOut points users ts accesses place version)
-    (places_at users.writers version)
+abbrev pub AboveInstallers : PointsView → (place version : ℕ) → Type 0
+AboveInstallers p place version =
+    All (IsLowerUnlessLeftOut p place version) (places_at p.users.writers version)
 
 -- and above those of all others that read it
-pub record AboveUsers (points : List ℕ) (users : Users) (ts : List Transaction)
-    (accesses : List TxnAccesses) (place version : ℕ) : Type 0 where
-  pub readers : IsAboveReadersOf points users place version
-  pub installers : AboveInstallers points users ts accesses place version
+pub record AboveUsers (p : PointsView) (place version : ℕ) : Type 0 where
+  pub readers : IsAboveReadersOf p.points p.users place version
+  pub installers : AboveInstallers p place version
 
 -- so it is for each version from which a process went to the one that the write is of, if it is the
 -- last one of its key
-abbrev pub IsAboveStepsTo :
-    (points : List ℕ)
-    → Users
-    → StepLists
-    → List Transaction
-    → List TxnAccesses
-    → (place : ℕ)
-    → (writes : List Access)
-    → Access
-    → Type 0
-IsAboveStepsTo points users lists ts accesses place writes write =
+abbrev pub IsAboveStepsTo : PointsView → (place : ℕ) → (writes : List Access) → Access → Type 0
+IsAboveStepsTo p place writes write =
     IsFalse (updates writes write)
-    → All (AboveUsers points users ts accesses place) (places_at lists.earlier write.version)
+    → All (AboveUsers p place) (places_at p.run.lists.earlier write.version)
 
-abbrev pub AboveSteps :
-    (points : List ℕ)
-    → Users
-    → StepLists
-    → List Transaction
-    → List TxnAccesses
-    → (place : ℕ)
-    → (writes : List Access)
-    → Type 0
-AboveSteps points users lists ts accesses place writes =
-    All (IsAboveStepsTo points users lists ts accesses place writes) writes
+abbrev pub AboveStepsAt : PointsView → (place : ℕ) → Type 0
+AboveStepsAt p place =
+    (a : TxnAccesses)
+    → slice_get p.run.accesses place ≡ Some a
+    → All (IsAboveStepsTo p place a.writes) a.writes
+
+abbrev pub FallsAboveSteps : PointsView → List Fall → Type 0
+FallsAboveSteps p falls = (k : ℕ) → k < length falls → AboveStepsAt p (fall_at falls k).place
 
 -- the other one has a higher point than the one at the place, if they are two, or doesn't install
 -- the version
-abbrev pub IsHigherUnlessLeftOut :
-    (points : List ℕ) → List TxnAccesses → (place version other : ℕ) → Type 0
-IsHigherUnlessLeftOut points accesses place version other =
-    IsLowerIfOther points place other ⊎ HasNoInstall accesses version other
+abbrev pub IsHigherUnlessLeftOut : PointsView → (place version other : ℕ) → Type 0
+IsHigherUnlessLeftOut p place version other =
+    IsLowerIfOther p.points place other ⊎ HasNoInstall p.run version other
 
 -- the point at the place is below those of all others that install the version
-abbrev pub BelowInstallers :
-    (points : List ℕ) → Users → List TxnAccesses → (place version : ℕ) → Type 0
-BelowInstallers points users accesses place version =
-    All
-    (IsHigherUnlessLeftOut points accesses place version)
-    (places_at users.writers version)
+abbrev pub BelowInstallers : PointsView → (place version : ℕ) → Type 0
+BelowInstallers p place version =
+    All (IsHigherUnlessLeftOut p place version) (places_at p.users.writers version)
 
 -- so it is for each version to which a process went from one that is read
-abbrev pub BelowReadSteps :
-    (points : List ℕ)
-    → Users
-    → StepLists
-    → List TxnAccesses
-    → (place : ℕ)
-    → (reads : List Access)
-    → Type 0
-BelowReadSteps points users lists accesses place reads =
+abbrev pub BelowReadSteps : PointsView → (place : ℕ) → (reads : List Access) → Type 0
+BelowReadSteps p place reads =
     All
-    (λ (a : Access).
-    All (BelowInstallers points users accesses place) (places_at lists.later a.version))
+    (λ (a : Access). All (BelowInstallers p place) (places_at p.run.lists.later a.version))
     reads
 
 -- and for each one to which a process went from the one that the write is of, if it is the last one
 -- of its key
 abbrev pub IsBelowStepsFrom :
-    (points : List ℕ)
-    → Users
-    → StepLists
-    → List TxnAccesses
-    → (place : ℕ)
-    → (writes : List Access)
-    → Access
-    → Type 0
-IsBelowStepsFrom points users lists accesses place writes write =
+    PointsView → (place : ℕ) → (writes : List Access) → Access → Type 0
+IsBelowStepsFrom p place writes write =
     IsFalse (updates writes write)
-    → All (BelowInstallers points users accesses place) (places_at lists.later write.version)
+    → All (BelowInstallers p place) (places_at p.run.lists.later write.version)
 
-abbrev pub BelowOwnSteps :
-    (points : List ℕ)
-    → Users
-    → StepLists
-    → List TxnAccesses
-    → (place : ℕ)
-    → (writes : List Access)
-    → Type 0
-BelowOwnSteps points users lists accesses place writes =
-    All (IsBelowStepsFrom points users lists accesses place writes) writes
-
-abbrev pub BelowOwnStepsAt :
-    (points : List ℕ) → Users → StepLists → List TxnAccesses → (place : ℕ) → Type 0
-BelowOwnStepsAt points users lists accesses place =
+abbrev pub BelowOwnStepsAt : PointsView → (place : ℕ) → Type 0
+BelowOwnStepsAt p place =
     (a : TxnAccesses)
-    → slice_get accesses place ≡ Some a
-    → BelowOwnSteps points users lists accesses place a.writes
+    → slice_get p.run.accesses place ≡ Some a
+    → All (IsBelowStepsFrom p place a.writes) a.writes
 
 -- so it is at the place, or there is no node there
-abbrev pub IsBelowIfNode :
-    (points : List ℕ)
-    → Users
-    → StepLists
-    → List Transaction
-    → List TxnAccesses
-    → (place : ℕ)
-    → Type 0
-IsBelowIfNode points users lists ts accesses place =
-    IsNoNode users ts accesses place ⊎ BelowOwnStepsAt points users lists accesses place
+abbrev pub IsBelowIfNode : PointsView → (place : ℕ) → Type 0
+IsBelowIfNode p place = IsNoNode p.users p.run place ⊎ BelowOwnStepsAt p place
 
 -- so it is at the place, or the transaction there is ok
-abbrev pub IsBelowUnlessOk :
-    (points : List ℕ)
-    → Users
-    → StepLists
-    → List Transaction
-    → List TxnAccesses
-    → (place : ℕ)
-    → Type 0
-IsBelowUnlessOk points users lists ts accesses place =
-    ((t : Transaction) → slice_get ts place ≡ Some t → IsTrue (is_ok t))
-    ⊎ BelowOwnStepsAt points users lists accesses place
+abbrev pub IsBelowUnlessOk : PointsView → (place : ℕ) → Type 0
+IsBelowUnlessOk p place =
+    ((t : Transaction) → slice_get p.run.txns place ≡ Some t → IsTrue (is_ok t))
+    ⊎ BelowOwnStepsAt p place
 
 -- one of the places is another one than this
 abbrev pub has_another : (place : ℕ) → (places : List ℕ) → Bool
@@ -192,93 +127,37 @@ has_another place places = list_any (λ other. not (other == place)) places
 
 -- another one than the transaction at the place is listed as a reader of the version, or all that
 -- write it are below their own steps or ok
-abbrev pub WritersPassSteps :
-    (points : List ℕ)
-    → Users
-    → StepLists
-    → List Transaction
-    → List TxnAccesses
-    → (place version : ℕ)
-    → Type 0
-WritersPassSteps points users lists ts accesses place version =
-    IsTrue (has_another place (places_at users.readers version))
-    ⊎ All (IsBelowUnlessOk points users lists ts accesses) (places_at users.writers version)
+abbrev pub WritersPassSteps : PointsView → (place version : ℕ) → Type 0
+WritersPassSteps p place version =
+    IsTrue (has_another place (places_at p.users.readers version))
+    ⊎ All (IsBelowUnlessOk p) (places_at p.users.writers version)
 
 -- so it is for each version that is read
-abbrev pub NewNodesBelowSteps :
-    (points : List ℕ)
-    → Users
-    → StepLists
-    → List Transaction
-    → List TxnAccesses
-    → (place : ℕ)
-    → (reads : List Access)
-    → Type 0
-NewNodesBelowSteps points users lists ts accesses place reads =
-    All
-    (λ (a : Access). WritersPassSteps points users lists ts accesses place a.version)
-    reads
-
-abbrev pub AboveStepsAt :
-    (points : List ℕ)
-    → Users
-    → StepLists
-    → List Transaction
-    → List TxnAccesses
-    → (place : ℕ)
-    → Type 0
-AboveStepsAt points users lists ts accesses place =
-    (a : TxnAccesses)
-    → slice_get accesses place ≡ Some a
-    → AboveSteps points users lists ts accesses place a.writes
-
-abbrev pub FallsAboveSteps :
-    (points : List ℕ)
-    → Users
-    → StepLists
-    → List Transaction
-    → List TxnAccesses
-    → List Fall
-    → Type 0
-FallsAboveSteps points users lists ts accesses falls =
-    (k : ℕ)
-    → k < length falls
-    → AboveStepsAt points users lists ts accesses (fall_at falls k).place
+abbrev pub NewNodesBelowSteps : PointsView → (place : ℕ) → (reads : List Access) → Type 0
+NewNodesBelowSteps p place reads =
+    All (λ (a : Access). WritersPassSteps p place a.version) reads
 
 -- the one at the place is above all other nodes that read or install the earlier version, or doesn't
 -- install the later one
-abbrev pub IsAboveStep :
-    (points : List ℕ)
-    → Users
-    → List Transaction
-    → List TxnAccesses
-    → (step : ℕ × ℕ)
-    → (place : ℕ)
-    → Type 0
-IsAboveStep points users ts accesses step place =
-    AboveUsers points users ts accesses place step.1 ⊎ HasNoInstall accesses step.0 place
+abbrev pub IsAboveStep : PointsView → (step : ℕ × ℕ) → (place : ℕ) → Type 0
+IsAboveStep p step place = AboveUsers p place step.1 ⊎ HasNoInstall p.run step.0 place
 
 -- so is whoever writes the later version
-abbrev pub StepRises :
-    (points : List ℕ) → Users → List Transaction → List TxnAccesses → (step : ℕ × ℕ) → Type 0
-StepRises points users ts accesses step =
-    All (IsAboveStep points users ts accesses step) (places_at users.writers step.0)
+abbrev pub StepRises : PointsView → (step : ℕ × ℕ) → Type 0
+StepRises p step = All (IsAboveStep p step) (places_at p.users.writers step.0)
 
 -- what is looked at after an event of the transaction at the place, and after these falls
-pub record StepsPass (points : List ℕ) (users : Users) (lists : StepLists) (ts : List Transaction)
-    (accesses : List TxnAccesses) (falls : List Fall) (place : ℕ) : Type 0 where
-  pub own : AboveStepsAt points users lists ts accesses place
+pub record StepsPass (p : PointsView) (falls : List Fall) (place : ℕ) : Type 0 where
+  pub own : AboveStepsAt p place
   pub reads :
-      (a : TxnAccesses)
-      → slice_get accesses place ≡ Some a
-      → BelowReadSteps points users lists accesses place a.reads
-  pub writes : IsBelowIfNode points users lists ts accesses place
+      (a : TxnAccesses) → slice_get p.run.accesses place ≡ Some a → BelowReadSteps p place a.reads
+  pub writes : IsBelowIfNode p place
   pub new_nodes :
       (a : TxnAccesses)
-      → slice_get accesses place ≡ Some a
-      → NewNodesBelowSteps points users lists ts accesses place a.reads
-  pub fallen : FallsAboveSteps points users lists ts accesses falls
-  pub fresh : All (StepRises points users ts accesses) lists.fresh.items
+      → slice_get p.run.accesses place ≡ Some a
+      → NewNodesBelowSteps p place a.reads
+  pub fallen : FallsAboveSteps p falls
+  pub fresh : All (StepRises p) p.run.lists.fresh.items
 
 -- ---- what holds then
 
@@ -296,14 +175,13 @@ Uses users t a version =
 
 -- points rise along all steps, from each node that reads or installs the earlier version to whoever
 -- installs the later one
-abbrev pub AllStepsRise :
-    List Transaction → List TxnAccesses → (points : List ℕ) → Users → StepLists → Type 0
-AllStepsRise ts accesses points users lists =
+abbrev pub AllStepsRise : PointsView → Type 0
+AllStepsRise p =
     (later earlier first second : ℕ) (t : Transaction) (a b : TxnAccesses)
-    → HasStep lists (later, earlier)
-    → slice_get ts first ≡ Some t
-    → slice_get accesses first ≡ Some a
-    → Uses users t a earlier
-    → slice_get accesses second ≡ Some b
+    → HasStep p.run.lists (later, earlier)
+    → slice_get p.run.txns first ≡ Some t
+    → slice_get p.run.accesses first ≡ Some a
+    → Uses p.users t a earlier
+    → slice_get p.run.accesses second ≡ Some b
     → IsTrue (has_install later b.writes)
-    → IsLowerIfOther points first second
+    → IsLowerIfOther p.points first second

@@ -10,11 +10,11 @@ ghost use Rattle.clean_order.specs.CleanReads.{HasNoBadRead};
 ghost use Rattle.serial_points.specs.KeptPoints.{HasPoints, IsNext};
 
 use crate::advance::{add_users, advance};
-use crate::search::{Proposal, search};
-use crate::stepping::steps_pass;
+use crate::propose_falls::Proposal;
 use crate::steps::Steps;
 use crate::strays::strays_after;
 use crate::users::Users;
+use crate::views::{LiveRun, PointsView};
 use hist_types::types::KeyOrder;
 use key_versions::kept::KeptVersions;
 use std::alloc::{AllocError, Global};
@@ -84,34 +84,18 @@ impl Points {
             strays,
             mut proposal,
         } = self;
-        add_users(&mut users, txns, versions, place)?;
         let steps = steps.after(txns, versions, place)?;
-        search(&users, &steps.lists, txns, versions, &mut proposal, place)?;
+        let run = LiveRun::new(txns, versions, &steps.lists);
+        add_users(&mut users, &run, place)?;
+        proposal.search(&users, &run, place)?;
         let falls = proposal.falls();
-        if !advance(
-            &mut points,
-            &mut users,
-            &steps.lists,
-            txns,
-            versions,
-            falls,
-            place,
-        )? {
+        if !advance(&mut points, &mut users, &run, falls, place)? {
             return Ok(None);
         }
-        let points_now = points.as_slice();
-        if !steps_pass(
-            points_now,
-            &users,
-            &steps.lists,
-            txns,
-            versions,
-            falls,
-            place,
-        ) {
+        if !PointsView::new(points.as_slice(), &users, &run).steps_pass(falls, place) {
             return Ok(None);
         }
-        let Some(strays) = strays_after(strays, &users.writers, txns, versions, place) else {
+        let Some(strays) = strays_after(strays, &users.writers, &run, place) else {
             return Ok(None);
         };
         Ok(Some(Points {

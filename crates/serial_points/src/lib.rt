@@ -21,12 +21,13 @@ mod falls;
 pub mod kept;
 mod passing;
 mod places;
-mod search;
+mod propose_falls;
 mod settling;
 mod stepping;
 mod steps;
 mod strays;
 mod users;
+mod views;
 
 /// Where transactions have points, no cycle shows any phenomenon at any level. No order edge has to
 /// be looked at.

@@ -4,158 +4,144 @@ ghost use Rattle.std.specs.Prelude.{◌≡◌, true};
 ghost use Rattle.clean_order.specs.AtVersions.{IsLowerIfOther};
 ghost use Rattle.serial_points.specs.Passing.{AllLower, AllHigher, IsAboveReadersOf, AboveWriters, AboveReaders, AboveNilReaders, PassesInto, BelowReaders, BelowUpdaters, BelowKeyWriters, PassesOutOf};
 
-use crate::bounds::point_of;
-use crate::places::Places;
-use crate::users::Users;
+use crate::views::PointsView;
 use clean_order::updates::updates;
 use key_versions::kept::Access;
+use std::hash::BuildHasher;
 
-/// Whether the first one has a lower point than the second one, if they are two.
-pub(crate) fn is_lower_if_other(points: &[u64], place: usize, other: usize) -> bool
-    ensures { result ≡ true → IsLowerIfOther points.now place other }
-{
-    if place == other {
-        return true;
+impl<'p, 'r, 'a, S: BuildHasher + Copy> PointsView<'p, 'r, 'a, S> {
+    /// Whether the first one has a lower point than the second one, if they are two.
+    pub fn is_lower_if_other(&self, place: usize, other: usize) -> bool
+        ensures { result ≡ true → IsLowerIfOther self.now.points place other }
+    {
+        place == other || self.point(place) < self.point(other)
     }
-    match (points.get(place), points.get(other)) {
-        (Some(point), Some(above)) => point < above,
-        _ => false,
-    }
-}
 
-fn are_all_lower(points: &[u64], places: &[u32], place: usize) -> bool
-    ensures { result ≡ true → AllLower points.now places.now place }
-{
-    for other in places {
-        if !is_lower_if_other(points, *other as usize, place) {
-            return false;
+    fn are_all_lower(&self, places: &[u32], place: usize) -> bool
+        ensures { result ≡ true → AllLower self.now.points places.now place }
+    {
+        for other in places {
+            if !self.is_lower_if_other(*other as usize, place) {
+                return false;
+            }
         }
+        true
     }
-    true
-}
 
-fn are_all_higher(points: &[u64], places: &[u32], place: usize) -> bool
-    ensures { result ≡ true → AllHigher points.now places.now place }
-{
-    for other in places {
-        if !is_lower_if_other(points, place, *other as usize) {
-            return false;
+    fn are_all_higher(&self, places: &[u32], place: usize) -> bool
+        ensures { result ≡ true → AllHigher self.now.points places.now place }
+    {
+        for other in places {
+            if !self.is_lower_if_other(place, *other as usize) {
+                return false;
+            }
         }
+        true
     }
-    true
-}
 
-fn is_above_writers(points: &[u64], writers: &Places, place: usize, reads: &[Access]) -> bool
-    ensures { result ≡ true → AboveWriters points.now writers.now place reads.now }
-{
-    for read in reads {
-        if !are_all_lower(points, writers.at(read.version), place) {
-            return false;
+    fn is_above_writers(&self, place: usize, reads: &[Access]) -> bool
+        ensures { result ≡ true
+            → AboveWriters self.now.points self.now.users.writers place reads.now }
+    {
+        for read in reads {
+            if !self.are_all_lower(self.writers(read.version), place) {
+                return false;
+            }
         }
+        true
     }
-    true
-}
 
-/// Whether the point at the place is above those of all others that read the version.
-pub(crate) fn is_above_readers_of(points: &[u64], users: &Users, place: usize, version: u32) -> bool
-    ensures { result ≡ true → IsAboveReadersOf points.now users.now place version }
-{
-    let point = point_of(points, place);
-    are_all_lower(points, users.unbounded_readers(version, point), place)
-}
+    /// Whether the point at the place is above those of all others that read the version.
+    pub fn is_above_readers_of(&self, place: usize, version: u32) -> bool
+        ensures { result ≡ true
+            → IsAboveReadersOf self.now.points self.now.users place version }
+    {
+        let point = self.point(place);
+        self.are_all_lower(self.unbounded_readers(version, point), place)
+    }
 
-fn is_above_readers(
-    points: &[u64],
-    users: &Users,
-    place: usize,
-    reads: &[Access],
-    writes: &[Access],
-) -> bool
-    ensures { result ≡ true → AboveReaders points.now users.now place reads.now writes.now }
-{
-    for read in reads {
-        if updates(writes, *read) && !is_above_readers_of(points, users, place, read.version) {
-            return false;
+    fn is_above_readers(&self, place: usize, reads: &[Access], writes: &[Access]) -> bool
+        ensures { result ≡ true
+            → AboveReaders self.now.points self.now.users place reads.now writes.now }
+    {
+        for read in reads {
+            if updates(writes, *read) && !self.is_above_readers_of(place, read.version) {
+                return false;
+            }
         }
+        true
     }
-    true
-}
 
-fn is_above_nil_readers(points: &[u64], users: &Users, place: usize, writes: &[Access]) -> bool
-    ensures { result ≡ true → AboveNilReaders points.now users.now place writes.now }
-{
-    for write in writes {
-        if !is_above_readers_of(points, users, place, write.nil) {
-            return false;
+    fn is_above_nil_readers(&self, place: usize, writes: &[Access]) -> bool
+        ensures { result ≡ true
+            → AboveNilReaders self.now.points self.now.users place writes.now }
+    {
+        for write in writes {
+            if !self.is_above_readers_of(place, write.nil) {
+                return false;
+            }
         }
+        true
     }
-    true
-}
 
-/// Whether the transaction at the place, which reads and writes this, has a higher point than each
-/// that it depends on.
-pub(crate) fn passes_into(
-    points: &[u64],
-    users: &Users,
-    place: usize,
-    reads: &[Access],
-    writes: &[Access],
-) -> bool
-    ensures { result ≡ true → PassesInto points.now users.now place reads.now writes.now }
-{
-    is_above_writers(points, &users.writers, place, reads)
-        && is_above_readers(points, users, place, reads, writes)
-        && is_above_nil_readers(points, users, place, writes)
-}
+    /// Whether the transaction at the place, which reads and writes this, has a higher point than
+    /// each that it depends on.
+    pub fn passes_into(&self, place: usize, reads: &[Access], writes: &[Access]) -> bool
+        ensures { result ≡ true
+            → PassesInto self.now.points self.now.users place reads.now writes.now }
+    {
+        self.is_above_writers(place, reads)
+            && self.is_above_readers(place, reads, writes)
+            && self.is_above_nil_readers(place, writes)
+    }
 
-fn is_below_readers(points: &[u64], readers: &Places, place: usize, writes: &[Access]) -> bool
-    ensures { result ≡ true → BelowReaders points.now readers.now place writes.now }
-{
-    for write in writes {
-        if !are_all_higher(points, readers.at(write.version), place) {
-            return false;
+    fn is_below_readers(&self, place: usize, writes: &[Access]) -> bool
+        ensures { result ≡ true
+            → BelowReaders self.now.points self.now.users.readers place writes.now }
+    {
+        for write in writes {
+            if !self.are_all_higher(self.readers(write.version), place) {
+                return false;
+            }
         }
+        true
     }
-    true
-}
 
-fn is_below_updaters(points: &[u64], updaters: &Places, place: usize, reads: &[Access]) -> bool
-    ensures { result ≡ true → BelowUpdaters points.now updaters.now place reads.now }
-{
-    for read in reads {
-        if !are_all_higher(points, updaters.at(read.version), place) {
-            return false;
+    fn is_below_updaters(&self, place: usize, reads: &[Access]) -> bool
+        ensures { result ≡ true
+            → BelowUpdaters self.now.points self.now.users.updaters place reads.now }
+    {
+        for read in reads {
+            if !self.are_all_higher(self.updaters(read.version), place) {
+                return false;
+            }
         }
+        true
     }
-    true
-}
 
-fn is_below_key_writers(points: &[u64], users: &Users, place: usize, reads: &[Access]) -> bool
-    ensures { result ≡ true → BelowKeyWriters points.now users.now place reads.now }
-{
-    let point = point_of(points, place);
-    for read in reads {
-        if read.version == read.nil
-            && !are_all_higher(points, users.nil_followers(read.nil, point), place)
-        {
-            return false;
+    fn is_below_key_writers(&self, place: usize, reads: &[Access]) -> bool
+        ensures { result ≡ true
+            → BelowKeyWriters self.now.points self.now.users place reads.now }
+    {
+        let point = self.point(place);
+        for read in reads {
+            if read.version == read.nil
+                && !self.are_all_higher(self.nil_followers(read.nil, point), place)
+            {
+                return false;
+            }
         }
+        true
     }
-    true
-}
 
-/// Whether the transaction at the place, which reads and writes this, has a lower point than each
-/// that depends on it.
-pub(crate) fn passes_out_of(
-    points: &[u64],
-    users: &Users,
-    place: usize,
-    reads: &[Access],
-    writes: &[Access],
-) -> bool
-    ensures { result ≡ true → PassesOutOf points.now users.now place reads.now writes.now }
-{
-    is_below_readers(points, &users.readers, place, writes)
-        && is_below_updaters(points, &users.updaters, place, reads)
-        && is_below_key_writers(points, users, place, reads)
+    /// Whether the transaction at the place, which reads and writes this, has a lower point than
+    /// each that depends on it.
+    pub fn passes_out_of(&self, place: usize, reads: &[Access], writes: &[Access]) -> bool
+        ensures { result ≡ true
+            → PassesOutOf self.now.points self.now.users place reads.now writes.now }
+    {
+        self.is_below_readers(place, writes)
+            && self.is_below_updaters(place, reads)
+            && self.is_below_key_writers(place, reads)
+    }
 }

@@ -1,8 +1,0 @@
--- The falls so far pass.
-use Rattle.std.proofs.Common.{ℕ, ◌<◌}
-use Rattle.serial_points.specs.Falls.{PassesAt, fall_at}
-use Rattle.serial_points.proofs.falls.falls_pass.Given as goal
-
-abbrev pub invariant-loop-fall : goal.invariant-loop-fall
-invariant-loop-fall g l =
-    (k : ℕ) → k < l.fall-index → PassesAt l.points l.users l.txns l.versions.accesses (fall_at l.falls k).place

@@ -1,7 +1,0 @@
--- The writers of the reads so far pass.
-use Rattle.std.proofs.Common.{take}
-use Rattle.serial_points.specs.Falls.{WritersPass}
-use Rattle.serial_points.proofs.falls.writers_pass.Given as goal
-
-abbrev pub invariant-loop-read : goal.invariant-loop-read
-invariant-loop-read g l = WritersPass l.points l.users l.txns l.versions.accesses (take l.read-index l.reads)

@@ -1,7 +1,0 @@
--- So far they are.
-use Rattle.std.proofs.Common.{take}
-use Rattle.serial_points.specs.Passing.{BelowKeyWriters}
-use Rattle.serial_points.proofs.passing.is_below_key_writers.Given as goal
-
-abbrev pub invariant-loop-read : goal.invariant-loop-read
-invariant-loop-read l = BelowKeyWriters l.points l.users l.place (take l.read-index l.reads)

@@ -1,8 +1,0 @@
--- So far they are.
-use Rattle.std.proofs.Common.{All, take}
-use Rattle.serial_points.specs.Stepping.{IsHigherUnlessLeftOut}
-use Rattle.serial_points.proofs.stepping.is_below_installers.Given as goal
-
-abbrev pub invariant-loop-other : goal.invariant-loop-other
-invariant-loop-other g l =
-    All (IsHigherUnlessLeftOut l.points l.versions.accesses l.place l.version) (take l.other-index l.others)
