@@ -29,11 +29,3 @@ is_not_rw Wr other same = cc
 is_not_rw Rw other same = false≢true (sym other)
 is_not_rw WrAndWw other same = cc
 is_not_rw All other same = cc
-
-pub is_not_all : (d : Dependencies) → sameb dependencies_type d All ≡ false → d ≡ All → ⊥
-is_not_all None other same = cc
-is_not_all Ww other same = cc
-is_not_all Wr other same = cc
-is_not_all Rw other same = cc
-is_not_all WrAndWw other same = cc
-is_not_all All other same = false≢true (sym other)

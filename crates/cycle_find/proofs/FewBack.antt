@@ -1,5 +1,5 @@
 -- Ways back with few dependency edges: which there can be, and what they and their needed edges make.
-use Rattle.std.proofs.Common.{◌≡◌, ◌∙◌, ◌<◌, ◌≤◌, ℕ, suc, List, [], ◌∷◌, length, get_or, Bool, true, false, ◌||◌, ◌==◌, is_some, Option, Some, None, inl, inr, ◌⊎◌, Contains, refl, sym, ap, subst, arith}
+use Rattle.std.proofs.Common.{◌≡◌, ◌∙◌, ◌<◌, ◌≤◌, ℕ, suc, List, [], ◌∷◌, length, get_or, Bool, true, false, ◌||◌, ◌==◌, is_some, Option, Some, None, inl, inr, ◌⊎◌, Contains, sym, ap, subst, arith}
 use Rattle.std.specs.List.{list_any}
 use Rattle.std.specs.Prelude.{nat_lt, nat_le}
 use Rattle.std.proofs.lemmas.Bool.{true≢false, cases_lt, and_parts, and_from, or_cases, or_left, or_right, ltb-true, lt-ltb, leb-true, le-leb, eqb-true, eq-eqb}
@@ -28,8 +28,8 @@ use Rattle.cycle_find.specs.Found.{NeedsMoreThan}
 use Rattle.cycle_find.specs.Tasks.{Task, task_of, needed_kinds, back_kinds}
 use Rattle.cycle_find.proofs.Closing.{needed_kind, shows_along}
 use Rattle.cycle_find.proofs.OrderBack.{has_arcs}
-use Rattle.cycle_find.proofs.Pairs.{arcs_there}
-use Rattle.cycle_find.proofs.Pairs.{apart as no_loop}
+use Rattle.cycle_find.proofs.ArcsBetween.{arcs_there}
+use Rattle.cycle_find.proofs.ArcsBetween.{apart as no_loop}
 use Rattle.cycle_find.proofs.Returning.{returning}
 
 -- ---- a walk, or nothing
@@ -77,7 +77,7 @@ module _ (task : Task) (kept : AreOfHistory task.graph.txns) (by_versions : RwBy
       (from to : ℕ) → HasEdgeBetween g (needed_kinds task) from to
       → Arc from to ⊎ ((version : ℕ) × IsWayByVersion g (needed_kinds task) from version to)
   arcs_of from to edge =
-      elim (arcs_there (task_of g task.phenomenon Plain) refl kept by_versions from to edge) [
+      elim (arcs_there (task_of g task.phenomenon Plain) kept by_versions from to edge) [
         | inl (other, arc) ↦ inl arc
         | inr (same, version, way) ↦ inr (version, way)
       ]
@@ -164,7 +164,7 @@ module _ (task : Task) (kept : AreOfHistory task.graph.txns) (by_versions : RwBy
 
     pub apart : (from to : ℕ) → HasEdgeBetween g (needed_kinds task) from to → ¬ (to ≡ from)
     apart from to (e, is) same =
-        no_loop (task_of g task.phenomenon Plain) refl kept by_versions e (in_from_Contains e (edges_in g Plain) is.edge.among)
+        no_loop (task_of g task.phenomenon Plain) kept by_versions e (in_from_Contains e (edges_in g Plain) is.edge.among)
         (is.leads.ends ∙ ap (λ n. (txn_at g.txns n).invocation) same ∙ sym is.leads.begins)
 
     module _ (free paid : List (List ℕ)) (free_are : AreArcsThat g (IsFreeBack task) free) (paid_are : AreArcsThat g (IsPaidBack task) paid) where

@@ -9,7 +9,9 @@ pub mod OrderBack
 pub mod Scanning
 pub mod Equal
 pub mod TwoEdges
-pub mod Pairs
+pub mod Grouped
+pub mod ArcsBetween
+pub mod Mutual
 pub mod ThereAndBack
 pub mod Turned
 pub mod FewBack

@@ -30,7 +30,7 @@ use Rattle.cycle_find.specs.Fewest.{IsFreeBack, IsPaidBack, NoneTo, IsReturnIfAn
 use Rattle.cycle_find.specs.Past.{AreRanksPast, HasArcsPast, IsPairWithin, RisePast}
 use Rattle.cycle_find.specs.Tasks.{Task, needed_kinds}
 use Rattle.cycle_find.proofs.FewBack.{apart, arcs_of, is_target, target_has_edge}
-use Rattle.cycle_find.proofs.Pairs.{group_at, group_has, length-groups}
+use Rattle.cycle_find.proofs.Grouped.{group_at, group_has, length-groups}
 use Rattle.cycle_find.proofs.RankedArcs.{among_itself, behind_version}
 use Rattle.cycle_find.proofs.Turned.{from_group, group_is}
 

@@ -127,7 +127,7 @@ module _ (h : History) where
         joins = record { begins = refl; ends = refl };
       }
 
-  depend : (e : Edge) → In e (edges_at keys Plain ts) → In e (dependency_edges keys ts)
+  pub depend : (e : Edge) → In e (edges_at keys Plain ts) → In e (dependency_edges keys ts)
   depend e i = elim (in_append e (dependency_edges keys ts) (order_edges Plain ts) i) [
     | inl j ↦ j
     | inr j ↦

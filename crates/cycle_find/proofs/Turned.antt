@@ -9,7 +9,7 @@ use Rattle.flat_groups.specs.Groups.{IsNumbered, group, groups_from}
 use Rattle.graph_search.specs.Graphs.{HasArc}
 use Rattle.hist_types.proofs.Members.{In, in_from_Contains, Contains_from_in}
 use Rattle.cycle_find.specs.Fewest.{IsTurnedArc, HasArcsFrom, AreLeading}
-use Rattle.cycle_find.proofs.Pairs.{group_has, group_at, length-groups}
+use Rattle.cycle_find.proofs.Grouped.{group_has, group_at, length-groups}
 
 -- what holds at each place of a vertex's list holds of each vertex to which it leads
 pub each_successor :

@@ -12,8 +12,7 @@ use Rattle.hist_types.specs.Edges.{Edge}
 use Rattle.hist_types.specs.Phenomena.{Shows}
 use Rattle.hist_types.specs.Witness.{dependencies_in}
 use Rattle.cycle_find.specs.Dependencies.{way_back}
-use Rattle.cycle_find.specs.Tasks.{Task, needed_kinds}
-use Rattle.cycle_find.specs.TwoDependencies.{vertices_in}
+use Rattle.cycle_find.specs.Tasks.{Task, needed_kinds, vertices_in}
 
 -- arcs of a way back that cost no dependency edge, and those that cost one
 abbrev pub IsFreeBack : Task → ℕ → ℕ → Type 0

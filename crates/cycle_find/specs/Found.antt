@@ -1,12 +1,11 @@
 -- What a search for a phenomenon answers.
-use Rattle.std.specs.Prelude.{◌↔◌, ℕ, ◌<◌, List, ◌++◌, Contains, Option, Some, None, ⊤}
+use Rattle.std.specs.Prelude.{◌↔◌, ℕ, ◌<◌, ◌≤◌, List, ◌++◌, Contains, Option, Some, None, ⊤}
 use Rattle.hist_types.specs.Edges.{Edge, dependency_edges}
 use Rattle.hist_types.specs.Phenomena.{IsShownBy, Shows}
 use Rattle.hist_types.specs.ThinnedOrder.{thinned_edges}
 use Rattle.hist_types.specs.Witness.{dependencies_in, HasFewest}
 use Rattle.hist_types.specs.declared.types.Phenomenon.{Phenomenon}
 use Rattle.hist_types.specs.declared.types.Level.{Level}
-use Rattle.hist_types.specs.declared.types.Level.TheVariants.{Plain, Process, Realtime}
 use Rattle.edge_graph.specs.Kinds.{AreAmong}
 use Rattle.edge_graph.specs.Parts.{Parts, edges_in}
 use Rattle.edge_graph.specs.declared.types.Dependencies.{Dependencies}
@@ -30,12 +29,10 @@ abbrev pub NeedsMoreThan : (n : ℕ) → Phenomenon → List Edge → Type 0
 NeedsMoreThan n phenomenon es =
     (walk : List Edge) → Shows phenomenon es walk → n < dependencies_in walk
 
--- no closed walk at the level has fewer: at plain it has two edges at least, and above plain one of
--- them may close it with order edges
-abbrev pub floor_of : Level → ℕ
-floor_of Plain = 2
-floor_of Process = 1
-floor_of Realtime = 1
+-- each has so many of them at least
+abbrev pub NeedsAtLeast : (least : ℕ) → Phenomenon → List Edge → Type 0
+NeedsAtLeast least phenomenon es =
+    (walk : List Edge) → Shows phenomenon es walk → least ≤ dependencies_in walk
 
 -- the graph's order edges at the level are the thinned ones
 abbrev pub IsThinnedAt : Parts → Level → Type 0

@@ -6,8 +6,7 @@ use Rattle.edge_graph.specs.Made.{AreWithin}
 use Rattle.edge_graph.specs.Vertices.{IsArc, graph_by}
 use Rattle.graph_search.specs.Graphs.{HasArc}
 use Rattle.cycle_find.specs.Dependencies.{others}
-use Rattle.cycle_find.specs.Tasks.{Task, needed_kinds}
-use Rattle.cycle_find.specs.TwoDependencies.{vertices_in}
+use Rattle.cycle_find.specs.Tasks.{Task, needed_kinds, vertices_in}
 
 -- a rank for each vertex, none of which falls along an arc of the whole walk, except needed arcs to
 -- vertices below the cut

@@ -1,6 +1,6 @@
 -- What a search looks for, and where: an edge of the needed kind from one transaction to another,
 -- with a way back.
-use Rattle.std.specs.Prelude.{ℕ, List, Option, Some, None, option_map, Vec}
+use Rattle.std.specs.Prelude.{ℕ, ◌+◌, List, length, Contains, Option, Some, None, option_map, Vec}
 use Rattle.std.specs.Global.{Global}
 use Rattle.graph_search.specs.Graphs.{IsWalkIfAny}
 use Rattle.hist_types.specs.Edges.{Edge}
@@ -42,6 +42,13 @@ back_kinds task = kinds_of (way_back task.phenomenon) task.level
 
 abbrev pub whole_kinds : Task → Kinds
 whole_kinds task = kinds_of (whole task.phenomenon) task.level
+
+abbrev pub vertices_in : Parts → ℕ
+vertices_in g = length g.txns + length g.versions
+
+-- all of the one are among the other
+abbrev pub Includes : List (ℕ × ℕ) → List (ℕ × ℕ) → Type 0
+Includes few more = (pair : ℕ × ℕ) → Contains few pair → Contains more pair
 
 -- ---- answers
 

@@ -1,144 +1,168 @@
--- Closed walks with two edges at the level plain: an edge of the needed kind from one transaction to
--- another one, and an edge back.
-use Rattle.std.specs.Prelude.{◌≡◌, ℕ, ◌+◌, List, length, slice_index, slice_index_or, [], Bool, Contains}
-use Rattle.hist_types.specs.declared.types.Level.TheVariants.{Plain}
-use Rattle.dep_edges.specs.Histories.{AreOfHistory}
-use Rattle.dep_edges.specs.Tables.{IsPlace}
-use Rattle.edge_graph.specs.Kinds.{kinds_of}
-use Rattle.edge_graph.specs.Parts.{Parts}
-use Rattle.edge_graph.specs.Vertices.{IsArc, AreArcs, RwByVersions}
-use Rattle.edge_graph.specs.Walks.{HasEdgeBetween, IsWayByVersion}
-use Rattle.edge_graph.specs.declared.types.Dependencies.TheVariants.{All}
-use Rattle.edge_graph.specs.declared.types.Kinds.{Kinds}
-use Rattle.cycle_find.specs.Dependencies.{direct_back}
-use Rattle.cycle_find.specs.Ranked.{AreRanksOver}
-use Rattle.cycle_find.specs.Sharing.{AreSharing}
-use Rattle.cycle_find.specs.Tasks.{Task, needed_kinds, back_kinds}
+-- Two transactions that depend on each other at the level plain, and the versions by way of which
+-- they do.
+use Rattle.std.specs.Prelude.{◌≡◌, ◌⊎◌, ◌||◌, IsTrue, ℕ, List, [], map, slice_index, slice_index_or, Contains, Option, ⊤}
+use Rattle.hist_types.specs.Edges.{Edge}
+use Rattle.hist_types.specs.Transactions.{Version, installed_by}
+use Rattle.hist_types.specs.declared.types.Phenomenon.{Phenomenon}
+use Rattle.key_versions.specs.Histories.{readers_of, followers_of}
+use Rattle.key_versions.specs.declared.types.Follower.{Follower}
+use Rattle.dep_edges.specs.Histories.{History}
+use Rattle.dep_edges.specs.Tables.{IsPlace, IsNumber, txn_at, version_at}
+use Rattle.edge_graph.specs.Kinds.{has_ww, has_wr, has_rw}
+use Rattle.edge_graph.specs.declared.types.Dependencies.{Dependencies}
+use Rattle.edge_graph.specs.declared.types.Dependencies.TheVariants as dependencies
+use Rattle.cycle_find.specs.Dependencies.{needed, direct_back}
+use Rattle.cycle_find.specs.Found.{NeedsMoreThan, ShowsByFewest}
+use Rattle.cycle_find.specs.Single.{AreMutual, AreTwoOr}
+use Rattle.cycle_find.specs.declared.two_dependencies.Marks.{Marks}
+use Rattle.cycle_find.specs.declared.two_dependencies.Mutual.{Mutual}
+use Rattle.cycle_find.specs.declared.two_dependencies.Mutual.TheVariants.{Found, Nowhere, Unknown}
+use Rattle.cycle_find.specs.declared.two_dependencies.TwoDependencies.{TwoDependencies}
 
-abbrev pub vertices_in : Parts → ℕ
-vertices_in g = length g.txns + length g.versions
+-- ---- what a search promises
 
--- no rank that falls along no arc tells the one vertex from the other, as along a cycle
-abbrev pub AreLevel : Parts → (v w : ℕ) → Type 0
-AreLevel g v w =
-    (ranks : List ℕ)
-    → AreRanksOver g (kinds_of All Plain) ranks
-    → slice_index ranks v ≡ slice_index ranks w
+-- a walk that shows the phenomenon with two edges, or there is none with fewer than three
+abbrev pub IsMutual : Phenomenon → List Edge → Mutual → Type 0
+IsMutual phenomenon es (Found walk) = ShowsByFewest phenomenon es walk
+IsMutual phenomenon es Nowhere = NeedsMoreThan 2 phenomenon es
+IsMutual phenomenon es Unknown = ⊤
 
--- the kinds of ww and wr edges that may lead back
-abbrev pub direct_kinds : Task → Kinds
-direct_kinds task = kinds_of (direct_back task.phenomenon) Plain
+abbrev pub IsTwoOr : TwoDependencies → Type 0 → Option (List Edge) → Type 0
+IsTwoOr search = AreTwoOr search.phenomenon search.deps.now
 
--- the arcs of the needed edges, and of the ww and wr edges that may lead back, and coarse ranks
-pub record IsReadyForTwo (task : Task) (needed back : List (List ℕ))
-    (coarse : List ℕ) (shared : List Bool) : Type 0 where
-  pub kept : AreOfHistory task.graph.txns
-  pub by_versions : RwByVersions task.graph
-  pub needed_arcs : AreArcs task.graph (needed_kinds task) needed
-  pub back_arcs : AreArcs task.graph (direct_kinds task) back
-  pub coarse_ranks : AreRanksOver task.graph (kinds_of All Plain) coarse
-  pub sharing : AreSharing coarse shared
+-- an edge that the phenomenon needs leads from the one transaction to the other, and one of these
+-- back
+abbrev pub IsPair : TwoDependencies → (back : Dependencies) → (from to : ℕ) → Type 0
+IsPair search back = AreMutual search.deps.now (needed search.phenomenon) back
 
--- an edge of the needed kind from the one transaction to the other, and an edge back
-abbrev pub IsPair : Task → (from to : ℕ) → Type 0
-IsPair task from to =
-    HasEdgeBetween task.graph (needed_kinds task) from to
-    × HasEdgeBetween task.graph (back_kinds task) to from
+abbrev pub NoPair : TwoDependencies → (back : Dependencies) → Type 0
+NoPair search back = (from to : ℕ) → ¬ IsPair search back from to
 
--- ---- edges with arcs of their own
+-- ---- edges by way of a version
 
--- none by such arcs from the vertex and back
-abbrev pub NoneDirectFrom : Task → (from : ℕ) → Type 0
-NoneDirectFrom task from =
-    (to : ℕ)
-    → IsArc task.graph (needed_kinds task) from to
-    → IsArc task.graph (direct_kinds task) to from
-    → ¬ IsPair task from to
+abbrev pub IsReader : History → (version place : ℕ) → Type 0
+IsReader h version place = Contains (readers_of h.txns (version_at h.table version)) place
 
-abbrev pub NoneDirect : Task → Type 0
-NoneDirect task = (from : ℕ) → NoneDirectFrom task from
+abbrev pub IsFollower : History → (version place : ℕ) → Type 0
+IsFollower h version place =
+    (later : Version)
+    × Contains (followers_of h.table.keys h.txns (version_at h.table version)) (place, later)
 
--- ---- an edge by way of a version, and one with an arc of its own
+abbrev pub IsInstaller : History → (version place : ℕ) → Type 0
+IsInstaller h version place =
+    IsPlace h.txns place × Contains (installed_by (txn_at h.txns place)) (version_at h.table version)
 
-abbrev pub NoneBackTo : Task → (version to : ℕ) → Type 0
-NoneBackTo task version to =
-    (from : ℕ)
-    → IsWayByVersion task.graph (needed_kinds task) from version to
-    → IsArc task.graph (direct_kinds task) to from
-    → ¬ IsPair task from to
+-- such edges leave the transaction
+abbrev pub IsStart : History → Dependencies → (version place : ℕ) → Type 0
+IsStart h dependencies.None = IsInstaller h
+IsStart h dependencies.Ww = IsInstaller h
+IsStart h dependencies.Wr = IsInstaller h
+IsStart h dependencies.Rw = IsReader h
+IsStart h dependencies.WrAndWw = IsInstaller h
+IsStart h dependencies.All = IsInstaller h
 
-abbrev pub NoneByVersion : Task → (version : ℕ) → Type 0
-NoneByVersion task version = (to : ℕ) → NoneBackTo task version to
+-- they lead to it
+abbrev pub IsEnd : History → Dependencies → (version place : ℕ) → Type 0
+IsEnd h kind version place =
+    (IsTrue (has_wr kind) × IsReader h version place)
+    ⊎ (IsTrue (has_ww kind || has_rw kind) × IsFollower h version place)
 
--- ---- two edges by way of versions
+abbrev pub IsSource : TwoDependencies → (version place : ℕ) → Type 0
+IsSource search = IsStart search.deps.now (needed search.phenomenon)
 
--- by way of the one version, and back by way of the other one
-abbrev pub NoneByBoth : Task → (from version other : ℕ) → Type 0
-NoneByBoth task from version other =
-    (to : ℕ)
-    → IsWayByVersion task.graph (needed_kinds task) from version to
-    → IsWayByVersion task.graph (needed_kinds task) to other from
-    → ¬ IsPair task from to
+-- they lead from the one transaction to another one
+pub record IsWay (h : History) (kind : Dependencies) (from version to : ℕ) : Type 0 where
+  pub number : IsNumber h.table version
+  pub start : IsStart h kind version from
+  pub end : IsEnd h kind version to
+  pub other : ¬ (from ≡ to)
 
-abbrev pub NoneBackFrom : Task → (version from : ℕ) → Type 0
-NoneBackFrom task version from = (other : ℕ) → NoneByBoth task from version other
+abbrev place_of : Follower → ℕ
+place_of f = f.txn
 
-abbrev pub NoneByTwo : Task → (version : ℕ) → Type 0
-NoneByTwo task version = (from : ℕ) → NoneBackFrom task version from
-
--- for each vertex, at least the versions that lead to it and may be on a cycle with it
-abbrev pub AreFollowed : Task → List (List ℕ) → Type 0
-AreFollowed task followed =
-    (version to : ℕ)
-    → ¬ IsPlace task.graph.txns version
-    → IsArc task.graph (needed_kinds task) version to
-    → AreLevel task.graph version to
-    → Contains (slice_index_or followed to []) version
-
--- all of the one are among the other
-abbrev pub Includes : List (ℕ × ℕ) → List (ℕ × ℕ) → Type 0
-Includes few more = (pair : ℕ × ℕ) → Contains few pair → Contains more pair
-
--- what the version leads to and may be on a cycle with it, with the version
-abbrev pub HasFollowers : Task → (version : ℕ) → List (ℕ × ℕ) → Type 0
-HasFollowers task version pairs =
-    (to : ℕ)
-    → ¬ IsPlace task.graph.txns version
-    → IsArc task.graph (needed_kinds task) version to
-    → AreLevel task.graph version to
-    → Contains pairs (to, version)
+abbrev pub places_of : List Follower → List ℕ
+places_of followers = map place_of followers
 
 -- ---- marks
 
-abbrev pub IsMarked : (number : ℕ) → List ℕ → (vertex : ℕ) → Type 0
-IsMarked number marks vertex = slice_index marks vertex ≡ number
+abbrev pub IsIn : Marks → (number : ℕ) → Type 0
+IsIn marks number = slice_index marks.marks.items number ≡ marks.mark
 
--- what was marked with the number still is
-abbrev pub KeepsMarks : (number : ℕ) → (before after : List ℕ) → Type 0
-KeepsMarks number before after =
-    (vertex : ℕ) → IsMarked number before vertex → IsMarked number after vertex
+abbrev pub KeepsMarks : (before after : Marks) → Type 0
+KeepsMarks before after = (number : ℕ) → IsIn before number → IsIn after number
 
-abbrev pub AreMarked : (number : ℕ) → List ℕ → (vertices : List ℕ) → Type 0
-AreMarked number marks vertices =
-    (vertex : ℕ) → Contains vertices vertex → IsMarked number marks vertex
+-- ---- a needed edge by way of a version, and a ww or wr edge back
 
--- the readers of a version are marked with it
-abbrev pub AreReadersMarked : Task → (version : ℕ) → List ℕ → Type 0
-AreReadersMarked task version marks =
+abbrev pub NoneBackBy : TwoDependencies → Marks → (version to : ℕ) → Type 0
+NoneBackBy search marks version to =
     (from : ℕ)
-    → IsArc task.graph (needed_kinds task) from version
-    → IsMarked version marks from
+    → IsIn marks from
+    → IsEnd search.deps.now (direct_back search.phenomenon) version from
+    → ¬ IsPair search (direct_back search.phenomenon) from to
 
--- so is what a follower of a version leads to, if it may be on a cycle with the version
-abbrev pub IsReadMarked : Task → (version to : ℕ) → List ℕ → Type 0
-IsReadMarked task version to marks =
-    (other : ℕ)
-    → IsArc task.graph (needed_kinds task) to other
-    → IsMarked version marks other
+abbrev pub NoneBackFrom : TwoDependencies → Marks → (to : ℕ) → Type 0
+NoneBackFrom search marks to =
+    (version from : ℕ)
+    → IsIn marks from
+    → IsWay search.deps.now (direct_back search.phenomenon) to version from
+    → ¬ IsPair search (direct_back search.phenomenon) from to
 
-abbrev pub AreReadMarked : Task → (version : ℕ) → List ℕ → Type 0
-AreReadMarked task version marks =
+-- from one that needed edges leave by way of the version
+abbrev pub NoneBackWay : TwoDependencies → (version to : ℕ) → Type 0
+NoneBackWay search version to =
+    (other from : ℕ)
+    → IsSource search version from
+    → IsWay search.deps.now (direct_back search.phenomenon) to other from
+    → ¬ IsPair search (direct_back search.phenomenon) from to
+
+abbrev pub NoneBy : TwoDependencies → (version : ℕ) → Type 0
+NoneBy search version =
+    (other from to : ℕ)
+    → IsWay search.deps.now (needed search.phenomenon) from version to
+    → IsWay search.deps.now (direct_back search.phenomenon) to other from
+    → ¬ IsPair search (direct_back search.phenomenon) from to
+
+-- ---- two rw edges by way of versions
+
+abbrev pub NoneByBoth : TwoDependencies → (version from other : ℕ) → Type 0
+NoneByBoth search version from other =
     (to : ℕ)
-    → IsArc task.graph (needed_kinds task) version to
-    → AreLevel task.graph version to
-    → IsReadMarked task version to marks
+    → IsWay search.deps.now dependencies.Rw from version to
+    → IsWay search.deps.now dependencies.Rw to other from
+    → ¬ IsPair search dependencies.Rw from to
+
+abbrev pub NoneByMarked : TwoDependencies → Marks → (version from other : ℕ) → Type 0
+NoneByMarked search read version from other =
+    IsNumber search.deps.now.table other → IsIn read other → NoneByBoth search version from other
+
+abbrev pub NoneByTwoFrom : TwoDependencies → (version from : ℕ) → Type 0
+NoneByTwoFrom search version from = (other : ℕ) → NoneByBoth search version from other
+
+abbrev pub NoneByTwo : TwoDependencies → (version : ℕ) → Type 0
+NoneByTwo search version = (from : ℕ) → NoneByTwoFrom search version from
+
+-- for each transaction, the versions that it follows
+abbrev pub AreFollowed : TwoDependencies → List (List ℕ) → Type 0
+AreFollowed search followed =
+    (version place : ℕ)
+    → IsNumber search.deps.now.table version
+    → IsFollower search.deps.now version place
+    → Contains (slice_index_or followed place []) version
+
+-- the version's followers, with the version
+abbrev pub HasFollowers : TwoDependencies → (version : ℕ) → List (ℕ × ℕ) → Type 0
+HasFollowers search version pairs =
+    (place : ℕ) → IsFollower search.deps.now version place → Contains pairs (place, version)
+
+-- what the transaction reads is marked
+abbrev pub IsReadMarked : TwoDependencies → (place : ℕ) → Marks → Type 0
+IsReadMarked search place read =
+    (version : ℕ)
+    → IsNumber search.deps.now.table version
+    → IsReader search.deps.now version place
+    → IsIn read version
+
+-- so is what a follower of the version reads
+abbrev pub AreReadMarked : TwoDependencies → (version : ℕ) → Marks → Type 0
+AreReadMarked search version read =
+    (place : ℕ) → IsFollower search.deps.now version place → IsReadMarked search place read

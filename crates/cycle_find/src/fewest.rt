@@ -16,8 +16,7 @@ ghost use Rattle.hist_types.specs.Witness.{HasFewest};
 ghost use Rattle.cycle_find.specs.Fewest.{AreLabels, AreMarkedFor, AreTrueMarks, IsReturnAlong, IsReturnIfAny, IsWithinOr, NoneTo, is_marked_version};
 ghost use Rattle.cycle_find.specs.Found.{NeedsMoreThan};
 ghost use Rattle.cycle_find.specs.Past.{AreRanksPast};
-ghost use Rattle.cycle_find.specs.Tasks.{task_of};
-ghost use Rattle.cycle_find.specs.TwoDependencies.{vertices_in};
+ghost use Rattle.cycle_find.specs.Tasks.{task_of, vertices_in};
 
 use crate::kinds::{needed, others, way_back};
 use crate::leading::{last_leading, leading};

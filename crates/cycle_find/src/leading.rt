@@ -3,7 +3,7 @@
 ghost use Rattle.std.specs.Prelude.{◌≡◌, ◌<◌, length, All, OnOk, IfOk};
 ghost use Rattle.flat_groups.specs.Groups.{IsNumbered};
 ghost use Rattle.cycle_find.specs.Fewest.{AreLast, AreLeading, AreRaised, HasArcsFrom, HaveAtLeast, IsTurnedArc};
-ghost use Rattle.cycle_find.specs.TwoDependencies.{Includes};
+ghost use Rattle.cycle_find.specs.Tasks.{Includes};
 
 use crate::sharing::number;
 use edge_graph::arcs::GraphArcs;

@@ -15,5 +15,5 @@ mod settle;
 mod sharing;
 pub mod single;
 mod single_ends;
-mod two_dependencies;
+pub mod two_dependencies;
 pub mod types;

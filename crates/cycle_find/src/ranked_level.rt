@@ -6,8 +6,7 @@ ghost use Rattle.hist_types.specs.declared.types.Phenomenon.TheVariants.{GSingle
 ghost use Rattle.hist_types.specs.Phenomena.{Shows};
 ghost use Rattle.hist_types.specs.Witness.{HasFewest};
 ghost use Rattle.cycle_find.specs.Dependencies as walks;
-ghost use Rattle.cycle_find.specs.Found.{HasFewestIfAny, IsFound, IsFoundByFewest, NeedsMoreThan, floor_of};
-ghost use Rattle.hist_types.specs.declared.types.Level.TheVariants.{Plain};
+ghost use Rattle.cycle_find.specs.Found.{HasFewestIfAny, IsFound, IsFoundByFewest, NeedsAtLeast, NeedsMoreThan};
 ghost use Rattle.cycle_find.specs.Ranked.{AreRanksAtAll};
 ghost use Rattle.cycle_find.specs.Sharing.{AreSharing};
 ghost use Rattle.cycle_find.specs.Tasks.{site_of, task_of};
@@ -19,7 +18,6 @@ use crate::one_dependency::OneDependency;
 use crate::ranking::{Rankings, far_and_late, ranks_within};
 use crate::settle::shows_none;
 use crate::sharing::Shared;
-use crate::two_dependencies::TwoDependencies;
 use crate::types::Walk;
 use edge_graph::graph::Graph;
 use edge_graph::types::Dependencies;
@@ -81,54 +79,26 @@ impl<'r, 'g, 'v, 'a> RankedLevel<'r, 'g, 'v, 'a> {
     }
 
     /// A closed walk that shows the phenomenon at the level, or none where the graph's edges have
-    /// none. Of all such walks it has the fewest dependency edges; order edges count nothing.
+    /// none. Of all such walks it has the fewest dependency edges; order edges count nothing. It is
+    /// known that each has at least so many.
     ///
     /// It takes a few numbers for each vertex and arc, and no edges are stored but those of the
     /// walk.
-    pub fn find(&self, phenomenon: Phenomenon) -> Result<Option<Walk<'a>>, AllocError>
+    pub fn find(&self, phenomenon: Phenomenon, least: usize) -> Result<Option<Walk<'a>>, AllocError>
+        requires { NeedsAtLeast least phenomenon (edges_in self.now.graph self.now.level) }
         ensures found { IfOk result (IsFound phenomenon (edges_in self.now.graph self.now.level)) }
         ensures fewest { IfOk result
             (HasFewestIfAny (task_of self.now.graph phenomenon self.now.level)) }
     {
-        let found = self.find_floor(phenomenon)?;
+        let found = self.find_by_one(phenomenon)?;
         if found.is_some() {
             return Ok(found);
         }
+        let floor = least.max(2) - 1;
         match self.find_first(phenomenon)? {
-            Some(first) => Ok(Some(self.find_fewest(phenomenon, first)?)),
+            Some(first) => Ok(Some(self.find_fewest(phenomenon, first, floor)?)),
             None => Ok(None),
         }
-    }
-
-    /// The fewest dependency edges that any closed walk at the level can have.
-    fn floor(&self) -> usize
-        ensures { result ≡ floor_of self.now.level }
-    {
-        match self.level {
-            Level::Plain => 2,
-            Level::Process | Level::Realtime => 1,
-        }
-    }
-
-    /// A closed walk that shows the phenomenon with no more than those.
-    fn find_floor(&self, phenomenon: Phenomenon) -> Result<Option<Walk<'a>>, AllocError>
-        ensures { IfOk result
-            (IsFoundByFewest (floor_of self.now.level)
-            (task_of self.now.graph phenomenon self.now.level)) }
-    {
-        match self.level {
-            Level::Plain => self.find_by_two(phenomenon),
-            Level::Process | Level::Realtime => self.find_by_one(phenomenon),
-        }
-    }
-
-    /// A closed walk that shows the phenomenon with two edges.
-    fn find_by_two(&self, phenomenon: Phenomenon) -> Result<Option<Walk<'a>>, AllocError>
-        requires { self.now.level ≡ Plain }
-        ensures { IfOk result
-            (IsFoundByFewest 2 (task_of self.now.graph phenomenon self.now.level)) }
-    {
-        TwoDependencies::new(self.alloc, self.graph, phenomenon, self.coarse, self.shared).find()
     }
 
     /// A closed walk that shows the phenomenon with one dependency edge.
@@ -152,15 +122,18 @@ impl<'r, 'g, 'v, 'a> RankedLevel<'r, 'g, 'v, 'a> {
 
     /// A closed walk with the fewest, by one that shows the phenomenon. Each has more than the
     /// floor.
-    fn find_fewest(&self, phenomenon: Phenomenon, first: Walk<'a>) -> Result<Walk<'a>, AllocError>
+    fn find_fewest(
+        &self,
+        phenomenon: Phenomenon,
+        first: Walk<'a>,
+        floor: usize,
+    ) -> Result<Walk<'a>, AllocError>
         requires { Shows phenomenon (edges_in self.now.graph self.now.level) first }
         ensures shows { IfOk result (Shows phenomenon (edges_in self.now.graph self.now.level)) }
-        ensures fewest { NeedsMoreThan (floor_of self.now.level) phenomenon
-            (edges_in self.now.graph self.now.level)
+        ensures fewest { NeedsMoreThan floor phenomenon (edges_in self.now.graph self.now.level)
             → IfOk result (HasFewest phenomenon (edges_in self.now.graph self.now.level)) }
     {
-        let floor = self.floor();
-        if first.dependency_edges() <= floor + 1 {
+        if first.dependency_edges().saturating_sub(1) <= floor {
             return Ok(first);
         }
         Fewest::new(self.alloc, self.graph, phenomenon, self.level)?.find(first, floor)

@@ -2,7 +2,7 @@
 
 ghost use Rattle.std.specs.Prelude.{◌≡◌, ◌<◌, ◌≤◌, length, All, Contains, IfOk, OnOk};
 ghost use Rattle.cycle_find.specs.Past.{AreArcLists, HasArcsPast, IsPairWithin, RisePast};
-ghost use Rattle.cycle_find.specs.TwoDependencies.{Includes};
+ghost use Rattle.cycle_find.specs.Tasks.{Includes};
 
 use crate::sharing::{Shared, number};
 use edge_graph::arcs::GraphArcs;

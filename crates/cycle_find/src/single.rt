@@ -10,12 +10,12 @@ ghost use Rattle.hist_types.specs.declared.types.Phenomenon.TheVariants.{G1c, GS
 ghost use Rattle.cycle_find.specs.Dependencies as walks;
 ghost use Rattle.cycle_find.specs.Found.{ShowsByFewest};
 ghost use Rattle.edge_graph.specs.Kinds.{AreAmong};
-ghost use Rattle.cycle_find.specs.Single.{IsDependencyBetween, IsProcessEdgeBetween};
+ghost use Rattle.cycle_find.specs.Single.{AreMutual, AreTwoOr, IsDependencyIfAny, IsProcessEdgeBetween};
 
 use crate::completions::is_before;
 use crate::kinds::{needed, way_back};
 use crate::one_dependency::Ends;
-use crate::single_ends::{in_process, losing, mutual};
+use crate::single_ends::in_process;
 use crate::types::Walk;
 use dep_edges::deps::Deps;
 use dep_edges::edge::{Edge, Label};
@@ -32,7 +32,7 @@ fn dependency<'a>(
     to: usize,
     kinds: Kinds,
 ) -> Result<Option<Edge<'a>>, AllocError>
-    ensures { IfOk result (λ found. IfSome found (IsDependencyBetween deps.now kinds from to)) }
+    ensures { IfOk result (IsDependencyIfAny deps.now kinds from to) }
 {
     let history = deps.history();
     let count = history.txns().len();
@@ -72,7 +72,7 @@ fn process_edge<'a>(deps: &Deps<'_, 'a>, from: usize, to: usize) -> Option<Edge<
 
 /// The closed walk along an edge that the phenomenon needs, from one transaction to another, and an
 /// edge of these dependencies back, if both are there.
-fn there_and_back<'a>(
+pub(crate) fn there_and_back<'a>(
     alloc: Global,
     deps: &Deps<'_, 'a>,
     phenomenon: Phenomenon,
@@ -80,8 +80,8 @@ fn there_and_back<'a>(
     back: Dependencies,
 ) -> Result<Option<Walk<'a>>, AllocError>
     requires { AreAmong back (walks.way_back phenomenon) }
-    ensures { IfOk result (λ found. IfSome found
-        (ShowsByFewest phenomenon (edges_at deps.now.table.keys Plain deps.now.txns))) }
+    ensures { IfOk result (AreTwoOr phenomenon deps.now
+        (¬ AreMutual deps.now (walks.needed phenomenon) back ends.from ends.to)) }
 {
     let out = Kinds::of(needed(phenomenon), Level::Plain);
     let Some(edge) = dependency(alloc, deps, ends.from, ends.to, out)? else {
@@ -109,74 +109,6 @@ pub fn between<'a>(
 {
     let ends = Ends { from, to };
     there_and_back(alloc, deps, phenomenon, ends, way_back(phenomenon))
-}
-
-/// A closed walk along an rw edge and a ww or wr edge back, if one look at each version finds one:
-/// two transactions of which each depends on the other.
-///
-/// `verdict` asks for it before it builds a graph. It takes linear time, and a number for each
-/// transaction.
-pub fn single_at_plain<'a>(
-    alloc: Global,
-    deps: &Deps<'_, 'a>,
-) -> Result<Option<Walk<'a>>, AllocError>
-    ensures { IfOk result (λ found.
-        IfSome found (ShowsByFewest GSingle (edges_at deps.now.table.keys Plain deps.now.txns))) }
-{
-    let direct = Dependencies::WrAndWw;
-    match mutual(alloc, deps, Dependencies::Rw, direct)? {
-        Some(ends) => there_and_back(alloc, deps, Phenomenon::GSingle, ends, direct),
-        None => Ok(None),
-    }
-}
-
-/// A closed walk along a wr edge and a ww or wr edge back, if one look at each version finds one:
-/// two transactions of which each reads or writes over what the other one wrote (circular
-/// information flow).
-///
-/// `verdict` asks for it before it builds a graph. It takes linear time, and a number for each
-/// transaction.
-pub fn circular_flow<'a>(alloc: Global, deps: &Deps<'_, 'a>) -> Result<Option<Walk<'a>>, AllocError>
-    ensures { IfOk result (λ found.
-        IfSome found (ShowsByFewest G1c (edges_at deps.now.table.keys Plain deps.now.txns))) }
-{
-    let direct = Dependencies::WrAndWw;
-    match mutual(alloc, deps, Dependencies::Wr, direct)? {
-        Some(ends) => there_and_back(alloc, deps, Phenomenon::G1c, ends, direct),
-        None => Ok(None),
-    }
-}
-
-/// A closed walk along two rw edges, if one look at each version finds one: two transactions that
-/// read a version, and each wrote over it, so that one of the updates is lost.
-///
-/// `verdict` asks for it before it builds a graph. It looks through what a transaction reads once
-/// for each version that the transaction follows.
-pub fn lost_update<'a>(alloc: Global, deps: &Deps<'_, 'a>) -> Result<Option<Walk<'a>>, AllocError>
-    ensures { IfOk result (λ found.
-        IfSome found (ShowsByFewest G2Item (edges_at deps.now.table.keys Plain deps.now.txns))) }
-{
-    let rw = Dependencies::Rw;
-    match losing(deps) {
-        Some(ends) => there_and_back(alloc, deps, Phenomenon::G2Item, ends, rw),
-        None => Ok(None),
-    }
-}
-
-/// A closed walk along two rw edges, if one look at each version finds one: two transactions of
-/// which each wrote over what the other one read (write skew).
-///
-/// `verdict` asks for it before it builds a graph. It takes linear time, and a number for each
-/// transaction.
-pub fn write_skew<'a>(alloc: Global, deps: &Deps<'_, 'a>) -> Result<Option<Walk<'a>>, AllocError>
-    ensures { IfOk result (λ found.
-        IfSome found (ShowsByFewest G2Item (edges_at deps.now.table.keys Plain deps.now.txns))) }
-{
-    let rw = Dependencies::Rw;
-    match mutual(alloc, deps, rw, rw)? {
-        Some(ends) => there_and_back(alloc, deps, Phenomenon::G2Item, ends, rw),
-        None => Ok(None),
-    }
 }
 
 /// A closed walk along an rw edge and a process edge back, if one look at each version finds one: a

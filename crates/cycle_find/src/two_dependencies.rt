@@ -1,158 +1,323 @@
-//! The search for a closed walk with two edges, at the level plain.
+//! The search for two transactions that depend on each other: a closed walk of two dependency
+//! edges. At the level plain no closed walk has fewer, since an edge joins two different
+//! transactions.
 //!
-//! There no closed walk has fewer, since an edge joins two different transactions. In one that has
-//! two, each of two transactions leads to the other: directly, by a ww or wr edge, or by way of a
-//! version, by an rw edge.
-//!
-//! It looks at each version together with what its followers read and lead to and with what its
-//! readers follow, never at all pairs of a reader and a follower. So it takes time linear in the
-//! arcs, times the number of versions that one transaction reads or follows. The followers of a
-//! version are gone through again only where one of its readers is a follower as well; where two of
-//! them are, they make such a walk. Two numbers for each vertex and two for each pair of a version
-//! and a follower are stored.
+//! Every dependency edge goes by way of a version. It leaves the transaction that installs the
+//! version and leads to one that reads it (wr) or follows it (ww), or it leaves one that reads the
+//! version and leads to one that follows it (rw). So versions are looked at one by one: each with
+//! the ww and wr edges that leave those to which it leads, or with what its followers read and what
+//! its readers follow, and never with all pairs of a reader and a follower. That takes time linear
+//! in what the versions' rows hold, times the number of versions that one transaction touches, and
+//! a few numbers for each transaction, version and follower.
 
-ghost use Rattle.std.specs.Prelude.{◌≡◌, ◌<◌, ℕ, length, All, Contains, IfOk, OnOk};
+ghost use Rattle.std.specs.Prelude.{◌≡◌, ◌<◌, ◌||◌, ◌==◌, ℕ, ⊤, length, slice_index, All, Contains, IsTrue, IfOk, OnOk};
 ghost use Rattle.std.specs.Bool.{OnFalse};
-ghost use Rattle.dep_edges.specs.Tables.{IsPlace};
-ghost use Rattle.edge_graph.specs.Vertices.{graph_by};
+ghost use Rattle.std.specs.List.{list_any};
+ghost use Rattle.dep_edges.specs.Tables.{IsPlace, IsNumber};
+ghost use Rattle.edge_graph.specs.Kinds.{AreAmong};
 ghost use Rattle.edge_graph.specs.declared.types.Dependencies.TheVariants.{Rw};
-ghost use Rattle.edge_graph.specs.declared.types.Dependencies.TheVariants as dependencies;
 ghost use Rattle.flat_groups.specs.Groups.{IsNumbered};
-ghost use Rattle.graph_search.specs.Graphs.{HasArc};
+ghost use Rattle.hist_types.specs.Edges.{edges_at};
 ghost use Rattle.hist_types.specs.declared.types.Level.TheVariants.{Plain};
+ghost use Rattle.hist_types.specs.declared.types.Phenomenon.TheVariants.{G2Item};
 ghost use Rattle.cycle_find.specs.Dependencies as walks;
-ghost use Rattle.cycle_find.specs.Found.{IsFewestOr, IsFoundByFewest};
-ghost use Rattle.cycle_find.specs.OneDependency.{IsVertex};
-ghost use Rattle.cycle_find.specs.Tasks.{task_of};
-ghost use Rattle.cycle_find.specs.Ranked.{AreRanksOver};
-ghost use Rattle.cycle_find.specs.Sharing.{AreSharing};
-ghost use Rattle.edge_graph.specs.Kinds.{kinds_of};
-ghost use Rattle.cycle_find.specs.TwoDependencies.{AreLevel, IsPair, NoneDirect, NoneDirectFrom, NoneByVersion, NoneBackTo, NoneByTwo, NoneBackFrom, NoneByBoth, AreFollowed, HasFollowers, Includes, vertices_in, IsMarked, KeepsMarks, AreMarked, AreReadersMarked, IsReadMarked, AreReadMarked};
+ghost use Rattle.cycle_find.specs.Tasks.{Includes};
+ghost use Rattle.cycle_find.specs.TwoDependencies.{AreFollowed, AreReadMarked, IsEnd, IsFollower, IsIn, IsReader, IsSource, IsTwoOr, IsMutual, IsReadMarked, HasFollowers, KeepsMarks, NoPair, NoneBackBy, NoneBackFrom, NoneBy, NoneByMarked, NoneByTwo, NoneByTwoFrom, IsPair, places_of};
 
-use crate::kinds::{direct_back, needed, way_back};
-use crate::sharing::{Shared, number};
+use crate::kinds::{direct_back, needed};
+use crate::one_dependency::Ends;
+use crate::sharing::number;
+use crate::single::there_and_back;
 use crate::types::Walk;
-use edge_graph::arcs::GraphArcs;
-use edge_graph::graph::Graph;
+use dep_edges::deps::Deps;
 use edge_graph::types::{Dependencies, Kinds};
 use flat_groups::groups::Groups;
-use graph_search::arcs::{Arcs, Successors};
-use graph_search::ranks::Ranks;
 use hist_types::types::{Level, Phenomenon};
+use key_versions::types::Follower;
 use std::alloc::{AllocError, Global};
 use std::marker::Model;
 
-/// Whether there is an arc from one vertex to the other.
-fn leads(arcs: &GraphArcs<'_>, from: usize, to: usize) -> bool
-    requires { from < length arcs.now }
-    ensures { OnFalse result (¬ HasArc (graph_by arcs.now) from to) }
-{
-    let successors = arcs.successors(from);
-    for index in 0..successors.len() {
-        if successors.at(index) == to {
-            return true;
-        }
-    }
-    false
-}
-
-/// Marks the vertices with the number.
-fn mark(vertices: &Successors<'_>, number: usize, marks: &mut [usize])
-    requires { length marks.old ≡ vertices.now.count }
-    ensures length { length marks.new ≡ length marks.old }
-    ensures kept { KeepsMarks number marks.old marks.new }
-    ensures marked { AreMarked number marks.new vertices.now.to }
-{
-    for index in 0..vertices.len() {
-        marks[vertices.at(index)] = number;
-    }
-}
-
-/// Whether a vertex is marked with the number. One that has no mark isn't.
-fn is_marked(marks: &[usize], vertex: usize, number: usize) -> bool
-    ensures { vertex < length marks.now → OnFalse result (¬ IsMarked number marks.now vertex) }
-{
-    marks.get(vertex) == Some(&number)
-}
-
-/// A search for a closed walk with two edges that shows a phenomenon at the level plain.
+/// What a search for two transactions finds.
 #[derive(Drop)]
-pub(crate) struct TwoDependencies<'r, 'g, 'v, 'a> {
+pub enum Mutual<'a> {
+    /// Two, with the closed walk along an edge from one to the other and an edge back.
+    Found(Walk<'a>),
+    /// There are none.
+    Nowhere,
+    /// The steps didn't suffice to tell.
+    Unknown,
+}
+
+/// How many steps a search takes, at most, for each transaction and version, where it is to be
+/// linear. For most histories that is enough.
+const STEPS: usize = 32;
+
+/// So many steps that a search within them is linear in the history.
+pub fn linear_steps(deps: &Deps<'_, '_>) -> usize {
+    let history = deps.history();
+    let numbers = history.txns().len().saturating_add(history.versions());
+    numbers.saturating_mul(STEPS)
+}
+
+/// Why a search stopped.
+#[derive(Clone, Copy)]
+enum Stop {
+    OutOfMemory,
+    OutOfSteps,
+}
+
+impl From<AllocError> for Stop {
+    fn from(_error: AllocError) -> Self {
+        Stop::OutOfMemory
+    }
+}
+
+/// The places of a version's readers or followers, or of both.
+#[derive(Drop)]
+struct Places<'v> {
+    readers: &'v [u32],
+    followers: &'v [Follower],
+}
+
+impl<'v> Model for Places<'v> {
+    ghost use Rattle.std.specs.Prelude.{◌++◌, ℕ, List, map};
+    ghost use Rattle.cycle_find.specs.TwoDependencies.{places_of};
+
+    ghost Value = { List ℕ };
+
+    ghost view = { λ p. p.readers.now ++ places_of p.followers.now };
+}
+
+impl<'v> Places<'v> {
+    fn len(&self) -> usize
+        ensures { result ≡ length self.now }
+    {
+        self.readers.len() + self.followers.len()
+    }
+
+    fn at(&self, index: usize) -> usize
+        requires { index < length self.now }
+        ensures { result ≡ slice_index self.now index }
+    {
+        if index < self.readers.len() {
+            self.readers[index] as usize
+        } else {
+            self.followers[index - self.readers.len()].txn as usize
+        }
+    }
+}
+
+/// Some transactions or versions by their numbers, and the steps that a search has left.
+#[derive(Drop)]
+struct Marks {
+    marks: Vec<usize>,
+    /// The mark of those that are among them.
+    mark: usize,
+    steps: usize,
+}
+
+impl Marks {
+    fn new(alloc: Global, numbers: usize, steps: usize) -> Result<Self, AllocError>
+        ensures { IfOk result (λ marks. length marks.marks.items ≡ numbers) }
+    {
+        Ok(Marks {
+            marks: vec![in alloc; usize::MAX; numbers]?,
+            mark: 0,
+            steps,
+        })
+    }
+
+    /// None of them any more, if none has this mark.
+    fn clear(&mut self, mark: usize)
+        ensures { length self.new.marks.items ≡ length self.old.marks.items }
+    {
+        self.mark = mark;
+    }
+
+    fn add(&mut self, number: usize)
+        requires { number < length self.old.marks.items }
+        ensures length { length self.new.marks.items ≡ length self.old.marks.items }
+        ensures kept { KeepsMarks self.old self.new }
+        ensures added { IsIn self.new number }
+    {
+        self.marks[number] = self.mark;
+    }
+
+    fn contains(&self, number: usize) -> bool
+        ensures { number < length self.now.marks.items → OnFalse result (¬ IsIn self.now number) }
+    {
+        self.marks.get(number) == Some(&self.mark)
+    }
+
+    fn spend(&mut self, steps: usize) -> Result<(), Stop>
+        ensures length { length self.new.marks.items ≡ length self.old.marks.items }
+        ensures kept { KeepsMarks self.old self.new }
+    {
+        if steps >= self.steps {
+            return Err(Stop::OutOfSteps);
+        }
+        self.steps -= steps;
+        Ok(())
+    }
+}
+
+fn is_among(numbers: &[u32], number: u32) -> bool
+    ensures { result ≡ list_any (λ m. m == number) numbers.now }
+{
+    numbers.contains(&number)
+}
+
+/// A search for two transactions that show a phenomenon at the level plain.
+#[derive(Drop)]
+struct TwoDependencies<'r, 'v, 'a> {
     alloc: Global,
-    graph: &'r Graph<'g, 'v, 'a>,
+    deps: &'r Deps<'v, 'a>,
     phenomenon: Phenomenon,
-    /// Ranks that fall along no arc, so that they are the same all along a cycle.
-    coarse: &'r Ranks,
-    /// The vertices that share their rank with another one. All cycles are among them.
-    shared: &'r Shared,
-    /// The arcs of the edges of which it needs one.
-    needed: GraphArcs<'r>,
-    /// The arcs of the ww and wr edges that may lead back.
-    back: GraphArcs<'r>,
 }
 
-impl<'r, 'g, 'v, 'a> Model for TwoDependencies<'r, 'g, 'v, 'a> {
-    ghost use Rattle.hist_types.specs.declared.types.Level.TheVariants.{Plain};
-    ghost use Rattle.cycle_find.specs.Tasks.{Task, task_of};
-    ghost use Rattle.cycle_find.specs.TwoDependencies.{IsReadyForTwo};
-
-    ghost Value = { Task };
-
-    ghost view = { λ o. task_of o.graph.now o.phenomenon Plain };
-
-    ghost invariant = { λ o. IsReadyForTwo
-        (task_of o.graph.now o.phenomenon Plain) o.needed o.back o.coarse.now o.shared.now };
-}
-
-impl<'r, 'g, 'v, 'a> TwoDependencies<'r, 'g, 'v, 'a> {
-    pub fn new(
-        alloc: Global,
-        graph: &'r Graph<'g, 'v, 'a>,
-        phenomenon: Phenomenon,
-        coarse: &'r Ranks,
-        shared: &'r Shared,
-    ) -> Self
-        requires coarse { AreRanksOver graph.now (kinds_of dependencies.All Plain) coarse.now }
-        requires shared { AreSharing coarse.now shared.now }
-        ensures { result ≡ task_of graph.now phenomenon Plain }
+impl<'r, 'v, 'a> TwoDependencies<'r, 'v, 'a> {
+    fn find(&self, steps: usize) -> Result<Option<Walk<'a>>, Stop>
+        ensures { IfOk result (IsTwoOr self.now
+            (NoPair self.now (walks.way_back self.now.phenomenon))) }
     {
-        TwoDependencies {
-            alloc,
-            graph,
-            phenomenon,
-            coarse,
-            shared,
-            needed: graph.arcs(needed(phenomenon), Level::Plain),
-            back: graph.arcs(direct_back(phenomenon), Level::Plain),
+        match self.phenomenon {
+            Phenomenon::G2Item => self.find_item(steps),
+            _ => self.by_versions(steps),
         }
     }
 
-    /// Whether two vertices have one rank.
-    fn are_level(&self, vertex: usize, other: usize) -> bool
-        requires vertex { IsVertex self.now vertex }
-        requires other { IsVertex self.now other }
-        ensures { OnFalse result (¬ AreLevel self.now.graph vertex other) }
+    /// Two that show G2-item: by a lost update, if there is one, since it tells a reader most, then
+    /// by two rw edges, so that they tell something else than G-single does.
+    fn find_item(&self, steps: usize) -> Result<Option<Walk<'a>>, Stop>
+        requires { self.now.phenomenon ≡ G2Item }
+        ensures { IfOk result (IsTwoOr self.now
+            (NoPair self.now (walks.way_back self.now.phenomenon))) }
     {
-        self.coarse.rank(vertex) == self.coarse.rank(other)
+        let lost = self.lost_update(steps)?;
+        if lost.is_some() {
+            return Ok(lost);
+        }
+        let skew = self.by_two_versions(steps)?;
+        if skew.is_some() {
+            return Ok(skew);
+        }
+        self.by_versions(steps)
     }
 
-    /// A closed walk with two edges.
-    pub fn find(&self) -> Result<Option<Walk<'a>>, AllocError>
-        ensures { IfOk result (IsFoundByFewest 2 self.now) }
+    /// Two that read a version and follow it.
+    fn lost_update(&self, steps: usize) -> Result<Option<Walk<'a>>, Stop>
+        requires { self.now.phenomenon ≡ G2Item }
+        ensures { IfOk result (IsTwoOr self.now ⊤) }
     {
+        let history = self.deps.history();
+        let mut readers = Marks::new(self.alloc, history.txns().len(), steps)?;
+        for version in 0..history.versions() {
+            let found = self.lost_update_of(version, &mut readers)?;
+            if found.is_some() {
+                return Ok(found);
+            }
+        }
+        Ok(None)
+    }
+
+    /// Two that read the version and follow it. Its readers get marked.
+    fn lost_update_of(
+        &self,
+        version: usize,
+        readers: &mut Marks,
+    ) -> Result<Option<Walk<'a>>, AllocError>
+        requires item { self.now.phenomenon ≡ G2Item }
+        requires version { IsNumber self.now.deps.now.table version }
+        requires marks { length readers.old.marks.items ≡ length self.now.deps.now.txns }
+        ensures marks { length readers.new.marks.items ≡ length self.now.deps.now.txns }
+        ensures found { IfOk result (IsTwoOr self.now ⊤) }
+    {
+        self.mark_sources(version, readers);
+        let mut first = None;
+        for follower in self.deps.history().followers(version) {
+            let to = follower.txn as usize;
+            if readers.contains(to) {
+                match first {
+                    Some(from) if from != to => {
+                        return self.close(from, to, Dependencies::Rw);
+                    }
+                    _ => first = Some(to),
+                }
+            }
+        }
+        Ok(None)
+    }
+
+    /// Marks the transactions that needed edges leave by way of the version, and no others.
+    fn mark_sources(&self, version: usize, sources: &mut Marks)
+        requires version { IsNumber self.now.deps.now.table version }
+        requires marks { length sources.old.marks.items ≡ length self.now.deps.now.txns }
+        ensures length { length sources.new.marks.items ≡ length self.now.deps.now.txns }
+        ensures marked { (place : ℕ) → IsSource self.now version place
+            → IsIn sources.new place }
+    {
+        let history = self.deps.history();
+        sources.clear(version);
         if needed(self.phenomenon) == Dependencies::Rw {
-            self.by_rw()
+            for place in history.readers(version) {
+                sources.add(*place as usize);
+            }
+        } else if let Some(writer) = history.writer(version) {
+            sources.add(writer.txn as usize);
+        }
+    }
+
+    /// The readers of the version, if wr edges are of the kinds.
+    fn readers(&self, kinds: Kinds, version: usize) -> &'v [u32]
+        requires { IsNumber self.now.deps.now.table version }
+        ensures within { All (IsPlace self.now.deps.now.txns) result.now }
+        ensures all { (place : ℕ) → IsTrue kinds.wr → IsReader self.now.deps.now version place
+            → Contains result.now place }
+    {
+        if kinds.wr {
+            self.deps.history().readers(version)
         } else {
-            self.direct()
+            &[]
         }
     }
 
-    /// One along two edges with arcs of their own: ww or wr edges.
-    fn direct(&self) -> Result<Option<Walk<'a>>, AllocError>
-        ensures { IfOk result (IsFewestOr self.now (NoneDirect self.now)) }
+    /// The followers of the version, if ww or rw edges are of the kinds.
+    fn followers(&self, kinds: Kinds, version: usize) -> &'v [Follower]
+        requires { IsNumber self.now.deps.now.table version }
+        ensures within { All (IsPlace self.now.deps.now.txns) (places_of result.now) }
+        ensures all { (place : ℕ) → IsTrue (kinds.ww || kinds.rw)
+            → IsFollower self.now.deps.now version place → Contains (places_of result.now) place }
     {
-        for vertex in self.shared.list() {
-            let found = self.direct_from(*vertex as usize)?;
+        if kinds.ww || kinds.rw {
+            self.deps.history().followers(version)
+        } else {
+            &[]
+        }
+    }
+
+    /// The transactions to which edges of the kind lead by way of the version.
+    fn ends(&self, kind: Dependencies, version: usize) -> Places<'v>
+        requires { IsNumber self.now.deps.now.table version }
+        ensures within { All (IsPlace self.now.deps.now.txns) result }
+        ensures all { (place : ℕ) → IsEnd self.now.deps.now kind version place
+            → Contains result place }
+    {
+        let kinds = Kinds::of(kind, Level::Plain);
+        Places {
+            readers: self.readers(kinds, version),
+            followers: self.followers(kinds, version),
+        }
+    }
+
+    /// Two by a needed edge and a ww or wr edge back.
+    fn by_versions(&self, steps: usize) -> Result<Option<Walk<'a>>, Stop>
+        ensures { IfOk result (IsTwoOr self.now
+            (NoPair self.now (walks.direct_back self.now.phenomenon))) }
+    {
+        let history = self.deps.history();
+        let mut sources = Marks::new(self.alloc, history.txns().len(), steps)?;
+        for version in 0..history.versions() {
+            let found = self.by_version(version, &mut sources)?;
             if found.is_some() {
                 return Ok(found);
             }
@@ -160,46 +325,17 @@ impl<'r, 'g, 'v, 'a> TwoDependencies<'r, 'g, 'v, 'a> {
         Ok(None)
     }
 
-    /// One whose first edge has an arc that leaves the vertex.
-    fn direct_from(&self, from: usize) -> Result<Option<Walk<'a>>, AllocError>
-        requires { IsVertex self.now from }
-        ensures { IfOk result (IsFewestOr self.now (NoneDirectFrom self.now from)) }
+    /// Two of which the needed edge goes by way of the version. Those that it leaves get marked.
+    fn by_version(&self, version: usize, sources: &mut Marks) -> Result<Option<Walk<'a>>, Stop>
+        requires version { IsNumber self.now.deps.now.table version }
+        requires marks { length sources.old.marks.items ≡ length self.now.deps.now.txns }
+        ensures marks { length sources.new.marks.items ≡ length self.now.deps.now.txns }
+        ensures found { IfOk result (IsTwoOr self.now (NoneBy self.now version)) }
     {
-        let successors = self.needed.successors(from);
-        for index in 0..successors.len() {
-            let to = successors.at(index);
-            if leads(&self.back, to, from) {
-                let found = self.close(from, to)?;
-                if found.is_some() {
-                    return Ok(found);
-                }
-            }
-        }
-        Ok(None)
-    }
-
-    /// One along an rw edge: two of them where the phenomenon allows it and there is such a walk.
-    fn by_rw(&self) -> Result<Option<Walk<'a>>, AllocError>
-        requires { walks.needed self.now.phenomenon ≡ Rw }
-        ensures { IfOk result (IsFoundByFewest 2 self.now) }
-    {
-        let mut marks = vec![in self.alloc; 0; self.needed.vertices()]?;
-        let found = self.by_two_if_allowed(&mut marks)?;
-        if found.is_some() {
-            return Ok(found);
-        }
-        self.by_versions(&mut marks)
-    }
-
-    /// One along an rw edge and a ww or wr edge.
-    fn by_versions(&self, marks: &mut [usize]) -> Result<Option<Walk<'a>>, AllocError>
-        requires rw { walks.needed self.now.phenomenon ≡ Rw }
-        requires marks { length marks.old ≡ vertices_in self.now.graph }
-        ensures { IfOk result
-            (IsFewestOr self.now ((version : ℕ) → NoneByVersion self.now version)) }
-    {
-        for vertex in self.shared.list() {
-            let found = self.by_version(*vertex as usize, marks)?;
+        self.mark_sources(version, sources);
+        let ends = self.ends(needed(self.phenomenon), version);
+        for index in 0..ends.len() {
+            let found = self.back_from(ends.at(index), sources)?;
             if found.is_some() {
                 return Ok(found);
             }
@@ -207,67 +343,44 @@ impl<'r, 'g, 'v, 'a> TwoDependencies<'r, 'g, 'v, 'a> {
         Ok(None)
     }
 
-    /// One whose rw edge goes by way of the version. Its readers get marked.
-    fn by_version(
-        &self,
-        version: usize,
-        marks: &mut [usize],
-    ) -> Result<Option<Walk<'a>>, AllocError>
-        requires rw { walks.needed self.now.phenomenon ≡ Rw }
-        requires vertex { IsVertex self.now version }
-        requires marks { length marks.old ≡ vertices_in self.now.graph }
-        ensures marks { length marks.new ≡ length marks.old }
-        ensures found { IfOk result (IsFewestOr self.now (NoneByVersion self.now version)) }
+    /// Two by a ww or wr edge from the transaction back to one that is marked.
+    fn back_from(&self, to: usize, sources: &mut Marks) -> Result<Option<Walk<'a>>, Stop>
+        requires to { IsPlace self.now.deps.now.txns to }
+        requires marks { length sources.old.marks.items ≡ length self.now.deps.now.txns }
+        ensures marks { length sources.new.marks.items ≡ length self.now.deps.now.txns }
+        ensures kept { KeepsMarks sources.old sources.new }
+        ensures found { IfOk result (IsTwoOr self.now (NoneBackFrom self.now sources.old to)) }
     {
-        if version < self.graph.len() {
-            return Ok(None);
-        }
-        self.mark_readers(version, marks);
-        let followers = self.needed.successors(version);
-        for index in 0..followers.len() {
-            let to = followers.at(index);
-            if self.are_level(version, to) {
-                let found = self.back_to_reader(version, to, marks)?;
-                if found.is_some() {
-                    return Ok(found);
-                }
+        for version in self.deps.history().installs(to) {
+            let found = self.back_by(to, *version as usize, sources)?;
+            if found.is_some() {
+                return Ok(found);
             }
         }
         Ok(None)
     }
 
-    /// Marks the readers of a version with it.
-    fn mark_readers(&self, version: usize, marks: &mut [usize])
-        requires rw { walks.needed self.now.phenomenon ≡ Rw }
-        requires version { ¬ IsPlace self.now.graph.txns version }
-        requires vertex { IsVertex self.now version }
-        requires marks { length marks.old ≡ vertices_in self.now.graph }
-        ensures length { length marks.new ≡ length marks.old }
-        ensures marked { AreReadersMarked self.now version marks.new }
-    {
-        for place in self.graph.readers(version) {
-            marks[*place as usize] = version;
-        }
-    }
-
-    /// One whose ww or wr edge leads from the version's follower to one of its readers, which are
-    /// marked.
-    fn back_to_reader(
+    /// Two by such an edge that goes by way of the version.
+    fn back_by(
         &self,
-        version: usize,
         to: usize,
-        marks: &[usize],
-    ) -> Result<Option<Walk<'a>>, AllocError>
-        requires to { IsVertex self.now to }
-        requires marks { length marks.now ≡ vertices_in self.now.graph }
-        requires marked { AreReadersMarked self.now version marks.now }
-        ensures { IfOk result (IsFewestOr self.now (NoneBackTo self.now version to)) }
+        version: usize,
+        sources: &mut Marks,
+    ) -> Result<Option<Walk<'a>>, Stop>
+        requires version { IsNumber self.now.deps.now.table version }
+        requires marks { length sources.old.marks.items ≡ length self.now.deps.now.txns }
+        ensures marks { length sources.new.marks.items ≡ length self.now.deps.now.txns }
+        ensures kept { KeepsMarks sources.old sources.new }
+        ensures found { IfOk result
+            (IsTwoOr self.now (NoneBackBy self.now sources.old version to)) }
     {
-        let back = self.back.successors(to);
-        for index in 0..back.len() {
-            let from = back.at(index);
-            if is_marked(marks, from, version) {
-                let found = self.close(from, to)?;
+        let back = direct_back(self.phenomenon);
+        let ends = self.ends(back, version);
+        sources.spend(ends.len())?;
+        for index in 0..ends.len() {
+            let from = ends.at(index);
+            if sources.contains(from) {
+                let found = self.close(from, to, back)?;
                 if found.is_some() {
                     return Ok(found);
                 }
@@ -276,32 +389,16 @@ impl<'r, 'g, 'v, 'a> TwoDependencies<'r, 'g, 'v, 'a> {
         Ok(None)
     }
 
-    /// One along two rw edges, if the phenomenon allows them.
-    fn by_two_if_allowed(&self, marks: &mut [usize]) -> Result<Option<Walk<'a>>, AllocError>
-        requires rw { walks.needed self.now.phenomenon ≡ Rw }
-        requires marks { length marks.old ≡ vertices_in self.now.graph }
-        ensures marks { length marks.new ≡ length marks.old }
-        ensures found { IfOk result (IsFewestOr self.now
-            (walks.way_back self.now.phenomenon ≡ dependencies.All → (version : ℕ) → NoneByTwo self.now version)) }
+    /// Two by two rw edges.
+    fn by_two_versions(&self, steps: usize) -> Result<Option<Walk<'a>>, Stop>
+        requires { self.now.phenomenon ≡ G2Item }
+        ensures { IfOk result (IsTwoOr self.now (NoPair self.now Rw)) }
     {
-        if way_back(self.phenomenon) == Dependencies::All {
-            self.by_two_versions(marks)
-        } else {
-            Ok(None)
-        }
-    }
-
-    /// One along two rw edges.
-    fn by_two_versions(&self, marks: &mut [usize]) -> Result<Option<Walk<'a>>, AllocError>
-        requires rw { walks.needed self.now.phenomenon ≡ Rw }
-        requires marks { length marks.old ≡ vertices_in self.now.graph }
-        ensures marks { length marks.new ≡ length marks.old }
-        ensures found { IfOk result
-            (IsFewestOr self.now ((version : ℕ) → NoneByTwo self.now version)) }
-    {
+        let history = self.deps.history();
         let followed = self.followed()?;
-        for vertex in self.shared.list() {
-            let found = self.by_version_and_back(*vertex as usize, &followed, marks)?;
+        let mut read = Marks::new(self.alloc, history.versions(), steps)?;
+        for version in 0..history.versions() {
+            let found = self.by_version_and_back(version, &followed, &mut read)?;
             if found.is_some() {
                 return Ok(found);
             }
@@ -309,80 +406,73 @@ impl<'r, 'g, 'v, 'a> TwoDependencies<'r, 'g, 'v, 'a> {
         Ok(None)
     }
 
-    /// For each vertex, the versions of its rank that lead to it.
+    /// For each transaction, the versions that it follows.
     fn followed(&self) -> Result<Groups<u32>, AllocError>
-        ensures count { IfOk result (λ followed. length followed ≡ vertices_in self.now.graph) }
+        ensures count { IfOk result (λ followed.
+            length followed ≡ length self.now.deps.now.txns) }
         ensures followed { IfOk result (AreFollowed self.now) }
     {
+        let history = self.deps.history();
         let mut pairs = Vec::new(self.alloc);
-        for vertex in self.shared.list() {
-            self.add_followers(*vertex, &mut pairs)?;
+        for version in 0..history.versions() {
+            self.add_followers(version, &mut pairs)?;
         }
-        Groups::of(self.alloc, self.needed.vertices(), &pairs)
+        Groups::of(self.alloc, history.txns().len(), &pairs)
     }
 
-    /// Adds each vertex of the version's rank that it leads to, with the version.
-    fn add_followers(&self, version: u32, pairs: &mut Vec<(u32, u32)>) -> Result<(), AllocError>
-        requires vertex { IsVertex self.now version }
-        requires numbered { All (IsNumbered (vertices_in self.now.graph)) pairs.old.items }
+    /// Adds the version's followers, with the version.
+    fn add_followers(&self, version: usize, pairs: &mut Vec<(u32, u32)>) -> Result<(), AllocError>
+        requires version { IsNumber self.now.deps.now.table version }
+        requires numbered { All (IsNumbered (length self.now.deps.now.txns)) pairs.old.items }
         ensures numbered { OnOk result
-            (All (IsNumbered (vertices_in self.now.graph)) pairs.new.items) }
+            (All (IsNumbered (length self.now.deps.now.txns)) pairs.new.items) }
         ensures kept { OnOk result (Includes pairs.old.items pairs.new.items) }
         ensures added { OnOk result (HasFollowers self.now version pairs.new.items) }
     {
-        if (version as usize) < self.graph.len() {
-            return Ok(());
-        }
-        let followers = self.needed.successors(version as usize);
-        for index in 0..followers.len() {
-            self.add_follower(version, followers.at(index), pairs)?;
+        let number = number(version)?;
+        for follower in self.deps.history().followers(version) {
+            self.add_follower(follower.txn, number, pairs)?;
         }
         Ok(())
     }
 
-    /// Adds the follower with the version, if they have one rank.
+    /// Adds the transaction with the version.
     fn add_follower(
         &self,
+        place: u32,
         version: u32,
-        follower: usize,
         pairs: &mut Vec<(u32, u32)>,
     ) -> Result<(), AllocError>
-        requires version { IsVertex self.now version }
-        requires follower { IsVertex self.now follower }
-        requires numbered { All (IsNumbered (vertices_in self.now.graph)) pairs.old.items }
+        requires place { IsPlace self.now.deps.now.txns place }
+        requires numbered { All (IsNumbered (length self.now.deps.now.txns)) pairs.old.items }
         ensures numbered { OnOk result
-            (All (IsNumbered (vertices_in self.now.graph)) pairs.new.items) }
+            (All (IsNumbered (length self.now.deps.now.txns)) pairs.new.items) }
         ensures kept { OnOk result (Includes pairs.old.items pairs.new.items) }
-        ensures added { OnOk result (AreLevel self.now.graph version follower
-            → Contains pairs.new.items (follower, version)) }
+        ensures added { OnOk result (Contains pairs.new.items (place, version)) }
     {
-        if self.are_level(version as usize, follower) {
-            pairs.push((number(follower)?, version))?;
-        }
+        pairs.push((place, version))?;
         Ok(())
     }
 
-    /// One of whose rw edges goes by way of the version. What its followers read gets marked.
+    /// Two of which an rw edge goes by way of the version, from its reader to its follower. What
+    /// its followers read gets marked.
     fn by_version_and_back(
         &self,
         version: usize,
         followed: &Groups<u32>,
-        marks: &mut [usize],
-    ) -> Result<Option<Walk<'a>>, AllocError>
-        requires rw { walks.needed self.now.phenomenon ≡ Rw }
-        requires vertex { IsVertex self.now version }
-        requires count { length followed.now ≡ vertices_in self.now.graph }
+        read: &mut Marks,
+    ) -> Result<Option<Walk<'a>>, Stop>
+        requires item { self.now.phenomenon ≡ G2Item }
+        requires version { IsNumber self.now.deps.now.table version }
+        requires count { length followed.now ≡ length self.now.deps.now.txns }
         requires followed { AreFollowed self.now followed.now }
-        requires marks { length marks.old ≡ vertices_in self.now.graph }
-        ensures marks { length marks.new ≡ length marks.old }
-        ensures found { IfOk result (IsFewestOr self.now (NoneByTwo self.now version)) }
+        requires marks { length read.old.marks.items ≡ length self.now.deps.now.table.versions }
+        ensures marks { length read.new.marks.items ≡ length self.now.deps.now.table.versions }
+        ensures found { IfOk result (IsTwoOr self.now (NoneByTwo self.now version)) }
     {
-        if version < self.graph.len() {
-            return Ok(None);
-        }
-        self.mark_read(version, marks);
-        for reader in self.graph.readers(version) {
-            let found = self.back_to_follower(version, *reader as usize, followed, marks)?;
+        self.mark_read(version, read)?;
+        for reader in self.deps.history().readers(version) {
+            let found = self.back_to(*reader as usize, version, followed, read)?;
             if found.is_some() {
                 return Ok(found);
             }
@@ -390,79 +480,94 @@ impl<'r, 'g, 'v, 'a> TwoDependencies<'r, 'g, 'v, 'a> {
         Ok(None)
     }
 
-    /// Marks what the version's followers of its rank read.
-    fn mark_read(&self, version: usize, marks: &mut [usize])
-        requires vertex { IsVertex self.now version }
-        requires marks { length marks.old ≡ vertices_in self.now.graph }
-        ensures length { length marks.new ≡ length marks.old }
-        ensures marked { AreReadMarked self.now version marks.new }
+    /// Marks what the version's followers read, and nothing else.
+    fn mark_read(&self, version: usize, read: &mut Marks) -> Result<(), Stop>
+        requires version { IsNumber self.now.deps.now.table version }
+        requires marks { length read.old.marks.items ≡ length self.now.deps.now.table.versions }
+        ensures marks { length read.new.marks.items ≡ length self.now.deps.now.table.versions }
+        ensures marked { OnOk result (AreReadMarked self.now version read.new) }
     {
-        let followers = self.needed.successors(version);
-        for index in 0..followers.len() {
-            self.mark_read_by(version, followers.at(index), marks);
+        read.clear(version);
+        for follower in self.deps.history().followers(version) {
+            self.mark_read_by(follower.txn as usize, read)?;
         }
+        Ok(())
     }
 
-    /// Marks what one of them reads, if it has the version's rank.
-    fn mark_read_by(&self, version: usize, follower: usize, marks: &mut [usize])
-        requires version { IsVertex self.now version }
-        requires follower { IsVertex self.now follower }
-        requires marks { length marks.old ≡ vertices_in self.now.graph }
-        ensures length { length marks.new ≡ length marks.old }
-        ensures kept { KeepsMarks version marks.old marks.new }
-        ensures marked { AreLevel self.now.graph version follower
-            → IsReadMarked self.now version follower marks.new }
+    /// Marks what the transaction reads.
+    fn mark_read_by(&self, place: usize, read: &mut Marks) -> Result<(), Stop>
+        requires place { IsPlace self.now.deps.now.txns place }
+        requires marks { length read.old.marks.items ≡ length self.now.deps.now.table.versions }
+        ensures marks { length read.new.marks.items ≡ length self.now.deps.now.table.versions }
+        ensures kept { KeepsMarks read.old read.new }
+        ensures marked { OnOk result (IsReadMarked self.now place read.new) }
     {
-        if self.are_level(version, follower) {
-            mark(&self.needed.successors(follower), version, marks);
+        let numbers = self.deps.history().reads(place);
+        read.spend(numbers.len())?;
+        for number in numbers {
+            read.add(*number as usize);
         }
+        Ok(())
     }
 
-    /// One along an rw edge by way of the version from its reader to one of its followers, and
-    /// another rw edge back.
-    fn back_to_follower(
+    /// Two by an rw edge from the version's reader, and one back to it.
+    fn back_to(
         &self,
-        version: usize,
         from: usize,
+        version: usize,
         followed: &Groups<u32>,
-        marks: &[usize],
-    ) -> Result<Option<Walk<'a>>, AllocError>
-        requires vertex { IsVertex self.now version }
-        requires from { IsPlace self.now.graph.txns from }
-        requires count { length followed.now ≡ vertices_in self.now.graph }
+        read: &mut Marks,
+    ) -> Result<Option<Walk<'a>>, Stop>
+        requires item { self.now.phenomenon ≡ G2Item }
+        requires from { IsPlace self.now.deps.now.txns from }
+        requires version { IsNumber self.now.deps.now.table version }
+        requires count { length followed.now ≡ length self.now.deps.now.txns }
         requires followed { AreFollowed self.now followed.now }
-        requires marks { length marks.now ≡ vertices_in self.now.graph }
-        requires marked { AreReadMarked self.now version marks.now }
-        ensures { IfOk result (IsFewestOr self.now (NoneBackFrom self.now version from)) }
+        requires marks { length read.old.marks.items ≡ length self.now.deps.now.table.versions }
+        requires marked { AreReadMarked self.now version read.old }
+        ensures marks { length read.new.marks.items ≡ length self.now.deps.now.table.versions }
+        ensures kept { KeepsMarks read.old read.new }
+        ensures found { IfOk result (IsTwoOr self.now (NoneByTwoFrom self.now version from)) }
     {
-        for other in followed.get(from) {
-            if is_marked(marks, *other as usize, version) {
-                let found = self.close_by(from, version, *other as usize)?;
-                if found.is_some() {
-                    return Ok(found);
-                }
+        let others = followed.get(from);
+        read.spend(others.len())?;
+        for other in others {
+            let found = self.close_by(from, version, *other, read)?;
+            if found.is_some() {
+                return Ok(found);
             }
         }
         Ok(None)
     }
 
-    /// One along an rw edge by way of the version, and another rw edge by way of the other version
-    /// back.
+    /// Two by an rw edge by way of the version, and one back by way of the other version, if that
+    /// is marked.
     fn close_by(
         &self,
         from: usize,
         version: usize,
-        other: usize,
-    ) -> Result<Option<Walk<'a>>, AllocError>
-        requires { IsVertex self.now version }
-        ensures { IfOk result (IsFewestOr self.now (NoneByBoth self.now from version other)) }
+        other: u32,
+        read: &mut Marks,
+    ) -> Result<Option<Walk<'a>>, Stop>
+        requires item { self.now.phenomenon ≡ G2Item }
+        requires version { IsNumber self.now.deps.now.table version }
+        requires marks { length read.old.marks.items ≡ length self.now.deps.now.table.versions }
+        ensures marks { length read.new.marks.items ≡ length self.now.deps.now.table.versions }
+        ensures kept { KeepsMarks read.old read.new }
+        ensures found { IfOk result
+            (IsTwoOr self.now (NoneByMarked self.now read.old version from other)) }
     {
-        let followers = self.needed.successors(version);
-        for index in 0..followers.len() {
-            let to = followers.at(index);
+        if !read.contains(other as usize) {
+            return Ok(None);
+        }
+        let history = self.deps.history();
+        let followers = history.followers(version);
+        read.spend(followers.len())?;
+        for follower in followers {
+            let to = follower.txn as usize;
             // What a transaction installs after its own read makes no edge.
-            if to != from && leads(&self.needed, to, other) {
-                let found = self.close(from, to)?;
+            if to != from && is_among(history.reads(to), other) {
+                let found = self.close(from, to, Dependencies::Rw)?;
                 if found.is_some() {
                     return Ok(found);
                 }
@@ -471,22 +576,42 @@ impl<'r, 'g, 'v, 'a> TwoDependencies<'r, 'g, 'v, 'a> {
         Ok(None)
     }
 
-    /// The closed walk along an edge from one transaction to the other, and an edge back.
-    fn close(&self, from: usize, to: usize) -> Result<Option<Walk<'a>>, AllocError>
-        ensures { IfOk result (IsFewestOr self.now (¬ IsPair self.now from to)) }
+    /// The closed walk along a needed edge from one transaction to another, and an edge of these
+    /// back.
+    fn close(
+        &self,
+        from: usize,
+        to: usize,
+        back: Dependencies,
+    ) -> Result<Option<Walk<'a>>, AllocError>
+        requires { AreAmong back (walks.way_back self.now.phenomenon) }
+        ensures { IfOk result (IsTwoOr self.now (¬ IsPair self.now back from to)) }
     {
-        if from >= self.graph.len() || to >= self.graph.len() {
-            return Ok(None);
-        }
-        let kinds = Kinds::of(needed(self.phenomenon), Level::Plain);
-        let Some(edge) = self.graph.edge_between(from, to, kinds)? else {
-            return Ok(None);
-        };
-        let back_kinds = Kinds::of(way_back(self.phenomenon), Level::Plain);
-        let Some(back) = self.graph.edge_between(to, from, back_kinds)? else {
-            return Ok(None);
-        };
-        let rest = vec![in self.alloc; back]?;
-        Ok(Some(Walk::closing(edge, rest)?))
+        let ends = Ends { from, to };
+        there_and_back(self.alloc, self.deps, self.phenomenon, ends, back)
+    }
+}
+
+/// Two transactions of which one leads to the other by an edge that the phenomenon needs, and the
+/// other one back, at the level plain.
+pub fn find_mutual<'a>(
+    alloc: Global,
+    deps: &Deps<'_, 'a>,
+    phenomenon: Phenomenon,
+    steps: usize,
+) -> Result<Mutual<'a>, AllocError>
+    ensures { IfOk result
+        (IsMutual phenomenon (edges_at deps.now.table.keys Plain deps.now.txns)) }
+{
+    let search = TwoDependencies {
+        alloc,
+        deps,
+        phenomenon,
+    };
+    match search.find(steps) {
+        Ok(Some(walk)) => Ok(Mutual::Found(walk)),
+        Ok(None) => Ok(Mutual::Nowhere),
+        Err(Stop::OutOfSteps) => Ok(Mutual::Unknown),
+        Err(Stop::OutOfMemory) => Err(AllocError),
     }
 }

@@ -6,12 +6,11 @@ ghost use Rattle.hist_types.specs.Transactions.{transactions_of};
 use crate::stopped::Stopped;
 use clean_order::attempt::Attempt;
 use clean_order::{settles, settles_kinds, settles_plain, settles_snapshots};
-use cycle_find::single::{
-    circular_flow, lost_update, single_at_plain, single_in_process, write_skew,
-};
+use cycle_find::single::single_in_process;
+use cycle_find::two_dependencies::{Mutual, find_mutual, linear_steps};
 use dep_edges::deps::Deps;
 use dep_edges::edges;
-use hist_types::types::{Fault, KeyOrder};
+use hist_types::types::{Fault, KeyOrder, Phenomenon};
 use journal_core::journal::Core;
 use journal_core::prefix::Prefix;
 use key_versions::versions;
@@ -39,8 +38,7 @@ struct Found {
     has_circular_flow: bool,
     has_single_at_plain: bool,
     has_single_in_process: bool,
-    has_lost_update: bool,
-    has_write_skew: bool,
+    has_item_at_plain: bool,
 }
 
 fn settled_of(alloc: Global, deps: &Deps<'_, '_>) -> Result<Settled, Fault> {
@@ -55,13 +53,20 @@ fn settled_of(alloc: Global, deps: &Deps<'_, '_>) -> Result<Settled, Fault> {
     })
 }
 
+/// Whether two transactions show the phenomenon.
+fn is_shown(alloc: Global, deps: &Deps<'_, '_>, phenomenon: Phenomenon) -> Result<bool, Fault> {
+    match find_mutual(alloc, deps, phenomenon, linear_steps(deps))? {
+        Mutual::Found(_) => Ok(true),
+        Mutual::Nowhere | Mutual::Unknown => Ok(false),
+    }
+}
+
 fn found_of(alloc: Global, deps: &Deps<'_, '_>) -> Result<Found, Fault> {
     Ok(Found {
-        has_circular_flow: circular_flow(alloc, deps)?.is_some(),
-        has_single_at_plain: single_at_plain(alloc, deps)?.is_some(),
+        has_circular_flow: is_shown(alloc, deps, Phenomenon::G1c)?,
+        has_single_at_plain: is_shown(alloc, deps, Phenomenon::GSingle)?,
         has_single_in_process: single_in_process(alloc, deps)?.is_some(),
-        has_lost_update: lost_update(alloc, deps)?.is_some(),
-        has_write_skew: write_skew(alloc, deps)?.is_some(),
+        has_item_at_plain: is_shown(alloc, deps, Phenomenon::G2Item)?,
     })
 }
 

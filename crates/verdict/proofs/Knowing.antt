@@ -1,5 +1,5 @@
 -- What is known of a phenomenon, as more becomes known, and what follows for another one.
-use Rattle.std.proofs.Common.{◌≡◌, inl, inr, ◌<◌, ◌≤◌, ◌+◌, ℕ, List, Option, Some, None, count_by, sym, subst, arith}
+use Rattle.std.proofs.Common.{◌≡◌, inl, inr, ◌<◌, ◌≤◌, ◌+◌, ◌∙◌, ℕ, List, Option, Some, None, count_by, sym, subst, arith}
 use Rattle.std.proofs.lemmas.Bool.{eqb-true}
 use Rattle.std.specs.Prelude.{IfSome, IsSomeAnd}
 use Rattle.hist_types.specs.Edges.{Edge, dependency_edges, order_edges, order_labels, edges_at}
@@ -18,7 +18,7 @@ use Rattle.history_laws.proofs.ThinningCycles.{has_above}
 use Rattle.history_laws.proofs.ThinningPaths.{ends_of}
 use Rattle.history_laws.proofs.ThinningWalks.{any_counted}
 use Rattle.dep_edges.specs.Histories.{AreOfHistory}
-use Rattle.cycle_find.specs.Found.{ShowsByFewest}
+use Rattle.cycle_find.specs.Found.{NeedsMoreThan, ShowsByFewest}
 use Rattle.cycle_find.proofs.TwoEdges.{two_at_least}
 use Rattle.cycle_show.specs.Reductions.{IsWitnessOf}
 use Rattle.edge_graph.specs.Parts.{Parts, IsMadeOf}
@@ -81,6 +81,24 @@ pub seen_at :
     → IsKnown keys phenomenon ts (record { none_below = about.none_below; needs = about.needs; seen = Some (record { level = level; walk = walk }) })
 seen_at keys phenomenon ts about level walk is shows = record { none_below = is.none_below; needs = is.needs; seen = shows }
 
+-- at plain, no walk has fewer than three dependency edges
+pub needs_three :
+    (keys : KeyOrder) (phenomenon : Phenomenon) (ts : List Transaction) (about : Known)
+    → IsKnown keys phenomenon ts about
+    → about.none_below ≡ 0
+    → NeedsMoreThan 2 phenomenon (edges_at keys Plain ts)
+    → IsKnown keys phenomenon ts (record { none_below = about.none_below; needs = 3; seen = about.seen })
+needs_three keys phenomenon ts about is plain more = record {
+  none_below = is.none_below;
+  needs = λ level walk same shows. by_level level walk (same ∙ plain) shows;
+  seen = is.seen;
+}
+  where
+    by_level : (level : Level) (walk : List Edge) → height level ≡ 0 → Shows phenomenon (edges_at keys level ts) walk → 3 ≤ dependencies_in walk
+    by_level Plain walk same shows = (let few : 2 < dependencies_in walk = more walk shows in omega (arith, few))
+    by_level Process walk same shows = absurd (omega (arith, same))
+    by_level Realtime walk same shows = absurd (omega (arith, same))
+
 pub highest : (level : Level) → height level + 1 ≤ 3
 highest Plain = omega arith
 highest Process = omega arith
@@ -92,6 +110,10 @@ shows_item : (es walk : List Edge) → Shows GSingle es walk → Shows G2Item es
 shows_item es walk shows =
     let one : count_by is_rw walk ≡ 1 = eqb-true (count_by is_rw walk) 1 shows.kinds in
     record { closed = shows.closed; within = shows.within; kinds = any_counted is_rw walk (omega (arith, one)) }
+
+-- what takes more to show G2-item takes more to show G-single
+pub single_needs : (es : List Edge) → NeedsMoreThan 2 G2Item es → NeedsMoreThan 2 GSingle es
+single_needs es more walk shows = more walk (shows_item es walk shows)
 
 -- where G2-item isn't there, G-single isn't either
 pub no_single : (keys : KeyOrder) (ts : List Transaction) (item : Known) → IsKnown keys G2Item ts item → IsNotBelow item.none_below keys GSingle ts

@@ -1,5 +1,5 @@
 -- What searches in the graph of a history over its thinned order say of the history's phenomena.
-use Rattle.std.proofs.Common.{◌≡◌, inl, inr, ◌↔◌, List, ◌++◌, Some, sym, subst, Contains}
+use Rattle.std.proofs.Common.{◌≡◌, inl, inr, ◌↔◌, ℕ, List, ◌++◌, Some, sym, subst, Contains}
 use Rattle.std.proofs.lemmas.List.Elements.{All-weaker}
 use Rattle.hist_types.specs.Edges.{Edge, dependency_edges, order_edges, edges_at}
 use Rattle.hist_types.specs.ThinnedOrder.{thinned_edges}
@@ -15,7 +15,7 @@ use Rattle.history_laws.proofs.OrderEdges.{thinned_edges-order}
 use Rattle.history_laws.proofs.ThinningWalks.{has_thinned}
 use Rattle.dep_edges.specs.Histories.{AreOfHistory}
 use Rattle.order_frontier.specs.Predecessors.{Before, AreOfEvents, IsThinnedOrder}
-use Rattle.cycle_find.specs.Found.{ShowsByFewest, HasFewestIfAny}
+use Rattle.cycle_find.specs.Found.{NeedsAtLeast, ShowsByFewest, HasFewestIfAny}
 use Rattle.cycle_find.specs.Tasks.{Site, site_of, task_of}
 use Rattle.edge_graph.specs.Parts.{Parts, IsMadeOf, edges_in}
 use Rattle.edge_graph.proofs.EdgesIn.{of_thinned}
@@ -47,6 +47,16 @@ shown g phenomenon level walk thinned s = record {
   within = All-weaker (Contains (edges_in g level)) (Contains (edges_at g.keys level g.txns)) (λ e c. thinned_is_edge g.keys level g.txns e ((thinned.edges level e).0 c)) walk s.within;
   kinds = s.kinds;
 }
+
+-- what each walk over all order edges needs, each one over the graph needs
+pub needs_over :
+    (g : Parts) (site : Site) (phenomenon : Phenomenon) (level : Level) (least : ℕ)
+    → IsThinned g
+    → site ≡ site_of g level
+    → NeedsAtLeast least phenomenon (edges_at g.keys level g.txns)
+    → NeedsAtLeast least phenomenon (edges_in site.graph site.level)
+needs_over g site phenomenon level least thinned same needs walk shows =
+    needs walk (shown g phenomenon level walk thinned (subst (λ (s : Site). Shows phenomenon (edges_in s.graph s.level) walk) same shows))
 
 -- where none is found, the phenomenon isn't there
 pub absent :

@@ -3,7 +3,7 @@
 
 ghost use Rattle.std.specs.Prelude.{◌≡◌, ◌≤◌, ◌+◌, List, IfOk, OnOk};
 ghost use Rattle.std.specs.Bool.{OnFalse, OnTrue};
-ghost use Rattle.cycle_find.specs.Found.{ShowsByFewest};
+ghost use Rattle.cycle_find.specs.Found.{NeedsAtLeast, NeedsMoreThan, ShowsByFewest};
 ghost use Rattle.dep_edges.specs.Histories.{AreOfHistory};
 ghost use Rattle.hist_types.specs.Edges.{edges_at};
 ghost use Rattle.hist_types.specs.Phenomena.{height, IsThere};
@@ -11,7 +11,6 @@ ghost use Rattle.hist_types.specs.Reports.{AreFindings};
 ghost use Rattle.hist_types.specs.Transactions.{Transaction};
 ghost use Rattle.hist_types.specs.declared.types.KeyOrder.{KeyOrder};
 ghost use Rattle.hist_types.specs.declared.types.Level.TheVariants.{Plain};
-ghost use Rattle.hist_types.specs.declared.types.Phenomenon.TheVariants.{G2Item};
 ghost use Rattle.verdict.specs.Board.{AreSettled, AreStillSettled, IsNotBelow, IsRight, IsSettled, IsSettledBelow, known};
 
 use crate::known::{Known, height};
@@ -74,6 +73,21 @@ impl<'a> Board<'a> {
     /// Whether a walk is known that shows the phenomenon.
     pub fn is_seen(&self, phenomenon: Phenomenon) -> bool {
         self.known(phenomenon).is_seen()
+    }
+
+    /// Whether G2-item is seen by rw edges alone, and so not by what shows G-single.
+    pub fn is_skew_seen(&self) -> bool {
+        self.item.is_seen_by_rw()
+    }
+
+    /// How many dependency edges each walk has at least that shows the phenomenon at the level, as
+    /// far as is known.
+    pub fn needs_at(&self, phenomenon: Phenomenon, level: Level) -> usize
+        ensures { (keys : KeyOrder) (ts : List Transaction)
+            → IsRight keys ts self.now
+            → NeedsAtLeast result phenomenon (edges_at keys level ts) }
+    {
+        self.known(phenomenon).needs_at(level)
     }
 
     /// Whether the phenomenon's lowest level is known, or that it has none.
@@ -179,16 +193,24 @@ impl<'a> Board<'a> {
         self.conclude()
     }
 
-    /// Notes another walk that shows G2-item at plain, where one is seen there and this one tells a
-    /// reader more.
-    pub fn show_item_instead(&mut self, walk: Walk<'a>)
+    /// Notes that no walk shows the phenomenon at plain with fewer than three dependency edges.
+    pub fn rule_out_two(&mut self, phenomenon: Phenomenon)
         ensures right { (keys : KeyOrder) (ts : List Transaction)
             → IsRight keys ts self.old
-            → ShowsByFewest G2Item (edges_at keys Plain ts) walk.entry
+            → NeedsMoreThan 2 phenomenon (edges_at keys Plain ts)
             → IsRight keys ts self.new }
         ensures still { AreStillSettled self.old self.new }
     {
-        self.item.show_instead(Level::Plain, walk);
+        match phenomenon {
+            Phenomenon::G0 => self.g0.raise_needs(),
+            Phenomenon::G1c => self.g1c.raise_needs(),
+            Phenomenon::GSingle => self.single.raise_needs(),
+            // What shows G-single shows G2-item.
+            Phenomenon::G2Item => {
+                self.item.raise_needs();
+                self.single.raise_needs();
+            }
+        }
     }
 
     /// What is reported, once all four are settled.

@@ -2,19 +2,21 @@
 
 ghost use Rattle.std.specs.Prelude.{◌≡◌, ◌≤◌, ◌+◌, ◌<◌, List, IfOk, OnOk, IsSomeAnd};
 ghost use Rattle.std.specs.Bool.{OnFalse, OnTrue};
-ghost use Rattle.cycle_find.specs.Found.{ShowsByFewest};
+ghost use Rattle.cycle_find.specs.Found.{NeedsAtLeast, NeedsMoreThan, ShowsByFewest};
 ghost use Rattle.dep_edges.specs.Histories.{AreOfHistory};
 ghost use Rattle.hist_types.specs.Edges.{edges_at};
 ghost use Rattle.hist_types.specs.Phenomena.{height};
 ghost use Rattle.hist_types.specs.Transactions.{Transaction};
 ghost use Rattle.hist_types.specs.Witness.{IsFinding};
 ghost use Rattle.hist_types.specs.declared.types.KeyOrder.{KeyOrder};
+ghost use Rattle.hist_types.specs.declared.types.Level.TheVariants.{Plain};
 ghost use Rattle.hist_types.specs.declared.types.Phenomenon.{Phenomenon};
 ghost use Rattle.hist_types.specs.declared.types.Phenomenon.TheVariants.{GSingle, G2Item};
 ghost use Rattle.verdict.specs.Board.{IsKnown, IsNotBelow, IsSettled, IsSettledBelow, IsStillSettled};
 
 use cycle_find::types::Walk;
 use cycle_show::types::Witness;
+use dep_edges::edge::{Edge, Label};
 use hist_types::types::Level;
 use report_text::report::Finding;
 use std::alloc::{AllocError, Global};
@@ -64,6 +66,16 @@ fn copied<'a>(alloc: Global, walk: &Walk<'a>) -> Result<Walk<'a>, AllocError>
     Ok(Walk::new(edges))
 }
 
+/// Whether all of the edges are rw edges.
+fn has_rw_alone(edges: &[Edge<'_>]) -> bool {
+    for edge in edges {
+        if !matches!(edge.label(), Label::Rw { .. }) {
+            return false;
+        }
+    }
+    true
+}
+
 impl<'a> Known<'a> {
     /// Nothing yet. No edge leads from a transaction to itself, so at plain each closed walk has
     /// two dependency edges at least.
@@ -86,6 +98,28 @@ impl<'a> Known<'a> {
 
     pub fn is_seen(&self) -> bool {
         self.seen.is_some()
+    }
+
+    /// Whether it is seen by rw edges alone.
+    pub fn is_seen_by_rw(&self) -> bool {
+        match &self.seen {
+            Some(seen) => has_rw_alone(seen.walk.edges()),
+            None => false,
+        }
+    }
+
+    /// How many dependency edges each walk has at least that shows it at the level, as far as is
+    /// known.
+    pub fn needs_at(&self, level: Level) -> usize
+        ensures { (keys : KeyOrder) (phenomenon : Phenomenon) (ts : List Transaction)
+            → IsKnown keys phenomenon ts self.now
+            → NeedsAtLeast result phenomenon (edges_at keys level ts) }
+    {
+        if self.none_below == height(level) {
+            self.needs
+        } else {
+            0
+        }
     }
 
     /// Whether it is seen at the lowest level at which it may be.
@@ -148,19 +182,17 @@ impl<'a> Known<'a> {
         self.seen = Some(Seen { level, walk });
     }
 
-    /// Notes such a walk in place of the one that is seen at the same level, if there is one.
-    pub fn show_instead(&mut self, level: Level, walk: Walk<'a>)
+    /// Notes that no walk shows it at plain with fewer than three dependency edges.
+    pub fn raise_needs(&mut self)
         ensures right { (keys : KeyOrder) (phenomenon : Phenomenon) (ts : List Transaction)
             → IsKnown keys phenomenon ts self.old
-            → ShowsByFewest phenomenon (edges_at keys level ts) walk.entry
+            → NeedsMoreThan 2 phenomenon (edges_at keys Plain ts)
             → IsKnown keys phenomenon ts self.new }
         ensures still { IsStillSettled self.old self.new }
     {
-        match &self.seen {
-            Some(seen) if height(seen.level) == height(level) => {}
-            _ => return,
+        if self.none_below == 0 {
+            self.needs = 3;
         }
-        self.seen = Some(Seen { level, walk });
     }
 
     /// Notes, of G2-item, what is seen of G-single, if it is at the lowest level at which G2-item

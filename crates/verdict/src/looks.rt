@@ -10,20 +10,19 @@ mod again;
 mod circular_flow;
 mod dirty_writes;
 mod graph;
-mod lost_update;
 mod order;
 mod plain_order;
 mod plain_snapshots;
-mod read_skew;
 mod snapshots;
 mod stale_read;
+mod two_txns;
 mod write_order;
-mod write_skew;
 
 use crate::board::Board;
 use crate::tables::Tables;
 use clean_order::attempt::Attempt;
 use dep_edges::deps::Deps;
+use hist_types::types::Phenomenon;
 use report_text::report::Findings;
 use std::alloc::{AllocError, Global};
 
@@ -45,15 +44,14 @@ fn look_at_all<'a>(
     again::look(deps, &tables.pairs, board)?;
     // All four, nowhere: where all transactions can be put in one order. Linear.
     order::look(deps, attempt, board)?;
-    // G2-item at plain: write skew. Linear, at most 32 steps for each transaction and version.
-    write_skew::look(deps, board)?;
+    // G2-item at plain: a lost update, else write skew. Linear, at most 32 steps for each
+    // transaction and version.
+    two_txns::look(deps, Phenomenon::G2Item, board)?;
     // The others, nowhere: snapshot isolation, which has write skew alone. Linear, two numbers
     // each.
     snapshots::look(deps, attempt, board)?;
-    // G-single and G2-item at plain: read committed and less. As write skew.
-    read_skew::look(deps, board)?;
-    // Nothing more, but G2-item by a lost update: where G-single was seen. Linear.
-    lost_update::look(deps, board)?;
+    // G-single and G2-item at plain: read committed and less. As for G2-item.
+    two_txns::look(deps, Phenomenon::GSingle, board)?;
     // G-single at process: stale reads. Linear, and a number for each process.
     stale_read::look(deps, board)?;
     // All four, not at plain: where G-single was seen at process alone. One look at each version.
@@ -62,7 +60,7 @@ fn look_at_all<'a>(
     plain_snapshots::look(deps, attempt, board)?;
     // G0 and G1c, nowhere: where G-single and G2-item are settled. Linear.
     write_order::look(deps, attempt, board)?;
-    // G1c at plain: read uncommitted. As write skew.
+    // G1c at plain: read uncommitted. As for G2-item.
     circular_flow::look(deps, board)?;
     // G0, nowhere: read uncommitted without dirty writes. Linear.
     dirty_writes::look(deps, attempt, board)?;

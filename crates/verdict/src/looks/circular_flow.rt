@@ -4,9 +4,9 @@ ghost use Rattle.std.specs.Prelude.{OnOk};
 ghost use Rattle.verdict.specs.Board.{IsRight};
 
 use crate::board::Board;
-use cycle_find::single::circular_flow;
+use crate::looks::two_txns;
 use dep_edges::deps::Deps;
-use hist_types::types::{Level, Phenomenon};
+use hist_types::types::Phenomenon;
 use std::alloc::AllocError;
 
 /// Shows G1c at plain, where no more than this and G0 is left to settle.
@@ -14,14 +14,8 @@ pub fn look<'a>(deps: &Deps<'_, 'a>, board: &mut Board<'a>) -> Result<(), AllocE
     requires { IsRight deps.now.table.keys deps.now.txns board.old }
     ensures { OnOk result (IsRight deps.now.table.keys deps.now.txns board.new) }
 {
-    if !board.is_settled(Phenomenon::GSingle)
-        || !board.is_settled(Phenomenon::G2Item)
-        || !board.is_open_at(Phenomenon::G1c, Level::Plain)
-    {
+    if !board.is_settled(Phenomenon::GSingle) || !board.is_settled(Phenomenon::G2Item) {
         return Ok(());
     }
-    match circular_flow(board.alloc(), deps)? {
-        Some(walk) => board.show(Phenomenon::G1c, Level::Plain, walk),
-        None => Ok(()),
-    }
+    two_txns::look(deps, Phenomenon::G1c, board)
 }

@@ -9,6 +9,7 @@ ghost use Rattle.verdict.specs.Graphs.{IsThinned};
 ghost use Rattle.verdict.specs.Tables.{AreTables, history_of};
 
 use crate::board::Board;
+use crate::looks::two_txns;
 use crate::tables::Tables;
 use cycle_find::ranked_graph::RankedGraph;
 use dep_edges::deps::Deps;
@@ -37,7 +38,8 @@ fn settle_at<'a>(
     if !board.is_open_at(phenomenon, level) {
         return Ok(());
     }
-    match graph.at(level).find(phenomenon)? {
+    let least = board.needs_at(phenomenon, level);
+    match graph.at(level).find(phenomenon, least)? {
         Some(walk) => board.show(phenomenon, level, walk),
         None => board.rule_out(phenomenon, level),
     }
@@ -111,6 +113,10 @@ pub fn look<'a>(
     ensures right { OnOk result (IsRight deps.now.table.keys deps.now.txns board.new) }
     ensures settled { OnOk result (AreSettled board.new) }
 {
+    if board.are_settled() {
+        return Ok(());
+    }
+    two_txns::look_at_all(deps, board)?;
     if board.are_settled() {
         return Ok(());
     }

@@ -22,7 +22,7 @@ pub fn look<'a>(
     requires { IsRight deps.now.table.keys deps.now.txns board.old }
     ensures { OnOk result (IsRight deps.now.table.keys deps.now.txns board.new) }
 {
-    if !board.is_seen(Phenomenon::G2Item)
+    if !board.is_skew_seen()
         || board.is_seen(Phenomenon::GSingle)
         || board.is_settled(Phenomenon::GSingle)
         || !settles_snapshots(board.alloc(), deps, attempt, EdgeKinds::ALL)?

@@ -2,7 +2,7 @@
 use Rattle.std.proofs.Common.{◌<◌, ℕ, length, get_or, All, Contains}
 use Rattle.flat_groups.specs.Groups.{IsNumbered}
 use Rattle.cycle_find.specs.Fewest.{IsTurnedArc}
-use Rattle.cycle_find.specs.TwoDependencies.{Includes}
+use Rattle.cycle_find.specs.Tasks.{Includes}
 use Rattle.cycle_find.proofs.leading.add_arcs.Given as goal
 
 abbrev pub invariant-loop-index : goal.invariant-loop-index

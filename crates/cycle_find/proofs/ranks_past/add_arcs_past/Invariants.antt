@@ -1,7 +1,7 @@
 -- The arcs so far are among the pairs.
 use Rattle.std.proofs.Common.{◌<◌, ◌≤◌, ℕ, length, get_or, All, Contains}
 use Rattle.cycle_find.specs.Past.{IsPairWithin}
-use Rattle.cycle_find.specs.TwoDependencies.{Includes}
+use Rattle.cycle_find.specs.Tasks.{Includes}
 use Rattle.cycle_find.proofs.ranks_past.add_arcs_past.Given as goal
 
 abbrev pub invariant-loop-index : goal.invariant-loop-index

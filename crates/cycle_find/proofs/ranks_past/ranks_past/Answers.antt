@@ -5,7 +5,7 @@ use Rattle.edge_graph.specs.Vertices.{graph_by}
 use Rattle.flat_groups.specs.Groups.{groups_from}
 use Rattle.graph_search.specs.Graphs.{AreRanks}
 use Rattle.cycle_find.specs.Past.{HasArcsPast, IsPairWithin}
-use Rattle.cycle_find.proofs.Pairs.{length-groups}
+use Rattle.cycle_find.proofs.Grouped.{length-groups}
 use Rattle.cycle_find.proofs.Past.{groups_within, rise_past}
 use Rattle.cycle_find.proofs.ranks_past.ranks_past.Goals as goal
 

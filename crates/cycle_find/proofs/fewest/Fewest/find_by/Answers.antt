@@ -7,8 +7,7 @@ use Rattle.graph_search.specs.Costs.{BoundsWalks}
 use Rattle.graph_search.specs.Graphs.{HasArc}
 use Rattle.cycle_find.specs.Fewest.{AreTrueMarks, IsReadyForFewest, IsWithinOr, NoneTo}
 use Rattle.cycle_find.specs.Found.{NeedsMoreThan}
-use Rattle.cycle_find.specs.Tasks.{Task}
-use Rattle.cycle_find.specs.TwoDependencies.{vertices_in}
+use Rattle.cycle_find.specs.Tasks.{Task, vertices_in}
 use Rattle.cycle_find.proofs.FewBack.{bounds_of_lists, bounds_listed, needs_more}
 use Rattle.cycle_find.proofs.fewest.Fewest.find_by.Goals as goal
 use Rattle.cycle_find.proofs.fewest.Fewest.find_by.Goals.{then-most-floor+in_ok-found+in_default, else-most-floor}

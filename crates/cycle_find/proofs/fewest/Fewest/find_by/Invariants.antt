@@ -3,7 +3,7 @@ use Rattle.std.proofs.Common.{◌≡◌, ◌<◌, length}
 use Rattle.edge_graph.specs.Parts.{edges_in}
 use Rattle.cycle_find.specs.Fewest.{AreLabels, AreTrueMarks}
 use Rattle.cycle_find.specs.Found.{NeedsMoreThan}
-use Rattle.cycle_find.specs.TwoDependencies.{vertices_in}
+use Rattle.cycle_find.specs.Tasks.{vertices_in}
 use Rattle.cycle_find.proofs.fewest.Fewest.find_by.Given as goal
 
 abbrev pub invariant-loop-most : goal.invariant-loop-most

@@ -5,7 +5,7 @@ use Rattle.hist_types.specs.Phenomena.{Shows}
 use Rattle.hist_types.specs.Witness.{dependencies_in}
 use Rattle.cycle_find.specs.Fewest.{AreTrueMarks}
 use Rattle.cycle_find.specs.Found.{NeedsMoreThan}
-use Rattle.cycle_find.specs.TwoDependencies.{vertices_in}
+use Rattle.cycle_find.specs.Tasks.{vertices_in}
 use Rattle.cycle_find.proofs.fewest.Fewest.find_far.Given as goal
 
 abbrev pub invariant-loop-least : goal.invariant-loop-least

@@ -2,7 +2,7 @@
 use Rattle.std.proofs.Common.{◌≡◌, ◌<◌, ℕ, length}
 use Rattle.cycle_find.specs.Fewest.{AreTrueMarks, NoneTo}
 use Rattle.cycle_find.specs.Past.{AreRanksPast}
-use Rattle.cycle_find.specs.TwoDependencies.{vertices_in}
+use Rattle.cycle_find.specs.Tasks.{vertices_in}
 use Rattle.cycle_find.proofs.fewest.Fewest.find_past.Given as goal
 
 abbrev pub invariant-loop-to : goal.invariant-loop-to

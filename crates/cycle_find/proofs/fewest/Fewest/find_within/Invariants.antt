@@ -1,7 +1,7 @@
 -- No needed edge to the transactions so far has a way back.
 use Rattle.std.proofs.Common.{◌≡◌, ◌<◌, ℕ, length}
 use Rattle.cycle_find.specs.Fewest.{AreTrueMarks, NoneTo}
-use Rattle.cycle_find.specs.TwoDependencies.{vertices_in}
+use Rattle.cycle_find.specs.Tasks.{vertices_in}
 use Rattle.cycle_find.proofs.fewest.Fewest.find_within.Given as goal
 
 abbrev pub invariant-loop-to : goal.invariant-loop-to

@@ -1,22 +1,21 @@
-use Rattle.std.proofs.Common.{◌≡◌, ◌∙◌, get_or, arith, below_more, sym, ap, subst}
-use Rattle.hist_types.specs.declared.types.Level.TheVariants.{Plain}
-use Rattle.cycle_find.specs.Tasks.{Task}
-use Rattle.cycle_find.specs.TwoDependencies.{IsReadyForTwo, NoneByTwo}
-use Rattle.cycle_find.proofs.Pairs.{two_otherwise, all_two}
+use Rattle.std.proofs.Common.{◌∙◌, length, arith, below_more, ap, sym}
+use Rattle.dep_edges.specs.Histories.{History}
+use Rattle.cycle_find.specs.TwoDependencies.{NoneByTwo}
+use Rattle.cycle_find.proofs.Mutual.{none_by_two, two_otherwise}
 use Rattle.cycle_find.proofs.two_dependencies.TwoDependencies.by_two_versions.Goals as goal
 
-pub loop-vertex-preserved : goal.loop-vertex-preserved
-loop-vertex-preserved c =
-    let task : Task = c.args.self.now in
-    below_more (λ k. NoneByTwo task (get_or c.list-vertex-items.result.now k 0)) c.loop-vertex.vertex-index c.loop-vertex.invariant
-    (two_otherwise task (NoneByTwo task (get_or c.list-vertex-items.result.now c.loop-vertex.vertex-index 0)) c.in_ok-found.found (sym c.is_some.ensures ∙ c.if-is_some.false) c.in_ok-found.ensures.found)
+pub loop-version-preserved : goal.loop-version-preserved
+loop-version-preserved c =
+    let search = c.args.self.now in
+    record {
+      length = c.by_version_and_back.ensures.marks;
+      none =
+          below_more (NoneByTwo search) c.loop-version.version c.loop-version.invariant.none
+          (two_otherwise search (NoneByTwo search c.loop-version.version) c.in_ok-found.found (sym c.is_some.ensures ∙ c.if-is_some.false) c.in_ok-found.ensures.found);
+    }
 
-pub returns-clause-found : goal.returns-clause-found
-returns-clause-found c =
-    let a = c.self.inside in
-    let task : Task = c.args.self.now in
-    let ready : IsReadyForTwo task a.needed a.back a.coarse.now a.shared.now = subst (λ task. IsReadyForTwo task a.needed a.back a.coarse.now a.shared.now) c.self.view_is c.self.invariant in
-    let level : task.level ≡ Plain = ap (λ (t : Task). t.level) (sym c.self.view_is) in
-    let list = c.list-vertex-items.result.now in
-    all_two task level ready.kept ready.by_versions a.coarse.now a.shared.now list ready.coarse_ranks ready.sharing c.list-vertex-items.ensures
-    (λ k h. c.loop-vertex.invariant k (omega (arith, h, c.loop-vertex-test.false)))
+pub returns : goal.returns
+returns c =
+    let versions = c.versions-version-end.ensures.value ∙ ap (λ (h : History). length h.table.versions) c.history-history.ensures.history in
+    none_by_two c.args.self.now c.history-history.ensures.kept c.history-history.ensures.versions c.requires
+    (λ version number. c.loop-version.invariant.none version (omega (arith, number, c.loop-version-test.false, versions)))

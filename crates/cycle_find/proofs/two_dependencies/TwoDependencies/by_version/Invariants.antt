@@ -1,7 +1,11 @@
--- There is none back from the followers so far.
-use Rattle.std.proofs.Common.{◌<◌, ℕ, get_or}
-use Rattle.cycle_find.specs.TwoDependencies.{AreLevel, NoneBackTo}
+-- There is none with the ends so far.
+use Rattle.std.proofs.Common.{◌≡◌, ◌<◌, ℕ, length, get_or}
+use Rattle.cycle_find.specs.TwoDependencies.{IsIn, IsSource, NoneBackWay}
 use Rattle.cycle_find.proofs.two_dependencies.TwoDependencies.by_version.Given as goal
 
 abbrev pub invariant-loop-index : goal.invariant-loop-index
-invariant-loop-index l = (k : ℕ) → k < l.index → AreLevel l.self.graph l.version (get_or l.followers.to k 0) → NoneBackTo l.self l.version (get_or l.followers.to k 0)
+invariant-loop-index l = record {
+  length : length l.sources.marks.items ≡ length l.self.deps.now.txns;
+  marked : (place : ℕ) → IsSource l.self l.version place → IsIn l.sources place;
+  none : (k : ℕ) → k < l.index → NoneBackWay l.self l.version (get_or l.ends k 0);
+}

@@ -1,27 +1,32 @@
-use Rattle.std.proofs.Common.{◌∙◌, get_or, arith, below_more, sym, subst}
+use Rattle.std.proofs.Common.{◌≡◌, ◌∙◌, ℕ, get_or, Contains, below_more, sym, subst, arith}
 use Rattle.std.proofs.lemmas.List.{get_or_default}
-use Rattle.hist_types.specs.declared.types.Level.TheVariants.{Plain}
-use Rattle.edge_graph.specs.Kinds.{kinds_of}
-use Rattle.edge_graph.specs.Vertices.{IsArc}
-use Rattle.cycle_find.specs.Tasks.{Task}
-use Rattle.cycle_find.specs.TwoDependencies.{NoneBackFrom}
-use Rattle.cycle_find.proofs.Pairs.{two_otherwise}
-use Rattle.cycle_find.proofs.Scanning.{AreReaders}
+use Rattle.key_versions.specs.Histories.{readers_of}
+use Rattle.dep_edges.specs.Histories.{History}
+use Rattle.dep_edges.specs.Tables.{version_at}
+use Rattle.cycle_find.specs.TwoDependencies.{NoneByTwoFrom}
+use Rattle.cycle_find.proofs.Mutual.{two_otherwise}
 use Rattle.cycle_find.proofs.two_dependencies.TwoDependencies.by_version_and_back.Goals as goal
 
 pub loop-reader-preserved : goal.loop-reader-preserved
 loop-reader-preserved c =
-    let task : Task = c.args.self.now in
-    let none = NoneBackFrom task c.args.version in
-    below_more (λ k. none (get_or c.readers-reader-items.result.now k 0)) c.loop-reader.reader-index c.loop-reader.invariant
-    (two_otherwise task (none (get_or c.readers-reader-items.result.now c.loop-reader.reader-index 0)) c.in_ok-found.found (sym c.is_some.ensures ∙ c.if-is_some.false) c.in_ok-found.ensures)
+    let search = c.args.self.now in
+    let ns = c.readers-reader-items.result.now in
+    let none = λ (k : ℕ). NoneByTwoFrom search c.args.version (get_or ns k 0) in
+    record {
+      length = c.back_to.ensures.marks;
+      marked = λ place follows version number reads. c.back_to.ensures.kept version (c.loop-reader.invariant.marked place follows version number reads);
+      none =
+          below_more none c.loop-reader.reader-index c.loop-reader.invariant.none
+          (two_otherwise search (none c.loop-reader.reader-index) c.in_ok-found.found (sym c.is_some.ensures ∙ c.if-is_some.false) c.in_ok-found.ensures.found);
+    }
 
 pub returns-clause-found : goal.returns-clause-found
-returns-clause-found c =
-    let task : Task = c.args.self.now in
+returns-clause-found c = λ from other to way back pair.
+    let search = c.args.self.now in
+    let h = search.deps.now in
     let version = c.args.version in
-    let places = c.readers-reader-items.result.now in
-    let readers : AreReaders task.graph version places = subst (λ (task : Task). AreReaders task.graph version places) c.self.view_is c.readers-reader-items.ensures.readers in
-    λ from other to way.
-    let (k, at, same) = (readers from).1 (subst (λ d. IsArc task.graph (kinds_of d Plain) from version) c.requires.rw way.reads) in
-    subst (NoneBackFrom task version) (get_or_default places k 0 from at ∙ same) (c.loop-reader.invariant k (omega (arith, at, c.loop-reader-test.false))) other to way
+    let ns = c.readers-reader-items.result.now in
+    let told : ns ≡ readers_of h.txns (version_at h.table version) =
+    subst (λ (h : History). ns ≡ readers_of h.txns (version_at h.table version)) c.history.ensures.history c.readers-reader-items.ensures.value in
+    let (k, at, same) = subst (λ xs. Contains xs from) (sym told) way.start in
+    subst (NoneByTwoFrom search version) (get_or_default ns k 0 from at ∙ same) (c.loop-reader.invariant.none k (omega (arith, at, c.loop-reader-test.false))) other to way back pair

@@ -1,31 +1,33 @@
-use Rattle.std.proofs.Common.{◌≡◌, ◌∙◌, ℕ, [], length, get_or, arith, below_more, ap, subst}
-use Rattle.graph_search.specs.Graphs.{Leaving}
-use Rattle.cycle_find.specs.Tasks.{Task, needed_kinds}
-use Rattle.cycle_find.specs.TwoDependencies.{IsReadyForTwo, AreLevel, IsReadMarked}
-use Rattle.cycle_find.proofs.Passing.{each_arc}
+use Rattle.std.proofs.Common.{◌≡◌, map, get_or, below_more, subst, arith}
+use Rattle.key_versions.specs.Histories.{followers_of}
+use Rattle.key_versions.specs.declared.types.Follower.{Follower}
+use Rattle.dep_edges.specs.Histories.{History}
+use Rattle.dep_edges.specs.Tables.{later_in, version_at}
+use Rattle.cycle_find.specs.TwoDependencies.{IsReadMarked}
+use Rattle.cycle_find.proofs.Mutual.{follower_listed}
 use Rattle.cycle_find.proofs.two_dependencies.TwoDependencies.mark_read.Goals as goal
 
-pub loop-index-preserved : goal.loop-index-preserved
-loop-index-preserved c =
-    let task : Task = c.args.self.now in
-    let version = c.args.version in
-    let marks = c.mark_read_by.new.marks in
-    let marked = λ (v : ℕ). AreLevel task.graph version v → IsReadMarked task version v marks in
+abbrev nobody : Follower
+nobody = record { txn = 0; version = 0 }
+
+pub loop-follower-preserved : goal.loop-follower-preserved
+loop-follower-preserved c =
+    let search = c.args.self.now in
+    let read = c.mark_read_by.new.read in
+    let fs = c.followers-follower-items.result.now in
     record {
-      length = c.mark_read_by.ensures.length ∙ c.loop-index.invariant.length;
+      length = c.mark_read_by.ensures.marks;
       marked =
-          below_more (λ k. marked (get_or c.successors-followers.result.to k 0)) c.loop-index.index
-          (λ k h level other arc. c.mark_read_by.ensures.kept other (c.loop-index.invariant.marked k h level other arc))
-          (subst marked c.at.ensures.successor c.mark_read_by.ensures.marked);
+          below_more (λ k. IsReadMarked search (get_or fs k nobody).txn read) c.loop-follower.follower-index
+          (λ k h version number reads. c.mark_read_by.ensures.kept version (c.loop-follower.invariant.marked k h version number reads)) c.in_ok-mark_read_by.ensures.marked;
     }
 
 pub returns-clause-marked : goal.returns-clause-marked
-returns-clause-marked c =
-    let a = c.self.inside in
-    let task : Task = c.args.self.now in
-    let ready : IsReadyForTwo task a.needed a.back a.coarse.now a.shared.now = subst (λ task. IsReadyForTwo task a.needed a.back a.coarse.now a.shared.now) c.self.view_is c.self.invariant in
-    let version = c.args.version in
-    let all : c.successors-followers.result.to ≡ get_or a.needed version [] = ap (λ (s : Leaving). s.to) c.successors-followers.ensures in
-    let marked = λ (v : ℕ). AreLevel task.graph version v → IsReadMarked task version v c.loop-index.marks in
-    each_arc task.graph (needed_kinds task) a.needed version marked ready.needed_arcs (λ k h.
-    subst (λ to. marked (get_or to k 0)) all (c.loop-index.invariant.marked k (omega (arith, h, c.loop-index-test.false, c.len-index-end.ensures, ap length all))))
+returns-clause-marked c = λ place follows.
+    let search = c.args.self.now in
+    let h = search.deps.now in
+    let fs = c.followers-follower-items.result.now in
+    let told : map (later_in h.table) fs ≡ followers_of h.table.keys h.txns (version_at h.table c.args.version) =
+    subst (λ (h : History). map (later_in h.table) fs ≡ followers_of h.table.keys h.txns (version_at h.table c.args.version)) c.history.ensures.history c.followers-follower-items.ensures.value in
+    let (k, below, is) = follower_listed h c.args.version place fs told follows in
+    subst (λ p. IsReadMarked search p c.loop-follower.read) is (c.loop-follower.invariant.marked k (omega (arith, below, c.loop-follower-test.false)))

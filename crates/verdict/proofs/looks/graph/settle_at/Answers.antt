@@ -2,7 +2,7 @@ use Rattle.std.proofs.Common.{subst}
 use Rattle.edge_graph.specs.Parts.{edges_in}
 use Rattle.cycle_find.specs.Found.{IsFound, HasFewestIfAny}
 use Rattle.cycle_find.specs.Tasks.{task_of}
-use Rattle.verdict.proofs.Searching.{found_at, absent_at}
+use Rattle.verdict.proofs.Searching.{found_at, absent_at, needs_over}
 use Rattle.verdict.proofs.looks.graph.settle_at.Goals as goal
 
 pub returns-in-Some-clause-right : goal.returns-in-Some-clause-right
@@ -21,3 +21,8 @@ returns-in-None-clause-right c =
     c.rule_out.ensures.right g.keys g.txns c.requires.right
     (absent_at g site c.args.phenomenon c.args.level c.requires.thinned c.at.ensures
     (subst (IsFound c.args.phenomenon (edges_in site.graph site.level)) c.in-None.is c.in_ok-walk.ensures.found))
+
+pub find-requires : goal.find-requires
+find-requires c =
+    let g = c.args.graph.now in
+    needs_over g c.at.result c.args.phenomenon c.args.level c.needs_at-least.result c.requires.thinned c.at.ensures (c.needs_at-least.ensures g.keys g.txns c.requires.right)
