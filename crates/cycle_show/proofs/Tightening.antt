@@ -91,10 +91,6 @@ least_of_all path least d below each c i =
     let there : slice_index (stations path) at.0 ≡ c.from = station_at path at.0 c at.1 ∙ ap (λ (e : Edge). e.from) at.2 in
     omega (arith, no_later, here, there)
 
-some_round : (phenomenon : Phenomenon) (es path : List Edge) → IsRound phenomenon es path → 0 < length path
-some_round phenomenon es [] r = elim r.closed [ ]
-some_round phenomenon es (e ∷ path) r = omega arith
-
 pub tightened :
     (keys : KeyOrder) (phenomenon : Phenomenon) (level : Level) (events : List Operation) (walk path : List Edge) (least : ℕ)
     → path ≡ short_round walk
