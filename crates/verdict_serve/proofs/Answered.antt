@@ -1,7 +1,6 @@
 -- Texts of replies.
-use Rattle.std.proofs.Common.{◌≡◌, ◌∙◌, inl, List, [], ◌∷◌, ◌++◌, Result, Ok, Err, refl, sym, ap, subst}
+use Rattle.std.proofs.Common.{◌≡◌, inl, List, [], ◌∷◌, ◌++◌, Result, Ok, Err, refl, sym, ap, subst}
 use Rattle.std.specs.Prelude.{ℕ, OnOk, OnErr, codes, flat_map, if◌then◌else◌}
-use Rattle.std.proofs.lemmas.List.{append_assoc, append-nil}
 use Rattle.edn_ops.specs.SourceTexts.{IsMopText, AreMopTexts}
 use Rattle.edn_ops.specs.declared.write.MopText.{MopText}
 use Rattle.hist_types.specs.CanonicalText.{operation_text}
@@ -29,11 +28,6 @@ one_more_text (s ∷ texts) (k ∷ ms) t m all one = (all.0, one_more_text texts
 -- the lines of operations
 abbrev pub lines_of_operations : List Operation → List ℕ
 lines_of_operations os = flat_map (λ (o : Operation). line (operation_text o)) os
-
--- the lines of operations and of one more
-pub one_more_line : (os : List Operation) (o : Operation) → lines_of_operations (os ++ o ∷ []) ≡ lines_of_operations os ++ line (operation_text o)
-one_more_line [] o = append-nil (line (operation_text o))
-one_more_line (p ∷ os) o = ap (λ (t : List ℕ). line (operation_text p) ++ t) (one_more_line os o) ∙ sym (append_assoc (line (operation_text p)) (lines_of_operations os) (line (operation_text o)))
 
 -- ---- replies to lines
 
