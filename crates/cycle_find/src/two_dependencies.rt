@@ -193,15 +193,11 @@ impl<'r, 'v, 'a> TwoDependencies<'r, 'v, 'a> {
         ensures { IfOk result (IsTwoOr self.now
             (NoPair self.now (walks.way_back self.now.phenomenon))) }
     {
+        let Some(skew) = self.by_two_versions(steps)? else {
+            return self.by_versions(steps);
+        };
         let lost = self.lost_update(steps)?;
-        if lost.is_some() {
-            return Ok(lost);
-        }
-        let skew = self.by_two_versions(steps)?;
-        if skew.is_some() {
-            return Ok(skew);
-        }
-        self.by_versions(steps)
+        Ok(Some(lost.unwrap_or(skew)))
     }
 
     /// Two that read a version and follow it.
